@@ -4,8 +4,8 @@ use Rattle.std.proofs.lemmas.Bool.{eqb-true, ltb-false, ltb-true}
 use Rattle.std.proofs.lemmas.Option.{slice_get_past}
 use Rattle.std.specs.List.{list_any}
 use Rattle.journal_model.specs.Notification.{NotificationId, Arrival, cancel_id}
-use Rattle.journal_model.specs.History.{Step, ids_created, stands_for, takes_handle, handle_is, handle_taken, id_of_handle, next_handle, next_completion, completions_of, IsBelow, TakesBelow}
-use Rattle.journal_model.specs.Delivery.{known_result, known_results, Makes}
+use Rattle.journal_model.specs.History.{Step, ids_created, stands_for, takes_handle, handle_is, handle_taken, id_of_handle, next_handle, IsBelow, TakesBelow}
+use Rattle.journal_model.specs.Delivery.{known_results, Makes}
 
 get-front : {A : Type 0} (xs ys : List A) (k : ℕ) → k < length xs → slice_get (xs ++ ys) k ≡ slice_get xs k
 get-front [] ys k h = absurd (omega arith)
@@ -84,9 +84,10 @@ module _ (steps : List Step) (step : Step) (ids : List NotificationId) (makes : 
   known_results-next = ap (λ (known : List Arrival). known_results steps ++ known) makes.reads ∙ append-nil (known_results steps)
 
   pub takes-next : TakesBelow (next_handle steps) steps → TakesBelow (next_handle (step ∷ steps)) (step ∷ steps)
-  takes-next below =
-      (subst (λ (o : Option ℕ). IsBelow (next_handle (step ∷ steps)) o) (sym makes.takes) tt,
-      takes-more (next_handle steps) (next_handle (step ∷ steps)) (omega (arith, next_handle-next)) steps below)
+  takes-next below = (
+    subst (λ (o : Option ℕ). IsBelow (next_handle (step ∷ steps)) o) (sym makes.takes) tt,
+    takes-more (next_handle steps) (next_handle (step ∷ steps)) (omega (arith, next_handle-next)) steps below,
+  )
 
   -- what a handle stands for depends on the ids made and the notifications taken before
   stands_for-by : (handle : ℕ) → stands_for (step ∷ steps) handle
@@ -103,6 +104,12 @@ module _ (steps : List Step) (step : Step) (ids : List NotificationId) (makes : 
       stands_for-by handle
       ∙ ap (λ (o : Option NotificationId). if handle == 1 then Some cancel_id else (if list_any (takes_handle handle) steps then None else o))
       (id_of_handle-old (ids_created steps) ids handle below)
+
+-- where a step makes no handle, each stands for what it stood for
+pub stands_for-made_none : (steps : List Step) (step : Step) → Makes steps step [] → (handle : ℕ) → stands_for (step ∷ steps) handle ≡ stands_for steps handle
+stands_for-made_none steps step makes handle =
+    stands_for-by steps step [] makes handle
+    ∙ ap (λ (ids : List NotificationId). if handle == 1 then Some cancel_id else (if list_any (takes_handle handle) steps then None else id_of_handle ids handle)) (append-nil (ids_created steps))
 
 -- a handle that was not created stands for nothing
 pub stands_for-none : (steps : List Step) (handle : ℕ) → next_handle steps ≤ handle → stands_for steps handle ≡ None
