@@ -45,9 +45,6 @@ fn held_by_a_type_that_holds_itself(rt: HostRuntime) -> Result<(), Fail> {
         Tree::Node(inner),
     ]?));
     let text = format!(in rt.alloc(); "{tree:?}")?;
-    assert_eq!(rt;
-        text.as_str(),
-        "Node(Sequence { items: [Leaf(1), Node(Sequence { items: [Leaf(2)] })] })"
-    );
+    assert_eq!(rt; text.as_str(), "Node([Leaf(1), Node([Leaf(2)])])");
     Ok(())
 }
