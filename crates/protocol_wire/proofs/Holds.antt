@@ -20,7 +20,6 @@ use Rattle.protocol_wire.specs.declared.table.FieldDescriptor.{FieldDescriptor}
 use Rattle.protocol_wire.specs.declared.check.Fault.{Fault}
 use Rattle.protocol_wire.proofs.Steps.{field_at_nil, are_fields-none}
 use Rattle.protocol_wire.specs.Decodes.{IsRead}
-use Rattle.protocol_wire.proofs.Faults.{rest_fault, payload_fault_is}
 use Rattle.protocol_wire.proofs.Back.{ReadsBack, Below32, are_varints_spelled}
 use Rattle.protocol_wire.proofs.Laws.{Fit, are_fields-payload, fields-payload_alone}
 
@@ -175,35 +174,39 @@ module _ (below : RecordType → List ℕ → Option Fault) (descriptors : List 
 -- ---- the payload
 
 -- Nothing is wrong with what the parts spell, and its fields are those of the parts.
-pub payload_holds : (levels : ℕ) (t : RecordType) (ps : List Part) → 0 < levels → Hold (payload_fault (levels - 1)) (descriptors_of t) ps → length (payload_of ps) < 2 ^ 64
-    → (payload_fault levels t (payload_of ps) ≡ None) × (fields (payload_of ps) ≡ fields_of ps)
-unfolding rest_fault
-payload_holds levels t ps some h small =
-    let fits = fit (payload_fault (levels - 1)) (descriptors_of t) ps h (lengths_fit ps small) in
+pub payload_holds_above : (levels : ℕ) (t : RecordType) (ps : List Part) → Hold (payload_fault levels) (descriptors_of t) ps → length (payload_of ps) < 2 ^ 64
+    → (payload_fault (suc levels) t (payload_of ps) ≡ None) × (fields (payload_of ps) ≡ fields_of ps)
+unfolding payload_fault
+payload_holds_above levels t ps h small =
+    let fits = fit (payload_fault levels) (descriptors_of t) ps h (lengths_fit ps small) in
     let read = fields-payload_alone ps fits in
     let whole : are_fields (payload_of ps) ≡ true = ap are_fields (sym (append-nil (payload_of ps))) ∙ are_fields-payload ps [] fits ∙ are_fields-none [] field_at_nil in
-    let sound : rest_fault (payload_fault (levels - 1)) (descriptors_of t) (payload_of ps) ≡ None = rw (read, whole, parts_sound (payload_fault (levels - 1)) (descriptors_of t) ps h) refl in
-    (payload_fault_is levels t (payload_of ps) some ∙ sound, read)
+    (rw (read, whole, parts_sound (payload_fault levels) (descriptors_of t) ps h) refl, read)
+
+-- The same, in terms of the levels that are left.
+pub payload_holds : (levels : ℕ) (t : RecordType) (ps : List Part) → 0 < levels → Hold (payload_fault (levels - 1)) (descriptors_of t) ps → length (payload_of ps) < 2 ^ 64
+    → (payload_fault levels t (payload_of ps) ≡ None) × (fields (payload_of ps) ≡ fields_of ps)
+payload_holds levels t ps some h small =
+    let one : suc (levels - 1) ≡ levels = omega (arith, some) in
+    let above = payload_holds_above (levels - 1) t ps h small in
+    (subst (λ (n : ℕ). payload_fault n t (payload_of ps) ≡ None) one above.0, above.1)
 
 -- ---- records in records, where each is read again
 
-module _ {R : Type 0} (t : RecordType) (of : ℕ → List Field → R) (parts : R → List Part) (fits : ℕ → R → Type 0)
-    (reads : (levels : ℕ) (r : R) → fits levels r → length (payload_of (parts r)) < 2 ^ 64 → IsRead levels t of (payload_of (parts r)) r) where
-  abbrev write : R → List ℕ
-  write r = payload_of (parts r)
+module _ {R : Type 0} (levels : ℕ) (t : RecordType) (of : ℕ → List Field → R) (write : R → List ℕ) (fits : R → Type 0)
+    (reads : (r : R) → fits r → length (write r) < 2 ^ 64 → IsRead levels t of (write r) r) where
+  pub optional_sound : (o : Option R) → IfSome o fits → AllByRecursion LengthFits (bytes_if (option_map write o)) → IfSome (option_map write o) (λ b. payload_fault levels t b ≡ None)
+  optional_sound None h k = tt
+  optional_sound (Some r) h k = (reads r h k.0).sound
 
-  pub optional_sound : (levels : ℕ) (o : Option R) → IfSome o (fits levels) → AllByRecursion LengthFits (bytes_if (option_map write o)) → IfSome (option_map write o) (λ b. payload_fault levels t b ≡ None)
-  optional_sound levels None h k = tt
-  optional_sound levels (Some r) h k = (reads levels r h k.0).sound
+  pub optional_reads_back : (o : Option R) → IfSome o fits → AllByRecursion LengthFits (bytes_if (option_map write o)) → IfSome o (ReadsBack (of levels) write)
+  optional_reads_back None h k = tt
+  optional_reads_back (Some r) h k = sym (reads r h k.0).value
 
-  pub optional_reads_back : (levels : ℕ) (o : Option R) → IfSome o (fits levels) → AllByRecursion LengthFits (bytes_if (option_map write o)) → IfSome o (ReadsBack (of levels) write)
-  optional_reads_back levels None h k = tt
-  optional_reads_back levels (Some r) h k = sym (reads levels r h k.0).value
+  pub each_sound : (rs : List R) → AllByRecursion fits rs → AllByRecursion LengthFits (map bytes (map write rs)) → AllByRecursion (λ b. payload_fault levels t b ≡ None) (map write rs)
+  each_sound [] h k = tt
+  each_sound (r ∷ rs) h k = ((reads r h.0 k.0).sound, each_sound rs h.1 k.1)
 
-  pub each_sound : (levels : ℕ) (rs : List R) → AllByRecursion (fits levels) rs → AllByRecursion LengthFits (map bytes (map write rs)) → AllByRecursion (λ b. payload_fault levels t b ≡ None) (map write rs)
-  each_sound levels [] h k = tt
-  each_sound levels (r ∷ rs) h k = ((reads levels r h.0 k.0).sound, each_sound levels rs h.1 k.1)
-
-  pub each_reads_back : (levels : ℕ) (rs : List R) → AllByRecursion (fits levels) rs → AllByRecursion LengthFits (map bytes (map write rs)) → AllByRecursion (ReadsBack (of levels) write) rs
-  each_reads_back levels [] h k = tt
-  each_reads_back levels (r ∷ rs) h k = (sym (reads levels r h.0 k.0).value, each_reads_back levels rs h.1 k.1)
+  pub each_reads_back : (rs : List R) → AllByRecursion fits rs → AllByRecursion LengthFits (map bytes (map write rs)) → AllByRecursion (ReadsBack (of levels) write) rs
+  each_reads_back [] h k = tt
+  each_reads_back (r ∷ rs) h k = (sym (reads r h.0 k.0).value, each_reads_back rs h.1 k.1)
