@@ -93,14 +93,14 @@ failure_reads levels v h small =
     let read = payload_holds levels types.Failure ps h.level (
       (u32_holds below table failure.CODE.number v.code (refl, refl) h.code,
       (text_holds below table failure.MESSAGE.number v.message (refl, refl) h.message,
-      (records_hold below table failure.METADATA.number types.FailureMetadata (map (λ r. payload_of (failure_metadata_parts r)) v.metadata) (refl, refl) (each_sound types.FailureMetadata failure_metadata_of failure_metadata_parts FailureMetadataFits failure_metadata_reads (levels - 1) v.metadata h.metadata lengths.1.1.0),
+      (records_hold below table failure.METADATA.number types.FailureMetadata (map (λ r. payload_of (failure_metadata_parts r)) v.metadata) (refl, refl) (each_sound (levels - 1) types.FailureMetadata failure_metadata_of (λ r. payload_of (failure_metadata_parts r)) (FailureMetadataFits (levels - 1)) (failure_metadata_reads (levels - 1)) v.metadata h.metadata lengths.1.1.0),
       tt)))) small in
     record {
       sound = read.0;
       value = sym (ap (failure_of levels) read.1 ∙ λ i. record {
         code = u32_back failure.CODE.number v.code ps refl h.code i;
         message = text_back failure.MESSAGE.number v.message ps refl i;
-        metadata = records_back (failure_metadata_of (levels - 1)) (λ r. payload_of (failure_metadata_parts r)) failure.METADATA.number v.metadata ps refl (each_reads_back types.FailureMetadata failure_metadata_of failure_metadata_parts FailureMetadataFits failure_metadata_reads (levels - 1) v.metadata h.metadata lengths.1.1.0) i;
+        metadata = records_back (failure_metadata_of (levels - 1)) (λ r. payload_of (failure_metadata_parts r)) failure.METADATA.number v.metadata ps refl (each_reads_back (levels - 1) types.FailureMetadata failure_metadata_of (λ r. payload_of (failure_metadata_parts r)) (FailureMetadataFits (levels - 1)) (failure_metadata_reads (levels - 1)) v.metadata h.metadata lengths.1.1.0) i;
       });
     }
 
@@ -131,7 +131,7 @@ start_reads levels v h small =
       (bytes_holds below table start.ID.number v.id (refl, refl),
       (text_holds below table start.DEBUG_ID.number v.debug_id (refl, refl) h.debug_id,
       (u32_holds below table start.KNOWN_ENTRIES.number v.known_entries (refl, refl) h.known_entries,
-      (records_hold below table start.STATE_MAP.number types.StateEntry (map (λ r. payload_of (state_entry_parts r)) v.state_map) (refl, refl) (each_sound types.StateEntry state_entry_of state_entry_parts StateEntryFits state_entry_reads (levels - 1) v.state_map h.state_map lengths.1.1.1.0),
+      (records_hold below table start.STATE_MAP.number types.StateEntry (map (λ r. payload_of (state_entry_parts r)) v.state_map) (refl, refl) (each_sound (levels - 1) types.StateEntry state_entry_of (λ r. payload_of (state_entry_parts r)) (StateEntryFits (levels - 1)) (state_entry_reads (levels - 1)) v.state_map h.state_map lengths.1.1.1.0),
       (bool_holds below table start.PARTIAL_STATE.number v.partial_state (refl, refl),
       (text_holds below table start.KEY.number v.key (refl, refl) h.key,
       (u32_holds below table start.RETRY_COUNT_SINCE_LAST_STORED_ENTRY.number v.retry_count_since_last_stored_entry (refl, refl) h.retry_count_since_last_stored_entry,
@@ -147,7 +147,7 @@ start_reads levels v h small =
         id = text_back start.ID.number v.id ps refl i;
         debug_id = text_back start.DEBUG_ID.number v.debug_id ps refl i;
         known_entries = u32_back start.KNOWN_ENTRIES.number v.known_entries ps refl h.known_entries i;
-        state_map = records_back (state_entry_of (levels - 1)) (λ r. payload_of (state_entry_parts r)) start.STATE_MAP.number v.state_map ps refl (each_reads_back types.StateEntry state_entry_of state_entry_parts StateEntryFits state_entry_reads (levels - 1) v.state_map h.state_map lengths.1.1.1.0) i;
+        state_map = records_back (state_entry_of (levels - 1)) (λ r. payload_of (state_entry_parts r)) start.STATE_MAP.number v.state_map ps refl (each_reads_back (levels - 1) types.StateEntry state_entry_of (λ r. payload_of (state_entry_parts r)) (StateEntryFits (levels - 1)) (state_entry_reads (levels - 1)) v.state_map h.state_map lengths.1.1.1.0) i;
         partial_state = bool_back start.PARTIAL_STATE.number v.partial_state ps refl i;
         key = text_back start.KEY.number v.key ps refl i;
         retry_count_since_last_stored_entry = u32_back start.RETRY_COUNT_SINCE_LAST_STORED_ENTRY.number v.retry_count_since_last_stored_entry ps refl h.retry_count_since_last_stored_entry i;
@@ -166,16 +166,16 @@ input_command_reads levels v h small =
     let table = descriptors_of types.InputCommand in
     let lengths = lengths_fit ps small in
     let read = payload_holds levels types.InputCommand ps h.level (
-      (records_hold below table input_command.HEADERS.number types.Header (map (λ r. payload_of (header_parts r)) v.headers) (refl, refl) (each_sound types.Header header_of header_parts HeaderFits header_reads (levels - 1) v.headers h.headers lengths.0),
+      (records_hold below table input_command.HEADERS.number types.Header (map (λ r. payload_of (header_parts r)) v.headers) (refl, refl) (each_sound (levels - 1) types.Header header_of (λ r. payload_of (header_parts r)) (HeaderFits (levels - 1)) (header_reads (levels - 1)) v.headers h.headers lengths.0),
       (text_holds below table input_command.NAME.number v.name (refl, refl) h.name,
-      (optional_record_holds below table input_command.VALUE.number types.Value (option_map (λ r. payload_of (value_parts r)) v.value) (refl, refl) (optional_sound types.Value value_of value_parts ValueFits value_reads (levels - 1) v.value h.value lengths.1.1.0),
+      (optional_record_holds below table input_command.VALUE.number types.Value (option_map (λ r. payload_of (value_parts r)) v.value) (refl, refl) (optional_sound (levels - 1) types.Value value_of (λ r. payload_of (value_parts r)) (ValueFits (levels - 1)) (value_reads (levels - 1)) v.value h.value lengths.1.1.0),
       tt)))) small in
     record {
       sound = read.0;
       value = sym (ap (input_command_of levels) read.1 ∙ λ i. record {
-        headers = records_back (header_of (levels - 1)) (λ r. payload_of (header_parts r)) input_command.HEADERS.number v.headers ps refl (each_reads_back types.Header header_of header_parts HeaderFits header_reads (levels - 1) v.headers h.headers lengths.0) i;
+        headers = records_back (header_of (levels - 1)) (λ r. payload_of (header_parts r)) input_command.HEADERS.number v.headers ps refl (each_reads_back (levels - 1) types.Header header_of (λ r. payload_of (header_parts r)) (HeaderFits (levels - 1)) (header_reads (levels - 1)) v.headers h.headers lengths.0) i;
         name = text_back input_command.NAME.number v.name ps refl i;
-        value = optional_record_back (value_of (levels - 1)) (λ r. payload_of (value_parts r)) input_command.VALUE.number v.value ps refl (optional_reads_back types.Value value_of value_parts ValueFits value_reads (levels - 1) v.value h.value lengths.1.1.0) i;
+        value = optional_record_back (value_of (levels - 1)) (λ r. payload_of (value_parts r)) input_command.VALUE.number v.value ps refl (optional_reads_back (levels - 1) types.Value value_of (λ r. payload_of (value_parts r)) (ValueFits (levels - 1)) (value_reads (levels - 1)) v.value h.value lengths.1.1.0) i;
       });
     }
 
