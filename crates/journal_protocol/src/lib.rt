@@ -4,6 +4,7 @@
 mod decoder;
 mod encoder;
 mod header;
+pub mod laws;
 mod message_type;
 
 pub use decoder::{Decoder, DecodingError, RawMessage};
