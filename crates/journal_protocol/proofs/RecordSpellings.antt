@@ -175,8 +175,14 @@ mutual
 pub futures_spelled : FuturesSpelled
 futures_spelled tree = sym (future_payload_is (future_record tree)) ∙ future_spelled tree
 
+-- the field of the tree
+tree_spelled : (tree : AwaitTree NotificationId) → part_spelling (parts.optional_bytes 1 (Some (payload_of (future_parts (future_record tree))))) ≡ model.bytes_field 1 (model.future_payload tree)
+tree_spelled tree = one_record 1 (payload_of (future_parts (future_record tree))) _ (futures_spelled tree)
+
 pub awaiting_on_spelled : AwaitingOnSpelled
-awaiting_on_spelled tree = payload_is (awaiting_on_parts (awaiting_on_record tree false)) _ (spelled-last _ _ _ refl (one_record 1 (payload_of (future_parts (future_record tree))) _ (futures_spelled tree)))
+awaiting_on_spelled tree true =
+    payload_is (awaiting_on_parts (awaiting_on_record tree true)) _ (spelled-cons _ _ _ _ (tree_spelled tree) (spelled-last _ _ _ refl (plain_number-is 2 1)))
+awaiting_on_spelled tree false = payload_is (awaiting_on_parts (awaiting_on_record tree false)) _ (spelled-last _ _ _ refl (tree_spelled tree))
 
 -- ---- a failure, there and back
 

@@ -1,5 +1,5 @@
 -- Laws of types, headers and streams.
-use Rattle.std.specs.Prelude.{◌≡◌, ◌≢◌, ◌↔◌, ℕ, ◌^◌, ◌<◌, false, length, List, [], ◌∷◌, ◌++◌, map, bit_and, Option, Some, None, is_some, Result, Ok, Err}
+use Rattle.std.specs.Prelude.{◌≡◌, ◌≢◌, ◌↔◌, ℕ, ◌^◌, ◌<◌, Bool, length, List, [], ◌∷◌, ◌++◌, map, bit_and, Option, Some, None, is_some, Result, Ok, Err}
 use Rattle.std.specs.List.{AllByRecursion}
 use Rattle.protocol_wire.specs.Items.{items, left}
 use Rattle.protocol_wire.specs.Parts.{payload_of}
@@ -11,7 +11,7 @@ use Rattle.journal_model.specs.Request.{Request}
 use Rattle.journal_model.specs.State.{StateMap}
 use Rattle.journal_model.specs.declared.invocation.NewInvocation.{NewInvocation}
 use Rattle.journal_model.specs.AwaitTree.{AwaitTree}
-use Rattle.journal_model.specs.Spelling.{request_payload, input_payload, future_payload, suspension_payload, frame_bytes}
+use Rattle.journal_model.specs.Spelling.{request_payload, input_payload, future_payload, awaiting_on_payload, frame_bytes}
 use Rattle.journal_model.specs.Start.{start_payload_of}
 use Rattle.protocol_records.specs.SleepCommand.{sleep_command_parts}
 use Rattle.protocol_records.specs.OutputCommand.{output_command_parts}
@@ -78,9 +78,8 @@ StartsSpelled =
 abbrev pub FuturesSpelled : Type 0
 FuturesSpelled = (tree : AwaitTree NotificationId) → payload_of (future_parts (future_record tree)) ≡ future_payload tree
 
--- what is awaited while no side effect is executed is spelled as a suspension is
 abbrev pub AwaitingOnSpelled : Type 0
-AwaitingOnSpelled = (tree : AwaitTree NotificationId) → payload_of (awaiting_on_parts (awaiting_on_record tree false)) ≡ suspension_payload tree
+AwaitingOnSpelled = (tree : AwaitTree NotificationId) (executing : Bool) → payload_of (awaiting_on_parts (awaiting_on_record tree executing)) ≡ awaiting_on_payload tree executing
 
 abbrev pub FramesSpelled : Type 0
 FramesSpelled = (ty : MessageType) (payload : List ℕ) → number_of ty < 2 ^ 16 → length payload < 2 ^ 32 → spelled (message_of ty payload) ≡ frame_bytes (number_of ty) payload
