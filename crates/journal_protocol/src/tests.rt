@@ -1,11 +1,14 @@
 //! Worked values of the format, through the public calls.
-use bytes::BytesMut;
-use std::alloc::Global;
+use bytes::{ByteStr, Bytes, BytesMut};
+use journal_model::{Header, NonEmptyValue, TerminalFailure};
+use protocol_records::Failure as FailureRecord;
+use sequence::Sequence;
 use std::test::Fail;
 
 use crate::{
     Decoder, DecodingError, EncodingError, MessageHeader, MessageType, UnknownMessageType,
-    write_message,
+    to_failure, to_failure_record, to_header_records, to_headers, to_non_empty_value,
+    to_output_result, to_terminal_failure, write_message,
 };
 
 /// An input command whose value is `input`: its header, and its payload.
@@ -89,5 +92,56 @@ fn messages_are_written(rt: HostRuntime) -> Result<(), Fail> {
     assert_eq!(rt; out.as_slice(), [0, 3, 0, 0, 0, 0, 0, 0].as_slice());
     let shown = format!(in rt.alloc(); "{}", EncodingError::PayloadTooLong)?;
     assert_eq!(rt; shown.as_str(), "a payload of more than 4294967295 bytes");
+    Ok(())
+}
+
+#[test]
+fn failures_there_and_back(rt: HostRuntime) -> Result<(), Fail> {
+    let mut metadata = Sequence::new(rt.alloc());
+    metadata.push((ByteStr::from_static("k"), ByteStr::from_static("v")))?;
+    let failure = TerminalFailure {
+        code: 409,
+        message: ByteStr::from_static("cancelled"),
+        metadata,
+    };
+    let recorded = to_failure_record(rt.alloc(), failure.clone()?)?;
+    assert_eq!(rt; recorded.code, 409);
+    assert_eq!(rt; to_terminal_failure(rt.alloc(), recorded)?, failure);
+
+    let large = FailureRecord {
+        code: 65_536,
+        message: ByteStr::new(),
+        metadata: Sequence::new(rt.alloc()),
+    };
+    assert_eq!(rt; to_terminal_failure(rt.alloc(), large)?.code, 500);
+
+    let recorded = to_failure_record(rt.alloc(), failure.clone()?)?;
+    let told = to_failure(rt.alloc(), recorded)?;
+    assert_eq!(rt; told.code, 409);
+    assert_eq!(rt; told.metadata, failure.metadata);
+    Ok(())
+}
+
+#[test]
+fn values_there_and_back(rt: HostRuntime) -> Result<(), Fail> {
+    let value = NonEmptyValue::Success(Bytes::from_static(b"ok"));
+    let recorded = to_output_result(rt.alloc(), value.clone()?)?;
+    assert_eq!(rt; to_non_empty_value(rt.alloc(), recorded)?, value);
+    Ok(())
+}
+
+#[test]
+fn headers_there_and_back(rt: HostRuntime) -> Result<(), Fail> {
+    let mut headers = Sequence::new(rt.alloc());
+    headers.push(Header {
+        key: ByteStr::from_static("a"),
+        value: ByteStr::from_static("1"),
+    })?;
+    headers.push(Header {
+        key: ByteStr::from_static("b"),
+        value: ByteStr::new(),
+    })?;
+    let recorded = to_header_records(rt.alloc(), headers.clone()?)?;
+    assert_eq!(rt; to_headers(rt.alloc(), recorded)?, headers);
     Ok(())
 }
