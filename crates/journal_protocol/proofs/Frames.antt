@@ -1,11 +1,11 @@
 -- Frames of named types.
-use Rattle.std.proofs.Common.{◌≡◌, ℕ, ◌^◌, ◌<◌, Bool, true, false, List, ◌++◌, length, Option, Some, None, is_some, refl, sym, ap, ◌∙◌}
+use Rattle.std.proofs.Common.{◌≡◌, ℕ, ◌^◌, ◌<◌, Bool, true, false, List, ◌++◌, length, Some, None, is_some, refl, sym, ap, ◌∙◌}
 use Rattle.std.specs.Prelude.{if◌then◌else◌}
 use Rattle.journal_model.specs.Spelling.{frame_bytes}
 use Rattle.journal_protocol.specs.declared.message_type.MessageType.{MessageType}
 use Rattle.journal_protocol.specs.MessageType.{number_of, allows_ack}
 use Rattle.journal_protocol.specs.Item.{message, item_at}
-use Rattle.journal_protocol.specs.Frame.{spelled, message_of, IsFrame}
+use Rattle.journal_protocol.specs.Frame.{message_of, IsFrame}
 use Rattle.journal_protocol.proofs.Types.{is_named, named_is_wire}
 use Rattle.journal_protocol.proofs.Fronts.{item_at-spelled}
 use Rattle.journal_protocol.proofs.Spellings.{spelled-frame_bytes}

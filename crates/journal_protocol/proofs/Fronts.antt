@@ -1,5 +1,5 @@
 -- What stands at the front of a stream.
-use Rattle.std.proofs.Common.{◌≡◌, ℕ, ◌+◌, ◌*◌, ◌/◌, ◌%◌, ◌^◌, ◌<◌, ◌≤◌, Bool, true, false, ltb, List, [], ◌∷◌, ◌++◌, length, take, drop, Option, Some, None, Result, Ok, Err, refl, sym, ap, subst, ◌∙◌, arith, length-append}
+use Rattle.std.proofs.Common.{◌≡◌, ℕ, ◌+◌, ◌^◌, ◌<◌, ◌≤◌, Bool, true, false, ltb, List, ◌++◌, length, take, drop, Some, None, Result, Ok, Err, refl, ap, ◌∙◌, arith, length-append}
 use Rattle.std.specs.Prelude.{if◌then◌else◌}
 use Rattle.std.specs.Int.{w64, to_be_bytes, from_be_bytes}
 use Rattle.std.proofs.lemmas.Nat.{from_be_bytes-to_be_bytes_8}
@@ -12,7 +12,7 @@ use Rattle.journal_protocol.specs.declared.message_type.UnknownMessageType.{Unkn
 use Rattle.journal_protocol.specs.declared.header.MessageHeader.{MessageHeader}
 use Rattle.journal_protocol.specs.declared.decoder.RawMessage.{RawMessage}
 use Rattle.journal_protocol.specs.Header.{message_length, word_of, header_in}
-use Rattle.journal_protocol.specs.Item.{Item, unknown, message, item_behind, item_at}
+use Rattle.journal_protocol.specs.Item.{Item, message, item_behind, item_at}
 use Rattle.journal_protocol.specs.Frame.{spelled, IsFrame}
 use Rattle.journal_protocol.proofs.Headers.{header_in-word_of, word_of_below}
 

@@ -1,11 +1,10 @@
 -- A header is read back from the number that it is written as.
-use Rattle.std.proofs.Common.{◌≡◌, ℕ, ◌+◌, ◌*◌, ◌/◌, ◌%◌, ◌^◌, ◌<◌, ◌≤◌, Bool, true, false, Option, Some, None, Result, Ok, Err, refl, sym, ap, ◌∙◌, arith, is_some, nat_eq}
+use Rattle.std.proofs.Common.{◌≡◌, ℕ, ◌+◌, ◌*◌, ◌/◌, ◌%◌, ◌^◌, ◌<◌, ◌≤◌, Bool, true, false, Option, Some, None, Ok, refl, sym, ap, arith, is_some, nat_eq}
 use Rattle.std.specs.Prelude.{if◌then◌else◌}
 use Rattle.journal_protocol.specs.declared.message_type.MessageType.{MessageType}
-use Rattle.journal_protocol.specs.declared.message_type.UnknownMessageType.{UnknownMessageType}
 use Rattle.journal_protocol.specs.declared.header.MessageHeader.{MessageHeader}
-use Rattle.journal_protocol.specs.MessageType.{number_of, type_numbered, allows_ack}
-use Rattle.journal_protocol.specs.Header.{message_type, message_length, requested_ack, header_of, ack_bit, word_of, header_typed, header_in}
+use Rattle.journal_protocol.specs.MessageType.{number_of, allows_ack}
+use Rattle.journal_protocol.specs.Header.{message_type, message_length, requested_ack, header_of, ack_bit, word_of, header_in}
 use Rattle.journal_protocol.specs.Frame.{IsWireType}
 
 -- a type with a flag has it, and another has none

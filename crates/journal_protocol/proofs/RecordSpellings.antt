@@ -1,5 +1,5 @@
 -- The records' canonical spelling, record by record.
-use Rattle.std.proofs.Common.{◌≡◌, ℕ, ◌^◌, ◌<◌, nat_lt, Bool, true, false, List, [], ◌∷◌, ◌++◌, map, Option, Some, None, refl, sym, ap, ◌∙◌, append-nil}
+use Rattle.std.proofs.Common.{◌≡◌, ℕ, ◌^◌, nat_lt, true, false, List, [], ◌∷◌, ◌++◌, map, Some, None, refl, sym, ap, ◌∙◌}
 use Rattle.std.specs.Prelude.{if◌then◌else◌}
 use Rattle.std.proofs.lemmas.Bool.{lt-ltb}
 use Rattle.protocol_wire.specs.Parts as parts
@@ -10,14 +10,13 @@ use Rattle.journal_model.specs.declared.value.TerminalFailure.{TerminalFailure}
 use Rattle.journal_model.specs.declared.notification.NotificationId.TheVariants.{CompletionId, SignalId, SignalName}
 use Rattle.journal_model.specs.Value.{failure_recorded}
 use Rattle.journal_model.specs.declared.call.Header.{Header}
-use Rattle.journal_model.specs.Request.{Request}
 use Rattle.journal_model.specs.State.{StateMap}
 use Rattle.journal_model.specs.declared.invocation.NewInvocation.{NewInvocation}
 use Rattle.journal_model.specs.declared.invocation.StateMode.{StateMode}
-use Rattle.journal_model.specs.Start.{state_entry, state_fields, start_payload_of}
+use Rattle.journal_model.specs.Start.{state_entry, state_fields}
 use Rattle.journal_model.specs.AwaitTree.{AwaitTree, Single, Combined, AwaitTrees, no_trees, and_trees, Combinator, Unknown, FirstCompleted, AllCompleted, FirstSucceededOrAllFailed, AllSucceededOrFirstFailed}
 use Rattle.journal_model.specs.Spelling as model
-use Rattle.protocol_records.specs.declared.future.Future.{Future, out-Future, roll-Future}
+use Rattle.protocol_records.specs.declared.future.Future.{Future, out-Future}
 use Rattle.protocol_records.specs.declared.future.Future.TheOpen.{Future-F}
 use Rattle.protocol_records.specs.declared.future.Future.TheViews.{out-roll-Future}
 use Rattle.protocol_records.specs.declared.future.CombinatorType.{CombinatorType}

@@ -1,5 +1,5 @@
 -- Parts of a payload, and frames, are spelled as the definitions of durable execution spell them.
-use Rattle.std.proofs.Common.{◌≡◌, ℕ, zero, suc, ◌+◌, ◌*◌, ◌/◌, ◌%◌, ◌^◌, ◌<◌, Bool, true, false, cond, ltb, List, [], ◌∷◌, ◌++◌, length, map, Option, Some, None, refl, sym, ap, ◌∙◌, arith, nat_eq, append-nil, append_assoc}
+use Rattle.std.proofs.Common.{◌≡◌, ℕ, zero, suc, ◌+◌, ◌*◌, ◌/◌, ◌%◌, ◌^◌, ◌<◌, Bool, true, false, cond, ltb, List, [], ◌∷◌, ◌++◌, length, map, Option, Some, None, refl, ap, ◌∙◌, arith, nat_eq, append-nil}
 use Rattle.std.specs.Prelude.{if◌then◌else◌}
 use Rattle.std.specs.List.{flat_map}
 use Rattle.std.specs.Int.{w64, to_be_bytes}
@@ -71,8 +71,6 @@ some_number : (field n : ℕ) (ns : List ℕ) → flat_map (tagged field) (parts
 unfolding varint_spelling varint_spelling_within
 some_number field n ns = go (ltb n 128)
   where
-    rest : List ℕ
-    rest = flat_map varint_spelling ns
     go : (b : Bool) → flat_map (tagged field) (parts.nonempty (cond b (n ∷ []) ((n % 128 + 128) ∷ varint_spelling_within 9 (n / 128)) ++ flat_map varint_spelling ns)) ≡ tagged field (bytes (cond b (n ∷ []) ((n % 128 + 128) ∷ varint_spelling_within 9 (n / 128)) ++ flat_map varint_spelling ns))
     go true = append-nil _
     go false = append-nil _

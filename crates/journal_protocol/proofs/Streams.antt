@@ -1,11 +1,11 @@
 -- A stream of messages is read in one way, wherever it is cut.
-use Rattle.std.proofs.Common.{◌≡◌, ◌≢◌, ℕ, ◌+◌, ◌^◌, ◌<◌, ◌≤◌, Bool, true, false, ltb, List, [], ◌∷◌, ◌++◌, length, take, drop, map, Option, Some, None, Result, Ok, Err, refl, sym, ap, subst, ◌∙◌, append_assoc, arith, length-append}
-use Rattle.std.specs.List.{flat_map, AllByRecursion}
+use Rattle.std.proofs.Common.{◌≡◌, ◌≢◌, ℕ, ◌<◌, ◌≤◌, Bool, true, false, ltb, List, [], ◌∷◌, ◌++◌, length, take, drop, map, Option, Some, None, Result, Ok, Err, refl, sym, ap, ◌∙◌, append_assoc, arith, length-append}
+use Rattle.std.specs.List.{AllByRecursion}
 use Rattle.std.proofs.lemmas.Bool.{ltb-true, ltb-false}
 use Rattle.std.proofs.Math.Seq.{take-append_seam, drop-append_seam}
 use Rattle.std.proofs.lemmas.List.{drop-append-le, take-append-le, take-append-drop}
 use Rattle.protocol_wire.specs.Items.{items, left}
-use Rattle.protocol_wire.proofs.Steps.{Shrinks, items_read, items_ended, left_read, left_ended}
+use Rattle.protocol_wire.proofs.Steps.{items_read, items_ended, left_read, left_ended}
 use Rattle.protocol_wire.proofs.Extends.{Extends}
 use Rattle.protocol_wire.proofs.Cut.{items_cut}
 use Rattle.journal_protocol.specs.declared.decoder.RawMessage.{RawMessage}

@@ -1,12 +1,12 @@
 -- Types and numbers, there and back.
-use Rattle.std.proofs.Common.{◌≡◌, ◌≢◌, ◌↔◌, ℕ, ◌^◌, ◌<◌, Bool, true, false, cond, List, [], ◌∷◌, Option, Some, None, Result, Ok, Err, refl, sym, ap, ◌∙◌, arith, nat_eq, bit_and, lit<}
+use Rattle.std.proofs.Common.{◌≡◌, ◌≢◌, ℕ, Bool, true, false, cond, List, [], ◌∷◌, Option, Some, None, Result, Ok, Err, refl, sym, ap, ◌∙◌, nat_eq, bit_and, lit<}
 use Rattle.std.specs.Prelude.{find}
 use Rattle.std.specs.List.{AllByRecursion}
 use Rattle.std.proofs.lemmas.Bool.{eqb-true, eqb-false}
 use Rattle.journal_protocol.specs.declared.message_type.MessageType.{MessageType}
 use Rattle.journal_protocol.specs.declared.message_type.MessageType.TheVariants.{CustomEntry}
 use Rattle.journal_protocol.specs.declared.message_type.UnknownMessageType.{UnknownMessageType}
-use Rattle.journal_protocol.specs.MessageType.{number_of, named_types, named_type, custom_type, named_or_custom, type_numbered}
+use Rattle.journal_protocol.specs.MessageType.{number_of, named_types, named_type, named_or_custom, type_numbered}
 use Rattle.journal_protocol.specs.Frame.{IsWireType}
 use Rattle.journal_protocol.specs.Laws.{IsUnlisted, NamesReadBack, CustomEntriesReadBack, NumbersReadBack, RestIsUnknown}
 
@@ -100,6 +100,7 @@ numbers_read_back number ty e = go (named_type number) refl e
     custom : (b : Bool) → cond b (Err (record { 0 = number })) (Ok (CustomEntry number)) ≡ ok ty → number_of ty ≡ number
     custom true e = absurd cc
     custom false e = sym (ap number_of (ok_is _ _ e))
+
     go : (r : Option MessageType) → named_type number ≡ r → named_or_custom number r ≡ ok ty → number_of ty ≡ number
     go (Some found) is e = sym (ap number_of (ok_is _ _ e)) ∙ (named_type_some number found is).0
     go None is e = custom (nat_eq (bit_and number 0xFC00) 0) e
@@ -110,14 +111,18 @@ custom_entries_read_back number = (to, from)
     bits : (b : Bool) → nat_eq (bit_and number 0xFC00) 0 ≡ b → cond b (Err (record { 0 = number })) (Ok (CustomEntry number)) ≡ ok (CustomEntry number) → bit_and number 0xFC00 ≢ 0
     bits true is e = absurd cc
     bits false is e = eqb-false _ _ is
+
     go : (r : Option MessageType) → named_type number ≡ r → named_or_custom number r ≡ ok (CustomEntry number) → IsUnlisted number × (bit_and number 0xFC00 ≢ 0)
     go (Some found) is e = let n = (named_type_some number found is).1 in let c : found ≡ CustomEntry number = ok_is _ _ e in let clash = sym (ap is_named c) ∙ n in absurd cc
     go None is e = (named_type_none number is, bits (nat_eq (bit_and number 0xFC00) 0) refl e)
+
     to : type_numbered number ≡ Ok (CustomEntry number) → IsUnlisted number × (bit_and number 0xFC00 ≢ 0)
     to e = go (named_type number) refl e
+
     set : (b : Bool) → nat_eq (bit_and number 0xFC00) 0 ≡ b → bit_and number 0xFC00 ≢ 0 → cond b (Err (record { 0 = number })) (Ok (CustomEntry number)) ≡ ok (CustomEntry number)
     set true is ne = absurd (ne (eqb-true _ _ is))
     set false is ne = refl
+
     from : IsUnlisted number × (bit_and number 0xFC00 ≢ 0) → type_numbered number ≡ Ok (CustomEntry number)
     from h = rw (named_type_unlisted number h.0) (set (nat_eq (bit_and number 0xFC00) 0) refl h.1)
 
@@ -127,13 +132,17 @@ rest_is_unknown number = (to, from)
     bits : (b : Bool) → nat_eq (bit_and number 0xFC00) 0 ≡ b → cond b (err number) (Ok (CustomEntry number)) ≡ err number → bit_and number 0xFC00 ≡ 0
     bits true is e = eqb-true _ _ is
     bits false is e = absurd cc
+
     go : (r : Option MessageType) → named_type number ≡ r → named_or_custom number r ≡ err number → IsUnlisted number × (bit_and number 0xFC00 ≡ 0)
     go (Some found) is e = absurd cc
     go None is e = (named_type_none number is, bits (nat_eq (bit_and number 0xFC00) 0) refl e)
+
     to : type_numbered number ≡ Err (record { 0 = number }) → IsUnlisted number × (bit_and number 0xFC00 ≡ 0)
     to e = go (named_type number) refl e
+
     clear : (b : Bool) → nat_eq (bit_and number 0xFC00) 0 ≡ b → bit_and number 0xFC00 ≡ 0 → cond b (err number) (Ok (CustomEntry number)) ≡ err number
     clear true is e = refl
     clear false is e = absurd (eqb-false _ _ is e)
+
     from : IsUnlisted number × (bit_and number 0xFC00 ≡ 0) → type_numbered number ≡ Err (record { 0 = number })
     from h = rw (named_type_unlisted number h.0) (clear (nat_eq (bit_and number 0xFC00) 0) refl h.1)

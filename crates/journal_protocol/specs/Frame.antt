@@ -1,9 +1,8 @@
 -- Messages as bytes, one after another.
-use Rattle.std.specs.Prelude.{◌≡◌, ℕ, ◌^◌, ◌<◌, false, List, ◌++◌, length, is_some, Result, Ok}
+use Rattle.std.specs.Prelude.{◌≡◌, ℕ, ◌^◌, ◌<◌, false, List, ◌++◌, length, is_some, Ok}
 use Rattle.std.specs.List.{flat_map}
 use Rattle.std.specs.Int.{w64, to_be_bytes}
 use Rattle.journal_protocol.specs.declared.message_type.MessageType.{MessageType}
-use Rattle.journal_protocol.specs.declared.header.MessageHeader.{MessageHeader}
 use Rattle.journal_protocol.specs.declared.decoder.RawMessage.{RawMessage}
 use Rattle.journal_protocol.specs.MessageType.{number_of, type_numbered, allows_ack}
 use Rattle.journal_protocol.specs.Header.{message_type, message_length, requested_ack, header_of, word_of}

@@ -1,5 +1,5 @@
 -- Laws of types, headers and streams.
-use Rattle.std.specs.Prelude.{◌≡◌, ◌≢◌, ◌↔◌, ℕ, ◌^◌, ◌<◌, Bool, length, List, [], ◌∷◌, ◌++◌, map, bit_and, Option, Some, None, is_some, Result, Ok, Err}
+use Rattle.std.specs.Prelude.{◌≡◌, ◌≢◌, ◌↔◌, ℕ, ◌^◌, ◌<◌, Bool, length, List, [], ◌++◌, map, bit_and, Some, is_some, Ok, Err}
 use Rattle.std.specs.List.{AllByRecursion}
 use Rattle.protocol_wire.specs.Items.{items, left}
 use Rattle.protocol_wire.specs.Parts.{payload_of}

@@ -3,12 +3,11 @@ ghost use Rattle.std.specs.Prelude.{◌≡◌, ◌++◌, [], length, OnOk, OnErr
 ghost use Rattle.journal_protocol.specs.Header.{message_type};
 ghost use Rattle.journal_protocol.specs.Decoder.{ConsumesNext};
 
+use crate::{MessageHeader, MessageType, UnknownMessageType};
 use bytes::{Bytes, BytesMut};
 use std::alloc::{AllocError, Global};
 use std::marker::Model;
 use thiserror::Error;
-
-use crate::{MessageHeader, MessageType, UnknownMessageType};
 
 /// The bytes of a header.
 pub(crate) const HEADER_LEN: usize = 8;

@@ -2,12 +2,11 @@
 ghost use Rattle.std.specs.Prelude.{◌≡◌, ◌≤◌, ◌^◌, ◌++◌, ◌↔◌, Err, length, OnOk, OnErr};
 ghost use Rattle.journal_protocol.specs.Frame.{spelled, message_of};
 
+use crate::decoder::HEADER_LEN;
+use crate::{MessageHeader, MessageType};
 use bytes::BytesMut;
 use std::alloc::AllocError;
 use thiserror::Error;
-
-use crate::decoder::HEADER_LEN;
-use crate::{MessageHeader, MessageType};
 
 /// Why a message was not written.
 #[derive(Clone, Copy, Debug, PartialEq, Eq, Error)]

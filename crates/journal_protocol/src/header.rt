@@ -6,7 +6,9 @@ use crate::{MessageType, UnknownMessageType};
 
 // Where the type, the flag and the length stand in the number that a header is.
 const TYPE_SHIFT: u32 = 48;
+
 const REQUESTED_ACK_SHIFT: u32 = 47;
+
 const LENGTH_MASK: u64 = 0xFFFF_FFFF;
 
 /// What stands before a payload: its type, its length in bytes, and for a `ProposeRunCompletion` whether an

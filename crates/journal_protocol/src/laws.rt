@@ -10,28 +10,24 @@ pub fn types_read_back()
     ensures custom { CustomEntriesReadBack }
     ensures number { NumbersReadBack }
     ensures unknown { RestIsUnknown }
-{
-}
+{}
 
 /// A header whose flag fits its type is read back from the number that it is written as.
 pub fn headers_read_back()
     ensures { HeadersReadBack }
-{
-}
+{}
 
 /// A message is the item at the front of its bytes, whatever follows them, so no message begins another; and the
 /// items of a stream of messages are these messages.
 pub fn messages_read_back()
     ensures front { FramesStandAlone }
     ensures stream { StreamsAreRead }
-{
-}
+{}
 
 /// Cutting the same bytes into other pieces changes no item and no order.
 pub fn streams_cut_anywhere()
     ensures { StreamsCutAnywhere }
-{
-}
+{}
 
 /// The canonical payload of a record, and the frame of a message that requests no acknowledgement, are those that the
 /// definitions of durable execution give.
@@ -43,11 +39,9 @@ pub fn spelled_as_defined()
     ensures future { FuturesSpelled }
     ensures awaiting_on { AwaitingOnSpelled }
     ensures frame { FramesSpelled }
-{
-}
+{}
 
 /// A terminal failure that was turned into its record and back is unchanged.
 pub fn terminal_failures_read_back()
     ensures { TerminalFailuresReadBack }
-{
-}
+{}

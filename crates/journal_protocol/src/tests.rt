@@ -1,15 +1,14 @@
 //! Worked values of the format, through the public calls.
-use bytes::{ByteStr, Bytes, BytesMut};
-use journal_model::{Header, NonEmptyValue, TerminalFailure};
-use protocol_records::Failure as FailureRecord;
-use sequence::Sequence;
-use std::test::Fail;
-
 use crate::{
     Decoder, DecodingError, EncodingError, MessageHeader, MessageType, UnknownMessageType,
     to_failure, to_failure_record, to_header_records, to_headers, to_non_empty_value,
     to_output_result, to_terminal_failure, write_message,
 };
+use bytes::{ByteStr, Bytes, BytesMut};
+use journal_model::{Header, NonEmptyValue, TerminalFailure};
+use protocol_records::Failure as FailureRecord;
+use sequence::Sequence;
+use std::test::Fail;
 
 /// An input command whose value is `input`: its header, and its payload.
 const INPUT_FRAME: [u8; 17] = [
@@ -33,7 +32,10 @@ fn header_words(rt: HostRuntime) -> Result<(), Fail> {
     let unrequested = MessageHeader::new(ty, 42);
     assert_eq!(rt; u64::from(unrequested), 0x0005_0000_0000_002a);
     assert_eq!(rt; unrequested.requested_ack(), Some(false));
-    assert_eq!(rt; MessageHeader::try_from(0x0005_0000_0000_002a)?, unrequested);
+    assert_eq!(rt;
+        MessageHeader::try_from(0x0005_0000_0000_002a)?,
+        unrequested
+    );
     Ok(())
 }
 
@@ -45,7 +47,10 @@ fn numbers_of_types(rt: HostRuntime) -> Result<(), Fail> {
     assert_eq!(rt; u16::from(signal), 0xfbff);
     assert!(rt; signal.is_notification() && !signal.is_command());
     assert!(rt; MessageType::ProposeRunCompletion.allows_ack());
-    assert_eq!(rt; MessageType::try_from(0xfc00)?, MessageType::CustomEntry(0xfc00));
+    assert_eq!(rt;
+        MessageType::try_from(0xfc00)?,
+        MessageType::CustomEntry(0xfc00)
+    );
     assert_eq!(rt; MessageType::try_from(9), Err(UnknownMessageType(9)));
     let shown = format!(in rt.alloc(); "{} {}", call, UnknownMessageType(9))?;
     assert_eq!(rt; shown.as_str(), "CallCommand unknown message type 0x0009");
