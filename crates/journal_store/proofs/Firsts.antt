@@ -3,20 +3,13 @@ use Rattle.std.proofs.Common.{◌≡◌, ℕ, zero, suc, ◌+◌, ◌<◌, Bool,
 use Rattle.std.specs.List.{position}
 use Rattle.std.specs.Prelude.{slice_set}
 use Rattle.std.proofs.lemmas.List.Quantifiers.{position-Some}
-use Rattle.journal_store.specs.First.{first, with_first}
+use Rattle.journal_store.specs.First.{first, with_first, IsFirstAt}
 
 pub true_or_false : (b : Bool) → (b ≡ true) ⊎ (b ≡ false)
 true_or_false true = inl refl
 true_or_false false = inr refl
 
 module _ {A : Type 0} (test : A → Bool) where
-  -- the place k is the first that passes
-  pub record IsFirstAt (xs : List A) (k : ℕ) (x : A) : Type 0 where
-    pub within : k < length xs
-    pub at : (d : A) → get_or xs k d ≡ x
-    pub passes : test x ≡ true
-    pub none_before : (j : ℕ) (d : A) → j < k → test (get_or xs j d) ≡ false
-
   pub first_at : (xs : List A) (k : ℕ) (x : A) → IsFirstAt xs k x → first test xs ≡ Some x
   first_at [] k x f = absurd (omega (arith, f.within))
   first_at (y ∷ ys) zero x f = let e : y ≡ x = f.at y in let p : test y ≡ true = ap test e ∙ f.passes in rw (p, e) refl

@@ -2,11 +2,13 @@
 //! be handed and to be taken from it.
 #![tactic(auto)]
 
+mod attempt;
 mod output;
 mod refusal;
 mod row;
 mod store;
 
+pub use attempt::FrameKind;
 pub use output::AttemptOutput;
 pub use refusal::Refusal;
 pub use row::{BegunAttempt, FrameReply, LiveAttempt, RecordedRequest, StoredInvocation};
