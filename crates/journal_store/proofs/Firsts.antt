@@ -1,16 +1,56 @@
--- The first element that passes: at its place, after it was replaced, and after one more.
-use Rattle.std.proofs.Common.{◌≡◌, ℕ, zero, suc, ◌+◌, ◌<◌, Bool, true, false, List, [], ◌∷◌, ◌++◌, length, Option, Some, None, get_or, refl, sym, ap, ◌∙◌, arith, ◌⊎◌, inl, inr, if◌then◌else◌}
-use Rattle.std.specs.List.{position}
-use Rattle.std.specs.Prelude.{slice_set}
+-- The first element that passes a test: at its place, after it was replaced, and after one more.
+use Rattle.std.proofs.Common.{◌≡◌, ℕ, zero, suc, ◌+◌, ◌<◌, ◌≤◌, Bool, true, false, ltb, List, [], ◌∷◌, ◌++◌, length, Option, Some, None, get_or, refl, sym, ap, ◌∙◌, arith, ◌⊎◌, inl, inr}
+use Rattle.std.specs.List.{find, position, position_or_len}
+use Rattle.std.specs.Prelude.{slice_set, if◌then◌else◌}
+use Rattle.std.proofs.lemmas.Bool.{le-ltb, ltb-false}
 use Rattle.std.proofs.lemmas.List.Quantifiers.{position-Some}
-use Rattle.journal_store.specs.First.{first, with_first, IsFirstAt}
+use Rattle.journal_store.specs.First.{with_first, IsFirstAt}
 
 pub true_or_false : (b : Bool) → (b ≡ true) ⊎ (b ≡ false)
 true_or_false true = inl refl
 true_or_false false = inr refl
 
+same_item : {A : Type 0} (xs : List A) (k : ℕ) (d e : A) → k < length xs → get_or xs k d ≡ get_or xs k e
+same_item [] k d e lt = absurd (omega arith)
+same_item (x ∷ xs) zero d e lt = refl
+same_item (x ∷ xs) (suc k) d e lt = same_item xs k d e (omega arith)
+
 module _ {A : Type 0} (test : A → Bool) where
-  pub first_at : (xs : List A) (k : ℕ) (x : A) → IsFirstAt xs k x → first test xs ≡ Some x
+  first_of_position : (xs : List A) (k : ℕ) (d : A) → position test xs ≡ Some k → IsFirstAt test xs k (get_or xs k d)
+  first_of_position xs k d e =
+      let s = position-Some test xs k d e in
+      record {
+        within = s.0;
+        at = λ other. same_item xs k other d s.0;
+        passes = s.1;
+        none_before = λ j other lt. (position-Some test xs k other e).2 j lt;
+      }
+
+  -- the place that a search answers is that of the first
+  pub first_found : (xs : List A) (k : ℕ) → position test xs ≡ Some k → (x : A) × IsFirstAt test xs k x
+  first_found [] k e = absurd cc
+  first_found (x ∷ xs) k e = (get_or (x ∷ xs) k x, first_of_position (x ∷ xs) k x e)
+
+  none_found : (xs : List A) → ltb (position_or_len test xs) (length xs) ≡ false → find test xs ≡ None
+  none_found [] e = refl
+  none_found (x ∷ xs) e = go (test x) refl (none_found xs)
+    where
+      go : (b : Bool) → test x ≡ b → (ltb (position_or_len test xs) (length xs) ≡ false → find test xs ≡ None) → find test (x ∷ xs) ≡ None
+      go true q below = let f : length (x ∷ xs) ≤ position_or_len test (x ∷ xs) = ltb-false _ _ e in absurd (let g : length (x ∷ xs) ≤ 0 = rw q at f in omega arith)
+      go false q below =
+          let f : length (x ∷ xs) ≤ position_or_len test (x ∷ xs) = ltb-false _ _ e in
+          let g : length (x ∷ xs) ≤ 1 + position_or_len test xs = rw q at f in
+          rw q (below (le-ltb _ _ (omega arith)))
+
+  -- a search without an answer found none
+  pub first_missing : (xs : List A) → position test xs ≡ None → find test xs ≡ None
+  first_missing xs e = go (ltb (position_or_len test xs) (length xs)) refl
+    where
+      go : (b : Bool) → ltb (position_or_len test xs) (length xs) ≡ b → find test xs ≡ None
+      go true q = absurd (let f : Some (position_or_len test xs) ≡ None = rw q at e in cc)
+      go false q = none_found xs q
+
+  pub first_at : (xs : List A) (k : ℕ) (x : A) → IsFirstAt test xs k x → find test xs ≡ Some x
   first_at [] k x f = absurd (omega (arith, f.within))
   first_at (y ∷ ys) zero x f = let e : y ≡ x = f.at y in let p : test y ≡ true = ap test e ∙ f.passes in rw (p, e) refl
   first_at (y ∷ ys) (suc k) x f =
@@ -22,7 +62,7 @@ module _ {A : Type 0} (test : A → Bool) where
         none_before = λ j d lt. f.none_before (suc j) d (omega arith);
       }))
 
-  pub with_first_at : (xs : List A) (k : ℕ) (x y : A) → IsFirstAt xs k x → slice_set xs k y ≡ with_first test xs y
+  pub with_first_at : (xs : List A) (k : ℕ) (x y : A) → IsFirstAt test xs k x → slice_set xs k y ≡ with_first test xs y
   with_first_at [] k x y f = absurd (omega (arith, f.within))
   with_first_at (z ∷ zs) zero x y f = let p : test z ≡ true = ap test (f.at z) ∙ f.passes in rw p refl
   with_first_at (z ∷ zs) (suc k) x y f =
@@ -34,7 +74,19 @@ module _ {A : Type 0} (test : A → Bool) where
         none_before = λ j d lt. f.none_before (suc j) d (omega arith);
       })))
 
-  pub first_with : (xs : List A) (x y : A) → first test xs ≡ Some x → test y ≡ true → first test (with_first test xs y) ≡ Some y
+  -- the element itself in its place changes nothing
+  pub set_same : (xs : List A) (k : ℕ) (x : A) → IsFirstAt test xs k x → slice_set xs k x ≡ xs
+  set_same [] k x f = refl
+  set_same (z ∷ zs) zero x f = ap (λ (y : A). y ∷ zs) (sym (f.at z))
+  set_same (z ∷ zs) (suc k) x f =
+      ap (λ (s : List A). z ∷ s) (set_same zs k x (record {
+        within = omega (arith, f.within);
+        at = λ d. f.at d;
+        passes = f.passes;
+        none_before = λ j d lt. f.none_before (suc j) d (omega arith);
+      }))
+
+  pub first_with : (xs : List A) (x y : A) → find test xs ≡ Some x → test y ≡ true → find test (with_first test xs y) ≡ Some y
   first_with [] x y e p = absurd cc
   first_with (z ∷ zs) x y e p =
       elim (true_or_false (test z)) [
@@ -43,7 +95,7 @@ module _ {A : Type 0} (test : A → Bool) where
       ]
 
   -- a test that no element passes with this one sees no difference
-  pub first_of_other : (other : A → Bool) → ((z : A) → test z ≡ true → other z ≡ false) → (xs : List A) (y : A) → other y ≡ false → first other (with_first test xs y) ≡ first other xs
+  pub first_of_other : (other : A → Bool) → ((z : A) → test z ≡ true → other z ≡ false) → (xs : List A) (y : A) → other y ≡ false → find other (with_first test xs y) ≡ find other xs
   first_of_other other apart [] y e = refl
   first_of_other other apart (z ∷ zs) y e =
       elim (true_or_false (test z)) [
@@ -51,7 +103,7 @@ module _ {A : Type 0} (test : A → Bool) where
         | inr q ↦ rw q (ap (λ (o : Option A). if other z then Some z else o) (first_of_other other apart zs y e))
       ]
 
-  pub first_push_none : (xs : List A) (y : A) → first test xs ≡ None → first test (xs ++ y ∷ []) ≡ (if test y then Some y else None)
+  pub first_push_none : (xs : List A) (y : A) → find test xs ≡ None → find test (xs ++ y ∷ []) ≡ (if test y then Some y else None)
   first_push_none [] y e = refl
   first_push_none (z ∷ zs) y e =
       elim (true_or_false (test z)) [
@@ -59,19 +111,14 @@ module _ {A : Type 0} (test : A → Bool) where
         | inr q ↦ rw q (first_push_none zs y (rw q at e))
       ]
 
-  pub first_push_other : (xs : List A) (y : A) → test y ≡ false → first test (xs ++ y ∷ []) ≡ first test xs
+  pub first_push_other : (xs : List A) (y : A) → test y ≡ false → find test (xs ++ y ∷ []) ≡ find test xs
   first_push_other [] y e = rw e refl
   first_push_other (z ∷ zs) y e = ap (λ (o : Option A). if test z then Some z else o) (first_push_other zs y e)
 
-  pub first_push_some : (xs : List A) (x y : A) → first test xs ≡ Some x → first test (xs ++ y ∷ []) ≡ Some x
+  pub first_push_some : (xs : List A) (x y : A) → find test xs ≡ Some x → find test (xs ++ y ∷ []) ≡ Some x
   first_push_some [] x y e = absurd cc
   first_push_some (z ∷ zs) x y e =
       elim (true_or_false (test z)) [
         | inl q ↦ rw q (rw q at e)
         | inr q ↦ rw q (first_push_some zs x y (rw q at e))
       ]
-
-  -- none passes where none passes at any place
-  pub first_none : (xs : List A) → ((k : ℕ) (d : A) → k < length xs → test (get_or xs k d) ≡ false) → first test xs ≡ None
-  first_none [] none = refl
-  first_none (z ∷ zs) none = let p : test z ≡ false = none zero z (omega arith) in rw p (first_none zs (λ k d lt. none (suc k) d (omega arith)))

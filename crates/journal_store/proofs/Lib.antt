@@ -1,1 +1,3 @@
 pub mod Firsts
+pub mod Stepping
+pub mod Tests

@@ -1,8 +1,8 @@
 -- The rows of a store: what is recorded of each invocation, found by its id.
-use Rattle.std.specs.Prelude.{◌≡◌, ℕ, List, Bool, false, Option, Some, bytes_eq}
+use Rattle.std.specs.Prelude.{◌≡◌, ℕ, List, Bool, false, Option, Some, bytes_eq, find}
 use Rattle.journal_store.specs.declared.row.LiveAttempt.{LiveAttempt}
 use Rattle.journal_store.specs.declared.row.StoredInvocation.{StoredInvocation}
-use Rattle.journal_store.specs.First.{first, with_first, IsFirstAt}
+use Rattle.journal_store.specs.First.{with_first, IsFirstAt}
 
 abbrev pub Rows : Type 0
 Rows = List StoredInvocation
@@ -12,7 +12,7 @@ has_id id row = bytes_eq row.invocation.id id
 
 -- the row of the invocation with this id
 abbrev pub row_of : Rows → List ℕ → Option StoredInvocation
-row_of rows id = first (has_id id) rows
+row_of rows id = find (has_id id) rows
 
 -- the rows with another one in its place
 abbrev pub with_row : Rows → List ℕ → StoredInvocation → Rows

@@ -1,5 +1,5 @@
 -- Taking the first frame of a live attempt's output.
-use Rattle.std.specs.Prelude.{◌≡◌, ◌⊎◌, ℕ, ◌+◌, ◌^◌, nat_lt, Bool, true, false, not, ◌||◌, if◌then◌else◌, List, [], ◌∷◌, ◌++◌, length, Option, Some, None, is_some, Result, Ok, Err}
+use Rattle.std.specs.Prelude.{◌≡◌, ◌⊎◌, ℕ, ◌+◌, ◌^◌, ◌-◌, nat_lt, Bool, true, false, not, ◌||◌, if◌then◌else◌, List, [], ◌∷◌, ◌++◌, length, Option, Some, None, is_some, Result, Ok, Err}
 use Rattle.protocol_wire.specs.declared.table.RecordType.{RecordType}
 use Rattle.protocol_wire.specs.declared.table.RecordType.TheVariants as records
 use Rattle.protocol_wire.specs.declared.table.sleep_command.TheConstants as sleep_command

@@ -1,11 +1,11 @@
 // What the calls on a live attempt do to the row of its invocation.
-ghost use Rattle.std.specs.Prelude.{◌≡◌, ◌+◌, ◌^◌, ◌<◌, None, IfOk, IfErr, OnErr};
+ghost use Rattle.std.specs.Prelude.{◌≡◌, ◌+◌, ◌^◌, ◌<◌, length, IfOk, IfErr, OnOk, OnErr};
 ghost use Rattle.journal_store.specs.declared.row.FrameReply.TheVariants.{Recorded};
 ghost use Rattle.journal_store.specs.declared.refusal.Refusal.TheVariants.{OutOfMemory};
 ghost use Rattle.journal_store.specs.Causes.{first_cause};
 ghost use Rattle.journal_store.specs.Live.{HandsOut, PutsBehind, is_attempt};
-ghost use Rattle.journal_store.specs.Step.{accepted as the_accepted, payload_tests as the_payload_tests, payload_tests_of, row_tests, frame_tests, has_result as the_has_result, ends_attempt as the_ends_attempt, recorded};
-ghost use Rattle.journal_store.specs.RowCalls.{ChangesRow, AcceptsFrame, StepsRow};
+ghost use Rattle.journal_store.specs.Step.{accepted as the_accepted, payload_tests as the_payload_tests, payload_tests_of, row_tests, frame_tests, has_result as the_has_result, recorded};
+ghost use Rattle.journal_store.specs.RowCalls.{ChangesRow, AcceptsFrame, TakesFirstOf, kept as the_kept, StepsRow};
 
 use bytes::Bytes;
 use journal_protocol::MessageType;
@@ -138,4 +138,126 @@ fn row_refusal(row: &StoredInvocation, kind: FrameKind, payload: &[u8]) -> Optio
         FrameKind::Output if is_full => Some(Refusal::NumbersUsedUp),
         _ => None,
     }
+}
+
+/// Why a frame is refused.
+#[tactic(auto, using(crate::proofs::Tests::causes))]
+fn frame_refusal(row: &StoredInvocation, kind: FrameKind, payload: &[u8]) -> Option<Refusal>
+    ensures { result ≡ first_cause (frame_tests row.now (Some kind) payload.now) }
+{
+    match kind_refusal(kind, payload) {
+        Some(refusal) => Some(refusal),
+        None => row_refusal(row, kind, payload),
+    }
+}
+
+/// Records a request at the next place. A record owns its bytes, and keeps none of its attempt's.
+fn record(
+    alloc: Global,
+    row: &mut StoredInvocation,
+    ty: MessageType,
+    payload: &[u8],
+    last_completion: u32,
+) -> Result<FrameReply, Refusal>
+    requires { length row.old.requests + 1 < 2 ^ 32 }
+    ensures reply { IfOk result (λ reply. reply ≡ Recorded (length row.old.requests + 1)) }
+    ensures ok { OnOk result (row.new ≡ recorded row.old ty payload.now last_completion) }
+    ensures memory { IfErr result (λ refusal. refusal ≡ OutOfMemory) }
+    ensures err { OnErr result (row.new ≡ row.old) }
+{
+    let place = (row.requests.len() + 1) as u32;
+    let payload = Bytes::copy_from_slice(alloc, payload)?;
+    row.requests.push(RecordedRequest { ty, payload })?;
+    row.last_completion = last_completion;
+    row.attempts_at_entry = row.attempts;
+    row.first_moment = 0;
+    Ok(FrameReply::Recorded(place))
+}
+
+/// Does what an accepted frame says.
+fn accept(
+    alloc: Global,
+    row: &mut StoredInvocation,
+    kind: FrameKind,
+    ty: MessageType,
+    payload: &[u8],
+) -> Result<FrameReply, Refusal>
+    requires { first_cause (frame_tests row.old (Some kind) payload.now) ≡ None }
+    ensures { AcceptsFrame row.old kind ty payload.now result row.new }
+{
+    match kind {
+        FrameKind::Sleep => {
+            let completion = u32_at(payload, sleep_command::RESULT_COMPLETION_ID);
+            record(alloc, row, ty, payload, completion)
+        }
+        FrameKind::Output => {
+            let completion = row.last_completion;
+            record(alloc, row, ty, payload, completion)
+        }
+        FrameKind::AwaitingOn => Ok(FrameReply::Noted),
+        FrameKind::End => {
+            row.is_closed = true;
+            Ok(FrameReply::Ended)
+        }
+    }
+}
+
+/// Takes the first item of an attempt's output, and changes the row by it.
+fn take_first(
+    alloc: Global,
+    row: &mut StoredInvocation,
+    live: &mut LiveAttempt,
+) -> Result<Option<FrameReply>, Refusal>
+    ensures { TakesFirstOf row.old live.old result row.new live.new }
+{
+    let (ty, payload) = match live.output.first() {
+        FirstItem::Partial => return Ok(None),
+        FirstItem::Unknown => return Err(Refusal::FrameNotAccepted),
+        FirstItem::Frame { header, payload } => (header.message_type(), payload),
+    };
+    let Some(kind) = accepted(ty) else {
+        return Err(Refusal::FrameNotAccepted);
+    };
+    if let Some(refusal) = frame_refusal(row, kind, payload) {
+        return Err(refusal);
+    }
+    let len = HEADER_LEN + payload.len();
+    let reply = accept(alloc, row, kind, ty, payload)?;
+    live.output.advance(len);
+    Ok(Some(reply))
+}
+
+/// What becomes of an attempt whose first item was taken or refused.
+fn kept(
+    taken: &Result<Option<FrameReply>, Refusal>,
+    live: LiveAttempt,
+) -> Option<LiveAttempt>
+    ensures { result ≡ the_kept taken.now live }
+{
+    match taken {
+        Ok(Some(FrameReply::Ended)) => None,
+        Ok(_) => Some(live),
+        Err(
+            Refusal::BrokenPayload
+            | Refusal::NestedTooDeep
+            | Refusal::FrameNotAccepted
+            | Refusal::BadCompletion,
+        ) => None,
+        Err(_) => Some(live),
+    }
+}
+
+/// Takes the first item of the live attempt's output.
+pub(crate) fn step(
+    alloc: Global,
+    row: &mut StoredInvocation,
+) -> Result<Option<FrameReply>, Refusal>
+    ensures { StepsRow row.old result row.new }
+{
+    let Some(mut live) = row.live.take() else {
+        return Ok(None);
+    };
+    let taken = take_first(alloc, row, &mut live);
+    row.live = kept(&taken, live);
+    taken
 }
