@@ -1,3 +1,4 @@
+pub mod Calls
 pub mod Firsts
 pub mod Stepping
 pub mod Tests
