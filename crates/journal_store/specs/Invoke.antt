@@ -1,17 +1,13 @@
 -- A new invocation.
-use Rattle.std.specs.Prelude.{◌≡◌, ℕ, ◌^◌, nat_lt, nat_le, Bool, true, false, not, ◌&&◌, ◌||◌, List, [], ◌∷◌, ◌++◌, length, Option, None, is_some, Result, bytes_eq}
+use Rattle.std.specs.Prelude.{◌≡◌, ◌⊎◌, ℕ, ◌^◌, ◌==◌, nat_le, Bool, true, false, not, ◌&&◌, ◌||◌, List, [], ◌∷◌, ◌++◌, length, None, is_some, Result, Ok, Err, bytes_eq}
 use Rattle.std.specs.List.{list_any}
 use Rattle.journal_model.specs.declared.invocation.NewInvocation.{NewInvocation}
 use Rattle.journal_model.specs.Spelling.{input_payload}
 use Rattle.journal_store.specs.declared.row.StoredInvocation.{StoredInvocation}
 use Rattle.journal_store.specs.declared.refusal.Refusal.{Refusal}
-use Rattle.journal_store.specs.declared.refusal.Refusal.TheVariants.{ObjectBusy, EmptyName, IdUsed, UnsupportedVersion, PayloadTooLong}
+use Rattle.journal_store.specs.declared.refusal.Refusal.TheVariants.{ObjectBusy, EmptyName, IdUsed, UnsupportedVersion, OutOfMemory, PayloadTooLong}
 use Rattle.journal_store.specs.Rows.{Rows, row_of}
 use Rattle.journal_store.specs.Causes.{Tests, Answers}
-
-abbrev pub is_empty : List ℕ → Bool
-is_empty [] = true
-is_empty (b ∷ bs) = false
 
 -- whether an open invocation is one of this object
 abbrev pub is_busy : List ℕ → Rows → Bool
@@ -29,7 +25,7 @@ is_too_long payload = nat_le (2 ^ 32) (length payload)
 abbrev pub name_tests : Rows → NewInvocation → Tests
 name_tests rows new =
     (is_busy new.object rows, ObjectBusy)
-    ∷ (is_empty new.id || is_empty new.object, EmptyName)
+    ∷ (length new.id == 0 || length new.object == 0, EmptyName)
     ∷ (is_some (row_of rows new.id), IdUsed)
     ∷ (not (is_supported new.version), UnsupportedVersion) ∷ []
 
@@ -53,3 +49,8 @@ fresh_row new = record {
 -- The invocation is put behind the others.
 abbrev pub Invokes : {A : Type 0} → NewInvocation → Rows → Result A Refusal → Rows → Type 0
 Invokes new = λ old result after. Answers (invoke_tests old new) (λ _ rows. rows ≡ old ++ fresh_row new ∷ []) old result after
+
+-- The payload of the input, if it fits.
+abbrev pub SpellsInput : NewInvocation → Result (List ℕ) Refusal → Type 0
+SpellsInput new (Ok payload) = (payload ≡ input_payload new.headers new.input) × (is_too_long (input_payload new.headers new.input) ≡ false)
+SpellsInput new (Err refusal) = (refusal ≡ OutOfMemory) ⊎ ((refusal ≡ PayloadTooLong) × (is_too_long (input_payload new.headers new.input) ≡ true))

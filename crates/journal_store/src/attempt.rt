@@ -71,7 +71,7 @@ pub(crate) fn put_behind(row: &mut StoredInvocation, bytes: &[u8]) -> Result<(),
 }
 
 /// Which of the accepted frames has this type, if one has.
-fn accepted(ty: MessageType) -> Option<FrameKind>
+pub(crate) fn accepted(ty: MessageType) -> Option<FrameKind>
     ensures { result ≡ the_accepted ty }
 {
     match ty {

@@ -3,7 +3,9 @@
 #![tactic(auto)]
 
 mod attempt;
+mod begin;
 mod output;
+mod read;
 mod refusal;
 mod row;
 mod store;
@@ -13,3 +15,6 @@ pub use output::AttemptOutput;
 pub use refusal::Refusal;
 pub use row::{BegunAttempt, FrameReply, LiveAttempt, RecordedRequest, StoredInvocation};
 pub use store::Store;
+
+#[cfg(test)]
+mod tests;

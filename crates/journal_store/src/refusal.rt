@@ -1,7 +1,10 @@
 // Why a call is refused.
 ghost use Rattle.journal_store.specs.declared.refusal.Refusal.TheVariants.{OutOfMemory};
 ghost use Rattle.std.specs.Prelude.{◌≡◌};
+ghost use Rattle.journal_store.specs.Names.{name_of};
+ghost use Rattle.journal_store.specs.Writes.{encoding_refusal};
 
+use journal_protocol::EncodingError;
 use std::alloc::{AllocError, AllocFailed};
 
 /// Why a call of the store is refused. Where several hold, the one with the least number is answered.
@@ -39,7 +42,9 @@ pub enum Refusal {
 
 impl Refusal {
     /// The name as it is printed.
-    pub fn name(self) -> &'static str {
+    pub fn name(self) -> &'static str
+        ensures { result.now ≡ name_of self }
+    {
         match self {
             Refusal::ObjectBusy => "S1",
             Refusal::EmptyName => "S2",
@@ -72,5 +77,16 @@ impl<T: Drop> From<AllocFailed<T>> for Refusal {
 
     fn from(_error: AllocFailed<T>) -> Refusal {
         Refusal::OutOfMemory
+    }
+}
+
+impl From<EncodingError> for Refusal {
+    ghost from_gives = { λ error refusal. refusal ≡ encoding_refusal error };
+
+    fn from(error: EncodingError) -> Refusal {
+        match error {
+            EncodingError::PayloadTooLong => Refusal::PayloadTooLong,
+            EncodingError::OutOfMemory => Refusal::OutOfMemory,
+        }
     }
 }

@@ -1,18 +1,29 @@
 // Invocations by their id.
-ghost use Rattle.std.specs.Prelude.{◌≡◌, [], None, Some, Ok, IfSome, IfNone, IfOk, IfErr, MatchOption, MatchResult, position};
+ghost use Rattle.std.specs.Prelude.{◌≡◌, [], Some, not, IfOk, IfErr, position};
 ghost use Rattle.journal_store.specs.Causes.{Tests, first_cause, open_tests_of};
 ghost use Rattle.journal_store.specs.declared.row.StoredInvocation.{StoredInvocation as Row};
 ghost use Rattle.journal_store.specs.Rows.{has_id, row_of, IsOpenAt, IsLiveAt};
+ghost use Rattle.journal_store.specs.Invoke.{is_busy, name_tests, Invokes};
+ghost use Rattle.journal_store.specs.Begin.{Begins};
 ghost use Rattle.journal_store.specs.Live.{live_tests, NextInput, Feeds, Stops};
 ghost use Rattle.journal_store.specs.Step.{Steps};
+ghost use Rattle.journal_store.specs.Read.{Reads, AnswersWith};
 
 use bytes::{ByteStr, Bytes};
+use journal_model::{NewInvocation, NonEmptyValue};
+use sequence::Sequence;
 use std::alloc::Global;
 use std::marker::Model;
 
 use crate::attempt::{hand_out, put_behind, step};
+use crate::begin::{begin, input_payload};
+use crate::read::answer;
 use crate::refusal::Refusal;
-use crate::row::{FrameReply, StoredInvocation};
+use crate::row::{BegunAttempt, FrameReply, RecordedRequest, StoredInvocation};
+
+// The versions of the protocol that are supported.
+const OLDEST_VERSION: u32 = 5;
+const NEWEST_VERSION: u32 = 8;
 
 /// What is recorded of each invocation, and the attempts that are live.
 #[derive(Debug, Drop)]
@@ -75,6 +86,64 @@ impl Store {
         }
     }
 
+    /// Whether an open invocation is one of this object.
+    fn is_busy(&self, object: &ByteStr) -> bool
+        ensures { result ≡ is_busy object.now self.now }
+    {
+        self.invocations
+            .iter()
+            .any(|row| row.invocation.object == *object && !row.is_closed)
+    }
+
+    /// Why a new invocation is refused for its names or its version.
+    fn name_refusal(&self, new: &NewInvocation) -> Option<Refusal>
+        ensures { result ≡ first_cause (name_tests self.now new.now) }
+    {
+        if self.is_busy(&new.object) {
+            Some(Refusal::ObjectBusy)
+        } else if new.id.is_empty() || new.object.is_empty() {
+            Some(Refusal::EmptyName)
+        } else if self.place_of(&new.id).is_some() {
+            Some(Refusal::IdUsed)
+        } else if new.version < OLDEST_VERSION || new.version > NEWEST_VERSION {
+            Some(Refusal::UnsupportedVersion)
+        } else {
+            None
+        }
+    }
+
+    /// Accepts a new invocation. Its object may have others, but none that is open.
+    pub fn invoke(&mut self, new: NewInvocation) -> Result<(), Refusal>
+        ensures { Invokes new self.old result self.new }
+    {
+        if let Some(refusal) = self.name_refusal(&new) {
+            return Err(refusal);
+        }
+        let alloc = *self.invocations.allocator();
+        let input = input_payload(alloc, &new)?;
+        self.invocations.push(StoredInvocation {
+            invocation: new,
+            input,
+            requests: Sequence::new(alloc),
+            last_completion: 0,
+            is_closed: false,
+            attempts: 0,
+            attempts_at_entry: 0,
+            first_moment: 0,
+            live: None,
+        })?;
+        Ok(())
+    }
+
+    /// Begins an attempt at this moment, in milliseconds: it is live, and an earlier one is over.
+    pub fn begin(&mut self, id: &ByteStr, now: u64) -> Result<BegunAttempt, Refusal>
+        ensures { Begins id.now now self.old result self.new }
+    {
+        let alloc = *self.invocations.allocator();
+        let place = self.open_place(id)?;
+        begin(alloc, &mut self.invocations[place], now)
+    }
+
     /// The next bytes that the attempt is handed, at most so many: none only where `most` is 0 or all were handed out.
     pub fn next_input(
         &mut self,
@@ -113,5 +182,36 @@ impl Store {
         let row = &mut self.invocations[place];
         row.live = None;
         Ok(())
+    }
+
+    /// Its recorded requests: the first has place 1.
+    pub fn requests(&self, id: &ByteStr) -> Result<&[RecordedRequest], Refusal>
+        ensures { Reads (λ requests row. requests.now ≡ row.requests) id.now self.now result }
+    {
+        let Some(place) = self.place_of(id) else {
+            return Err(Refusal::UnknownInvocation);
+        };
+        Ok(self.invocations[place].requests.as_slice())
+    }
+
+    /// Whether no end frame has closed it.
+    pub fn is_open(&self, id: &ByteStr) -> Result<bool, Refusal>
+        ensures { Reads (λ is_open row. is_open ≡ not row.is_closed) id.now self.now result }
+    {
+        let Some(place) = self.place_of(id) else {
+            return Err(Refusal::UnknownInvocation);
+        };
+        Ok(!self.invocations[place].is_closed)
+    }
+
+    /// What it has put out last, once it is closed.
+    pub fn answer(&self, id: &ByteStr) -> Result<Option<NonEmptyValue>, Refusal>
+        ensures { AnswersWith id.now self.now result }
+    {
+        let Some(place) = self.place_of(id) else {
+            return Err(Refusal::UnknownInvocation);
+        };
+        let alloc = *self.invocations.allocator();
+        Ok(answer(alloc, &self.invocations[place])?)
     }
 }
