@@ -9,24 +9,28 @@ use Rattle.journal_store.specs.declared.refusal.Refusal.{Refusal}
 use Rattle.journal_store.specs.declared.refusal.Refusal.TheVariants.{NumbersUsedUp, PayloadTooLong}
 use Rattle.journal_store.specs.Rows.{Rows}
 use Rattle.journal_store.specs.Causes.{Tests, first_cause, IsRefusal}
-use Rattle.journal_store.specs.Invoke.{name_tests, invoke_tests, SpellsInput}
+use Rattle.journal_store.specs.Invoke.{is_too_long, name_tests, invoke_tests, SpellsInput}
+use Rattle.journal_model.specs.Spelling.{input_payload}
 use Rattle.journal_store.specs.Begin.{attempt_tests, start_message, journal_messages, is_long, are_used_up}
 use Rattle.journal_store.specs.Writes.{Writes}
 use Rattle.journal_store.proofs.Tests.{cause_before, cause_behind}
 
 -- ---- a new invocation
 
+abbrev input_tests : NewInvocation → Tests
+input_tests new = (is_too_long (input_payload new.headers new.input), PayloadTooLong) ∷ []
+
 pub refused_by_name : (rows : Rows) (new : NewInvocation) (refusal : Refusal) → first_cause (name_tests rows new) ≡ Some refusal → IsRefusal (invoke_tests rows new) refusal
-refused_by_name rows new refusal e = inl (cause_before (name_tests rows new) _ refusal e)
+refused_by_name rows new refusal e = inl (cause_before (name_tests rows new) (input_tests new) refusal e)
 
 pub refused_by_input : (rows : Rows) (new : NewInvocation) (refusal : Refusal) → first_cause (name_tests rows new) ≡ None → SpellsInput new (Err refusal) → IsRefusal (invoke_tests rows new) refusal
 refused_by_input rows new refusal e s = elim s [
     | inl memory ↦ inr memory
-    | inr long ↦ inl (cause_behind (name_tests rows new) _ e ∙ (let test = long.1 in rw test (ap (λ (r : Refusal). Some r) (sym long.0))))
+    | inr long ↦ inl (cause_behind (name_tests rows new) (input_tests new) e ∙ (let test = long.1 in rw test (ap (λ (r : Refusal). Some r) (sym long.0))))
   ]
 
 pub invoked_without_cause : (rows : Rows) (new : NewInvocation) (payload : List ℕ) → first_cause (name_tests rows new) ≡ None → SpellsInput new (Ok payload) → first_cause (invoke_tests rows new) ≡ None
-invoked_without_cause rows new payload e s = cause_behind (name_tests rows new) _ e ∙ (let test = s.1 in rw test refl)
+invoked_without_cause rows new payload e s = cause_behind (name_tests rows new) (input_tests new) e ∙ (let test = s.1 in rw test refl)
 
 -- ---- an attempt
 

@@ -8,10 +8,11 @@ use Rattle.journal_store.specs.declared.row.BegunAttempt.{BegunAttempt}
 use Rattle.journal_store.specs.declared.row.FrameReply.{FrameReply}
 use Rattle.journal_store.specs.declared.refusal.Refusal.{Refusal}
 use Rattle.journal_store.specs.declared.refusal.Refusal.TheVariants.{UnknownInvocation, InvocationClosed, AttemptNotLive}
-use Rattle.journal_store.specs.Rows.{Rows, has_id, row_of, with_row, IsRowAt, IsOpenAt, IsLiveAt}
+use Rattle.journal_store.specs.Rows.{Rows, has_id, row_of, with_row, IsRowAt, IsKnownAt, IsOpenAt, IsLiveAt}
 use Rattle.journal_store.specs.Causes.{Tests, first_cause, open_tests_of, IsRefusal}
 use Rattle.journal_store.specs.Begin.{attempt_tests, begin_tests, begun_row, IsBegun, IsBegunOf, StartFits, Begins, BeginsRow}
 use Rattle.journal_store.specs.Live.{is_attempt, live_tests, ChangesLive, LiveAnswers}
+use Rattle.journal_store.specs.Read.{IsUnknown, ReadsRow}
 use Rattle.journal_store.specs.Step.{TakesFirst, RefusesItem, Steps}
 use Rattle.journal_store.specs.RowCalls.{ChangesRow, StepsRow}
 use Rattle.journal_store.proofs.Firsts.{first_found, first_missing, first_at, with_first_at, set_same}
@@ -23,23 +24,34 @@ module _ (rows items : Rows) (same : items ≡ rows) (id : List ℕ) where
   read_row : (place : ℕ) (row read : StoredInvocation) → IsRowAt rows id place row → read ≡ slice_index_or items place read → read ≡ row
   read_row place row read at e = e ∙ ap (λ (s : Rows). slice_index_or s place read) same ∙ at.at read
 
-  pub absent : position (has_id id) rows ≡ None → (own : StoredInvocation → Tests) → first_cause (open_tests_of (row_of rows id) own) ≡ Some UnknownInvocation
-  absent e own = let f = first_missing (has_id id) rows e in rw f refl
+  pub known_at : (place : ℕ) → position (has_id id) rows ≡ Some place → IsKnownAt rows id place
+  known_at place e = let found = first_found (has_id id) rows place e in record { row = found.0; at = found.1 }
 
-  pub closed_at : (place : ℕ) (read : StoredInvocation) → position (has_id id) rows ≡ Some place → read ≡ slice_index_or items place read → read.is_closed ≡ true
+  pub unknown : position (has_id id) rows ≡ None → IsUnknown rows id UnknownInvocation
+  unknown e = (first_missing (has_id id) rows e, refl)
+
+  pub refused_unknown : (refusal : Refusal) → IsUnknown rows id refusal → (own : StoredInvocation → Tests) → first_cause (open_tests_of (row_of rows id) own) ≡ Some refusal
+  refused_unknown refusal u own = let absent = u.0 in rw absent (ap (λ (r : Refusal). Some r) (sym u.1))
+
+  pub refused_closed : (place : ℕ) (read : StoredInvocation) → IsKnownAt rows id place → read ≡ slice_index_or items place read → read.is_closed ≡ true
       → (own : StoredInvocation → Tests) → first_cause (open_tests_of (row_of rows id) own) ≡ Some InvocationClosed
-  closed_at place read e i closed own =
-      let found = first_found (has_id id) rows place e in
-      let is = read_row place found.0 read found.1 i in
-      let there = first_at (has_id id) rows place found.0 found.1 in
-      let shut : found.0.is_closed ≡ true = ap (λ (r : StoredInvocation). r.is_closed) (sym is) ∙ closed in
+  refused_closed place read p i closed own =
+      let is = read_row place p.row read p.at i in
+      let there = first_at (has_id id) rows place p.row p.at in
+      let shut : p.row.is_closed ≡ true = ap (λ (r : StoredInvocation). r.is_closed) (sym is) ∙ closed in
       rw (there, shut) refl
 
-  pub open_at : (place : ℕ) (read : StoredInvocation) → position (has_id id) rows ≡ Some place → read ≡ slice_index_or items place read → read.is_closed ≡ false → IsOpenAt rows id place
-  open_at place read e i open_ =
-      let found = first_found (has_id id) rows place e in
-      let is = read_row place found.0 read found.1 i in
-      record { row = found.0; at = found.1; is_open = ap (λ (r : StoredInvocation). r.is_closed) (sym is) ∙ open_ }
+  pub open_at : (place : ℕ) (read : StoredInvocation) → IsKnownAt rows id place → read ≡ slice_index_or items place read → read.is_closed ≡ false → IsOpenAt rows id place
+  open_at place read p i is_open =
+      let is = read_row place p.row read p.at i in
+      record { row = p.row; at = p.at; is_open = ap (λ (r : StoredInvocation). r.is_closed) (sym is) ∙ is_open }
+
+  pub reads_row : (Shows : StoredInvocation → Type 0) (place : ℕ) (read : StoredInvocation) → IsKnownAt rows id place → read ≡ slice_index_or items place read → Shows read → ReadsRow Shows id rows
+  reads_row Shows place read p i shows = record {
+    row = p.row;
+    found = first_at (has_id id) rows place p.row p.at;
+    shows = subst Shows (read_row place p.row read p.at i) shows;
+  }
 
   pub not_live : (attempt place : ℕ) (read : StoredInvocation) → IsOpenAt rows id place → read ≡ slice_index_or items place read → is_attempt attempt read.live ≡ false
       → first_cause (live_tests rows id attempt) ≡ Some AttemptNotLive

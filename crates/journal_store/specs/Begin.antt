@@ -63,11 +63,11 @@ begun_row row now = record row {
 pub record IsBegun (row : StoredInvocation) (now : ℕ) (begun : BegunAttempt) : Type 0 where
   pub number : begun.number ≡ row.attempts + 1
   pub version : begun.version ≡ row.invocation.version
+  pub version_fits : row.invocation.version < 2 ^ 32
   pub start : begun.start ≡ spelled (start_message row now)
 
 -- the numbers of a start within their types
 pub record StartFits (row : StoredInvocation) (now : ℕ) : Type 0 where
-  pub version : row.invocation.version < 2 ^ 32
   pub seed : row.invocation.seed < 2 ^ 64
   pub known_entries : 1 + length row.requests < 2 ^ 32
   pub retry_count : begun_since_entry row < 2 ^ 32

@@ -13,6 +13,10 @@ use Rattle.journal_store.specs.Causes.{Tests, Answers}
 abbrev pub is_busy : List ℕ → Rows → Bool
 is_busy object rows = list_any (λ row. bytes_eq row.invocation.object object && not row.is_closed) rows
 
+-- an invocation has an id, and is one of an object
+abbrev pub is_nameless : NewInvocation → Bool
+is_nameless new = length new.id == 0 || length new.object == 0
+
 -- versions 5 to 8 are supported
 abbrev pub is_supported : ℕ → Bool
 is_supported version = nat_le 5 version && nat_le version 8
@@ -25,7 +29,7 @@ is_too_long payload = nat_le (2 ^ 32) (length payload)
 abbrev pub name_tests : Rows → NewInvocation → Tests
 name_tests rows new =
     (is_busy new.object rows, ObjectBusy)
-    ∷ (length new.id == 0 || length new.object == 0, EmptyName)
+    ∷ (is_nameless new, EmptyName)
     ∷ (is_some (row_of rows new.id), IdUsed)
     ∷ (not (is_supported new.version), UnsupportedVersion) ∷ []
 

@@ -20,7 +20,6 @@ use Rattle.journal_store.specs.declared.row.StoredInvocation.{StoredInvocation}
 use Rattle.journal_store.specs.declared.refusal.Refusal.{Refusal}
 use Rattle.journal_store.specs.declared.refusal.Refusal.TheVariants.{UnknownInvocation, OutOfMemory}
 use Rattle.journal_store.specs.Rows.{Rows, row_of}
-use Rattle.journal_store.specs.Causes.{Tests, first_cause, IsRefusal}
 use Rattle.journal_store.specs.Step.{accepted}
 
 -- The row of a known invocation shows this.
@@ -29,10 +28,13 @@ pub record ReadsRow (Shows : StoredInvocation → Type 0) (id : List ℕ) (rows 
   pub found : row_of rows id ≡ Some row
   pub shows : Shows row
 
+abbrev pub IsUnknown : Rows → List ℕ → Refusal → Type 0
+IsUnknown rows id refusal = (row_of rows id ≡ None) × (refusal ≡ UnknownInvocation)
+
 -- A reader is refused for an unknown invocation alone.
 abbrev pub Reads : {A : Type 0} → (A → StoredInvocation → Type 0) → List ℕ → Rows → Result A Refusal → Type 0
 Reads Shows id rows (Ok answer) = ReadsRow (Shows answer) id rows
-Reads Shows id rows (Err refusal) = (row_of rows id ≡ None) × (refusal ≡ UnknownInvocation)
+Reads Shows id rows (Err refusal) = IsUnknown rows id refusal
 
 -- ---- the answer
 
@@ -73,4 +75,4 @@ answer_of row = if row.is_closed then option_and_then output_in (last_output Non
 
 abbrev pub AnswersWith : List ℕ → Rows → Result (Option NonEmptyValue) Refusal → Type 0
 AnswersWith id rows (Ok answer) = ReadsRow (λ row. answer ≡ answer_of row) id rows
-AnswersWith id rows (Err refusal) = ((row_of rows id ≡ None) × (refusal ≡ UnknownInvocation)) ⊎ (refusal ≡ OutOfMemory)
+AnswersWith id rows (Err refusal) = IsUnknown rows id refusal ⊎ (refusal ≡ OutOfMemory)

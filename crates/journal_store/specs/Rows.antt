@@ -22,6 +22,11 @@ with_row rows id row = with_first (has_id id) rows row
 abbrev pub IsRowAt : Rows → List ℕ → ℕ → StoredInvocation → Type 0
 IsRowAt rows id place row = IsFirstAt (has_id id) rows place row
 
+-- the place of an invocation
+pub record IsKnownAt (rows : Rows) (id : List ℕ) (place : ℕ) : Type 0 where
+  pub row : StoredInvocation
+  pub at : IsRowAt rows id place row
+
 -- the place of an open invocation
 pub record IsOpenAt (rows : Rows) (id : List ℕ) (place : ℕ) : Type 0 where
   pub row : StoredInvocation

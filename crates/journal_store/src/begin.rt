@@ -1,8 +1,10 @@
 // Beginning an attempt: the frames that it is handed, and its row.
 ghost use Rattle.std.specs.Prelude.{◌≡◌, ◌++◌, [], ◌∷◌, ◌+◌, ◌^◌, ◌<◌, ◌==◌, if◌then◌else◌, length, map, IfOk};
+ghost use Rattle.std.specs.Bool.{OnFalse};
 ghost use Rattle.journal_protocol.specs.Frame.{message_of, spelled, stream};
+ghost use Rattle.journal_model.specs.Spelling.{input_payload as payload_of_input};
 ghost use Rattle.journal_store.specs.Invoke.{SpellsInput};
-ghost use Rattle.journal_store.specs.Begin.{begun_since_entry, since_first, start_message, journal_messages, request_message, StartFits, BeginsRow};
+ghost use Rattle.journal_store.specs.Begin.{are_used_up, begun_since_entry, since_first, start_payload as start_payload_at, start_message, journal_messages, request_message, StartFits, BeginsRow};
 ghost use Rattle.journal_store.specs.Payloads.{header_record, input_record, start_record};
 ghost use Rattle.journal_store.specs.Writes.{Writes};
 
@@ -18,6 +20,16 @@ use crate::output::AttemptOutput;
 use crate::refusal::Refusal;
 use crate::row::{BegunAttempt, LiveAttempt, RecordedRequest, StoredInvocation};
 
+/// A header as the record of an input has it.
+fn header_record_of(header: &journal_model::Header) -> Result<Header, AllocError>
+    ensures { IfOk result (λ one. one ≡ header_record header.now) }
+{
+    Ok(Header {
+        key: header.key.clone()?,
+        value: header.value.clone()?,
+    })
+}
+
 /// The headers as the record of an input has them.
 fn header_records(
     alloc: Global,
@@ -27,10 +39,7 @@ fn header_records(
 {
     let mut records = Sequence::new(alloc);
     for header in headers.as_slice() {
-        records.push(Header {
-            key: header.key.clone()?,
-            value: header.value.clone()?,
-        })?;
+        records.push(header_record_of(header)?)?;
     }
     Ok(records)
 }
@@ -51,12 +60,20 @@ fn input_record_of(
     })
 }
 
-/// The payload of an invocation's input.
-pub(crate) fn input_payload(alloc: Global, new: &NewInvocation) -> Result<Bytes, Refusal>
-    ensures { SpellsInput new.now result }
+/// Its canonical spelling.
+fn spelled_input(alloc: Global, new: &NewInvocation) -> Result<Vec<u8>, AllocError>
+    ensures { IfOk result (λ payload. payload.items ≡ payload_of_input new.now.headers new.now.input) }
 {
     let input = input_record_of(alloc, new)?;
     let payload = encode(alloc, &input)?;
+    Ok(payload)
+}
+
+/// The payload of an invocation's input, if its length fits 32 bits.
+pub(crate) fn input_payload(alloc: Global, new: &NewInvocation) -> Result<Bytes, Refusal>
+    ensures { SpellsInput new.now result }
+{
+    let payload = spelled_input(alloc, new)?;
     if payload.len() > u32::MAX as usize {
         return Err(Refusal::PayloadTooLong);
     }
@@ -66,14 +83,16 @@ pub(crate) fn input_payload(alloc: Global, new: &NewInvocation) -> Result<Bytes,
 impl StoredInvocation {
     /// How many attempts were begun since the last entry.
     fn begun_since_entry(&self) -> u32
-        ensures { result ≡ begun_since_entry self.now }
+        ensures value { result ≡ begun_since_entry self.now }
+        ensures fits { begun_since_entry self.now < 2 ^ 32 }
     {
         self.attempts.saturating_sub(self.attempts_at_entry)
     }
 
     /// How long before this moment the first of them was.
     fn since_first(&self, now: u64) -> u64
-        ensures { result ≡ since_first self.now now }
+        ensures value { result ≡ since_first self.now now }
+        ensures fits { since_first self.now now < 2 ^ 64 }
     {
         if self.begun_since_entry() == 0 {
             0
@@ -93,13 +112,36 @@ impl StoredInvocation {
         }
     }
 
+    /// Whether no further attempt has a number, or no further entry is counted.
+    fn are_numbers_used_up(&self) -> bool
+        ensures value { result ≡ are_used_up self.now }
+        ensures room { OnFalse result ((self.now.attempts + 1 < 2 ^ 32) × (length self.now.requests + 1 < 2 ^ 32)) }
+    {
+        self.attempts == u32::MAX || self.requests.len() >= u32::MAX as usize
+    }
+
+    /// The version of the protocol that its attempts speak.
+    fn version(&self) -> u32
+        ensures value { result ≡ self.now.invocation.version }
+        ensures fits { self.now.invocation.version < 2 ^ 32 }
+    {
+        self.invocation.version
+    }
+
+    /// What its handler draws random numbers from.
+    fn seed(&self) -> u64
+        ensures value { result ≡ self.now.invocation.seed }
+        ensures fits { self.now.invocation.seed < 2 ^ 64 }
+    {
+        self.invocation.seed
+    }
+
     /// The start of an attempt that is begun at this moment.
     fn start_record(&self, alloc: Global, now: u64) -> Result<StartMessage, AllocError>
         requires { length self.now.requests + 1 < 2 ^ 32 }
         ensures start { IfOk result (λ start. start ≡ start_record self.now now) }
         ensures fits { IfOk result (λ _. StartFits self.now now) }
     {
-        let _version = self.invocation.version;
         Ok(StartMessage {
             id: self.invocation.id.as_bytes().clone()?,
             debug_id: self.invocation.id.clone()?,
@@ -109,12 +151,27 @@ impl StoredInvocation {
             key: self.invocation.object.clone()?,
             retry_count_since_last_stored_entry: self.begun_since_entry(),
             duration_since_last_stored_entry: self.since_first(now),
-            random_seed: self.invocation.seed,
+            random_seed: self.seed(),
             scope: None,
             limit_key: None,
             idempotency_key: None,
         })
     }
+}
+
+/// The payload of that start.
+fn start_payload(
+    alloc: Global,
+    row: &StoredInvocation,
+    now: u64,
+) -> Result<Vec<u8>, AllocError>
+    requires { length row.now.requests + 1 < 2 ^ 32 }
+    ensures payload { IfOk result (λ payload. payload.items ≡ start_payload_at row.now now) }
+    ensures fits { IfOk result (λ _. StartFits row.now now) }
+{
+    let start = row.start_record(alloc, now)?;
+    let payload = encode(alloc, &start)?;
+    Ok(payload)
 }
 
 /// Puts a message at the end.
@@ -125,17 +182,23 @@ fn put(out: &mut BytesMut, ty: MessageType, payload: &[u8]) -> Result<(), Refusa
     Ok(())
 }
 
+/// The frame of a message.
+fn frame(alloc: Global, ty: MessageType, payload: &[u8]) -> Result<Bytes, Refusal>
+    ensures { Writes (message_of ty payload.now ∷ []) (λ bytes. bytes ≡ spelled (message_of ty payload.now)) result }
+{
+    let mut out = BytesMut::new(alloc);
+    put(&mut out, ty, payload)?;
+    Ok(out.freeze()?)
+}
+
 /// The start frame of an attempt that is begun at this moment.
 fn start_frame(alloc: Global, row: &StoredInvocation, now: u64) -> Result<Bytes, Refusal>
     requires { length row.now.requests + 1 < 2 ^ 32 }
     ensures start { Writes (start_message row.now now ∷ []) (λ start. start ≡ spelled (start_message row.now now)) result }
     ensures fits { IfOk result (λ _. StartFits row.now now) }
 {
-    let start = row.start_record(alloc, now)?;
-    let payload = encode(alloc, &start)?;
-    let mut out = BytesMut::new(alloc);
-    put(&mut out, MessageType::Start, &payload)?;
-    Ok(out.freeze()?)
+    let payload = start_payload(alloc, row, now)?;
+    frame(alloc, MessageType::Start, payload.as_slice())
 }
 
 /// Puts the frames of requests at the end.
@@ -166,12 +229,13 @@ pub(crate) fn begin(
 ) -> Result<BegunAttempt, Refusal>
     ensures { BeginsRow now row.old result row.new }
 {
-    if row.attempts == u32::MAX || row.requests.len() >= u32::MAX as usize {
+    if row.are_numbers_used_up() {
         return Err(Refusal::NumbersUsedUp);
     }
     let start = start_frame(alloc, row, now)?;
     let input = journal_frames(alloc, row)?;
     let number = row.attempts + 1;
+    let version = row.version();
     row.first_moment = row.first_moment_with(now);
     row.attempts = number;
     row.live = Some(LiveAttempt {
@@ -181,7 +245,7 @@ pub(crate) fn begin(
     });
     Ok(BegunAttempt {
         number,
-        version: row.invocation.version,
+        version,
         start,
     })
 }

@@ -54,11 +54,14 @@ fn value_of(alloc: Global, output: OutputCommandResult) -> Result<NonEmptyValue,
 fn output_of(alloc: Global, payload: &[u8]) -> Result<Option<NonEmptyValue>, AllocError>
     ensures { IfOk result (λ value. value ≡ output_in payload.now) }
 {
-    match decode::<OutputCommandMessage>(alloc, payload) {
-        Ok(output) => match output.result {
-            Some(value) => Ok(Some(value_of(alloc, value)?)),
-            None => Ok(None),
-        },
+    match decode(alloc, payload) {
+        Ok(output) => {
+            let OutputCommandMessage { name: _name, result } = output;
+            match result {
+                Some(value) => Ok(Some(value_of(alloc, value)?)),
+                None => Ok(None),
+            }
+        }
         Err(DecodeError::Fault(_)) => Ok(None),
         Err(DecodeError::Memory) => Err(AllocError),
     }

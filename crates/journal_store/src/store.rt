@@ -1,13 +1,13 @@
 // Invocations by their id.
-ghost use Rattle.std.specs.Prelude.{◌≡◌, [], Some, not, IfOk, IfErr, position};
+ghost use Rattle.std.specs.Prelude.{◌≡◌, [], Some, not, is_some, IfOk, IfErr, position};
 ghost use Rattle.journal_store.specs.Causes.{Tests, first_cause, open_tests_of};
 ghost use Rattle.journal_store.specs.declared.row.StoredInvocation.{StoredInvocation as Row};
-ghost use Rattle.journal_store.specs.Rows.{has_id, row_of, IsOpenAt, IsLiveAt};
-ghost use Rattle.journal_store.specs.Invoke.{is_busy, name_tests, Invokes};
+ghost use Rattle.journal_store.specs.Rows.{has_id, row_of, IsKnownAt, IsOpenAt, IsLiveAt};
+ghost use Rattle.journal_store.specs.Invoke.{is_busy, is_nameless as is_nameless_name, is_supported as is_supported_version, name_tests, Invokes};
 ghost use Rattle.journal_store.specs.Begin.{Begins};
 ghost use Rattle.journal_store.specs.Live.{live_tests, NextInput, Feeds, Stops};
 ghost use Rattle.journal_store.specs.Step.{Steps};
-ghost use Rattle.journal_store.specs.Read.{Reads, AnswersWith};
+ghost use Rattle.journal_store.specs.Read.{IsUnknown, Reads, AnswersWith};
 
 use bytes::{ByteStr, Bytes};
 use journal_model::{NewInvocation, NonEmptyValue};
@@ -40,6 +40,20 @@ impl Model for Store {
     ghost view = { λ store. store.invocations.items };
 }
 
+/// Whether the id or the object key of an invocation is empty.
+fn is_nameless(new: &NewInvocation) -> bool
+    ensures { result ≡ is_nameless_name new.now }
+{
+    new.id.is_empty() || new.object.is_empty()
+}
+
+/// Whether attempts may speak this version of the protocol.
+fn is_supported(version: u32) -> bool
+    ensures { result ≡ is_supported_version version }
+{
+    OLDEST_VERSION <= version && version <= NEWEST_VERSION
+}
+
 impl Store {
     /// The store of no invocation.
     pub fn new(alloc: Global) -> Store
@@ -59,14 +73,23 @@ impl Store {
             .position(|row| row.invocation.id == *id)
     }
 
-    /// Where the open invocation with this id stands.
+    /// Where the row of a known invocation stands.
+    fn known_place(&self, id: &ByteStr) -> Result<usize, Refusal>
+        ensures ok { IfOk result (IsKnownAt self.now id.now) }
+        ensures err { IfErr result (IsUnknown self.now id.now) }
+    {
+        match self.place_of(id) {
+            Some(place) => Ok(place),
+            None => Err(Refusal::UnknownInvocation),
+        }
+    }
+
+    /// Where the row of an open invocation stands.
     fn open_place(&self, id: &ByteStr) -> Result<usize, Refusal>
         ensures ok { IfOk result (IsOpenAt self.now id.now) }
         ensures err { IfErr result (λ refusal. (own : Row → Tests) → first_cause (open_tests_of (row_of self.now id.now) own) ≡ Some refusal) }
     {
-        let Some(place) = self.place_of(id) else {
-            return Err(Refusal::UnknownInvocation);
-        };
+        let place = self.known_place(id)?;
         if self.invocations[place].is_closed {
             return Err(Refusal::InvocationClosed);
         }
@@ -95,21 +118,30 @@ impl Store {
             .any(|row| row.invocation.object == *object && !row.is_closed)
     }
 
+    /// Whether an invocation has this id.
+    fn is_known(&self, id: &ByteStr) -> bool
+        ensures { result ≡ is_some (row_of self.now id.now) }
+    {
+        self.place_of(id).is_some()
+    }
+
     /// Why a new invocation is refused for its names or its version.
     fn name_refusal(&self, new: &NewInvocation) -> Option<Refusal>
         ensures { result ≡ first_cause (name_tests self.now new.now) }
     {
         if self.is_busy(&new.object) {
-            Some(Refusal::ObjectBusy)
-        } else if new.id.is_empty() || new.object.is_empty() {
-            Some(Refusal::EmptyName)
-        } else if self.place_of(&new.id).is_some() {
-            Some(Refusal::IdUsed)
-        } else if new.version < OLDEST_VERSION || new.version > NEWEST_VERSION {
-            Some(Refusal::UnsupportedVersion)
-        } else {
-            None
+            return Some(Refusal::ObjectBusy);
         }
+        if is_nameless(new) {
+            return Some(Refusal::EmptyName);
+        }
+        if self.is_known(&new.id) {
+            return Some(Refusal::IdUsed);
+        }
+        if !is_supported(new.version) {
+            return Some(Refusal::UnsupportedVersion);
+        }
+        None
     }
 
     /// Accepts a new invocation. Its object may have others, but none that is open.
@@ -188,9 +220,7 @@ impl Store {
     pub fn requests(&self, id: &ByteStr) -> Result<&[RecordedRequest], Refusal>
         ensures { Reads (λ requests row. requests.now ≡ row.requests) id.now self.now result }
     {
-        let Some(place) = self.place_of(id) else {
-            return Err(Refusal::UnknownInvocation);
-        };
+        let place = self.known_place(id)?;
         Ok(self.invocations[place].requests.as_slice())
     }
 
@@ -198,9 +228,7 @@ impl Store {
     pub fn is_open(&self, id: &ByteStr) -> Result<bool, Refusal>
         ensures { Reads (λ is_open row. is_open ≡ not row.is_closed) id.now self.now result }
     {
-        let Some(place) = self.place_of(id) else {
-            return Err(Refusal::UnknownInvocation);
-        };
+        let place = self.known_place(id)?;
         Ok(!self.invocations[place].is_closed)
     }
 
@@ -208,9 +236,7 @@ impl Store {
     pub fn answer(&self, id: &ByteStr) -> Result<Option<NonEmptyValue>, Refusal>
         ensures { AnswersWith id.now self.now result }
     {
-        let Some(place) = self.place_of(id) else {
-            return Err(Refusal::UnknownInvocation);
-        };
+        let place = self.known_place(id)?;
         let alloc = *self.invocations.allocator();
         Ok(answer(alloc, &self.invocations[place])?)
     }
