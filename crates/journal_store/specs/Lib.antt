@@ -1,0 +1,13 @@
+pub mod Begin
+pub mod Causes
+pub mod First
+pub mod Invoke
+pub mod Live
+pub mod Names
+pub mod Output
+pub mod Payloads
+pub mod Read
+pub mod RowCalls
+pub mod Rows
+pub mod Step
+pub mod Writes
