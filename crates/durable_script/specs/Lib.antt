@@ -1,3 +1,5 @@
 pub mod Word
 pub mod Line
 pub mod Reading
+pub mod Script
+pub mod ScriptLines

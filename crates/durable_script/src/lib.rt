@@ -2,4 +2,6 @@
 #![tactic(auto)]
 
 pub mod line;
+pub mod reading;
+pub mod script;
 pub mod word;
