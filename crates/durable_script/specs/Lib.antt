@@ -3,3 +3,4 @@ pub mod Line
 pub mod Reading
 pub mod Script
 pub mod ScriptLines
+pub mod Text

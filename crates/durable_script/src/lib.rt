@@ -4,4 +4,5 @@
 pub mod line;
 pub mod reading;
 pub mod script;
+pub mod text;
 pub mod word;
