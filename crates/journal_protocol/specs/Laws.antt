@@ -26,6 +26,7 @@ use Rattle.journal_protocol.specs.declared.decoder.RawMessage.{RawMessage}
 use Rattle.journal_protocol.specs.MessageType.{number_of, named_types, type_numbered, allows_ack}
 use Rattle.journal_protocol.specs.Header.{message_type, message_length, requested_ack, word_of, header_in}
 use Rattle.journal_protocol.specs.Item.{message, item_at}
+use Rattle.journal_protocol.specs.Decoder.{DecoderCall, Leads, taken_bytes, answered_items}
 use Rattle.journal_protocol.specs.Frame.{spelled, stream, message_of, IsWireType, IsFrame}
 use Rattle.journal_protocol.specs.Records.{failure_record, terminal_failure_told, sleep_record, output_record, input_record, start_record, future_record, awaiting_on_record}
 
@@ -58,6 +59,10 @@ StreamsAreRead = (messages : List RawMessage) → AllByRecursion IsFrame message
 
 abbrev pub StreamsCutAnywhere : Type 0
 StreamsCutAnywhere = (first second : List ℕ) → items item_at (first ++ second) ≡ items item_at first ++ items item_at (left item_at first ++ second)
+
+-- What a decoder has answered, and the items of what waits, are the items of the bytes that came.
+abbrev pub DecodersAnswerItems : Type 0
+DecodersAnswerItems = (calls : List DecoderCall) (new : List ℕ) → Leads calls [] new → items item_at (taken_bytes calls) ≡ answered_items calls ++ items item_at new
 
 -- ---- the canonical spelling of the records is the one that the definitions give
 

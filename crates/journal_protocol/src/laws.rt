@@ -1,6 +1,6 @@
 //! Laws of types, headers and streams. Each function does nothing: its contract is the law.
 
-ghost use Rattle.journal_protocol.specs.Laws.{NamesReadBack, CustomEntriesReadBack, NumbersReadBack, RestIsUnknown, HeadersReadBack, FramesStandAlone, StreamsAreRead, StreamsCutAnywhere, SleepsSpelled, OutputsSpelled, InputsSpelled, StartsSpelled, FuturesSpelled, AwaitingOnSpelled, FramesSpelled, TerminalFailuresReadBack};
+ghost use Rattle.journal_protocol.specs.Laws.{NamesReadBack, CustomEntriesReadBack, NumbersReadBack, RestIsUnknown, HeadersReadBack, FramesStandAlone, StreamsAreRead, StreamsCutAnywhere, DecodersAnswerItems, SleepsSpelled, OutputsSpelled, InputsSpelled, StartsSpelled, FuturesSpelled, AwaitingOnSpelled, FramesSpelled, TerminalFailuresReadBack};
 
 /// Each named type is read back from its number, and a custom entry exactly where its number is no named type's and
 /// has one of its six highest bits set. A number that is read as a type is that type's, and it is refused exactly
@@ -24,9 +24,12 @@ pub fn messages_read_back()
     ensures stream { StreamsAreRead }
 {}
 
-/// Cutting the same bytes into other pieces changes no item and no order.
+/// Cutting the same bytes into other pieces changes no item and no order: whatever calls were made on a decoder, and
+/// whichever of them were refused memory, what it has answered is the items of the bytes that came, up to those of what
+/// still waits.
 pub fn streams_cut_anywhere()
-    ensures { StreamsCutAnywhere }
+    ensures cut { StreamsCutAnywhere }
+    ensures decoder { DecodersAnswerItems }
 {}
 
 /// The canonical payload of a record, and the frame of a message that requests no acknowledgement, are those that the

@@ -1,6 +1,10 @@
--- Proved in `Streams`.
+-- Proved in `Streams` and `Decoding`.
 use Rattle.journal_protocol.proofs.Streams.{items-append}
+use Rattle.journal_protocol.proofs.Decoding.{decoders_answer_items}
 use Rattle.journal_protocol.proofs.laws.streams_cut_anywhere.Goals as goal
 
-pub returns : goal.returns
-returns c = items-append
+pub returns-clause-cut : goal.returns-clause-cut
+returns-clause-cut c = items-append
+
+pub returns-clause-decoder : goal.returns-clause-decoder
+returns-clause-decoder c = decoders_answer_items
