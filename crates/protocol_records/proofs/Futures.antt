@@ -1,12 +1,14 @@
 -- One level of a future.
-use Rattle.std.proofs.Common.{◌≡◌, ℕ, zero, suc, ◌-◌, ◌<◌, List, [], ◌∷◌, map, refl, sym, ap, ◌∙◌, arith}
+use Rattle.std.proofs.Common.{◌≡◌, ℕ, zero, suc, ◌-◌, ◌<◌, List, [], ◌∷◌, map, refl, sym, ap, subst, ◌∙◌, arith}
 use Rattle.protocol_wire.specs.Wire.{Field}
 use Rattle.protocol_wire.specs.Selection.{u32, numbers, texts, records}
 use Rattle.protocol_wire.specs.Parts.{Part, payload_of}
-use Rattle.protocol_records.specs.declared.future.Future.{Future, out-Future, roll-Future, fold-Future, fold_out-Future}
+use Rattle.protocol_records.specs.declared.future.Future.{Future, roll-Future}
+use Rattle.protocol_records.specs.declared.future.Future.TheOpen.{Future-F}
+use Rattle.protocol_records.specs.declared.future.Future.TheViews.{out-roll-Future}
 use Rattle.protocol_wire.specs.declared.table.future.TheConstants.{WAITING_COMPLETIONS, WAITING_SIGNALS, WAITING_NAMED_SIGNALS, NESTED_FUTURES, COMBINATOR_TYPE}
 use Rattle.protocol_records.specs.ReadBackFuture.{future_payload_is}
-use Rattle.protocol_records.specs.Future.{combinator_of, future_of, future_payload, future_parts, parts_by}
+use Rattle.protocol_records.specs.Future.{combinator_of, future_of, future_payload, layer_parts, future_parts, LayerFits, FutureFits}
 
 pub future_of_is : (levels : ℕ) (fs : List Field) → 0 < levels → future_of levels fs ≡ roll-Future (record {
   waiting_completions = numbers WAITING_COMPLETIONS.number fs;
@@ -21,3 +23,13 @@ future_of_is (suc levels) fs lt = let one : suc levels - 1 ≡ levels = omega ar
 
 pub nested_is : (xs : List Future) → map (λ f. payload_of (future_parts f)) xs ≡ map future_payload xs
 nested_is xs = λ i. map (λ f. sym (future_payload_is f) i) xs
+
+-- ---- a future that is given by its layer
+
+pub future_parts_of : (o : Future-F Future) → future_parts (roll-Future o) ≡ layer_parts o
+unfolding future_parts
+future_parts_of o = ap layer_parts (out-roll-Future o)
+
+pub future_fits : (levels : ℕ) (o : Future-F Future) → LayerFits (FutureFits levels) o → FutureFits (suc levels) (roll-Future o)
+unfolding FutureFits
+future_fits levels o h = subst (λ (p : Future-F Future). LayerFits (FutureFits levels) p) (sym (out-roll-Future o)) h

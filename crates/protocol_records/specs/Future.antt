@@ -48,22 +48,24 @@ parts_by f =
 unfoldable pub future_payload : Future → List ℕ
 future_payload = fold-Future (List ℕ) (λ f. payload_of (parts_by f))
 
-unfoldable pub future_parts : Future → List Part
-future_parts f =
-    let o = out-Future f in
+-- the parts of one layer
+abbrev pub layer_parts : Future-F Future → List Part
+layer_parts o =
     packed WAITING_COMPLETIONS.number o.waiting_completions ∷
     packed WAITING_SIGNALS.number o.waiting_signals ∷
     repeated_bytes WAITING_NAMED_SIGNALS.number o.waiting_named_signals ∷
     repeated_bytes NESTED_FUTURES.number (map future_payload o.nested_futures) ∷
     plain_number COMBINATOR_TYPE.number (combinator_number o.combinator_type) ∷ []
 
--- one layer of a future, where it is known which of those in it fit
-abbrev pub LayerFits : (Future → Type 0) → Future → Type 0
-LayerFits Nested f =
-    let o = out-Future f in
+unfoldable pub future_parts : Future → List Part
+future_parts f = layer_parts (out-Future f)
+
+-- one layer, where it is known which of the futures in it fit
+abbrev pub LayerFits : (Future → Type 0) → Future-F Future → Type 0
+LayerFits Nested o =
     AllByRecursion (λ n. n < 2 ^ 32) o.waiting_completions × AllByRecursion (λ n. n < 2 ^ 32) o.waiting_signals × AllByRecursion IsUtf8 o.waiting_named_signals × AllByRecursion Nested o.nested_futures
 
 -- It takes no more than so many levels, its own among them.
 unfoldable pub FutureFits : ℕ → Future → Type 0
 FutureFits zero f = ⊥
-FutureFits (suc levels) f = LayerFits (FutureFits levels) f
+FutureFits (suc levels) f = LayerFits (FutureFits levels) (out-Future f)

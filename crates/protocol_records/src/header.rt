@@ -3,7 +3,7 @@ use protocol_wire::table::header::{KEY, VALUE};
 use protocol_wire::{Record, RecordType, put_text, text_at};
 use std::alloc::{AllocError, Global};
 
-/// A header of an input or of a call.
+/// A header of an input or of a call. A key may come more than once.
 #[derive(Debug, Drop)]
 pub struct Header {
     pub key: ByteStr,

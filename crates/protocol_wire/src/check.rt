@@ -15,7 +15,9 @@ use std::str;
 /// Why a payload is refused.
 #[derive(Clone, Copy, Debug, PartialEq, Eq)]
 pub enum Fault {
+    /// It isn't fields alone, or a known field has another wire type, or a text isn't UTF-8.
     BadPayload,
+    /// Nothing is bad, but a record stands more than a hundred levels below the payload.
     TooDeep,
 }
 

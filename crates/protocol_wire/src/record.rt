@@ -113,7 +113,9 @@ pub fn optional_record_at<R: Record>(
 /// Why a payload gave no record.
 #[derive(Debug, Drop)]
 pub enum DecodeError {
+    /// An allocation was refused.
     Memory,
+    /// The payload is none of the record.
     Fault(Fault),
 }
 
@@ -139,7 +141,7 @@ pub fn decode<R: Record>(alloc: Global, payload: &[u8]) -> Result<R, DecodeError
     }
 }
 
-/// The canonical payload of a record.
+/// The canonical payload of a record: each field in ascending order of numbers, defaults of plain fields left out.
 pub fn encode<R: Record>(alloc: Global, one: &R) -> Result<Vec<u8>, AllocError>
     ensures { IfOk result (λ v. v.items ≡ payload_of (R.parts one.now)) }
 {
@@ -162,8 +164,8 @@ pub fn merge<R: Record>(alloc: Global, one: &mut R, payload: &[u8]) -> Result<()
     Ok(())
 }
 
-/// What is encoded is decoded again, to the same value: where each number is within its type, each text is UTF-8, at most a
-/// hundred records stand within one another, and the payload is shorter than 2^64 bytes.
+/// What is encoded is decoded again, to the same value: where each number is within its type, each text is UTF-8, no record
+/// stands more than a hundred levels below the payload, and the payload is shorter than 2^64 bytes.
 pub fn decode_of_encoded<R: Record>()
     ensures { (r : R) → R.fits LEVELS r → length (payload_of (R.parts r)) < 2 ^ 64 → IsRead LEVELS R.record_type R.of (payload_of (R.parts r)) r }
 {

@@ -45,19 +45,21 @@ fn last_bytes(payload: &[u8], field: FieldDescriptor) -> Option<&[u8]>
     last
 }
 
+/// The last number of this field; 0 where there is none.
 pub fn u64_at(payload: &[u8], field: FieldDescriptor) -> u64
     ensures { result ≡ the_u64 field.number (fields payload.now) }
 {
     last_number(payload, field).unwrap_or(0)
 }
 
-/// The low 32 bits of the last number.
+/// The low 32 bits of the last number of this field; 0 where there is none.
 pub fn u32_at(payload: &[u8], field: FieldDescriptor) -> u32
     ensures { result ≡ the_u32 field.number (fields payload.now) }
 {
     (u64_at(payload, field) % (1 << 32)) as u32
 }
 
+/// Whether the last number of this field isn't 0; false where there is none.
 pub fn bool_at(payload: &[u8], field: FieldDescriptor) -> bool
     ensures { result ≡ the_bool field.number (fields payload.now) }
 {
@@ -73,6 +75,7 @@ pub fn optional_u32_at(payload: &[u8], field: FieldDescriptor) -> Option<u32>
     }
 }
 
+/// A copy of the last bytes of this field; empty where there are none.
 pub fn bytes_at(alloc: Global, payload: &[u8], field: FieldDescriptor) -> Result<Bytes, AllocError>
     ensures { IfOk result (λ b. b ≡ the_text field.number (fields payload.now)) }
 {
@@ -82,6 +85,7 @@ pub fn bytes_at(alloc: Global, payload: &[u8], field: FieldDescriptor) -> Result
     }
 }
 
+/// A copy of the last text of this field; empty where there is none.
 pub fn text_at(alloc: Global, payload: &[u8], field: FieldDescriptor) -> Result<ByteStr, AllocError>
     requires { AreTexts (values field.number (fields payload.now)) }
     ensures { IfOk result (λ b. b ≡ the_text field.number (fields payload.now)) }
@@ -92,6 +96,7 @@ pub fn text_at(alloc: Global, payload: &[u8], field: FieldDescriptor) -> Result<
     }
 }
 
+/// A copy of the last text of this field, if there is one.
 pub fn optional_text_at(
     alloc: Global,
     payload: &[u8],
@@ -106,7 +111,7 @@ pub fn optional_text_at(
     }
 }
 
-/// The texts of this field.
+/// A copy of each text of this field, in their order.
 #[tactic(auto, unfolding(crate::specs::Selection::texts))]
 pub fn texts_at(
     alloc: Global,
@@ -138,7 +143,7 @@ fn push_varints(numbers: &mut Sequence<u32>, bytes: &[u8]) -> Result<(), AllocEr
     Ok(())
 }
 
-/// The numbers of this field, packed or not.
+/// The low 32 bits of each number of this field, packed or not, in their order.
 #[tactic(auto, unfolding(crate::specs::Selection::numbers))]
 pub fn numbers_at(
     alloc: Global,
