@@ -1,5 +1,5 @@
 -- A decoder answers the items of the bytes that came, in order, however they were cut.
-use Rattle.std.proofs.Common.{◌≡◌, ℕ, List, [], ◌∷◌, ◌++◌, Option, Some, None, Result, Ok, Err, refl, sym, ap, subst, ◌∙◌, append-nil, append_assoc}
+use Rattle.std.proofs.Common.{◌≡◌, ℕ, List, [], ◌∷◌, ◌++◌, Option, Some, None, Result, Ok, Err, sym, ap, subst, ◌∙◌, append-nil, append_assoc}
 use Rattle.protocol_wire.specs.Items.{items}
 use Rattle.protocol_wire.proofs.Steps.{items_read}
 use Rattle.protocol_wire.proofs.Extends.{Extends}

@@ -16,9 +16,7 @@ use Rattle.journal_model.specs.declared.invocation.StateMode.{StateMode}
 use Rattle.journal_model.specs.Start.{state_entry, state_fields}
 use Rattle.journal_model.specs.AwaitTree.{AwaitTree, Single, Combined, AwaitTrees, no_trees, and_trees, Combinator, Unknown, FirstCompleted, AllCompleted, FirstSucceededOrAllFailed, AllSucceededOrFirstFailed}
 use Rattle.journal_model.specs.Spelling as model
-use Rattle.protocol_records.specs.declared.future.Future.{Future, out-Future}
-use Rattle.protocol_records.specs.declared.future.Future.TheOpen.{Future-F}
-use Rattle.protocol_records.specs.declared.future.Future.TheViews.{out-roll-Future}
+use Rattle.protocol_records.specs.declared.future.Future.{Future}
 use Rattle.protocol_records.specs.declared.future.CombinatorType.{CombinatorType}
 use Rattle.protocol_records.specs.Header.{header_parts}
 use Rattle.protocol_records.specs.Value.{value_parts}
@@ -29,7 +27,8 @@ use Rattle.protocol_records.specs.OutputCommand.{output_command_parts}
 use Rattle.protocol_records.specs.InputCommand.{input_command_parts}
 use Rattle.protocol_records.specs.StateEntry.{state_entry_parts}
 use Rattle.protocol_records.specs.Start.{start_parts}
-use Rattle.protocol_records.specs.Future.{combinator_number, future_parts, future_payload}
+use Rattle.protocol_records.specs.Future.{combinator_number, layer_parts, future_parts, future_payload}
+use Rattle.protocol_records.proofs.Futures.{future_parts_of}
 use Rattle.protocol_records.specs.ReadBackFuture.{future_payload_is}
 use Rattle.protocol_records.specs.AwaitingOn.{awaiting_on_parts}
 use Rattle.journal_protocol.specs.Records.{header_record, value_record, pair_record, pair_told, failure_record, sleep_record, output_record, input_record, state_entry_record, start_record, combinator_record, future_node, state_shown, is_partial, future_record, nested_records, awaiting_on_record}
@@ -133,24 +132,14 @@ combinator-is AllCompleted = refl
 combinator-is FirstSucceededOrAllFailed = refl
 combinator-is AllSucceededOrFirstFailed = refl
 
--- the parts of a layer
-abbrev parts_with : Future-F Future → List Part
-parts_with o =
-    parts.packed 1 o.waiting_completions ∷ parts.packed 2 o.waiting_signals ∷ parts.repeated_bytes 3 o.waiting_named_signals
-    ∷ parts.repeated_bytes 4 (map future_payload o.nested_futures) ∷ parts.plain_number 5 (combinator_number o.combinator_type) ∷ []
-
-future_parts-is : (f : Future) → future_parts f ≡ parts_with (out-Future f)
-unfolding future_parts
-future_parts-is f = refl
-
 -- a node whose nested futures are spelled so
 node_spelled : (completions signals : List ℕ) (names : List (List ℕ)) (nested : List Future) (combinator : CombinatorType) (number : ℕ) (inner : List ℕ)
     → part_spelling (parts.repeated_bytes 4 (map future_payload nested)) ≡ inner → combinator_number combinator ≡ number
     → future_payload (future_node completions signals names nested combinator) ≡ model.packed_numbers 1 completions ++ (model.packed_numbers 2 signals ++ (model.repeated_bytes 3 names ++ (inner ++ model.plain_number 5 number)))
 node_spelled completions signals names nested combinator number inner e c =
     future_payload_is (future_node completions signals names nested combinator)
-    ∙ ap payload_of (future_parts-is (future_node completions signals names nested combinator) ∙ ap parts_with (out-roll-Future (record { waiting_completions = completions; waiting_signals = signals; waiting_named_signals = names; nested_futures = nested; combinator_type = combinator })))
-    ∙ payload_is (parts_with (record { waiting_completions = completions; waiting_signals = signals; waiting_named_signals = names; nested_futures = nested; combinator_type = combinator })) _
+    ∙ ap payload_of (future_parts_of (record { waiting_completions = completions; waiting_signals = signals; waiting_named_signals = names; nested_futures = nested; combinator_type = combinator }))
+    ∙ payload_is (layer_parts (record { waiting_completions = completions; waiting_signals = signals; waiting_named_signals = names; nested_futures = nested; combinator_type = combinator })) _
     (spelled-cons _ _ _ _ (packed-is 1 completions)
     (spelled-cons _ _ _ _ (packed-is 2 signals)
     (spelled-cons _ _ _ _ (repeated_bytes-is 3 names)
