@@ -22,9 +22,10 @@ pub overflow_sub-levels : goal.overflow_sub-levels
 overflow_sub-levels t c = omega (arith, level_left c.args.levels future_type c.args.payload.now c.requires)
 
 pub future_at-requires : goal.future_at-requires
-future_at-requires t c =
-    (omega (arith, level_left c.args.levels future_type c.args.payload.now c.requires, c.decreases),
-     sound_first (payload_fault (c.args.levels - 1) future_type) NESTED_FUTURES.number (field c.in-Some.found) (fields c.loop-found.found-iterator.0.now) (fields c.next.new.self.0.now) c.in-Bytes.bytes.now c.loop-found.invariant.sound c.in-Some.ensures.steps c.if-found.true (rw c.in-Bytes.is refl))
+future_at-requires t c = (
+  omega (arith, level_left c.args.levels future_type c.args.payload.now c.requires, c.decreases),
+  sound_first (payload_fault (c.args.levels - 1) future_type) NESTED_FUTURES.number (field c.in-Some.found) (fields c.loop-found.found-iterator.0.now) (fields c.next.new.self.0.now) c.in-Bytes.bytes.now c.loop-found.invariant.sound c.in-Some.ensures.steps c.if-found.true (rw c.in-Bytes.is refl),
+)
 
 pub texts_at-requires : goal.texts_at-requires
 texts_at-requires t c = texts_sound c.args.levels future_type WAITING_NAMED_SIGNALS.number c.args.payload.now c.requires refl
