@@ -1,5 +1,5 @@
 -- The calls on a live attempt.
-use Rattle.std.specs.Prelude.{◌≡◌, ℕ, ◌==◌, Bool, true, false, not, List, [], ◌∷◌, ◌++◌, take, drop, Option, Some, None, Result, Ok, Err}
+use Rattle.std.specs.Prelude.{◌≡◌, ℕ, ◌==◌, Bool, true, false, not, List, [], ◌∷◌, ◌++◌, length, take, drop, Option, Some, None, Result, Ok, Err}
 use Rattle.journal_store.specs.declared.row.LiveAttempt.{LiveAttempt}
 use Rattle.journal_store.specs.declared.row.StoredInvocation.{StoredInvocation}
 use Rattle.journal_store.specs.declared.refusal.Refusal.{Refusal}
@@ -55,3 +55,15 @@ Ends row live after = after ≡ record row { live = None }
 abbrev pub Stops : {A : Type 0} → List ℕ → ℕ → Rows → Result A Refusal → Rows → Type 0
 Stops id attempt old (Ok answer) new = ChangesLive Ends old id attempt new
 Stops id attempt old (Err refusal) new = (first_cause (live_tests old id attempt) ≡ Some refusal) × (new ≡ old)
+
+-- how many bytes of the live attempt wait to be taken
+abbrev pub waiting_in : Option LiveAttempt → ℕ
+waiting_in None = 0
+waiting_in (Some live) = length live.output
+
+abbrev pub waiting_of : Option StoredInvocation → ℕ
+waiting_of None = 0
+waiting_of (Some row) = waiting_in row.live
+
+abbrev pub bytes_waiting : Rows → List ℕ → ℕ
+bytes_waiting rows id = waiting_of (row_of rows id)

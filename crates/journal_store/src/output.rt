@@ -50,6 +50,13 @@ impl AttemptOutput {
         }
     }
 
+    /// How many bytes wait.
+    pub fn len(&self) -> usize
+        ensures { result ≡ length self.now }
+    {
+        self.buffer.len()
+    }
+
     /// The next bytes came.
     pub(crate) fn push(&mut self, bytes: &[u8]) -> Result<(), AllocError>
         ensures ok { OnOk result (self.new ≡ self.old ++ bytes.now) }

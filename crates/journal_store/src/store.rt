@@ -5,24 +5,24 @@ ghost use Rattle.journal_store.specs.declared.row.StoredInvocation.{StoredInvoca
 ghost use Rattle.journal_store.specs.Rows.{has_id, row_of, IsKnownAt, IsOpenAt, IsLiveAt};
 ghost use Rattle.journal_store.specs.Invoke.{is_busy, is_nameless as is_nameless_name, is_supported as is_supported_version, name_tests, Invokes};
 ghost use Rattle.journal_store.specs.Begin.{Begins};
-ghost use Rattle.journal_store.specs.Live.{live_tests, NextInput, Feeds, Stops};
+ghost use Rattle.journal_store.specs.Live.{live_tests, NextInput, Feeds, Stops, waiting_in, bytes_waiting};
 ghost use Rattle.journal_store.specs.Step.{Steps};
 ghost use Rattle.journal_store.specs.Read.{IsUnknown, Reads, AnswersWith};
-
-use bytes::{ByteStr, Bytes};
-use journal_model::{NewInvocation, NonEmptyValue};
-use sequence::Sequence;
-use std::alloc::Global;
-use std::marker::Model;
 
 use crate::attempt::{hand_out, put_behind, step};
 use crate::begin::{begin, input_payload};
 use crate::read::answer;
 use crate::refusal::Refusal;
 use crate::row::{BegunAttempt, FrameReply, RecordedRequest, StoredInvocation};
+use bytes::{ByteStr, Bytes};
+use journal_model::{NewInvocation, NonEmptyValue};
+use sequence::Sequence;
+use std::alloc::Global;
+use std::marker::Model;
 
 // The versions of the protocol that are supported.
 const OLDEST_VERSION: u32 = 5;
+
 const NEWEST_VERSION: u32 = 8;
 
 /// What is recorded of each invocation, and the attempts that are live.
@@ -52,6 +52,16 @@ fn is_supported(version: u32) -> bool
     ensures { result ≡ is_supported_version version }
 {
     OLDEST_VERSION <= version && version <= NEWEST_VERSION
+}
+
+/// How many bytes of the live attempt wait to be taken.
+fn bytes_in(row: &StoredInvocation) -> usize
+    ensures { result ≡ waiting_in row.now.live }
+{
+    match &row.live {
+        Some(live) => live.output.len(),
+        None => 0,
+    }
 }
 
 impl Store {
@@ -177,12 +187,7 @@ impl Store {
     }
 
     /// The next bytes that the attempt is handed, at most so many: none only where `most` is 0 or all were handed out.
-    pub fn next_input(
-        &mut self,
-        id: &ByteStr,
-        attempt: u32,
-        most: usize,
-    ) -> Result<Bytes, Refusal>
+    pub fn next_input(&mut self, id: &ByteStr, attempt: u32, most: usize) -> Result<Bytes, Refusal>
         ensures { NextInput id.now attempt most self.old result self.new }
     {
         let place = self.live_place(id, attempt)?;
@@ -204,6 +209,16 @@ impl Store {
         let alloc = *self.invocations.allocator();
         let place = self.live_place(id, attempt)?;
         step(alloc, &mut self.invocations[place])
+    }
+
+    /// How many bytes of the invocation's live attempt came and were not taken: 0 where none is live.
+    pub fn waiting(&self, id: &ByteStr) -> usize
+        ensures { result ≡ bytes_waiting self.now id.now }
+    {
+        match self.place_of(id) {
+            Some(place) => bytes_in(&self.invocations[place]),
+            None => 0,
+        }
     }
 
     /// Ends the attempt: what it writes from now on is refused.
