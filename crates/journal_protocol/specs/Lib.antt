@@ -1,0 +1,5 @@
+pub mod Decoder
+pub mod Frame
+pub mod Header
+pub mod Item
+pub mod MessageType

@@ -1,0 +1,33 @@
+use Rattle.std.proofs.Common.{◌-◌, ◌∙◌, sym, ap, refl}
+use Rattle.std.specs.Prelude.{option_map}
+use Rattle.protocol_wire.specs.Check.{payload_fault}
+use Rattle.protocol_wire.specs.declared.table.RecordType.TheVariants.{Output, Value, Failure}
+use Rattle.protocol_wire.proofs.SoundAt.{records_sound}
+use Rattle.protocol_wire.proofs.Runs.{run_records_sound}
+use Rattle.protocol_records.specs.declared.output.OutputResult.TheVariants as results
+use Rattle.protocol_records.proofs.Outputs.{variants, value_stands, failure_stands}
+use Rattle.protocol_records.proofs.output.result_at.Goals as goal
+
+pub optional_record_at-requires : goal.optional_record_at-requires
+optional_record_at-requires c =
+    run_records_sound (payload_fault (c.args.levels - 1) Value) variants 14 c.args.payload.now c.in-Some.rest.now refl c.in-Some.ensures.rest (records_sound c.args.levels Output Value 14 c.args.payload.now c.requires refl)
+
+pub optional_record_at-requires-else-tag-eq14 : goal.optional_record_at-requires-else-tag-eq14
+optional_record_at-requires-else-tag-eq14 c =
+    run_records_sound (payload_fault (c.args.levels - 1) Failure) variants 15 c.args.payload.now c.in-Some.rest.now refl c.in-Some.ensures.rest (records_sound c.args.levels Output Failure 15 c.args.payload.now c.requires refl)
+
+pub returns-in-None-value : goal.returns-in-None-value
+returns-in-None-value c =
+    ap (option_map (λ v. results.Value v)) (sym c.in-None-value.is ∙ c.in_ok-value-in-Some.ensures) ∙ value_stands c.args.payload.now c.in-Some.rest.now c.in-Some.number c.in-Some.ensures.variant c.in-Some.ensures.rest c.if-tag-eq14.true
+
+pub returns-in-Some-value : goal.returns-in-Some-value
+returns-in-Some-value c =
+    ap (option_map (λ v. results.Value v)) (sym c.in-Some-value.is ∙ c.in_ok-value-in-Some.ensures) ∙ value_stands c.args.payload.now c.in-Some.rest.now c.in-Some.number c.in-Some.ensures.variant c.in-Some.ensures.rest c.if-tag-eq14.true
+
+pub returns-in-None-failure : goal.returns-in-None-failure
+returns-in-None-failure c =
+    ap (option_map (λ f. results.Failure f)) (sym c.in-None-failure.is ∙ c.in_ok-failure-in-Some.ensures) ∙ failure_stands c.args.payload.now c.in-Some.rest.now c.in-Some.number c.in-Some.ensures.variant c.in-Some.ensures.rest c.if-tag-eq14.false
+
+pub returns-in-Some-failure : goal.returns-in-Some-failure
+returns-in-Some-failure c =
+    ap (option_map (λ f. results.Failure f)) (sym c.in-Some-failure.is ∙ c.in_ok-failure-in-Some.ensures) ∙ failure_stands c.args.payload.now c.in-Some.rest.now c.in-Some.number c.in-Some.ensures.variant c.in-Some.ensures.rest c.if-tag-eq14.false

@@ -1,0 +1,6 @@
+use Rattle.std.proofs.Common.{◌≡◌, ◌++◌, take, map}
+use Rattle.protocol_wire.specs.Parts.{part_spelling, repeated_bytes, payload_of}
+use Rattle.protocol_wire.proofs.put.put_records.Given as goal
+
+abbrev pub invariant-loop-one : goal.invariant-loop-one
+invariant-loop-one g l = l.out.items ≡ l.fn.out.items ++ part_spelling (repeated_bytes l.field.number (map (λ r. payload_of (g.R.Record.parts r)) (take l.one-index l.all)))

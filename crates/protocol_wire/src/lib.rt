@@ -1,0 +1,27 @@
+//! Fields of a Protocol Buffers payload: how each is found, checked and spelled, by one table of all records.
+//!
+//! A payload is a list of fields. `fault_of` says by the table whether anything is wrong with it; a record then selects each
+//! of its fields from the whole list (`u32_at`, `text_at`, ..), and spells them in ascending order (`put_u32`, `put_text`, ..).
+#![tactic(auto)]
+
+mod check;
+mod field;
+mod put;
+mod record;
+mod select;
+pub mod table;
+mod varint;
+
+pub use check::{Fault, fault_of};
+pub use field::{Fields, Scanned, ScannedField};
+pub use put::{
+    put_bool, put_bytes, put_numbers, put_optional_record, put_optional_text, put_record,
+    put_records, put_tagged_bytes, put_text, put_texts, put_u32, put_u64,
+};
+pub use record::{
+    DecodeError, LEVELS, Record, decode, encode, merge, optional_record_at, records_at,
+};
+pub use select::{
+    bool_at, bytes_at, numbers_at, optional_text_at, run_at, text_at, texts_at, u32_at, u64_at,
+};
+pub use table::{FieldDescriptor, Kind, RecordType};

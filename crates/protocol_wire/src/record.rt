@@ -1,0 +1,153 @@
+//! Records, and records in records.
+
+ghost use Rattle.std.specs.Prelude.{◌≡◌, ◌++◌, ◌-◌, ℕ, List, None, IfOk, IfErr, OnOk, OnErr, option_map};
+ghost use Rattle.protocol_wire.specs.Wire.{Field};
+ghost use Rattle.protocol_wire.specs.Fields.{fields};
+ghost use Rattle.protocol_wire.specs.Check.{payload_fault};
+ghost use Rattle.protocol_wire.specs.Parts.{Part, payload_of};
+ghost use Rattle.protocol_wire.specs.Sound.{AreSound};
+ghost use Rattle.protocol_wire.specs.Selection.{values, texts, joined_bytes, optional_record, records};
+ghost use Rattle.protocol_wire.specs.Decodes.{Decodes, IsRead, ErrIs};
+ghost use Rattle.protocol_wire.specs.declared.table.RecordType.{RecordType as RecordTypes};
+
+use crate::check::{Fault, fault_of};
+use crate::table::RecordType;
+use crate::{FieldDescriptor, Fields, Scanned};
+use sequence::Sequence;
+use std::alloc::{AllocError, Global};
+
+/// The payload is level 0, and a record in it one level below its holder: a hundred levels below the payload.
+pub const LEVELS: u32 = 101;
+
+pub trait Record: Drop + Sized {
+    ghost record_type: { RecordTypes };
+
+    // What fields stand for, where so many levels are left.
+    ghost of: { ℕ → List Field → Self };
+
+    // The canonical spelling, field by field.
+    ghost parts: { Self → List Part };
+
+    fn record_type() -> RecordType
+        ensures { result ≡ record_type };
+
+    fn select(alloc: Global, payload: &[u8], levels: u32) -> Result<Self, AllocError>
+        requires { payload_fault levels record_type payload.now ≡ None }
+        ensures { IfOk result (λ r. r ≡ of levels (fields payload.now)) };
+
+    fn spell(&self, alloc: Global, out: &mut Vec<u8>) -> Result<(), AllocError>
+        ensures { OnOk result (out.new.items ≡ out.old.items ++ payload_of (parts self.now)) };
+}
+
+/// The records of this field, in a record where so many levels are left.
+#[tactic(auto, unfolding(crate::specs::Selection::texts))]
+pub fn records_at<R: Record>(
+    alloc: Global,
+    payload: &[u8],
+    field: FieldDescriptor,
+    levels: u32,
+) -> Result<Sequence<R>, AllocError>
+    requires { AreSound (payload_fault (levels - 1) R.record_type) (values field.number (fields payload.now)) }
+    ensures { IfOk result (λ rs. rs ≡ records (R.of (levels - 1)) field.number (fields payload.now)) }
+{
+    let below = levels.saturating_sub(1);
+    let mut all = Sequence::new(alloc);
+    for found in Fields(payload) {
+        if found.number == field.number {
+            if let Scanned::Bytes(bytes) = found.value {
+                all.push(R::select(alloc, bytes, below)?)?;
+            }
+        }
+    }
+    Ok(all)
+}
+
+/// The payloads of this field, one after the other, if there is one.
+#[tactic(auto, unfolding(crate::specs::Selection::texts))]
+fn joined_at(
+    alloc: Global,
+    payload: &[u8],
+    field: FieldDescriptor,
+) -> Result<Option<Vec<u8>>, AllocError>
+    ensures { IfOk result (λ j. option_map (λ v. v.items) j ≡ joined_bytes (texts field.number (fields payload.now))) }
+{
+    let mut is_present = false;
+    let mut all = Vec::new(alloc);
+    for found in Fields(payload) {
+        if found.number == field.number {
+            if let Scanned::Bytes(bytes) = found.value {
+                is_present = true;
+                all.extend_from_slice(bytes)?;
+            }
+        }
+    }
+    if is_present { Ok(Some(all)) } else { Ok(None) }
+}
+
+/// The record of this field, in a record where so many levels are left, of all payloads with it, if there is one.
+pub fn optional_record_at<R: Record>(
+    alloc: Global,
+    payload: &[u8],
+    field: FieldDescriptor,
+    levels: u32,
+) -> Result<Option<R>, AllocError>
+    requires { AreSound (payload_fault (levels - 1) R.record_type) (values field.number (fields payload.now)) }
+    ensures { IfOk result (λ r. r ≡ optional_record (R.of (levels - 1)) field.number (fields payload.now)) }
+{
+    match joined_at(alloc, payload, field)? {
+        None => Ok(None),
+        Some(bytes) => Ok(Some(R::select(alloc, bytes.as_slice(), levels.saturating_sub(1))?)),
+    }
+}
+
+/// Why a payload gave no record.
+#[derive(Debug, Drop)]
+pub enum DecodeError {
+    Memory,
+    Fault(Fault),
+}
+
+impl From<AllocError> for DecodeError {
+    ghost use Rattle.protocol_wire.specs.declared.record.DecodeError.TheVariants.{Memory};
+    ghost use Rattle.std.specs.Prelude.{◌≡◌};
+
+    ghost from_gives = { λ _ e. e ≡ Memory };
+
+    fn from(_e: AllocError) -> DecodeError {
+        DecodeError::Memory
+    }
+}
+
+/// The record that a payload is.
+pub fn decode<R: Record>(alloc: Global, payload: &[u8]) -> Result<R, DecodeError>
+    // Accepted are the payloads with which nothing is wrong, to their meaning.
+    ensures { Decodes R.record_type (R.of LEVELS) payload.now result }
+{
+    match fault_of(R::record_type(), payload, LEVELS) {
+        Some(fault) => Err(DecodeError::Fault(fault)),
+        None => Ok(R::select(alloc, payload, LEVELS)?),
+    }
+}
+
+/// The canonical payload of a record.
+pub fn encode<R: Record>(alloc: Global, one: &R) -> Result<Vec<u8>, AllocError>
+    ensures { IfOk result (λ v. v.items ≡ payload_of (R.parts one.now)) }
+{
+    let mut out = Vec::new(alloc);
+    one.spell(alloc, &mut out)?;
+    Ok(out)
+}
+
+/// Merges a payload into a record. An `Err` changes nothing.
+pub fn merge<R: Record>(alloc: Global, one: &mut R, payload: &[u8]) -> Result<(), DecodeError>
+    ensures ok { OnOk result (IsRead R.record_type (R.of LEVELS) (payload_of (R.parts one.old) ++ payload.now) one.new) }
+    ensures fault { IfErr result (λ e. ErrIs e (payload_fault LEVELS R.record_type (payload_of (R.parts one.old) ++ payload.now))) }
+    ensures err { OnErr result (one.new ≡ one.old) }
+{
+    let mut all = Vec::new(alloc);
+    one.spell(alloc, &mut all)?;
+    all.extend_from_slice(payload)?;
+    let merged = decode(alloc, &all)?;
+    *one = merged;
+    Ok(())
+}
