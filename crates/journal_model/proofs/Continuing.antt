@@ -1,13 +1,13 @@
 -- How a run goes on by its calls: one call more, and that it stays as it is once it waits, was refused a call or has ended.
-use Rattle.std.proofs.Common.{◌≡◌, refl, sym, ap, ◌∙◌, ℕ, zero, suc, ◌≤◌, eq-or-lt_of_le, arith, Bool, true, false, List, [], ◌∷◌, ◌++◌, append_assoc, append-nil, Option, Some, None, ◌⊎◌, inl, inr}
+use Rattle.std.proofs.Common.{◌≡◌, refl, sym, ap, ◌∙◌, ℕ, zero, suc, ◌≤◌, eq-or-lt_of_le, arith, false, List, [], ◌∷◌, ◌++◌, append_assoc, append-nil, Option, Some, None, ◌⊎◌, inl, inr}
 use Rattle.journal_model.specs.Notification.{NotificationId, Arrival}
 use Rattle.journal_model.specs.AwaitTree.{AwaitTree}
 use Rattle.journal_model.specs.Call.{Call}
 use Rattle.journal_model.specs.Request.{Request}
 use Rattle.journal_model.specs.Refusal.{Refusal, refusal_of}
 use Rattle.journal_model.specs.History.{Step, answers_of}
-use Rattle.journal_model.specs.Await.{AwaitOutcome, WaitsFor, WokenAt, await_outcome}
-use Rattle.journal_model.specs.Run.{Handler, Invocation, Progress, Ending, GoesOn, Waits, RefusedCall, Ended, Kind, Awaits, Ends, Answers, kind_of, answered_step, after_await, carried_out, unless_refused, after_call, continued, run, run_requests, is_going, IsBeginning}
+use Rattle.journal_model.specs.Await.{WaitsFor, await_outcome}
+use Rattle.journal_model.specs.Run.{Handler, Invocation, GoesOn, Waits, RefusedCall, Ended, Kind, Awaits, Ends, Answers, kind_of, answered_step, after_await, carried_out, unless_refused, after_call, continued, run, run_requests, is_going, IsBeginning}
 use Rattle.journal_model.proofs.Extension.{stays, requests-longer}
 
 -- what comes of one call, by what it is

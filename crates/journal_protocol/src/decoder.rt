@@ -100,7 +100,7 @@ impl Decoder {
     ///
     /// Where its type is unknown, the eight bytes of its header are consumed and no more: the next item begins right
     /// behind them.
-    #[tactic(auto, unfolding(crate::specs::Item::item_at))]
+    #[tactic(auto, using(crate::proofs::Fronts::whole_at), unfolding(crate::specs::Item::item_at))]
     pub fn consume_next(&mut self) -> Result<Option<RawMessage>, DecodingError>
         ensures { ConsumesNext self.old result self.new }
     {

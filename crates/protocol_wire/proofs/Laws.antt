@@ -93,10 +93,10 @@ low_low n = omega arith
 pub u32_again : (number : ℕ) (ps : List Part) (a b : List Field) → held number ps ≡ (plain_number number (u32 number a)).1 ++ [] → u32 number (fields_of ps ++ b) ≡ u32 number (a ++ b)
 u32_again number ps a b h = number_again low number (u32 number a) ps a b h (low_low (u64 number a))
 
-abbrev flag : ℕ → Bool
+abbrev pub flag : ℕ → Bool
 flag n = not (eqb n 0)
 
-flag_again : (f : Bool) → flag (bool_number f) ≡ f
+pub flag_again : (f : Bool) → flag (bool_number f) ≡ f
 flag_again true = refl
 flag_again false = refl
 
@@ -130,7 +130,7 @@ text_again number ps a b h =
     ∙ ap (λ (o : Option (List ℕ)). unwrap_or o []) (sym (last_bytes_or-append None (values number a) (values number b)))
     ∙ ap (λ (ws : List Wire). unwrap_or (last_bytes_or None ws) []) (sym (values-append number a b))
 
-bytes_if_view : (o : Option (List ℕ)) (w : List Wire) → last_bytes_or None (bytes_if o ++ w) ≡ last_bytes_or o w
+pub bytes_if_view : (o : Option (List ℕ)) (w : List Wire) → last_bytes_or None (bytes_if o ++ w) ≡ last_bytes_or o w
 bytes_if_view None w = refl
 bytes_if_view (Some x) w = refl
 
@@ -154,7 +154,7 @@ each_bytes-map : (bs : List (List ℕ)) (w : List Wire) → each_bytes (map byte
 each_bytes-map [] w = refl
 each_bytes-map (b ∷ bs) w = ap (λ (cs : List (List ℕ)). b ∷ cs) (each_bytes-map bs w)
 
-texts_of : (number : ℕ) (ps : List Part) (bs : List (List ℕ)) (b : List Field) → held number ps ≡ map bytes bs ++ [] → texts number (fields_of ps ++ b) ≡ bs ++ texts number b
+pub texts_of : (number : ℕ) (ps : List Part) (bs : List (List ℕ)) (b : List Field) → held number ps ≡ map bytes bs ++ [] → texts number (fields_of ps ++ b) ≡ bs ++ texts number b
 unfolding texts
 texts_of number ps bs b h = ap each_bytes (values_here number ps (map bytes bs) b h) ∙ each_bytes-map bs (values number b)
 
@@ -164,29 +164,6 @@ texts-append number a b = ap each_bytes (values-append number a b) ∙ each_byte
 
 pub texts_again : (number : ℕ) (ps : List Part) (a b : List Field) → held number ps ≡ (repeated_bytes number (texts number a)).1 ++ [] → texts number (fields_of ps ++ b) ≡ texts number (a ++ b)
 texts_again number ps a b h = texts_of number ps (texts number a) b h ∙ sym (texts-append number a b)
-
--- ---- what was written is read back
-
-pub u64_back : (number n : ℕ) (ps : List Part) → held number ps ≡ (plain_number number n).1 ++ [] → u64 number (fields_of ps) ≡ n
-unfolding last_number
-u64_back number n ps h =
-    ap (λ (ws : List Wire). unwrap_or (last_number_or None ws) 0) (values-fields_of number ps ∙ h ∙ append-nil (plain_number number n).1) ∙ go (eqb n 0) refl
-  where
-    go : (b : Bool) → eqb n 0 ≡ b → unwrap_or (last_number_or None (cond b [] (varint n ∷ []))) 0 ≡ n
-    go true e = sym (eqb-true n 0 e)
-    go false e = refl
-
-pub u32_back : (number n : ℕ) (ps : List Part) → held number ps ≡ (plain_number number n).1 ++ [] → n < 2 ^ 32 → u32 number (fields_of ps) ≡ n
-u32_back number n ps h lt = ap low (u64_back number n ps h) ∙ (let small : low n ≡ n = omega arith in small)
-
-pub text_back : (number : ℕ) (x : List ℕ) (ps : List Part) → held number ps ≡ (plain_bytes number x).1 ++ [] → text number (fields_of ps) ≡ x
-unfolding last_bytes
-text_back number x ps h =
-    ap (λ (ws : List Wire). unwrap_or (last_bytes_or None ws) []) (values-fields_of number ps ∙ h ∙ append-nil (nonempty x)) ∙ go x
-  where
-    go : (x : List ℕ) → unwrap_or (last_bytes_or None (nonempty x)) [] ≡ x
-    go [] = refl
-    go (c ∷ x) = refl
 
 -- ---- the payload that is written
 

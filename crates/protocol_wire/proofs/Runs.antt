@@ -7,7 +7,7 @@ use Rattle.protocol_wire.specs.Wire.{Wire, varint, bytes, fixed, Field}
 use Rattle.protocol_wire.specs.Sound.{AreTexts, AreSound}
 use Rattle.protocol_wire.specs.declared.check.Fault.{Fault}
 use Rattle.protocol_wire.specs.Fields.{fields}
-use Rattle.protocol_wire.specs.Selection.{values, run, among, all_numbered, last_run, variant_of, is_run}
+use Rattle.protocol_wire.specs.Selection.{values, run, is_among, among, all_numbered, last_run, variant_of, is_run}
 
 pub record Run (variants : List ℕ) (number : ℕ) (start rest whole : List Field) : Type 0 where
   pub current : List Field
@@ -28,9 +28,6 @@ eqb_comm m n = go (eqb m n) (eqb n m) refl refl
     go false false p q = refl
     go true false p q = absurd (let e = eq-eqb n m (sym (eqb-true m n p)) in cc)
     go false true p q = absurd (let e = eq-eqb m n (sym (eqb-true n m q)) in cc)
-
-abbrev pub is_among : List ℕ → ℕ → Bool
-is_among variants n = list_any (λ t. eqb t n) variants
 
 among_no : (variants : List ℕ) (f : Field) (gs : List Field) → is_among variants f.number ≡ false → among variants (f ∷ gs) ≡ among variants gs
 among_no variants f gs h = rw h refl

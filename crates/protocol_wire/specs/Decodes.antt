@@ -9,16 +9,16 @@ use Rattle.protocol_wire.specs.declared.record.DecodeError.{DecodeError}
 use Rattle.protocol_wire.specs.declared.record.DecodeError.TheVariants.{Memory, Fault}
 use Rattle.protocol_wire.specs.declared.record.TheConstants.{LEVELS}
 
--- Nothing is wrong with the payload, and this is the record that its fields are.
-pub record IsRead {R : Type 0} (t : RecordType) (of : List Field → R) (payload : List ℕ) (r : R) : Type 0 where
-  pub sound : payload_fault LEVELS t payload ≡ None
-  pub value : r ≡ of (fields payload)
+-- Nothing is wrong with the payload where so many levels are left, and this is the record that its fields are.
+pub record IsRead {R : Type 0} (levels : ℕ) (t : RecordType) (of : ℕ → List Field → R) (payload : List ℕ) (r : R) : Type 0 where
+  pub sound : payload_fault levels t payload ≡ None
+  pub value : r ≡ of levels (fields payload)
 
 -- An error is this fault, unless memory ran out.
 abbrev pub ErrIs : DecodeError → Option Faults → Type 0
 ErrIs Memory fault = Unit {0}
 ErrIs (Fault f) fault = fault ≡ Some f
 
-abbrev pub Decodes : {R : Type 0} → RecordType → (List Field → R) → List ℕ → Result R DecodeError → Type 0
-Decodes t of payload (Ok r) = IsRead t of payload r
+abbrev pub Decodes : {R : Type 0} → RecordType → (ℕ → List Field → R) → List ℕ → Result R DecodeError → Type 0
+Decodes t of payload (Ok r) = IsRead LEVELS t of payload r
 Decodes t of payload (Err e) = ErrIs e (payload_fault LEVELS t payload)

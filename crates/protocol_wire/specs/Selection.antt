@@ -99,10 +99,14 @@ records of number fs = map (λ payload. of (fields payload)) (texts number fs)
 
 -- ---- one of several fields
 
--- the fields with one of these variants
+-- whether a field number is one of these
+abbrev pub is_among : List ℕ → ℕ → Bool
+is_among variants n = list_any (λ number. number == n) variants
+
+-- the fields of these numbers
 abbrev pub among : List ℕ → List Field → List Field
 among variants [] = []
-among variants (f ∷ fs) = if list_any (λ number. number == f.number) variants then f ∷ among variants fs else among variants fs
+among variants (f ∷ fs) = if is_among variants f.number then f ∷ among variants fs else among variants fs
 
 abbrev pub all_numbered : ℕ → List Field → Bool
 all_numbered number [] = true

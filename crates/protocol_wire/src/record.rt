@@ -1,6 +1,6 @@
 //! Records, and records in records.
 
-ghost use Rattle.std.specs.Prelude.{◌≡◌, ◌++◌, ◌-◌, ℕ, List, None, IfOk, IfErr, OnOk, OnErr, option_map};
+ghost use Rattle.std.specs.Prelude.{◌≡◌, ◌++◌, ◌-◌, ◌^◌, ◌<◌, ℕ, List, None, IfOk, IfErr, OnOk, OnErr, length, option_map};
 ghost use Rattle.protocol_wire.specs.Wire.{Field};
 ghost use Rattle.protocol_wire.specs.Fields.{fields};
 ghost use Rattle.protocol_wire.specs.Check.{payload_fault};
@@ -19,6 +19,7 @@ use std::alloc::{AllocError, Global};
 /// The payload is level 0, and a record in it one level below its holder: a hundred levels below the payload.
 pub const LEVELS: u32 = 101;
 
+/// A record: how it is checked, read from fields and spelled.
 pub trait Record: Drop + Sized {
     ghost record_type: { RecordTypes };
 
@@ -28,15 +29,24 @@ pub trait Record: Drop + Sized {
     // The canonical spelling, field by field.
     ghost parts: { Self → List Part };
 
+    // Whether each number is within its type, each text is UTF-8, and so many levels are enough.
+    ghost fits: { ℕ → Self → Type 0 };
+
+    /// Which record of the table it is.
     fn record_type() -> RecordType
         ensures { result ≡ record_type };
 
+    /// The record that a payload is with which nothing is wrong, where so many levels are left.
     fn select(alloc: Global, payload: &[u8], levels: u32) -> Result<Self, AllocError>
         requires { payload_fault levels record_type payload.now ≡ None }
         ensures { IfOk result (λ r. r ≡ of levels (fields payload.now)) };
 
+    /// Puts the canonical spelling behind what is written already. After an `Err` a part of it may stand there.
     fn spell(&self, alloc: Global, out: &mut Vec<u8>) -> Result<(), AllocError>
         ensures { OnOk result (out.new.items ≡ out.old.items ++ payload_of (parts self.now)) };
+
+    // The canonical payload is read again, to the same value.
+    ghost reads: { (levels : ℕ) (r : Self) → fits levels r → length (payload_of (parts r)) < 2 ^ 64 → IsRead levels record_type of (payload_of (parts r)) r };
 }
 
 /// The records of this field, in a record where so many levels are left.
@@ -121,7 +131,7 @@ impl From<AllocError> for DecodeError {
 /// The record that a payload is.
 pub fn decode<R: Record>(alloc: Global, payload: &[u8]) -> Result<R, DecodeError>
     // Accepted are the payloads with which nothing is wrong, to their meaning.
-    ensures { Decodes R.record_type (R.of LEVELS) payload.now result }
+    ensures { Decodes R.record_type R.of payload.now result }
 {
     match fault_of(R::record_type(), payload, LEVELS) {
         Some(fault) => Err(DecodeError::Fault(fault)),
@@ -140,7 +150,7 @@ pub fn encode<R: Record>(alloc: Global, one: &R) -> Result<Vec<u8>, AllocError>
 
 /// Merges a payload into a record. An `Err` changes nothing.
 pub fn merge<R: Record>(alloc: Global, one: &mut R, payload: &[u8]) -> Result<(), DecodeError>
-    ensures ok { OnOk result (IsRead R.record_type (R.of LEVELS) (payload_of (R.parts one.old) ++ payload.now) one.new) }
+    ensures ok { OnOk result (IsRead LEVELS R.record_type R.of (payload_of (R.parts one.old) ++ payload.now) one.new) }
     ensures fault { IfErr result (λ e. ErrIs e (payload_fault LEVELS R.record_type (payload_of (R.parts one.old) ++ payload.now))) }
     ensures err { OnErr result (one.new ≡ one.old) }
 {
@@ -150,4 +160,11 @@ pub fn merge<R: Record>(alloc: Global, one: &mut R, payload: &[u8]) -> Result<()
     let merged = decode(alloc, &all)?;
     *one = merged;
     Ok(())
+}
+
+/// What is encoded is decoded again, to the same value: where each number is within its type, each text is UTF-8, at most a
+/// hundred records stand within one another, and the payload is shorter than 2^64 bytes.
+pub fn decode_of_encoded<R: Record>()
+    ensures { (r : R) → R.fits LEVELS r → length (payload_of (R.parts r)) < 2 ^ 64 → IsRead LEVELS R.record_type R.of (payload_of (R.parts r)) r }
+{
 }
