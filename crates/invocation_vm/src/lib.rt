@@ -1,0 +1,15 @@
+//! The virtual machine of an invocation: one fresh attempt reads its start and its input, asks the handler, and carries
+//! out the calls of a first path: sleep, output, the await of one handle, and the end.
+#![tactic(auto)]
+
+mod failure;
+mod options;
+mod output;
+
+pub use failure::{AttemptFailure, CallRefusal};
+pub use journal_model::{ImplicitCancellationOption, SignalDelivery};
+pub use options::{
+    AwaitingOnPolicy, JournalMismatchRetryBehavior, JournalReplay, NonDeterministicChecksOption,
+    VMOptions,
+};
+pub use output::Output;
