@@ -4,22 +4,20 @@ use Rattle.protocol_wire.specs.Wire.{Field}
 use Rattle.protocol_wire.specs.Selection.{u32, numbers, texts, records}
 use Rattle.protocol_wire.specs.Parts.{Part, payload_of}
 use Rattle.protocol_records.specs.declared.future.Future.{Future, out-Future, roll-Future, fold-Future, fold_out-Future}
+use Rattle.protocol_wire.specs.declared.table.future.TheConstants.{WAITING_COMPLETIONS, WAITING_SIGNALS, WAITING_NAMED_SIGNALS, NESTED_FUTURES, COMBINATOR_TYPE}
+use Rattle.protocol_records.specs.ReadBackFuture.{future_payload_is}
 use Rattle.protocol_records.specs.Future.{combinator_of, future_of, future_payload, future_parts, parts_by}
 
 pub future_of_is : (levels : ℕ) (fs : List Field) → 0 < levels → future_of levels fs ≡ roll-Future (record {
-  waiting_completions = numbers 1 fs;
-  waiting_signals = numbers 2 fs;
-  waiting_named_signals = texts 3 fs;
-  nested_futures = records (future_of (levels - 1)) 4 fs;
-  combinator_type = combinator_of (u32 5 fs);
+  waiting_completions = numbers WAITING_COMPLETIONS.number fs;
+  waiting_signals = numbers WAITING_SIGNALS.number fs;
+  waiting_named_signals = texts WAITING_NAMED_SIGNALS.number fs;
+  nested_futures = records (future_of (levels - 1)) NESTED_FUTURES.number fs;
+  combinator_type = combinator_of (u32 COMBINATOR_TYPE.number fs);
 })
 unfolding future_of
 future_of_is zero fs lt = absurd (omega arith)
 future_of_is (suc levels) fs lt = let one : suc levels - 1 ≡ levels = omega arith in rw one refl
-
-pub future_payload_is : (f : Future) → future_payload f ≡ payload_of (future_parts f)
-unfolding future_payload future_parts
-future_payload_is f = fold_out-Future (List ℕ) (λ f. payload_of (parts_by f)) f
 
 pub nested_is : (xs : List Future) → map (λ f. payload_of (future_parts f)) xs ≡ map future_payload xs
 nested_is xs = λ i. map (λ f. sym (future_payload_is f) i) xs

@@ -1,12 +1,28 @@
-use Rattle.std.specs.Prelude.{ℕ, List, [], ◌∷◌, map}
+-- The fields of a failure.
+use Rattle.std.specs.Prelude.{IsUtf8, List, [], map, ℕ, ◌-◌, ◌<◌, ◌^◌, ◌∷◌}
+use Rattle.std.specs.List.{AllByRecursion}
 use Rattle.protocol_wire.specs.Wire.{Field}
-use Rattle.protocol_wire.specs.Selection.{u32, text, records}
-use Rattle.protocol_wire.specs.Parts.{Part, plain_number, plain_bytes, repeated_bytes, payload_of}
-use Rattle.protocol_records.specs.declared.value.Failure.{Failure}
-use Rattle.protocol_records.specs.Pair.{pair_of, pair_parts}
+use Rattle.protocol_wire.specs.Selection.{records, text, u32}
+use Rattle.protocol_wire.specs.Parts.{Part, payload_of, plain_bytes, plain_number, repeated_bytes}
+use Rattle.protocol_wire.specs.declared.table.failure.TheConstants.{CODE, MESSAGE, METADATA}
+use Rattle.protocol_records.specs.FailureMetadata.{failure_metadata_of, failure_metadata_parts, FailureMetadataFits}
+use Rattle.protocol_records.specs.declared.failure.Failure.{Failure}
 
-abbrev pub failure_of : List Field → Failure
-failure_of fs = record { code = u32 1 fs; message = text 2 fs; metadata = records pair_of 3 fs }
+abbrev pub failure_of : ℕ → List Field → Failure
+failure_of levels fs = record {
+  code = u32 CODE.number fs;
+  message = text MESSAGE.number fs;
+  metadata = records (failure_metadata_of (levels - 1)) METADATA.number fs;
+}
 
 abbrev pub failure_parts : Failure → List Part
-failure_parts f = plain_number 1 f.code ∷ plain_bytes 2 f.message ∷ repeated_bytes 3 (map (λ p. payload_of (pair_parts p)) f.metadata) ∷ []
+failure_parts v =
+    plain_number CODE.number v.code ∷
+    plain_bytes MESSAGE.number v.message ∷
+    repeated_bytes METADATA.number (map (λ r. payload_of (failure_metadata_parts r)) v.metadata) ∷ []
+
+pub record FailureFits (levels : ℕ) (v : Failure) : Type 0 where
+  pub level : 0 < levels
+  pub code : v.code < 2 ^ 32
+  pub message : IsUtf8 v.message
+  pub metadata : AllByRecursion (FailureMetadataFits (levels - 1)) v.metadata

@@ -1,13 +1,16 @@
-use Rattle.std.specs.Prelude.{ℕ, zero, suc, List, [], ◌∷◌, map, ◌==◌, if◌then◌else◌}
+-- The fields of a future.
+use Rattle.std.specs.Prelude.{◌<◌, ◌^◌, IsUtf8, ℕ, zero, suc, List, [], ◌∷◌, map, ◌==◌, if◌then◌else◌}
+use Rattle.std.specs.List.{AllByRecursion}
 use Rattle.protocol_wire.specs.Wire.{Field}
 use Rattle.protocol_wire.specs.Selection.{u32, numbers, texts, records}
 use Rattle.protocol_wire.specs.Parts.{Part, packed, repeated_bytes, plain_number, payload_of}
+use Rattle.protocol_wire.specs.declared.table.future.TheConstants.{WAITING_COMPLETIONS, WAITING_SIGNALS, WAITING_NAMED_SIGNALS, NESTED_FUTURES, COMBINATOR_TYPE}
 use Rattle.protocol_records.specs.declared.future.CombinatorType.{CombinatorType}
 use Rattle.protocol_records.specs.declared.future.CombinatorType.TheVariants.{Unknown, FirstCompleted, AllCompleted, FirstSucceededOrAllFailed, AllSucceededOrFirstFailed}
 use Rattle.protocol_records.specs.declared.future.Future.{Future, out-Future, roll-Future, fold-Future}
 use Rattle.protocol_records.specs.declared.future.Future.TheOpen.{Future-F}
 
--- Another varint is read as Unknown.
+-- Another number is read as Unknown.
 abbrev pub combinator_of : ℕ → CombinatorType
 combinator_of n =
     if n == 1 then FirstCompleted else
@@ -26,21 +29,21 @@ combinator_number AllSucceededOrFirstFailed = 4
 unfoldable pub future_of : ℕ → List Field → Future
 future_of zero fs = roll-Future (record { waiting_completions = []; waiting_signals = []; waiting_named_signals = []; nested_futures = []; combinator_type = Unknown })
 future_of (suc levels) fs = roll-Future (record {
-  waiting_completions = numbers 1 fs;
-  waiting_signals = numbers 2 fs;
-  waiting_named_signals = texts 3 fs;
-  nested_futures = records (future_of levels) 4 fs;
-  combinator_type = combinator_of (u32 5 fs);
+  waiting_completions = numbers WAITING_COMPLETIONS.number fs;
+  waiting_signals = numbers WAITING_SIGNALS.number fs;
+  waiting_named_signals = texts WAITING_NAMED_SIGNALS.number fs;
+  nested_futures = records (future_of levels) NESTED_FUTURES.number fs;
+  combinator_type = combinator_of (u32 COMBINATOR_TYPE.number fs);
 })
 
 -- The parts of a future, where the payloads of those in it are known.
 abbrev pub parts_by : Future-F (List ℕ) → List Part
 parts_by f =
-    packed 1 f.waiting_completions ∷
-    packed 2 f.waiting_signals ∷
-    repeated_bytes 3 f.waiting_named_signals ∷
-    repeated_bytes 4 f.nested_futures ∷
-    plain_number 5 (combinator_number f.combinator_type) ∷ []
+    packed WAITING_COMPLETIONS.number f.waiting_completions ∷
+    packed WAITING_SIGNALS.number f.waiting_signals ∷
+    repeated_bytes WAITING_NAMED_SIGNALS.number f.waiting_named_signals ∷
+    repeated_bytes NESTED_FUTURES.number f.nested_futures ∷
+    plain_number COMBINATOR_TYPE.number (combinator_number f.combinator_type) ∷ []
 
 unfoldable pub future_payload : Future → List ℕ
 future_payload = fold-Future (List ℕ) (λ f. payload_of (parts_by f))
@@ -48,8 +51,19 @@ future_payload = fold-Future (List ℕ) (λ f. payload_of (parts_by f))
 unfoldable pub future_parts : Future → List Part
 future_parts f =
     let o = out-Future f in
-    packed 1 o.waiting_completions ∷
-    packed 2 o.waiting_signals ∷
-    repeated_bytes 3 o.waiting_named_signals ∷
-    repeated_bytes 4 (map future_payload o.nested_futures) ∷
-    plain_number 5 (combinator_number o.combinator_type) ∷ []
+    packed WAITING_COMPLETIONS.number o.waiting_completions ∷
+    packed WAITING_SIGNALS.number o.waiting_signals ∷
+    repeated_bytes WAITING_NAMED_SIGNALS.number o.waiting_named_signals ∷
+    repeated_bytes NESTED_FUTURES.number (map future_payload o.nested_futures) ∷
+    plain_number COMBINATOR_TYPE.number (combinator_number o.combinator_type) ∷ []
+
+-- one layer of a future, where it is known which of those in it fit
+abbrev pub LayerFits : (Future → Type 0) → Future → Type 0
+LayerFits Nested f =
+    let o = out-Future f in
+    AllByRecursion (λ n. n < 2 ^ 32) o.waiting_completions × AllByRecursion (λ n. n < 2 ^ 32) o.waiting_signals × AllByRecursion IsUtf8 o.waiting_named_signals × AllByRecursion Nested o.nested_futures
+
+-- It takes no more than so many levels, its own among them.
+unfoldable pub FutureFits : ℕ → Future → Type 0
+FutureFits zero f = ⊥
+FutureFits (suc levels) f = LayerFits (FutureFits levels) f

@@ -1,5 +1,5 @@
 -- A canonical payload is one with which nothing is wrong, and its fields are those that were spelled.
-use Rattle.std.proofs.Common.{◌≡◌, ℕ, zero, suc, ◌*◌, ◌+◌, ◌^◌, ◌<◌, ◌≤◌, Bool, true, false, cond, eqb, ltb, List, [], ◌∷◌, ◌++◌, length, map, Option, Some, None, refl, sym, ap, subst, ◌∙◌, arith}
+use Rattle.std.proofs.Common.{◌≡◌, ℕ, zero, suc, ◌*◌, ◌+◌, ◌-◌, ◌^◌, ◌<◌, ◌≤◌, Bool, true, false, cond, eqb, ltb, List, [], ◌∷◌, ◌++◌, length, map, Option, Some, None, refl, sym, ap, subst, ◌∙◌, arith}
 use Rattle.std.specs.Prelude.{option_map, IsUtf8, IfSome}
 use Rattle.std.specs.List.{flat_map, AllByRecursion}
 use Rattle.std.specs.Str.{is_utf8}
@@ -19,7 +19,8 @@ use Rattle.protocol_wire.specs.declared.table.Kind.TheVariants as kinds
 use Rattle.protocol_wire.specs.declared.table.FieldDescriptor.{FieldDescriptor}
 use Rattle.protocol_wire.specs.declared.check.Fault.{Fault}
 use Rattle.protocol_wire.proofs.Steps.{field_at_nil, are_fields-none}
-use Rattle.protocol_wire.proofs.Back.{Below32, are_varints_spelled}
+use Rattle.protocol_wire.specs.Decodes.{IsRead}
+use Rattle.protocol_wire.proofs.Back.{ReadsBack, Below32, are_varints_spelled}
 use Rattle.protocol_wire.proofs.Laws.{Fit, are_fields-payload, fields-payload_alone}
 
 -- ---- sizes
@@ -173,10 +174,39 @@ module _ (below : RecordType → List ℕ → Option Fault) (descriptors : List 
 -- ---- the payload
 
 -- Nothing is wrong with what the parts spell, and its fields are those of the parts.
-pub payload_holds : (levels : ℕ) (t : RecordType) (ps : List Part) → Hold (payload_fault levels) (descriptors_of t) ps → length (payload_of ps) < 2 ^ 64 → (payload_fault (suc levels) t (payload_of ps) ≡ None) × (fields (payload_of ps) ≡ fields_of ps)
+pub payload_holds_above : (levels : ℕ) (t : RecordType) (ps : List Part) → Hold (payload_fault levels) (descriptors_of t) ps → length (payload_of ps) < 2 ^ 64
+    → (payload_fault (suc levels) t (payload_of ps) ≡ None) × (fields (payload_of ps) ≡ fields_of ps)
 unfolding payload_fault
-payload_holds levels t ps h small =
+payload_holds_above levels t ps h small =
     let fits = fit (payload_fault levels) (descriptors_of t) ps h (lengths_fit ps small) in
     let read = fields-payload_alone ps fits in
     let whole : are_fields (payload_of ps) ≡ true = ap are_fields (sym (append-nil (payload_of ps))) ∙ are_fields-payload ps [] fits ∙ are_fields-none [] field_at_nil in
     (rw (read, whole, parts_sound (payload_fault levels) (descriptors_of t) ps h) refl, read)
+
+-- The same, in terms of the levels that are left.
+pub payload_holds : (levels : ℕ) (t : RecordType) (ps : List Part) → 0 < levels → Hold (payload_fault (levels - 1)) (descriptors_of t) ps → length (payload_of ps) < 2 ^ 64
+    → (payload_fault levels t (payload_of ps) ≡ None) × (fields (payload_of ps) ≡ fields_of ps)
+payload_holds levels t ps some h small =
+    let one : suc (levels - 1) ≡ levels = omega (arith, some) in
+    let above = payload_holds_above (levels - 1) t ps h small in
+    (subst (λ (n : ℕ). payload_fault n t (payload_of ps) ≡ None) one above.0, above.1)
+
+-- ---- records in records, where each is read again
+
+module _ {R : Type 0} (levels : ℕ) (t : RecordType) (of : ℕ → List Field → R) (write : R → List ℕ) (fits : R → Type 0)
+    (reads : (r : R) → fits r → length (write r) < 2 ^ 64 → IsRead levels t of (write r) r) where
+  pub optional_sound : (o : Option R) → IfSome o fits → AllByRecursion LengthFits (bytes_if (option_map write o)) → IfSome (option_map write o) (λ b. payload_fault levels t b ≡ None)
+  optional_sound None h k = tt
+  optional_sound (Some r) h k = (reads r h k.0).sound
+
+  pub optional_reads_back : (o : Option R) → IfSome o fits → AllByRecursion LengthFits (bytes_if (option_map write o)) → IfSome o (ReadsBack (of levels) write)
+  optional_reads_back None h k = tt
+  optional_reads_back (Some r) h k = sym (reads r h k.0).value
+
+  pub each_sound : (rs : List R) → AllByRecursion fits rs → AllByRecursion LengthFits (map bytes (map write rs)) → AllByRecursion (λ b. payload_fault levels t b ≡ None) (map write rs)
+  each_sound [] h k = tt
+  each_sound (r ∷ rs) h k = ((reads r h.0 k.0).sound, each_sound rs h.1 k.1)
+
+  pub each_reads_back : (rs : List R) → AllByRecursion fits rs → AllByRecursion LengthFits (map bytes (map write rs)) → AllByRecursion (ReadsBack (of levels) write) rs
+  each_reads_back [] h k = tt
+  each_reads_back (r ∷ rs) h k = (sym (reads r h.0 k.0).value, each_reads_back rs h.1 k.1)

@@ -7,6 +7,7 @@ use Rattle.protocol_wire.specs.Check.{payload_fault}
 use Rattle.protocol_wire.specs.Selection.{values, each_bytes, records, texts}
 use Rattle.protocol_wire.specs.declared.table.RecordType.TheVariants.{Future as future_type}
 use Rattle.protocol_wire.proofs.SoundAt.{records_sound, texts_sound, level_left, sound_first}
+use Rattle.protocol_wire.specs.declared.table.future.TheConstants.{NESTED_FUTURES, WAITING_NAMED_SIGNALS}
 use Rattle.protocol_records.specs.Future.{future_of, combinator_of}
 use Rattle.protocol_records.proofs.Futures.{future_of_is}
 use Rattle.protocol_records.proofs.future.+future_at.Goals as goal
@@ -14,7 +15,7 @@ use Rattle.protocol_records.proofs.future.+future_at.Goals as goal
 pub loop-found-init : goal.loop-found-init
 unfolding texts
 loop-found-init t c =
-    let sound = records_sound c.args.levels future_type future_type 4 c.args.payload.now c.requires refl in
+    let sound = records_sound c.args.levels future_type future_type NESTED_FUTURES.number c.args.payload.now c.requires refl in
     search rules
 
 pub overflow_sub-levels : goal.overflow_sub-levels
@@ -23,10 +24,10 @@ overflow_sub-levels t c = omega (arith, level_left c.args.levels future_type c.a
 pub future_at-requires : goal.future_at-requires
 future_at-requires t c =
     (omega (arith, level_left c.args.levels future_type c.args.payload.now c.requires, c.decreases),
-     sound_first (payload_fault (c.args.levels - 1) future_type) 4 (field c.in-Some.field) (fields c.loop-found.found-iterator.0.now) (fields c.next.new.self.0.now) c.in-Bytes.bytes.now c.loop-found.invariant.sound c.in-Some.ensures.steps c.if-field-eq4.true (rw c.in-Bytes.is refl))
+     sound_first (payload_fault (c.args.levels - 1) future_type) NESTED_FUTURES.number (field c.in-Some.found) (fields c.loop-found.found-iterator.0.now) (fields c.next.new.self.0.now) c.in-Bytes.bytes.now c.loop-found.invariant.sound c.in-Some.ensures.steps c.if-found.true (rw c.in-Bytes.is refl))
 
 pub texts_at-requires : goal.texts_at-requires
-texts_at-requires t c = texts_sound c.args.levels future_type 3 c.args.payload.now c.requires refl
+texts_at-requires t c = texts_sound c.args.levels future_type WAITING_NAMED_SIGNALS.number c.args.payload.now c.requires refl
 
 pub returns : goal.returns
 returns t c =

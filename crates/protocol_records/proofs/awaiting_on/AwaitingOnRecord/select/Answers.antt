@@ -1,7 +1,0 @@
-use Rattle.std.proofs.Common.{refl}
-use Rattle.protocol_wire.specs.declared.table.RecordType.TheVariants.{AwaitingOn, Future}
-use Rattle.protocol_wire.proofs.SoundAt.{records_sound}
-use Rattle.protocol_records.proofs.awaiting_on.AwaitingOnRecord.select.Goals as goal
-
-pub optional_record_at-requires : goal.optional_record_at-requires
-optional_record_at-requires c = records_sound c.args.levels AwaitingOn Future 1 c.args.payload.now c.requires refl

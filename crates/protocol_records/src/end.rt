@@ -1,0 +1,34 @@
+use protocol_wire::{Record, RecordType};
+use std::alloc::{AllocError, Global};
+
+/// The end of an attempt that is done.
+#[derive(Debug, Drop)]
+pub struct EndMessage {}
+
+impl Record for EndMessage {
+    ghost use Rattle.protocol_records.specs.End.{end_of, end_parts, EndFits};
+    ghost use Rattle.protocol_records.specs.ReadBack.{end_reads};
+    ghost use Rattle.protocol_wire.specs.declared.table.RecordType.TheVariants.{End as end_type};
+
+    ghost record_type = { end_type };
+
+    ghost of = { end_of };
+
+    ghost parts = { end_parts };
+
+    ghost fits = { EndFits };
+
+    fn record_type() -> RecordType {
+        RecordType::End
+    }
+
+    fn select(alloc: Global, payload: &[u8], levels: u32) -> Result<EndMessage, AllocError> {
+        Ok(EndMessage {})
+    }
+
+    fn spell(&self, alloc: Global, out: &mut Vec<u8>) -> Result<(), AllocError> {
+        Ok(())
+    }
+
+    ghost reads = { end_reads };
+}

@@ -1,0 +1,51 @@
+use crate::header::Header;
+use crate::value::Value;
+use bytes::ByteStr;
+use protocol_wire::table::input_command::{HEADERS, NAME, VALUE};
+use protocol_wire::{Record, RecordType, optional_record_at, put_optional_record, put_records, put_text, records_at, text_at};
+use sequence::Sequence;
+use std::alloc::{AllocError, Global};
+
+/// The input of an invocation, its journal's first entry.
+#[derive(Debug, Drop)]
+pub struct InputCommandMessage {
+    pub headers: Sequence<Header>,
+    pub name: ByteStr,
+    pub value: Option<Value>,
+}
+
+#[tactic(auto, using(protocol_wire::proofs::SoundAt::texts_sound))]
+impl Record for InputCommandMessage {
+    ghost use Rattle.protocol_records.specs.InputCommand.{input_command_of, input_command_parts, InputCommandFits};
+    ghost use Rattle.protocol_records.specs.ReadBack.{input_command_reads};
+    ghost use Rattle.protocol_wire.specs.declared.table.RecordType.TheVariants.{InputCommand as input_command_type};
+
+    ghost record_type = { input_command_type };
+
+    ghost of = { input_command_of };
+
+    ghost parts = { input_command_parts };
+
+    ghost fits = { InputCommandFits };
+
+    fn record_type() -> RecordType {
+        RecordType::InputCommand
+    }
+
+    fn select(alloc: Global, payload: &[u8], levels: u32) -> Result<InputCommandMessage, AllocError> {
+        Ok(InputCommandMessage {
+            headers: records_at(alloc, payload, HEADERS, levels)?,
+            name: text_at(alloc, payload, NAME)?,
+            value: optional_record_at(alloc, payload, VALUE, levels)?,
+        })
+    }
+
+    fn spell(&self, alloc: Global, out: &mut Vec<u8>) -> Result<(), AllocError> {
+        put_records(alloc, out, HEADERS, &self.headers)?;
+        put_text(out, NAME, &self.name)?;
+        put_optional_record(alloc, out, VALUE, &self.value)?;
+        Ok(())
+    }
+
+    ghost reads = { input_command_reads };
+}
