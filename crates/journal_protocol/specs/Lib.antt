@@ -2,4 +2,5 @@ pub mod Decoder
 pub mod Frame
 pub mod Header
 pub mod Item
+pub mod Laws
 pub mod MessageType

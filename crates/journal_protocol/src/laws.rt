@@ -1,0 +1,34 @@
+//! Laws of types, headers and streams. Each function does nothing: its contract is the law.
+
+ghost use Rattle.journal_protocol.specs.Laws.{NamesReadBack, CustomEntriesReadBack, NumbersReadBack, RestIsUnknown, HeadersReadBack, FramesStandAlone, StreamsAreRead, StreamsCutAnywhere};
+
+/// Each named type is read back from its number, and a custom entry exactly where its number is no named type's and
+/// has one of its six highest bits set. A number that is read as a type is that type's, and it is refused exactly
+/// where no named type has it and these six bits are zero.
+pub fn types_read_back()
+    ensures named { NamesReadBack }
+    ensures custom { CustomEntriesReadBack }
+    ensures number { NumbersReadBack }
+    ensures unknown { RestIsUnknown }
+{
+}
+
+/// A header whose flag fits its type is read back from the number that it is written as.
+pub fn headers_read_back()
+    ensures { HeadersReadBack }
+{
+}
+
+/// A message is the item at the front of its bytes, whatever follows them, so no message begins another; and the
+/// items of a stream of messages are these messages.
+pub fn messages_read_back()
+    ensures front { FramesStandAlone }
+    ensures stream { StreamsAreRead }
+{
+}
+
+/// Cutting the same bytes into other pieces changes no item and no order.
+pub fn streams_cut_anywhere()
+    ensures { StreamsCutAnywhere }
+{
+}

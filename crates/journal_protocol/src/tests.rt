@@ -1,0 +1,93 @@
+//! Worked values of the format, through the public calls.
+use bytes::BytesMut;
+use std::alloc::Global;
+use std::test::Fail;
+
+use crate::{
+    Decoder, DecodingError, EncodingError, MessageHeader, MessageType, UnknownMessageType,
+    write_message,
+};
+
+/// An input command whose value is `input`: its header, and its payload.
+const INPUT_FRAME: [u8; 17] = [
+    0x04, 0x00, 0, 0, 0, 0, 0, 9, 0x72, 7, 0x0a, 5, b'i', b'n', b'p', b'u', b't',
+];
+
+#[test]
+fn header_words(rt: HostRuntime) -> Result<(), Fail> {
+    let read = MessageHeader::new(MessageType::GetLazyStateCommand, 22);
+    assert_eq!(rt; u64::from(read), 0x0402_0000_0000_0016);
+    let back = MessageHeader::try_from(0x0402_0000_0000_0016)?;
+    assert_eq!(rt; back.message_type(), MessageType::GetLazyStateCommand);
+    assert_eq!(rt; back.message_length(), 22);
+    assert_eq!(rt; back.requested_ack(), None);
+
+    let ty = MessageType::ProposeRunCompletion;
+    let requested = MessageHeader::new_with_requested_ack(ty, true, 42);
+    assert_eq!(rt; u64::from(requested), 0x0005_8000_0000_002a);
+    assert_eq!(rt; requested.requested_ack(), Some(true));
+    assert_eq!(rt; MessageHeader::try_from(0x0005_8000_0000_002a)?, requested);
+    let unrequested = MessageHeader::new(ty, 42);
+    assert_eq!(rt; u64::from(unrequested), 0x0005_0000_0000_002a);
+    assert_eq!(rt; unrequested.requested_ack(), Some(false));
+    assert_eq!(rt; MessageHeader::try_from(0x0005_0000_0000_002a)?, unrequested);
+    Ok(())
+}
+
+#[test]
+fn numbers_of_types(rt: HostRuntime) -> Result<(), Fail> {
+    let call = MessageType::CallCommand;
+    assert!(rt; call.is_command() && !call.is_notification() && !call.allows_ack());
+    let signal = MessageType::SignalNotification;
+    assert_eq!(rt; u16::from(signal), 0xfbff);
+    assert!(rt; signal.is_notification() && !signal.is_command());
+    assert!(rt; MessageType::ProposeRunCompletion.allows_ack());
+    assert_eq!(rt; MessageType::try_from(0xfc00)?, MessageType::CustomEntry(0xfc00));
+    assert_eq!(rt; MessageType::try_from(9), Err(UnknownMessageType(9)));
+    let shown = format!(in rt.alloc(); "{} {}", call, UnknownMessageType(9))?;
+    assert_eq!(rt; shown.as_str(), "CallCommand unknown message type 0x0009");
+    Ok(())
+}
+
+#[test]
+fn frame_in_two_pieces(rt: HostRuntime) -> Result<(), Fail> {
+    let mut decoder = Decoder::new(rt.alloc());
+    decoder.push(&INPUT_FRAME[..4])?;
+    assert!(rt; decoder.consume_next()?.is_none());
+    assert_eq!(rt; decoder.remaining(), 4);
+    decoder.push(&INPUT_FRAME[4..])?;
+    let message = decoder.consume_next()?.ok_or("no message")?;
+    assert_eq!(rt; message.ty(), MessageType::InputCommand);
+    assert_eq!(rt; message.header().message_length(), 9);
+    assert_eq!(rt; message.payload().as_slice(), &INPUT_FRAME[8..]);
+    assert!(rt; decoder.consume_next()?.is_none());
+    assert_eq!(rt; decoder.remaining(), 0);
+    Ok(())
+}
+
+#[test]
+fn unknown_header(rt: HostRuntime) -> Result<(), Fail> {
+    let mut decoder = Decoder::new(rt.alloc());
+    decoder.push(&[0x00, 0x09, 0, 0, 0, 0, 0, 5])?;
+    decoder.push(&INPUT_FRAME)?;
+    match decoder.consume_next() {
+        Err(DecodingError::UnknownMessageType(unknown)) => assert_eq!(rt; unknown.0, 9),
+        _ => panic!(rt; "the type 9 is known"),
+    }
+    let message = decoder.consume_next()?.ok_or("no message")?;
+    assert_eq!(rt; message.payload().as_slice(), &INPUT_FRAME[8..]);
+    Ok(())
+}
+
+#[test]
+fn messages_are_written(rt: HostRuntime) -> Result<(), Fail> {
+    let mut out = BytesMut::new(rt.alloc());
+    write_message(&mut out, MessageType::InputCommand, &INPUT_FRAME[8..])?;
+    assert_eq!(rt; out.as_slice(), INPUT_FRAME.as_slice());
+    out.clear();
+    write_message(&mut out, MessageType::End, &[])?;
+    assert_eq!(rt; out.as_slice(), [0, 3, 0, 0, 0, 0, 0, 0].as_slice());
+    let shown = format!(in rt.alloc(); "{}", EncodingError::PayloadTooLong)?;
+    assert_eq!(rt; shown.as_str(), "a payload of more than 4294967295 bytes");
+    Ok(())
+}
