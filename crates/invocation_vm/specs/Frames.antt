@@ -1,5 +1,6 @@
 -- The frames that an attempt writes.
 use Rattle.std.specs.Prelude.{◌≡◌, ◌≤◌, ◌<◌, ◌^◌, ℕ, Bool, true, false, nat_le, if◌then◌else◌, List, [], ◌∷◌, ◌++◌, length, Option}
+use Rattle.std.specs.List.{flat_map, AllByRecursion}
 use Rattle.journal_model.specs.declared.notification.NotificationId.{NotificationId}
 use Rattle.journal_model.specs.declared.options.ImplicitCancellationOption.{ImplicitCancellationOption}
 use Rattle.journal_model.specs.Notification.{cancel_id}
@@ -8,6 +9,9 @@ use Rattle.journal_model.specs.Waiting.{leaf_or_nothing, and_leaf}
 use Rattle.journal_model.specs.Spelling.{frame_bytes, suspension_payload}
 use Rattle.invocation_vm.specs.declared.options.AwaitingOnPolicy.{AwaitingOnPolicy}
 use Rattle.invocation_vm.specs.declared.failure.AttemptFailure.{AttemptFailure}
+
+abbrev pub FitsFrame : List ℕ → Type 0
+FitsFrame payload = length payload < 2 ^ 32
 
 -- one frame of this type and payload is written behind what stood
 pub record WritesFrame (type : ℕ) (payload old new : List ℕ) : Type 0 where
@@ -37,3 +41,8 @@ tells_awaiting version policy = if nat_le 7 version then is_told policy else fal
 -- the payloads of the frames that tell it: one, or none
 abbrev pub awaiting_payloads : ℕ → AwaitingOnPolicy → AwaitTree NotificationId → List (List ℕ)
 awaiting_payloads version policy tree = if tells_awaiting version policy then suspension_payload tree ∷ [] else []
+
+-- a frame of each of these payloads is written behind what stood
+pub record TellsAwaiting (payloads : List (List ℕ)) (old new : List ℕ) : Type 0 where
+  pub fits : AllByRecursion FitsFrame payloads
+  pub bytes : new ≡ old ++ flat_map (frame_bytes 4) payloads

@@ -1,7 +1,6 @@
-pub mod Attempt
+pub mod Commands
 pub mod Failure
 pub mod Frames
 pub mod Options
-pub mod Preflight
 pub mod Progress
 pub mod Standing

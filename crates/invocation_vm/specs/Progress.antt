@@ -25,6 +25,7 @@ id_awaited completions handle =
 
 -- a sleep takes the next completion, and a handle for it
 pub record Sleeps (name : List ℕ) (wake_up_time : ℕ) (old new : Progress) : Type 0 where
+  pub bounds : wake_up_time < 2 ^ 64
   pub handle : 17 + old.completions < 2 ^ 32
   pub fits : length (request_payload (Request.Sleep wake_up_time (old.completions + 1) name)) < 2 ^ 32
   pub state : new ≡ record {

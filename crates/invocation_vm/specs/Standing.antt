@@ -1,5 +1,5 @@
 -- How the progress of an attempt stands to the steps of a run to which nothing has come, and what a call makes of both.
-use Rattle.std.specs.Prelude.{◌≡◌, ◌≤◌, ◌<◌, ◌^◌, ◌+◌, ℕ, Bool, true, false, List, [], ◌∷◌, ◌++◌, length, Option, Some, Any}
+use Rattle.std.specs.Prelude.{◌≡◌, ◌≤◌, ◌<◌, ◌^◌, ◌+◌, ℕ, Bool, true, false, List, [], ◌∷◌, ◌++◌, length, Option, Some, ◌⊎◌}
 use Rattle.std.specs.List.{flat_map, AllByRecursion}
 use Rattle.journal_model.specs.declared.notification.NotificationId.{NotificationId}
 use Rattle.journal_model.specs.declared.call.Call.{Call}
@@ -16,7 +16,7 @@ use Rattle.invocation_vm.specs.declared.failure.AttemptFailure.{AttemptFailure}
 use Rattle.invocation_vm.specs.declared.progress.Progress.{Progress}
 use Rattle.invocation_vm.specs.declared.progress.Turn.{Turn}
 use Rattle.invocation_vm.specs.Failure.{refusal_meant}
-use Rattle.invocation_vm.specs.Frames.{awaiting_payloads}
+use Rattle.invocation_vm.specs.Frames.{awaiting_payloads, FitsFrame}
 use Rattle.invocation_vm.specs.Progress.{id_awaited, awaits_one}
 
 -- the steps have slept and put out values alone, before anything came
@@ -48,9 +48,6 @@ IsFirstRequest (Request.Sleep wake_up_time completion name) = Unit {0}
 IsFirstRequest (Request.Output value name) = Unit {0}
 IsFirstRequest _ = ⊥
 
-abbrev pub FitsFrame : List ℕ → Type 0
-FitsFrame payload = length payload < 2 ^ 32
-
 -- the run goes on with one more step, whose answer was given and whose requests were written
 pub record GoesOnBy (invocation : Invocation) (steps : List Step) (call : Call) (old new : Progress) : Type 0 where
   pub step : Step
@@ -81,12 +78,17 @@ CarriesOut invocation policy steps call old new Turn.Waiting = WaitsBy invocatio
 CarriesOut invocation policy steps call old new Turn.Ended = EndsBy invocation steps call old new
 CarriesOut invocation policy steps call old new (Turn.Failed failure) = ⊥
 
+-- a payload of some request does not fit a frame
+abbrev pub HasTooLong : List Request → Type 0
+HasTooLong [] = ⊥
+HasTooLong (request ∷ requests) = (2 ^ 32 ≤ length (request_payload request)) ⊎ HasTooLong requests
+
 -- why a call is not carried out: no number is left for its handle, a payload of its requests is too long,
 -- the definition of a run refuses it, or it is another call
 abbrev pub HasCause : Invocation → List Step → Call → AttemptFailure → Type 0
 HasCause invocation steps call AttemptFailure.OutOfMemory = Unit {0}
 HasCause invocation steps call AttemptFailure.IdsExhausted = (0 < completions_of call) × (2 ^ 32 ≤ next_handle steps)
-HasCause invocation steps call AttemptFailure.PayloadTooLong = Any (λ request. 2 ^ 32 ≤ length (request_payload request)) (requests_to invocation steps call)
+HasCause invocation steps call AttemptFailure.PayloadTooLong = HasTooLong (requests_to invocation steps call)
 HasCause invocation steps call (AttemptFailure.RefusedCall refusal) = refusal_of invocation.version call ≡ Some (refusal_meant refusal)
 HasCause invocation steps call AttemptFailure.CallNotCarriedOut = is_carried_out call ≡ false
 HasCause invocation steps call _ = ⊥

@@ -3,17 +3,27 @@ ghost use Rattle.std.specs.Prelude.{◌≡◌, ◌++◌, ◌∷◌, [], IfOk, If
 ghost use Rattle.journal_model.specs.Request.{Request};
 ghost use Rattle.journal_model.specs.Spelling.{frame_bytes, request_payload, suspension_payload};
 ghost use Rattle.invocation_vm.specs.Frames.{WritesFrame, WriteFails, tree_awaited};
-ghost use Rattle.invocation_vm.specs.Progress.{id_awaited};
+ghost use Rattle.invocation_vm.specs.Commands.{failure_message, output_result, completions_awaited, names_awaited, signals_of_cancellation, signals_awaited, awaiting_on_message};
 
 use crate::failure::AttemptFailure;
 use crate::output::Output;
 use bytes::ByteStr;
-use journal_model::{ImplicitCancellationOption, NonEmptyValue};
+use journal_model::{
+    ImplicitCancellationOption, NonEmptyValue, NotificationId, TerminalFailure,
+};
 use journal_protocol::MessageType;
-use protocol_records::SleepCommandMessage;
+use protocol_records::{
+    AwaitingOnMessage, CombinatorType, Failure, FailureMetadata, Future, OutputCommandMessage,
+    OutputCommandResult, SleepCommandMessage, Value,
+};
 use protocol_wire::encode;
-use std::alloc::Global;
+use sequence::Sequence;
+use std::alloc::{AllocError, Global};
 
+/// The signal of a cancellation.
+const CANCEL_SIGNAL: u32 = 1;
+
+#[tactic(auto, using(crate::proofs::Payloads::sleep_payload))]
 /// Writes a sleep until a moment in milliseconds.
 pub(crate) fn write_sleep(
     alloc: Global,
@@ -35,7 +45,37 @@ pub(crate) fn write_sleep(
     output.write(MessageType::SleepCommand, &payload)
 }
 
+// A failure as it is recorded.
+fn failure_message(alloc: Global, failure: TerminalFailure) -> Result<Failure, AllocError>
+    ensures { IfOk result (λ message. message ≡ failure_message failure) }
+{
+    let mut metadata = Sequence::new(alloc);
+    for (key, value) in failure.metadata.as_slice() {
+        metadata.push(FailureMetadata {
+            key: key.clone()?,
+            value: value.clone()?,
+        })?;
+    }
+    Ok(Failure {
+        code: u32::from(failure.code),
+        message: failure.message,
+        metadata,
+    })
+}
+
+fn output_result(alloc: Global, value: NonEmptyValue) -> Result<OutputCommandResult, AllocError>
+    ensures { IfOk result (λ message. message ≡ output_result value) }
+{
+    match value {
+        NonEmptyValue::Success(content) => Ok(OutputCommandResult::Value(Value { content })),
+        NonEmptyValue::Failure(failure) => Ok(OutputCommandResult::Failure(failure_message(
+            alloc, failure,
+        )?)),
+    }
+}
+
 /// Writes what a handler puts out.
+#[tactic(auto, using(crate::proofs::Payloads::output_payload))]
 pub(crate) fn write_output(
     alloc: Global,
     output: &mut Output,
@@ -45,22 +85,105 @@ pub(crate) fn write_output(
     ensures err { OnErr result (output.new ≡ output.old) }
     ensures cause { IfErr result (WriteFails (request_payload (Request.Output value []))) }
 {
-    Err(AttemptFailure::OutOfMemory)
+    let message = OutputCommandMessage {
+        name: ByteStr::new(),
+        result: Some(output_result(alloc, value)?),
+    };
+    let payload = encode(alloc, &message)?;
+    output.write(MessageType::OutputCommand, &payload)
 }
 
-/// Tells that the await of one handle waits, where so many completions were taken.
+fn completions_awaited(alloc: Global, id: &Option<NotificationId>) -> Result<Sequence<u32>, AllocError>
+    ensures { IfOk result (λ numbers. numbers ≡ completions_awaited id.now) }
+{
+    let mut numbers = Sequence::new(alloc);
+    if let Some(NotificationId::CompletionId(number)) = id {
+        numbers.push(*number)?;
+        return Ok(numbers);
+    }
+    Ok(numbers)
+}
+
+fn names_awaited(alloc: Global, id: &Option<NotificationId>) -> Result<Sequence<ByteStr>, AllocError>
+    ensures { IfOk result (λ names. names ≡ names_awaited id.now) }
+{
+    let mut names = Sequence::new(alloc);
+    if let Some(NotificationId::SignalName(name)) = id {
+        names.push(name.clone()?)?;
+        return Ok(names);
+    }
+    Ok(names)
+}
+
+fn signals_of_cancellation(
+    alloc: Global,
+    cancellation: ImplicitCancellationOption,
+) -> Result<Sequence<u32>, AllocError>
+    ensures { IfOk result (λ numbers. numbers ≡ signals_of_cancellation cancellation) }
+{
+    let mut numbers = Sequence::new(alloc);
+    match cancellation {
+        ImplicitCancellationOption::Disabled => Ok(numbers),
+        ImplicitCancellationOption::Enabled { .. } => {
+            numbers.push(CANCEL_SIGNAL)?;
+            Ok(numbers)
+        }
+    }
+}
+
+fn signals_awaited(
+    alloc: Global,
+    cancellation: ImplicitCancellationOption,
+    id: &Option<NotificationId>,
+) -> Result<Sequence<u32>, AllocError>
+    ensures { IfOk result (λ numbers. numbers ≡ signals_awaited cancellation id.now) }
+{
+    if let Some(NotificationId::SignalId(number)) = id {
+        let mut numbers = Sequence::new(alloc);
+        numbers.push(*number)?;
+        if let ImplicitCancellationOption::Enabled { .. } = cancellation {
+            numbers.push(CANCEL_SIGNAL)?;
+            return Ok(numbers);
+        }
+        return Ok(numbers);
+    }
+    signals_of_cancellation(alloc, cancellation)
+}
+
+fn awaiting_on_message(
+    alloc: Global,
+    cancellation: ImplicitCancellationOption,
+    id: &Option<NotificationId>,
+) -> Result<AwaitingOnMessage, AllocError>
+    ensures { IfOk result (λ message. message ≡ awaiting_on_message cancellation id.now) }
+{
+    Ok(AwaitingOnMessage {
+        awaiting_on: Some(Future {
+            waiting_completions: completions_awaited(alloc, id)?,
+            waiting_signals: signals_awaited(alloc, cancellation, id)?,
+            waiting_named_signals: names_awaited(alloc, id)?,
+            nested_futures: Sequence::new(alloc),
+            combinator_type: CombinatorType::FirstCompleted,
+        }),
+        executing_side_effects: false,
+    })
+}
+
+/// Tells that an await waits for what stands for one id, no run being executed.
+#[tactic(auto, using(crate::proofs::Payloads::awaiting_on_payload))]
 pub(crate) fn write_awaiting_on(
     alloc: Global,
     output: &mut Output,
     cancellation: ImplicitCancellationOption,
-    completions: u32,
-    handle: u32,
+    id: &Option<NotificationId>,
 ) -> Result<(), AttemptFailure>
-    ensures ok { OnOk result (output.new ≡ output.old ++ frame_bytes 4 (suspension_payload (tree_awaited cancellation (id_awaited completions handle)))) }
+    ensures ok { OnOk result (WritesFrame 4 (suspension_payload (tree_awaited cancellation id.now)) output.old output.new) }
     ensures err { OnErr result (output.new ≡ output.old) }
-    ensures cause { IfErr result (λ failure. failure ≡ AttemptFailure.OutOfMemory) }
+    ensures cause { IfErr result (WriteFails (suspension_payload (tree_awaited cancellation id.now))) }
 {
-    Err(AttemptFailure::OutOfMemory)
+    let message = awaiting_on_message(alloc, cancellation, id)?;
+    let payload = encode(alloc, &message)?;
+    output.write(MessageType::AwaitingOn, &payload)
 }
 
 /// Writes that the invocation has ended.

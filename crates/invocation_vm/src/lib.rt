@@ -2,9 +2,11 @@
 //! out the calls of a first path: sleep, output, the await of one handle, and the end.
 #![tactic(auto)]
 
+mod commands;
 mod failure;
 mod options;
 mod output;
+mod progress;
 
 pub use failure::{AttemptFailure, CallRefusal};
 pub use journal_model::{ImplicitCancellationOption, SignalDelivery};
@@ -13,3 +15,4 @@ pub use options::{
     VMOptions,
 };
 pub use output::Output;
+pub use progress::{Progress, Turn};

@@ -1,5 +1,5 @@
 //! The bytes that an attempt has to hand out.
-ghost use Rattle.std.specs.Prelude.{◌≡◌, ◌≤◌, [], length, take, drop, IfOk, IfErr, OnOk, OnErr};
+ghost use Rattle.std.specs.Prelude.{◌≡◌, ◌≤◌, ◌<◌, ◌^◌, [], length, take, drop, IfOk, IfErr, OnOk, OnErr};
 ghost use Rattle.journal_protocol.specs.MessageType.{number_of};
 ghost use Rattle.invocation_vm.specs.Frames.{WritesFrame, WriteFails};
 
@@ -60,6 +60,7 @@ impl Output {
 
     /// Writes a frame: all of it or nothing.
     pub(crate) fn write(&mut self, ty: MessageType, payload: &[u8]) -> Result<(), AttemptFailure>
+        requires { number_of ty < 2 ^ 16 }
         ensures ok { OnOk result (WritesFrame (number_of ty) payload.now self.old self.new) }
         ensures err { OnErr result (self.new ≡ self.old) }
         ensures cause { IfErr result (WriteFails payload.now) }

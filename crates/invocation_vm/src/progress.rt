@@ -1,13 +1,12 @@
 //! The calls of a handler, carried out one by one.
-ghost use Rattle.std.specs.Prelude.{◌≡◌, ◌≤◌, ◌^◌, ◌++◌, List, [], IfSome, IsNone, IfOk, IfErr, OnOk, OnErr, option_map, ◌↔◌};
-ghost use Rattle.std.specs.List.{flat_map};
+ghost use Rattle.std.specs.Prelude.{◌≡◌, ◌≤◌, ◌<◌, ◌^◌, List, [], IfSome, IsNone, IfOk, IfErr, OnOk, OnErr, option_map, ◌↔◌};
 ghost use Rattle.journal_model.specs.Run.{Invocation};
 ghost use Rattle.journal_model.specs.History.{Step};
 ghost use Rattle.journal_model.specs.Refusal.{milliseconds, first_refusal, value_tests};
-ghost use Rattle.journal_model.specs.Spelling.{frame_bytes};
+ghost use Rattle.journal_model.specs.Spelling.{suspension_payload};
 ghost use Rattle.invocation_vm.specs.Failure.{refusal_meant};
 ghost use Rattle.invocation_vm.specs.Options.{run_options};
-ghost use Rattle.invocation_vm.specs.Frames.{tree_awaited, awaiting_payloads};
+ghost use Rattle.invocation_vm.specs.Frames.{tree_awaited, awaiting_payloads, TellsAwaiting, WriteFails};
 ghost use Rattle.invocation_vm.specs.Progress.{id_awaited, Sleeps, SleepFails, PutsOut, OutputFails, SingleHandle};
 ghost use Rattle.invocation_vm.specs.Standing.{Tallies, CarriesOut, HasCause};
 
@@ -17,7 +16,8 @@ use crate::options::{AwaitingOnPolicy, VMOptions};
 use crate::output::Output;
 use bytes::ByteStr;
 use journal_model::{
-    Answer, AwaitedFuture, Call, Moment, NonEmptyValue, NotificationHandle, UnresolvedFuture,
+    Answer, AwaitedFuture, Call, Moment, NonEmptyValue, NotificationHandle, NotificationId,
+    UnresolvedFuture,
 };
 use sequence::Sequence;
 use std::alloc::{AllocError, Global};
@@ -61,6 +61,7 @@ impl Progress {
 // A moment in whole milliseconds, where 64 bits hold them.
 fn milliseconds_of(moment: &Moment) -> Option<u64>
     ensures some { IfSome result (λ millis. millis ≡ milliseconds moment.now) }
+    ensures fits { IfSome result (λ millis. millis < 2 ^ 64) }
     ensures none { IsNone result ↔ (2 ^ 64 ≤ milliseconds moment.now) }
 {
     u64::try_from(moment.duration().as_millis()).ok()
@@ -123,31 +124,39 @@ fn put_out(
     write_output(alloc, &mut progress.output, value)
 }
 
+// The id that a handle stands for where so many completions were taken, and none of their notifications.
+fn id_awaited(completions: u32, handle: NotificationHandle) -> Option<NotificationId>
+    ensures { result ≡ id_awaited completions handle }
+{
+    let number = handle.number();
+    if number == 1 {
+        return Some(NotificationId::SignalId(1));
+    }
+    if number < FIRST_HANDLE {
+        return None;
+    }
+    if u64::from(number) < 17 + u64::from(completions) {
+        return Some(NotificationId::CompletionId(number - 16));
+    }
+    None
+}
+
 // Tells what the await of one handle waits for, where that is to be told.
 fn wait(
     alloc: Global,
-    progress: &mut Progress,
+    output: &mut Output,
     version: u32,
     options: &VMOptions,
-    handle: NotificationHandle,
+    id: &Option<NotificationId>,
 ) -> Result<(), AttemptFailure>
-    ensures ok { OnOk result (progress.new ≡ record progress.old {
-        output = progress.old.output ++ flat_map (frame_bytes 4) (awaiting_payloads version options.now.awaiting_on_policy
-            (tree_awaited options.now.implicit_cancellation (id_awaited progress.old.completions handle)));
-    }) }
-    ensures err { OnErr result (progress.new ≡ progress.old) }
-    ensures cause { IfErr result (λ failure. failure ≡ AttemptFailure.OutOfMemory) }
+    ensures ok { OnOk result (TellsAwaiting (awaiting_payloads version options.now.awaiting_on_policy (tree_awaited options.now.implicit_cancellation id.now)) output.old output.new) }
+    ensures err { OnErr result (output.new ≡ output.old) }
+    ensures cause { IfErr result (WriteFails (suspension_payload (tree_awaited options.now.implicit_cancellation id.now))) }
 {
     if version < 7 || options.awaiting_on_policy == AwaitingOnPolicy::DontSend {
         return Ok(());
     }
-    write_awaiting_on(
-        alloc,
-        &mut progress.output,
-        options.implicit_cancellation,
-        progress.completions,
-        handle.number(),
-    )
+    write_awaiting_on(alloc, output, options.implicit_cancellation, id)
 }
 
 // The handle of a future that is one.
@@ -158,6 +167,13 @@ fn single_handle(awaited: &AwaitedFuture) -> Option<NotificationHandle>
         UnresolvedFuture::Single(handle) => Some(*handle),
         _ => None,
     }
+}
+
+// Lets go of a call that is not carried out yet.
+fn not_carried_out(_call: Call) -> AttemptFailure
+    ensures { result ≡ AttemptFailure.CallNotCarriedOut }
+{
+    AttemptFailure::CallNotCarriedOut
 }
 
 /// Carries a call out. An `Err` has written nothing.
@@ -188,13 +204,14 @@ pub(crate) fn carry_out(
             let Some(handle) = single_handle(&awaited) else {
                 return Err(AttemptFailure::CallNotCarriedOut);
             };
-            wait(alloc, progress, version, options, handle)?;
+            let id = id_awaited(progress.completions, handle);
+            wait(alloc, &mut progress.output, version, options, &id)?;
             Ok(Turn::Waiting)
         }
         Call::End => {
             write_end(&mut progress.output)?;
             Ok(Turn::Ended)
         }
-        _ => Err(AttemptFailure::CallNotCarriedOut),
+        other => Err(not_carried_out(other)),
     }
 }
