@@ -83,11 +83,19 @@ packed-is field (n ∷ ns) = some_number field n ns ∙ bytes_field-is field (fl
 
 -- ---- payloads, a part at a time
 
-pub payload_of-cons : (part : Part) (more : List Part) (a b : List ℕ) → part_spelling part ≡ a → payload_of more ≡ b → payload_of (part ∷ more) ≡ a ++ b
-payload_of-cons part more a b p q = ap (λ (s : List ℕ). s ++ payload_of more) p ∙ ap (λ (s : List ℕ). a ++ s) q
+-- these parts are spelled so
+pub record AreSpelled (all : List Part) (s : List ℕ) : Type 0 where
+  pub payload : payload_of all ≡ s
 
-pub payload_of-last : (part : Part) (a : List ℕ) → part_spelling part ≡ a → payload_of (part ∷ []) ≡ a
-payload_of-last part a p = append-nil (part_spelling part) ∙ p
+pub spelled-cons : (part : Part) (more : List Part) (a b : List ℕ) → part_spelling part ≡ a → AreSpelled more b → AreSpelled (part ∷ more) (a ++ b)
+spelled-cons part more a b p q = record { payload = ap (λ (s : List ℕ). s ++ payload_of more) p ∙ ap (λ (s : List ℕ). a ++ s) q.payload }
+
+-- the last part that has a spelling
+pub spelled-last : (part : Part) (more : List Part) (a : List ℕ) → payload_of more ≡ [] → part_spelling part ≡ a → AreSpelled (part ∷ more) a
+spelled-last part more a none p = record { payload = ap (λ (s : List ℕ). part_spelling part ++ s) none ∙ append-nil (part_spelling part) ∙ p }
+
+pub payload_is : (all : List Part) (s : List ℕ) → AreSpelled all s → payload_of all ≡ s
+payload_is all s h = h.payload
 
 -- ---- frames
 

@@ -1,7 +1,24 @@
 -- Laws of types, headers and streams.
-use Rattle.std.specs.Prelude.{◌≡◌, ◌≢◌, ◌↔◌, ℕ, ◌^◌, ◌<◌, List, [], ◌∷◌, ◌++◌, map, bit_and, Option, Some, None, is_some, Result, Ok, Err}
+use Rattle.std.specs.Prelude.{◌≡◌, ◌≢◌, ◌↔◌, ℕ, ◌^◌, ◌<◌, false, length, List, [], ◌∷◌, ◌++◌, map, bit_and, Option, Some, None, is_some, Result, Ok, Err}
 use Rattle.std.specs.List.{AllByRecursion}
 use Rattle.protocol_wire.specs.Items.{items, left}
+use Rattle.protocol_wire.specs.Parts.{payload_of}
+use Rattle.journal_model.specs.declared.notification.NotificationId.{NotificationId}
+use Rattle.journal_model.specs.declared.value.NonEmptyValue.{NonEmptyValue}
+use Rattle.journal_model.specs.declared.value.TerminalFailure.{TerminalFailure}
+use Rattle.journal_model.specs.declared.call.Header.{Header}
+use Rattle.journal_model.specs.Request.{Request}
+use Rattle.journal_model.specs.State.{StateMap}
+use Rattle.journal_model.specs.declared.invocation.NewInvocation.{NewInvocation}
+use Rattle.journal_model.specs.AwaitTree.{AwaitTree}
+use Rattle.journal_model.specs.Spelling.{request_payload, input_payload, future_payload, suspension_payload, frame_bytes}
+use Rattle.journal_model.specs.Start.{start_payload_of}
+use Rattle.protocol_records.specs.SleepCommand.{sleep_command_parts}
+use Rattle.protocol_records.specs.OutputCommand.{output_command_parts}
+use Rattle.protocol_records.specs.InputCommand.{input_command_parts}
+use Rattle.protocol_records.specs.Start.{start_parts}
+use Rattle.protocol_records.specs.Future.{future_parts}
+use Rattle.protocol_records.specs.AwaitingOn.{awaiting_on_parts}
 use Rattle.journal_protocol.specs.declared.message_type.MessageType.{MessageType}
 use Rattle.journal_protocol.specs.declared.message_type.MessageType.TheVariants.{CustomEntry}
 use Rattle.journal_protocol.specs.declared.header.MessageHeader.{MessageHeader}
@@ -9,7 +26,8 @@ use Rattle.journal_protocol.specs.declared.decoder.RawMessage.{RawMessage}
 use Rattle.journal_protocol.specs.MessageType.{number_of, named_types, type_numbered, allows_ack}
 use Rattle.journal_protocol.specs.Header.{message_type, message_length, requested_ack, word_of, header_in}
 use Rattle.journal_protocol.specs.Item.{message, item_at}
-use Rattle.journal_protocol.specs.Frame.{spelled, stream, IsWireType, IsFrame}
+use Rattle.journal_protocol.specs.Frame.{spelled, stream, message_of, IsWireType, IsFrame}
+use Rattle.journal_protocol.specs.Records.{failure_record, terminal_failure_told, sleep_record, output_record, input_record, start_record, future_record, awaiting_on_record}
 
 abbrev pub NamesReadBack : Type 0
 NamesReadBack = AllByRecursion IsWireType named_types
@@ -40,3 +58,32 @@ StreamsAreRead = (messages : List RawMessage) → AllByRecursion IsFrame message
 
 abbrev pub StreamsCutAnywhere : Type 0
 StreamsCutAnywhere = (first second : List ℕ) → items item_at (first ++ second) ≡ items item_at first ++ items item_at (left item_at first ++ second)
+
+-- ---- the canonical spelling of the records is the one that the definitions give
+
+abbrev pub SleepsSpelled : Type 0
+SleepsSpelled = (time completion : ℕ) (name : List ℕ) → payload_of (sleep_command_parts (sleep_record time completion name)) ≡ request_payload (Request.Sleep time completion name)
+
+abbrev pub OutputsSpelled : Type 0
+OutputsSpelled = (value : NonEmptyValue) (name : List ℕ) → payload_of (output_command_parts (output_record value name)) ≡ request_payload (Request.Output value name)
+
+abbrev pub InputsSpelled : Type 0
+InputsSpelled = (headers : List Header) (input : List ℕ) → payload_of (input_command_parts (input_record headers input)) ≡ input_payload headers input
+
+abbrev pub StartsSpelled : Type 0
+StartsSpelled =
+    (new : NewInvocation) (state : StateMap) (known_entries retry_count duration : ℕ)
+    → payload_of (start_parts (start_record new state known_entries retry_count duration)) ≡ start_payload_of new state known_entries retry_count duration
+
+abbrev pub FuturesSpelled : Type 0
+FuturesSpelled = (tree : AwaitTree NotificationId) → payload_of (future_parts (future_record tree)) ≡ future_payload tree
+
+-- what is awaited while no side effect is executed is spelled as a suspension is
+abbrev pub AwaitingOnSpelled : Type 0
+AwaitingOnSpelled = (tree : AwaitTree NotificationId) → payload_of (awaiting_on_parts (awaiting_on_record tree false)) ≡ suspension_payload tree
+
+abbrev pub FramesSpelled : Type 0
+FramesSpelled = (ty : MessageType) (payload : List ℕ) → number_of ty < 2 ^ 16 → length payload < 2 ^ 32 → spelled (message_of ty payload) ≡ frame_bytes (number_of ty) payload
+
+abbrev pub TerminalFailuresReadBack : Type 0
+TerminalFailuresReadBack = (failure : TerminalFailure) → failure.code < 2 ^ 16 → terminal_failure_told (failure_record failure) ≡ failure

@@ -4,3 +4,4 @@ pub mod Header
 pub mod Item
 pub mod Laws
 pub mod MessageType
+pub mod Records

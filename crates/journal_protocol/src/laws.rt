@@ -1,6 +1,6 @@
 //! Laws of types, headers and streams. Each function does nothing: its contract is the law.
 
-ghost use Rattle.journal_protocol.specs.Laws.{NamesReadBack, CustomEntriesReadBack, NumbersReadBack, RestIsUnknown, HeadersReadBack, FramesStandAlone, StreamsAreRead, StreamsCutAnywhere};
+ghost use Rattle.journal_protocol.specs.Laws.{NamesReadBack, CustomEntriesReadBack, NumbersReadBack, RestIsUnknown, HeadersReadBack, FramesStandAlone, StreamsAreRead, StreamsCutAnywhere, SleepsSpelled, OutputsSpelled, InputsSpelled, StartsSpelled, FuturesSpelled, AwaitingOnSpelled, FramesSpelled, TerminalFailuresReadBack};
 
 /// Each named type is read back from its number, and a custom entry exactly where its number is no named type's and
 /// has one of its six highest bits set. A number that is read as a type is that type's, and it is refused exactly
@@ -30,5 +30,24 @@ pub fn messages_read_back()
 /// Cutting the same bytes into other pieces changes no item and no order.
 pub fn streams_cut_anywhere()
     ensures { StreamsCutAnywhere }
+{
+}
+
+/// The canonical payload of a record, and the frame of a message that requests no acknowledgement, are those that the
+/// definitions of durable execution give.
+pub fn spelled_as_defined()
+    ensures sleep { SleepsSpelled }
+    ensures output { OutputsSpelled }
+    ensures input { InputsSpelled }
+    ensures start { StartsSpelled }
+    ensures future { FuturesSpelled }
+    ensures awaiting_on { AwaitingOnSpelled }
+    ensures frame { FramesSpelled }
+{
+}
+
+/// A terminal failure that was turned into its record and back is unchanged.
+pub fn terminal_failures_read_back()
+    ensures { TerminalFailuresReadBack }
 {
 }

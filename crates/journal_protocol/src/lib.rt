@@ -1,12 +1,17 @@
 //! What stands on the stream between a runtime and an invocation: types, headers and framing.
 #![tactic(auto)]
 
+mod conversion;
 mod decoder;
 mod encoder;
 mod header;
 pub mod laws;
 mod message_type;
 
+pub use conversion::{
+    to_failure, to_failure_record, to_header, to_header_record, to_header_records, to_headers,
+    to_non_empty_value, to_output_result, to_terminal_failure,
+};
 pub use decoder::{Decoder, DecodingError, RawMessage};
 pub use encoder::{EncodingError, write_message};
 pub use header::MessageHeader;

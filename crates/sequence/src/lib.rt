@@ -6,5 +6,7 @@
 #![tactic(auto)]
 
 mod sequence;
+#[cfg(test)]
+mod tests;
 
 pub use sequence::Sequence;

@@ -2,14 +2,17 @@ ghost use Rattle.std.specs.Prelude.{◌≡◌, [], ◌∷◌, ◌++◌, ◌<◌,
 ghost use Rattle.std.specs.Option.{option_copied};
 ghost use Rattle.std.specs.List.{AllZip};
 ghost use Rattle.std.specs.Cmp.Lexicographic.{pointwise, lists_per, lists_equiv};
+ghost use Rattle.std.specs.Fmt.{debug_list};
 
 use std::alloc::{AllocError, Global};
+use std::fmt;
+use std::fmt::{Debug, Formatter, Write};
 use std::marker::Model;
 
 /// Items in their order, seen as the list of them.
 ///
 /// It stands on a `Vec` from the global allocator. Copying, comparing and printing go item by item, as those of a `Vec`.
-#[derive(Debug, Drop)]
+#[derive(Drop)]
 pub struct Sequence<T> {
     items: Vec<T>,
 }
@@ -93,6 +96,14 @@ impl<T: Drop> Sequence<T> {
     {
         self.items.push(item)?;
         Ok(())
+    }
+}
+
+impl<T: Debug> Debug for Sequence<T> {
+    ghost debug_output = { debug_list T.debug_output };
+
+    fn fmt<W: Write>(&self, f: &mut Formatter<W>) -> fmt::Result {
+        Debug::fmt(&self.items, f)
     }
 }
 
