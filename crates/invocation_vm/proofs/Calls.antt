@@ -60,9 +60,9 @@ first_steps steps progress t = record {
   stands = λ handle. t.first.stands progress.completions t.completions handle ∙ sym (id_awaited-is progress.completions (next_completion steps) handle t.completions);
 }
 
--- nothing was answered before the first call
-pub tallies-none : (output : List ℕ) → Tallies [] (record { answers = []; completions = 0; output = output })
-tallies-none output = record { answers = refl; completions = refl; first = are_first [] first-none }
+-- before the first call
+pub none_first : AreFirst []
+none_first = are_first [] first-none
 
 next_handle-is : (steps : List Step) (progress : Progress) → Tallies steps progress → 17 + progress.completions ≡ next_handle steps
 next_handle-is steps progress t = omega (arith, t.completions, t.first.handles)
@@ -116,7 +116,7 @@ sleep_cause invocation steps name wake_up now old (AttemptFailure.BadPayload ty)
 
 refused_none : (refused : Option CallRefusal) (meant : Option Refusal) → IsNone refused → option_map refusal_meant refused ≡ meant → meant ≡ None
 refused_none None meant h e = sym e
-refused_none (Some refusal) meant h e = absurd h
+refused_none (Some refusal) meant h e = absurd cc
 
 pub output_goes_on : (invocation : Invocation) (steps : List Step) (version : ℕ) (value : NonEmptyValue) (options : PayloadOptions) (refused : Option CallRefusal) (old new : Progress)
     → version ≡ invocation.version → option_map refusal_meant refused ≡ first_refusal (value_tests version value) → Tallies steps old

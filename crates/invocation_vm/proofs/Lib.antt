@@ -1,3 +1,6 @@
 pub mod Calls
-pub mod Joined
+pub mod Frames
 pub mod Payloads
+pub mod Reading
+pub mod Starting
+pub mod Turning

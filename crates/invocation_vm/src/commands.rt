@@ -1,20 +1,17 @@
 //! The commands of an attempt as frames behind its output, each written whole or not at all.
-ghost use Rattle.std.specs.Prelude.{◌≡◌, ◌++◌, ◌∷◌, [], IfOk, IfErr, OnOk, OnErr};
+ghost use Rattle.std.specs.Prelude.{◌≡◌, ◌++◌, [], IfOk, IfErr, OnOk, OnErr};
 ghost use Rattle.journal_model.specs.Request.{Request};
 ghost use Rattle.journal_model.specs.Spelling.{frame_bytes, request_payload, suspension_payload};
 ghost use Rattle.invocation_vm.specs.Frames.{WritesFrame, WriteFails, tree_awaited};
-ghost use Rattle.invocation_vm.specs.Commands.{failure_message, output_result, completions_awaited, names_awaited, signals_of_cancellation, signals_awaited, awaiting_on_message};
+ghost use Rattle.invocation_vm.specs.Commands.{completions_awaited, names_awaited, signals_of_cancellation, signals_awaited, awaiting_on_message};
 
 use crate::failure::AttemptFailure;
 use crate::output::Output;
 use bytes::ByteStr;
-use journal_model::{
-    ImplicitCancellationOption, NonEmptyValue, NotificationId, TerminalFailure,
-};
-use journal_protocol::MessageType;
+use journal_model::{ImplicitCancellationOption, NonEmptyValue, NotificationId};
+use journal_protocol::{MessageType, to_output_result};
 use protocol_records::{
-    AwaitingOnMessage, CombinatorType, Failure, FailureMetadata, Future, OutputCommandMessage,
-    OutputCommandResult, SleepCommandMessage, Value,
+    AwaitingOnMessage, CombinatorType, Future, OutputCommandMessage, SleepCommandMessage,
 };
 use protocol_wire::encode;
 use sequence::Sequence;
@@ -23,8 +20,8 @@ use std::alloc::{AllocError, Global};
 /// The signal of a cancellation.
 const CANCEL_SIGNAL: u32 = 1;
 
-#[tactic(auto, using(crate::proofs::Payloads::sleep_payload))]
 /// Writes a sleep until a moment in milliseconds.
+#[tactic(auto, using(journal_protocol::proofs::RecordSpellings::sleeps_spelled))]
 pub(crate) fn write_sleep(
     alloc: Global,
     output: &mut Output,
@@ -45,37 +42,8 @@ pub(crate) fn write_sleep(
     output.write(MessageType::SleepCommand, &payload)
 }
 
-// A failure as it is recorded.
-fn failure_message(alloc: Global, failure: TerminalFailure) -> Result<Failure, AllocError>
-    ensures { IfOk result (λ message. message ≡ failure_message failure) }
-{
-    let mut metadata = Sequence::new(alloc);
-    for (key, value) in failure.metadata.as_slice() {
-        metadata.push(FailureMetadata {
-            key: key.clone()?,
-            value: value.clone()?,
-        })?;
-    }
-    Ok(Failure {
-        code: u32::from(failure.code),
-        message: failure.message,
-        metadata,
-    })
-}
-
-fn output_result(alloc: Global, value: NonEmptyValue) -> Result<OutputCommandResult, AllocError>
-    ensures { IfOk result (λ message. message ≡ output_result value) }
-{
-    match value {
-        NonEmptyValue::Success(content) => Ok(OutputCommandResult::Value(Value { content })),
-        NonEmptyValue::Failure(failure) => Ok(OutputCommandResult::Failure(failure_message(
-            alloc, failure,
-        )?)),
-    }
-}
-
 /// Writes what a handler puts out.
-#[tactic(auto, using(crate::proofs::Payloads::output_payload))]
+#[tactic(auto, using(journal_protocol::proofs::RecordSpellings::outputs_spelled))]
 pub(crate) fn write_output(
     alloc: Global,
     output: &mut Output,
@@ -87,7 +55,7 @@ pub(crate) fn write_output(
 {
     let message = OutputCommandMessage {
         name: ByteStr::new(),
-        result: Some(output_result(alloc, value)?),
+        result: Some(to_output_result(alloc, value)?),
     };
     let payload = encode(alloc, &message)?;
     output.write(MessageType::OutputCommand, &payload)

@@ -2,12 +2,15 @@
 //! out the calls of a first path: sleep, output, the await of one handle, and the end.
 #![tactic(auto)]
 
+mod attempt;
 mod commands;
 mod failure;
 mod options;
 mod output;
+mod preflight;
 mod progress;
 
+pub use attempt::Attempt;
 pub use failure::{AttemptFailure, CallRefusal};
 pub use journal_model::{ImplicitCancellationOption, SignalDelivery};
 pub use options::{
@@ -16,3 +19,6 @@ pub use options::{
 };
 pub use output::Output;
 pub use progress::{Progress, Turn};
+
+#[cfg(test)]
+mod tests;

@@ -97,15 +97,12 @@ impl Default for VMOptions {
 
     fn default() -> VMOptions {
         VMOptions {
-            implicit_cancellation: ImplicitCancellationOption::Enabled {
-                cancel_children_calls: true,
-                cancel_children_one_way_calls: false,
-            },
+            implicit_cancellation: ImplicitCancellationOption::default(),
             non_determinism_checks: NonDeterministicChecksOption::default(),
             awaiting_on_policy: AwaitingOnPolicy::default(),
             journal_mismatch_retry_behavior: JournalMismatchRetryBehavior::default(),
             journal_replay: JournalReplay::default(),
-            signal_delivery: SignalDelivery::Queued,
+            signal_delivery: SignalDelivery::default(),
             fallback_random_seed: 0,
         }
     }

@@ -1,17 +1,27 @@
+use Rattle.std.proofs.lemmas.Result.{err_from_is_err_and}
 use Rattle.invocation_vm.proofs.Calls.{sleep_goes_on, sleep_cause, output_goes_on, output_cause, await_waits, await_cause, end_ends}
 use Rattle.invocation_vm.proofs.progress.carry_out.Goals as goal
 
 pub returns-in_err-sleep-in-Sleep-clause-cause : goal.returns-in_err-sleep-in-Sleep-clause-cause
-returns-in_err-sleep-in-Sleep-clause-cause c = ?
+returns-in_err-sleep-in-Sleep-clause-cause c =
+    let p = err_from_is_err_and c.from_residual.result c.from_residual.ensures.1 in
+    rw (p.1, p.2, c.in-Sleep.is) (λ invocation steps v t. sleep_cause invocation steps c.in-Sleep.name c.in-Sleep.wake_up c.in-Sleep.now c.args.progress.now _ t c.in_err-sleep-in-Sleep.ensures.cause)
 
-pub returns-in-Sleep-clause-ok : goal.returns-in-Sleep-clause-ok
-returns-in-Sleep-clause-ok c = ?
+pub returns-in_ok-sleep-in-Sleep-clause-ok : goal.returns-in_ok-sleep-in-Sleep-clause-ok
+returns-in_ok-sleep-in-Sleep-clause-ok c =
+    rw c.in-Sleep.is (λ invocation steps v o t. sleep_goes_on invocation steps c.in-Sleep.name c.in-Sleep.wake_up c.in-Sleep.now c.args.progress.now c.sleep.new.progress t c.in_ok-sleep-in-Sleep.ensures.ok)
 
 pub returns-in_err-put_out-in-Output-clause-cause : goal.returns-in_err-put_out-in-Output-clause-cause
-returns-in_err-put_out-in-Output-clause-cause c = ?
+returns-in_err-put_out-in-Output-clause-cause c =
+    let p = err_from_is_err_and c.from_residual-in_err-put_out-in-Output.result c.from_residual-in_err-put_out-in-Output.ensures.1 in
+    rw (p.1, p.2, c.in-Output.is) (λ invocation steps v t. output_cause invocation steps c.args.version c.in-Output.value c.in-Output.options c.refusal_of_value-refusal.result _ v c.refusal_of_value-refusal.ensures c.in_err-put_out-in-Output.ensures.cause)
 
-pub returns-in-Output-clause-ok : goal.returns-in-Output-clause-ok
-returns-in-Output-clause-ok c = ?
+pub returns-in_ok-put_out-in-Output-clause-ok : goal.returns-in_ok-put_out-in-Output-clause-ok
+returns-in_ok-put_out-in-Output-clause-ok c =
+    rw c.in-Output.is (λ invocation steps v o t. output_goes_on invocation steps c.args.version c.in-Output.value c.in-Output.options c.refusal_of_value-refusal.result c.args.progress.now c.put_out.new.progress v c.refusal_of_value-refusal.ensures t c.in_ok-put_out-in-Output.ensures.ok)
 
-pub returns-in-Await-clause-ok : goal.returns-in-Await-clause-ok
-returns-in-Await-clause-ok c = ?
+pub returns-in_err-wait-in-Await-clause-cause : goal.returns-in_err-wait-in-Await-clause-cause
+returns-in_err-wait-in-Await-clause-cause c = ?
+
+pub returns-in_ok-wait-in-Await-clause-ok : goal.returns-in_ok-wait-in-Await-clause-ok
+returns-in_ok-wait-in-Await-clause-ok c = ?

@@ -1,4 +1,4 @@
-use Rattle.std.proofs.Common.{◌≡◌, ◌^◌, ◌<◌, ◌≤◌, ℕ, Bool, true, false, ltb, List, ◌++◌, length, Result, Ok, Err, refl, ap, ◌∙◌, arith}
+use Rattle.std.proofs.Common.{◌≡◌, ◌^◌, ◌<◌, ◌≤◌, ℕ, Bool, true, false, ltb, List, ◌++◌, length, Result, Ok, Err, refl}
 use Rattle.std.specs.Prelude.{◌↔◌}
 use Rattle.std.proofs.lemmas.Bool.{ltb-true, ltb-false}
 use Rattle.journal_protocol.specs.declared.encoder.EncodingError.{EncodingError}
@@ -18,5 +18,9 @@ returns-clause-ok c =
     let fits : length c.args.payload.now < 2 ^ 32 = fits_once_written _ _ _ c.in_ok-write_message.ensures.too_long refl in
     record {
       fits = fits;
-      bytes = c.in_ok-write_message.ensures.ok ∙ ap (λ (s : List ℕ). c.args.self.now ++ s) (spelled-frame_bytes c.args.ty c.args.payload.now c.requires fits);
+      bytes =
+          let written = c.in_ok-write_message.ensures.ok in
+          let same = spelled-frame_bytes c.args.ty c.args.payload.now c.requires fits in
+          let view = c.self.view_is in
+          cc;
     }
