@@ -53,9 +53,11 @@ module _ (ty : MessageType) (payload rest came left : List ℕ) (is : IsFrame (m
       by_order : (length came < length (spelled (message_of ty payload))) ⊎ (length (spelled (message_of ty payload)) ≤ length came) → (item ≡ message (message_of ty payload)) × (new ++ left ≡ rest)
       by_order (inl short) = absurd (let none = item_at-short (message_of ty payload) came left rest is bytes short in let clash : ◌≡◌ {A = Option (Item × List ℕ)} None (Some (item, new)) = sym none ∙ at in cc)
       by_order (inr whole) =
-          let same = same_pair item (message (message_of ty payload)) new (drop (length (spelled (message_of ty payload))) came) (sym at ∙ item_at-whole (message_of ty payload) came left rest is bytes whole) in
-          (same.0, ap (λ (s : List ℕ). s ++ left) same.1 ∙ sym (drop-append-le (length (spelled (message_of ty payload))) came left whole)
-          ∙ ap (drop (length (spelled (message_of ty payload)))) bytes ∙ drop-append_seam (spelled (message_of ty payload)) rest)
+          let same = same_pair item (message (message_of ty payload)) new (drop (length (spelled (message_of ty payload))) came) (sym at ∙ item_at-whole (message_of ty payload) came left rest is bytes whole) in (
+            same.0,
+            ap (λ (s : List ℕ). s ++ left) same.1 ∙ sym (drop-append-le (length (spelled (message_of ty payload))) came left whole)
+                ∙ ap (drop (length (spelled (message_of ty payload)))) bytes ∙ drop-append_seam (spelled (message_of ty payload)) rest,
+          )
 
   -- without an item less has come than the frame
   lacks : item_at came ≡ None → length rest < length left

@@ -93,18 +93,39 @@ module _ (new : NewInvocation) (known retry_count duration : ℕ) where
       let ps : List Part = start_parts (start_record new [] known retry_count duration) in
       let small : length (payload_of ps) < 2 ^ 64 = small_as (payload_of ps) (first_payload new known retry_count duration) start_payload fits.start in
       let are : fields (payload_of ps) ≡ fields_of ps = fields_are ps (
-          bytes_hold 1 new.id refl,
-          (bytes_hold 2 new.id refl,
-          (number_holds 3 known refl (omega (arith, fits.entries)),
-          (repeated_hold 4 (map (λ e. payload_of (state_entry_parts e)) (state_shown new.state [])) refl,
-          (bool_holds 5 (is_partial new.state) refl,
-          (bytes_hold 6 new.object refl,
-          (number_holds 7 retry_count refl (omega (arith, fits.attempts)),
-          (number_holds 8 duration refl fits.time,
-          (number_holds 9 new.seed refl fits.seed,
-          (optional_holds 10 None refl,
-          (optional_holds 11 None refl,
-          (optional_holds 12 None refl, tt)))))))))))) small in
+        bytes_hold 1 new.id refl,
+        (
+          bytes_hold 2 new.id refl,
+          (
+            number_holds 3 known refl (omega (arith, fits.entries)),
+            (
+              repeated_hold 4 (map (λ e. payload_of (state_entry_parts e)) (state_shown new.state [])) refl,
+              (
+                bool_holds 5 (is_partial new.state) refl,
+                (
+                  bytes_hold 6 new.object refl,
+                  (
+                    number_holds 7 retry_count refl (omega (arith, fits.attempts)),
+                    (
+                      number_holds 8 duration refl fits.time,
+                      (
+                        number_holds 9 new.seed refl fits.seed,
+                        (
+                          optional_holds 10 None refl,
+                          (
+                            optional_holds 11 None refl,
+                            (optional_holds 12 None refl, tt),
+                          ),
+                        ),
+                      ),
+                    ),
+                  ),
+                ),
+              ),
+            ),
+          ),
+        ),
+      ) small in
       r.value ∙ ap (λ (p : List ℕ). start_of LEVELS (fields p)) (sym start_payload) ∙ ap (start_of LEVELS) are ∙ λ i. record {
         id = text_back 1 new.id ps refl i;
         debug_id = text_back 2 new.id ps refl i;
@@ -151,9 +172,12 @@ module _ (new : NewInvocation) where
       let small : length (payload_of ps) < 2 ^ 64 = small_as (payload_of ps) (second_payload new) input_payload fits in
       let lengths : AllByRecursion PartLengthsFit ps = lengths_fit ps small in
       let are : fields (payload_of ps) ≡ fields_of ps = fields_are ps (
-          repeated_hold 1 (map (λ header. payload_of (header_parts header)) (map header_record new.headers)) refl,
-          (bytes_hold 12 [] refl,
-          (optional_holds 14 (Some (payload_of (value_parts (record { content = new.input })))) refl, tt))) small in
+        repeated_hold 1 (map (λ header. payload_of (header_parts header)) (map header_record new.headers)) refl,
+        (
+          bytes_hold 12 [] refl,
+          (optional_holds 14 (Some (payload_of (value_parts (record { content = new.input })))) refl, tt),
+        ),
+      ) small in
       r.value ∙ ap (λ (p : List ℕ). input_command_of LEVELS (fields p)) (sym input_payload) ∙ ap (input_command_of LEVELS) are ∙ λ i. record {
         headers = records_back (header_of (LEVELS - 1)) (λ header. payload_of (header_parts header)) 1 (map header_record new.headers) ps refl (each_header (map header_record new.headers) lengths.0) i;
         name = text_back 12 [] ps refl i;

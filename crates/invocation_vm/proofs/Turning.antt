@@ -85,13 +85,13 @@ module _ {H : Type 0} (function : H → Handler) (next : Handler) (given : Invoc
   }
 
   -- a turn that does not end it
-  pub carried_on : (before after : Attempt H) (turn : Turn) → before.over ≡ None → after ≡ record before { progress = after.progress } → Stands function next given calls before
-      → (turn ≡ Turn.Ended → ⊥) → CarriesOut given before.options.awaiting_on_policy so_far next_call before.progress after.progress turn
-      → RunTurn function next given calls before after turn
-  carried_on before after Turn.Answered over e s other h = subst (λ (a : Attempt H). AnswersCall function next given calls before a) (sym e) (answers before after.progress over s h)
-  carried_on before after Turn.Waiting over e s other h = subst (λ (a : Attempt H). WaitsAtCall function next given calls before a) (sym e) (waits before after.progress over s h)
-  carried_on before after Turn.Ended over e s other h = absurd (other refl)
-  carried_on before after (Turn.Failed failure) over e s other h = absurd h
+  pub answered : (before after : Attempt H) → before.over ≡ None → after ≡ record before { progress = after.progress } → Stands function next given calls before
+      → GoesOnBy given so_far next_call before.progress after.progress → AnswersCall function next given calls before after
+  answered before after over e s h = subst (λ (a : Attempt H). AnswersCall function next given calls before a) (sym e) (answers before after.progress over s h)
+
+  pub waited : (before after : Attempt H) → before.over ≡ None → after ≡ record before { progress = after.progress } → Stands function next given calls before
+      → WaitsBy given before.options.awaiting_on_policy so_far next_call before.progress after.progress → WaitsAtCall function next given calls before after
+  waited before after over e s h = subst (λ (a : Attempt H). WaitsAtCall function next given calls before a) (sym e) (waits before after.progress over s h)
 
   -- a turn that ends it
   pub carried_out : (before after : Attempt H) → after ≡ record before { progress = after.progress } → Stands function next given calls before
@@ -193,3 +193,15 @@ module _ {H : Type 0} (function : H → Handler) (next : Handler) (new : NewInvo
     };
     rest = h.1;
   }
+
+-- ---- what a turn leaves as it was
+
+module _ {H : Type 0} (before after : Attempt H) where
+  pub kept_so : after ≡ record before { decoder = after.decoder; start = after.start; input = after.input; progress = after.progress }
+      → after ≡ record before { decoder = after.decoder; start = after.start; input = after.input; progress = after.progress; over = after.over }
+  kept_so e =
+      e ∙ ap (λ (over : Option Turn). record before { decoder = after.decoder; start = after.start; input = after.input; progress = after.progress; over = over })
+      (sym (ap (λ (a : Attempt H). a.over) e))
+
+  pub asked_so : after ≡ record before { progress = after.progress } → after ≡ record before { progress = after.progress; over = after.over }
+  asked_so e = e ∙ ap (λ (over : Option Turn). record before { progress = after.progress; over = over }) (sym (ap (λ (a : Attempt H). a.over) e))

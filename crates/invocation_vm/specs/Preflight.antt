@@ -23,6 +23,27 @@ pub record TakesMessage (found : MessageType) (payload old new : List ℕ) : Typ
   pub ty : message_type taken.header ≡ found
   pub holds : taken.payload ≡ payload
 
+-- the next message is taken; without a whole item nothing changes
+abbrev pub MessageFails : List ℕ → List ℕ → AttemptFailure → Type 0
+MessageFails old new AttemptFailure.OutOfMemory = Unit {0}
+MessageFails old new (AttemptFailure.UnknownMessageType number) = item_at old ≡ Some (unknown number, new)
+MessageFails old new _ = ⊥
+
+abbrev pub TakesNext : List ℕ → Result (Option RawMessage) AttemptFailure → List ℕ → Type 0
+TakesNext old (Ok None) new = (item_at old ≡ None) × (new ≡ old)
+TakesNext old (Ok (Some taken)) new = item_at old ≡ Some (message taken, new)
+TakesNext old (Err failure) new = MessageFails old new failure
+
+-- the record that a payload is, or that something is wrong with it
+abbrev pub PayloadFails : MessageType → RecordType → List ℕ → AttemptFailure → Type 0
+PayloadFails ty t payload AttemptFailure.OutOfMemory = Unit {0}
+PayloadFails ty t payload (AttemptFailure.BadPayload found) = (found ≡ ty) × IsSome (payload_fault LEVELS t payload)
+PayloadFails ty t payload _ = ⊥
+
+abbrev pub ReadsPayload : {R : Type 0} → MessageType → RecordType → (ℕ → List Field → R) → List ℕ → Result R AttemptFailure → Type 0
+ReadsPayload ty t of payload (Ok r) = IsRead LEVELS t of payload r
+ReadsPayload ty t of payload (Err failure) = PayloadFails ty t payload failure
+
 -- why no record of this type was read
 abbrev pub RecordFails : MessageType → RecordType → List ℕ → List ℕ → AttemptFailure → Type 0
 RecordFails ty t old new AttemptFailure.OutOfMemory = Unit {0}

@@ -106,16 +106,17 @@ impl<H: Handler> Attempt<H> {
         ensures calls { (next : HandlerFunction) (given : Invocation) (calls : ℕ) → Stands H.next_call next given calls self.old
             → CallsOne H.next_call next given calls self.old self.new result }
         ensures kept { self.new ≡ record self.old {
-            decoder = self.new.decoder; start = self.new.start; input = self.new.input; progress = self.new.progress;
+          decoder = self.new.decoder;
+          start = self.new.start;
+          input = self.new.input;
+          progress = self.new.progress;
         } }
         ensures read { self.old.input ≡ None → self.new ≡ record self.old { decoder = self.new.decoder; start = self.new.start; input = self.new.input } }
         ensures asked { IsSome self.old.input → self.new ≡ record self.old { progress = self.new.progress } }
     {
         let call = match &self.input {
             None => return self.read(),
-            Some(input) => self
-                .handler
-                .next(input, self.progress.answers.as_slice())?,
+            Some(input) => self.handler.next(input, self.progress.answers.as_slice())?,
         };
         carry_out(
             self.alloc,
@@ -137,7 +138,11 @@ impl<H: Handler> Attempt<H> {
         ensures runs { (next : HandlerFunction) (given : Invocation) (calls : ℕ) → self.old.over ≡ None
             → Stands H.next_call next given calls self.old → RunTurn H.next_call next given calls self.old self.new result }
         ensures kept { self.new ≡ record self.old {
-            decoder = self.new.decoder; start = self.new.start; input = self.new.input; progress = self.new.progress; over = self.new.over;
+          decoder = self.new.decoder;
+          start = self.new.start;
+          input = self.new.input;
+          progress = self.new.progress;
+          over = self.new.over;
         } }
         ensures asked { IsSome self.old.input → self.new ≡ record self.old { progress = self.new.progress; over = self.new.over } }
     {
@@ -149,7 +154,12 @@ impl<H: Handler> Attempt<H> {
                 self.over = Some(Turn::Ended);
                 Turn::Ended
             }
-            Ok(turn) => turn,
+            Ok(Turn::Answered) => Turn::Answered,
+            Ok(Turn::Waiting) => Turn::Waiting,
+            Ok(Turn::Failed(failure)) => {
+                self.over = Some(Turn::Failed(failure));
+                Turn::Failed(failure)
+            }
             Err(failure) => {
                 self.over = Some(Turn::Failed(failure));
                 Turn::Failed(failure)

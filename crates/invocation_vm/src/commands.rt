@@ -61,7 +61,10 @@ pub(crate) fn write_output(
     output.write(MessageType::OutputCommand, &payload)
 }
 
-fn completions_awaited(alloc: Global, id: &Option<NotificationId>) -> Result<Sequence<u32>, AllocError>
+fn completions_awaited(
+    alloc: Global,
+    id: &Option<NotificationId>,
+) -> Result<Sequence<u32>, AllocError>
     ensures { IfOk result (λ numbers. numbers ≡ completions_awaited id.now) }
 {
     let mut numbers = Sequence::new(alloc);
@@ -72,7 +75,10 @@ fn completions_awaited(alloc: Global, id: &Option<NotificationId>) -> Result<Seq
     Ok(numbers)
 }
 
-fn names_awaited(alloc: Global, id: &Option<NotificationId>) -> Result<Sequence<ByteStr>, AllocError>
+fn names_awaited(
+    alloc: Global,
+    id: &Option<NotificationId>,
+) -> Result<Sequence<ByteStr>, AllocError>
     ensures { IfOk result (λ names. names ≡ names_awaited id.now) }
 {
     let mut names = Sequence::new(alloc);

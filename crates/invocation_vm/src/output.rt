@@ -3,8 +3,8 @@ ghost use Rattle.std.specs.Prelude.{◌≡◌, ◌≤◌, ◌<◌, ◌^◌, [], 
 ghost use Rattle.journal_protocol.specs.MessageType.{number_of};
 ghost use Rattle.invocation_vm.specs.Frames.{WritesFrame, WriteFails};
 
-use bytes::{Bytes, BytesMut};
 use crate::failure::AttemptFailure;
+use bytes::{Bytes, BytesMut};
 use journal_protocol::{MessageType, write_message};
 use std::alloc::{AllocError, Global};
 use std::marker::Model;

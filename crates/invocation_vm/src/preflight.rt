@@ -1,15 +1,18 @@
 //! What comes before the handler is asked: the start of the attempt, and the input.
 ghost use Rattle.std.specs.Prelude.{◌≡◌, ℕ, List, Some, IfOk, MatchResult};
 ghost use Rattle.journal_model.specs.declared.invocation.NewInvocation.{NewInvocation};
+ghost use Rattle.protocol_wire.specs.declared.table.RecordType.TheVariants.{Start as start_type, InputCommand as input_command_type};
+ghost use Rattle.protocol_records.specs.Start.{start_of};
+ghost use Rattle.protocol_records.specs.InputCommand.{input_command_of};
 ghost use Rattle.invocation_vm.specs.First.{FitsFrames, AreToRead};
-ghost use Rattle.invocation_vm.specs.Preflight.{ReadsRecord, StartFails, content_of, random_seed, from_version_7, input_given};
+ghost use Rattle.invocation_vm.specs.Preflight.{TakesNext, ReadsPayload, ReadsRecord, StartFails, content_of, random_seed, from_version_7, input_given};
 ghost use Rattle.invocation_vm.specs.Reads.{HasStart, HasInput};
 
 use crate::failure::AttemptFailure;
 use crate::options::VMOptions;
 use bytes::{ByteStr, Bytes};
 use journal_model::Input;
-use journal_protocol::{Decoder, DecodingError, MessageType, to_headers};
+use journal_protocol::{Decoder, DecodingError, MessageType, RawMessage, to_headers};
 use protocol_records::{InputCommandMessage, StartMessage, Value};
 use protocol_wire::{DecodeError, Record, decode};
 use std::alloc::{AllocError, Global};
@@ -20,30 +23,66 @@ const RANDOM_SEED_VERSION: u32 = 6;
 /// The first version of the protocol whose start has a scope, a limit key and an idempotency key.
 const SCOPE_VERSION: u32 = 7;
 
-// Takes the next message, which is to be a record of this type; `None` where it has not come whole.
-fn next_record<R: Record>(
-    alloc: Global,
-    decoder: &mut Decoder,
-    ty: MessageType,
-) -> Result<Option<R>, AttemptFailure>
-    ensures { ReadsRecord ty R.record_type R.of decoder.old result decoder.new }
+// Takes the next message; `None` where it has not come whole.
+fn next_message(decoder: &mut Decoder) -> Result<Option<RawMessage>, AttemptFailure>
+    ensures { TakesNext decoder.old result decoder.new }
 {
-    let message = match decoder.consume_next() {
-        Ok(Some(message)) => message,
-        Ok(None) => return Ok(None),
+    match decoder.consume_next() {
+        Ok(message) => Ok(message),
         Err(DecodingError::UnknownMessageType(unknown)) => {
-            return Err(AttemptFailure::UnknownMessageType(unknown));
+            Err(AttemptFailure::UnknownMessageType(unknown))
         }
-        Err(DecodingError::OutOfMemory) => return Err(AttemptFailure::OutOfMemory),
-    };
-    let found = message.ty();
-    if found != ty {
-        return Err(AttemptFailure::UnexpectedMessage(found));
+        Err(DecodingError::OutOfMemory) => Err(AttemptFailure::OutOfMemory),
     }
-    match decode(alloc, message.payload().as_slice()) {
-        Ok(record) => Ok(Some(record)),
+}
+
+// The record that the payload of a message of this type is.
+fn read_payload<R: Record>(
+    alloc: Global,
+    ty: MessageType,
+    payload: &Bytes,
+) -> Result<R, AttemptFailure>
+    ensures { ReadsPayload ty R.record_type R.of payload.now result }
+{
+    match decode(alloc, payload.as_slice()) {
+        Ok(record) => Ok(record),
         Err(DecodeError::Memory) => Err(AttemptFailure::OutOfMemory),
         Err(DecodeError::Fault(_)) => Err(AttemptFailure::BadPayload(ty)),
+    }
+}
+
+// Takes the next message, which is to be a start.
+fn next_start(alloc: Global, decoder: &mut Decoder) -> Result<Option<StartMessage>, AttemptFailure>
+    ensures { ReadsRecord MessageType.Start start_type start_of decoder.old result decoder.new }
+{
+    let Some(message) = next_message(decoder)? else {
+        return Ok(None);
+    };
+    match message.ty() {
+        MessageType::Start => {
+            let start = read_payload(alloc, MessageType::Start, &message.payload)?;
+            Ok(Some(start))
+        }
+        found => Err(AttemptFailure::UnexpectedMessage(found)),
+    }
+}
+
+// Takes the next message, which is to be an input.
+fn next_input(
+    alloc: Global,
+    decoder: &mut Decoder,
+) -> Result<Option<InputCommandMessage>, AttemptFailure>
+    ensures { ReadsRecord MessageType.InputCommand input_command_type input_command_of decoder.old result decoder.new }
+{
+    let Some(message) = next_message(decoder)? else {
+        return Ok(None);
+    };
+    match message.ty() {
+        MessageType::InputCommand => {
+            let input = read_payload(alloc, MessageType::InputCommand, &message.payload)?;
+            Ok(Some(input))
+        }
+        found => Err(AttemptFailure::UnexpectedMessage(found)),
     }
 }
 
@@ -71,7 +110,7 @@ pub(crate) fn have_start(
     if start.is_some() {
         return Ok(start);
     }
-    let Some(start) = next_record(alloc, decoder, MessageType::Start)? else {
+    let Some(start) = next_start(alloc, decoder)? else {
         return Ok(None);
     };
     check_start(&start)?;
@@ -142,14 +181,8 @@ pub(crate) fn read_input(
         → version ≡ new.version → AreToRead new known retry_count duration left more (Some start.now) decoder.old
         → HasInput options.now new known retry_count duration left more start.now result decoder.new }
 {
-    let Some(message) = next_record(alloc, decoder, MessageType::InputCommand)? else {
+    let Some(message) = next_input(alloc, decoder)? else {
         return Ok(None);
     };
-    Ok(Some(input_of(
-        alloc,
-        version,
-        options.fallback_random_seed,
-        start,
-        message,
-    )?))
+    Ok(Some(input_of(alloc, version, options.fallback_random_seed, start, message)?))
 }

@@ -91,9 +91,7 @@ fn sleep(
     ensures cause { IfErr result (SleepFails name (milliseconds wake_up.now) progress.old.completions) }
 {
     let Some(wake_up_time) = milliseconds_of(wake_up) else {
-        return Err(AttemptFailure::RefusedCall(
-            CallRefusal::OutOfBoundsDuration,
-        ));
+        return Err(AttemptFailure::RefusedCall(CallRefusal::OutOfBoundsDuration));
     };
     let taken = progress.completions;
     if taken > u32::MAX - FIRST_HANDLE {

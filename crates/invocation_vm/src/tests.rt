@@ -8,8 +8,8 @@ use std::test::Fail;
 
 /// The start of an invocation `i1` of the object `o`, with seed 1 and its whole state, and its empty input.
 const START_AND_INPUT: [u8; 33] = [
-    0, 0, 0, 0, 0, 0, 0, 15, 0x0a, 2, b'i', b'1', 0x12, 2, b'i', b'1', 0x18, 1, 0x32, 1, b'o', 0x48,
-    1, 4, 0, 0, 0, 0, 0, 0, 2, 0x72, 0,
+    0, 0, 0, 0, 0, 0, 0, 15, 0x0a, 2, b'i', b'1', 0x12, 2, b'i', b'1', 0x18, 1, 0x32, 1, b'o',
+    0x48, 1, 4, 0, 0, 0, 0, 0, 0, 2, 0x72, 0,
 ];
 
 /// A sleep until 10 that takes completion 1.
@@ -105,7 +105,10 @@ fn two_known_entries_are_not_replayed(rt: HostRuntime) {
     start[17] = 2;
     let mut attempt = Attempt::new(alloc, 7, VMOptions::default(), Ask { alloc });
     attempt.feed(&start);
-    assert_eq!(rt; attempt.turn(), Turn::Failed(AttemptFailure::ReplayNotCarriedOut));
+    assert_eq!(rt;
+        attempt.turn(),
+        Turn::Failed(AttemptFailure::ReplayNotCarriedOut)
+    );
 }
 
 #[test]
@@ -113,6 +116,9 @@ fn codes_of_failures(rt: HostRuntime) {
     assert_eq!(rt; AttemptFailure::OutOfMemory.code(), 500);
     assert_eq!(rt; AttemptFailure::CallNotCarriedOut.code(), 573);
     assert_eq!(rt; AttemptFailure::KnownEntriesIsZero.code(), 571);
-    assert_eq!(rt; AttemptFailure::RefusedCall(CallRefusal::OutOfBoundsDuration).code(), 500);
+    assert_eq!(rt;
+        AttemptFailure::RefusedCall(CallRefusal::OutOfBoundsDuration).code(),
+        500
+    );
     assert_eq!(rt; CallRefusal::UnsupportedFailureMetadata.code(), 573);
 }
