@@ -1,0 +1,11 @@
+pub mod Holding
+pub mod Following
+pub mod Frames
+pub mod Turning
+pub mod Taking
+pub mod Moving
+pub mod Rows
+pub mod Reading
+pub mod Keeping
+pub mod Applying
+pub mod Waiting

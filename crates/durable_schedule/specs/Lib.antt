@@ -1,0 +1,4 @@
+pub mod Flight
+pub mod Following
+pub mod Names
+pub mod Schedule

@@ -1,0 +1,7 @@
+pub mod Calls
+pub mod Frames
+pub mod Payloads
+pub mod Reading
+pub mod Records
+pub mod Starting
+pub mod Turning

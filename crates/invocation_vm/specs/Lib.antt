@@ -1,0 +1,10 @@
+pub mod Attempt
+pub mod Commands
+pub mod Failure
+pub mod First
+pub mod Frames
+pub mod Options
+pub mod Preflight
+pub mod Progress
+pub mod Reads
+pub mod Standing

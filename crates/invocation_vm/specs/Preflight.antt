@@ -1,0 +1,92 @@
+-- What is read before the handler is asked: the start and the input.
+use Rattle.std.specs.Prelude.{◌≡◌, ◌≢◌, ◌<◌, ℕ, nat_lt, if◌then◌else◌, List, [], map, Option, Some, None, Result, Ok, Err, IsSome}
+use Rattle.journal_model.specs.declared.handler.Input.{Input}
+use Rattle.journal_protocol.specs.declared.message_type.MessageType.{MessageType}
+use Rattle.journal_protocol.specs.declared.decoder.RawMessage.{RawMessage}
+use Rattle.journal_protocol.specs.Header.{message_type}
+use Rattle.journal_protocol.specs.Records.{header_told}
+use Rattle.journal_protocol.specs.Item.{item_at, unknown, message}
+use Rattle.protocol_wire.specs.Wire.{Field}
+use Rattle.protocol_wire.specs.Check.{payload_fault}
+use Rattle.protocol_wire.specs.Decodes.{IsRead}
+use Rattle.protocol_wire.specs.declared.record.TheConstants.{LEVELS}
+use Rattle.protocol_wire.specs.declared.table.RecordType.{RecordType}
+use Rattle.protocol_records.specs.declared.value.Value.{Value}
+use Rattle.protocol_records.specs.declared.start.StartMessage.{StartMessage}
+use Rattle.protocol_records.specs.declared.input_command.InputCommandMessage.{InputCommandMessage}
+use Rattle.invocation_vm.specs.declared.failure.AttemptFailure.{AttemptFailure}
+
+-- a message stands at the front, and is taken
+pub record TakesMessage (found : MessageType) (payload old new : List ℕ) : Type 0 where
+  pub taken : RawMessage
+  pub item : item_at old ≡ Some (message taken, new)
+  pub ty : message_type taken.header ≡ found
+  pub holds : taken.payload ≡ payload
+
+-- the next message is taken; without a whole item nothing changes
+abbrev pub MessageFails : List ℕ → List ℕ → AttemptFailure → Type 0
+MessageFails old new AttemptFailure.OutOfMemory = Unit {0}
+MessageFails old new (AttemptFailure.UnknownMessageType number) = item_at old ≡ Some (unknown number, new)
+MessageFails old new _ = ⊥
+
+abbrev pub TakesNext : List ℕ → Result (Option RawMessage) AttemptFailure → List ℕ → Type 0
+TakesNext old (Ok None) new = (item_at old ≡ None) × (new ≡ old)
+TakesNext old (Ok (Some taken)) new = item_at old ≡ Some (message taken, new)
+TakesNext old (Err failure) new = MessageFails old new failure
+
+-- the record that a payload is, or that something is wrong with it
+abbrev pub PayloadFails : MessageType → RecordType → List ℕ → AttemptFailure → Type 0
+PayloadFails ty t payload AttemptFailure.OutOfMemory = Unit {0}
+PayloadFails ty t payload (AttemptFailure.BadPayload found) = (found ≡ ty) × IsSome (payload_fault LEVELS t payload)
+PayloadFails ty t payload _ = ⊥
+
+abbrev pub ReadsPayload : {R : Type 0} → MessageType → RecordType → (ℕ → List Field → R) → List ℕ → Result R AttemptFailure → Type 0
+ReadsPayload ty t of payload (Ok r) = IsRead LEVELS t of payload r
+ReadsPayload ty t of payload (Err failure) = PayloadFails ty t payload failure
+
+-- why no record of this type was read
+abbrev pub RecordFails : MessageType → RecordType → List ℕ → List ℕ → AttemptFailure → Type 0
+RecordFails ty t old new AttemptFailure.OutOfMemory = Unit {0}
+RecordFails ty t old new (AttemptFailure.UnknownMessageType number) = item_at old ≡ Some (unknown number, new)
+RecordFails ty t old new (AttemptFailure.UnexpectedMessage found) = (found ≢ ty) × ((payload : List ℕ) × TakesMessage found payload old new)
+RecordFails ty t old new (AttemptFailure.BadPayload found) =
+    (found ≡ ty) × ((payload : List ℕ) × TakesMessage ty payload old new × IsSome (payload_fault LEVELS t payload))
+RecordFails ty t old new _ = ⊥
+
+-- the next message is taken, and is a record of this type; without a whole item nothing changes
+abbrev pub ReadsRecord : {R : Type 0} → MessageType → RecordType → (ℕ → List Field → R) → List ℕ → Result (Option R) AttemptFailure → List ℕ → Type 0
+ReadsRecord ty t of old (Ok None) new = (item_at old ≡ None) × (new ≡ old)
+ReadsRecord ty t of old (Ok (Some r)) new = (payload : List ℕ) × TakesMessage ty payload old new × IsRead LEVELS t of payload r
+ReadsRecord ty t of old (Err failure) new = RecordFails ty t old new failure
+
+-- a start that announces the input alone is served
+abbrev pub StartFails : StartMessage → AttemptFailure → Type 0
+StartFails start AttemptFailure.KnownEntriesIsZero = start.known_entries ≡ 0
+StartFails start AttemptFailure.ReplayNotCarriedOut = 1 < start.known_entries
+StartFails start _ = ⊥
+
+-- an absent value is read as empty
+abbrev pub content_of : Option Value → List ℕ
+content_of None = []
+content_of (Some value) = value.content
+
+-- before version 7 there is no scope, limit key or idempotency key
+abbrev pub from_version_7 : ℕ → Option (List ℕ) → Option (List ℕ)
+from_version_7 version text = if nat_lt version 7 then None else text
+
+-- before version 6 the seed is that of the options
+abbrev pub random_seed : ℕ → ℕ → ℕ → ℕ
+random_seed version fallback seed = if nat_lt version 6 then fallback else seed
+
+-- what a handler is given
+abbrev pub input_given : ℕ → ℕ → StartMessage → InputCommandMessage → Input
+input_given version fallback_random_seed start command = record {
+  invocation_id = start.debug_id;
+  key = start.key;
+  random_seed = random_seed version fallback_random_seed start.random_seed;
+  headers = map header_told command.headers;
+  input = content_of command.value;
+  scope = from_version_7 version start.scope;
+  limit_key = from_version_7 version start.limit_key;
+  idempotency_key = from_version_7 version start.idempotency_key;
+}

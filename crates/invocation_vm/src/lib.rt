@@ -1,0 +1,24 @@
+//! The virtual machine of an invocation: one fresh attempt reads its start and its input, asks the handler, and carries
+//! out the calls of a first path: sleep, output, the await of one handle, and the end.
+#![tactic(auto)]
+
+mod attempt;
+mod commands;
+mod failure;
+mod options;
+mod output;
+mod preflight;
+mod progress;
+
+pub use attempt::Attempt;
+pub use failure::{AttemptFailure, CallRefusal};
+pub use journal_model::{ImplicitCancellationOption, SignalDelivery};
+pub use options::{
+    AwaitingOnPolicy, JournalMismatchRetryBehavior, JournalReplay, NonDeterministicChecksOption,
+    VMOptions,
+};
+pub use output::Output;
+pub use progress::{Progress, Turn};
+
+#[cfg(test)]
+mod tests;

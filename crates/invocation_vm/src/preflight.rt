@@ -1,0 +1,188 @@
+//! What comes before the handler is asked: the start of the attempt, and the input.
+ghost use Rattle.std.specs.Prelude.{◌≡◌, ℕ, List, Some, IfOk, MatchResult};
+ghost use Rattle.journal_model.specs.declared.invocation.NewInvocation.{NewInvocation};
+ghost use Rattle.protocol_wire.specs.declared.table.RecordType.TheVariants.{Start as start_type, InputCommand as input_command_type};
+ghost use Rattle.protocol_records.specs.Start.{start_of};
+ghost use Rattle.protocol_records.specs.InputCommand.{input_command_of};
+ghost use Rattle.invocation_vm.specs.First.{FitsFrames, AreToRead};
+ghost use Rattle.invocation_vm.specs.Preflight.{TakesNext, ReadsPayload, ReadsRecord, StartFails, content_of, random_seed, from_version_7, input_given};
+ghost use Rattle.invocation_vm.specs.Reads.{HasStart, HasInput};
+
+use crate::failure::AttemptFailure;
+use crate::options::VMOptions;
+use bytes::{ByteStr, Bytes};
+use journal_model::Input;
+use journal_protocol::{Decoder, DecodingError, MessageType, RawMessage, to_headers};
+use protocol_records::{InputCommandMessage, StartMessage, Value};
+use protocol_wire::{DecodeError, Record, decode};
+use std::alloc::{AllocError, Global};
+
+/// The first version of the protocol whose start has a seed.
+const RANDOM_SEED_VERSION: u32 = 6;
+
+/// The first version of the protocol whose start has a scope, a limit key and an idempotency key.
+const SCOPE_VERSION: u32 = 7;
+
+// Takes the next message; `None` where it has not come whole.
+fn next_message(decoder: &mut Decoder) -> Result<Option<RawMessage>, AttemptFailure>
+    ensures { TakesNext decoder.old result decoder.new }
+{
+    match decoder.consume_next() {
+        Ok(message) => Ok(message),
+        Err(DecodingError::UnknownMessageType(unknown)) => {
+            Err(AttemptFailure::UnknownMessageType(unknown))
+        }
+        Err(DecodingError::OutOfMemory) => Err(AttemptFailure::OutOfMemory),
+    }
+}
+
+// The record that the payload of a message of this type is.
+fn read_payload<R: Record>(
+    alloc: Global,
+    ty: MessageType,
+    payload: &Bytes,
+) -> Result<R, AttemptFailure>
+    ensures { ReadsPayload ty R.record_type R.of payload.now result }
+{
+    match decode(alloc, payload.as_slice()) {
+        Ok(record) => Ok(record),
+        Err(DecodeError::Memory) => Err(AttemptFailure::OutOfMemory),
+        Err(DecodeError::Fault(_)) => Err(AttemptFailure::BadPayload(ty)),
+    }
+}
+
+// Takes the next message, which is to be a start.
+fn next_start(alloc: Global, decoder: &mut Decoder) -> Result<Option<StartMessage>, AttemptFailure>
+    ensures { ReadsRecord MessageType.Start start_type start_of decoder.old result decoder.new }
+{
+    let Some(message) = next_message(decoder)? else {
+        return Ok(None);
+    };
+    match message.ty() {
+        MessageType::Start => {
+            let start = read_payload(alloc, MessageType::Start, &message.payload)?;
+            Ok(Some(start))
+        }
+        found => Err(AttemptFailure::UnexpectedMessage(found)),
+    }
+}
+
+// Takes the next message, which is to be an input.
+fn next_input(
+    alloc: Global,
+    decoder: &mut Decoder,
+) -> Result<Option<InputCommandMessage>, AttemptFailure>
+    ensures { ReadsRecord MessageType.InputCommand input_command_type input_command_of decoder.old result decoder.new }
+{
+    let Some(message) = next_message(decoder)? else {
+        return Ok(None);
+    };
+    match message.ty() {
+        MessageType::InputCommand => {
+            let input = read_payload(alloc, MessageType::InputCommand, &message.payload)?;
+            Ok(Some(input))
+        }
+        found => Err(AttemptFailure::UnexpectedMessage(found)),
+    }
+}
+
+// Whether a start is served: it announces the input, and no more.
+fn check_start(start: &StartMessage) -> Result<(), AttemptFailure>
+    ensures { MatchResult result (λ _. start.now.known_entries ≡ 1) (StartFails start.now) }
+{
+    match start.known_entries {
+        0 => Err(AttemptFailure::KnownEntriesIsZero),
+        1 => Ok(()),
+        _ => Err(AttemptFailure::ReplayNotCarriedOut),
+    }
+}
+
+/// The start: the one that was read before, or else the next message.
+pub(crate) fn have_start(
+    alloc: Global,
+    decoder: &mut Decoder,
+    start: Option<StartMessage>,
+) -> Result<Option<StartMessage>, AttemptFailure>
+    ensures { (new : NewInvocation) (known retry_count duration : ℕ) (left more : List ℕ) → FitsFrames new known retry_count duration
+        → AreToRead new known retry_count duration left more start decoder.old
+        → HasStart new known retry_count duration left more result decoder.new }
+{
+    if start.is_some() {
+        return Ok(start);
+    }
+    let Some(start) = next_start(alloc, decoder)? else {
+        return Ok(None);
+    };
+    check_start(&start)?;
+    Ok(Some(start))
+}
+
+fn content_of(value: Option<Value>) -> Bytes
+    ensures { result ≡ content_of value }
+{
+    match value {
+        None => Bytes::new(),
+        Some(value) => value.content,
+    }
+}
+
+fn from_version_7(version: u32, text: &Option<ByteStr>) -> Result<Option<ByteStr>, AllocError>
+    ensures { IfOk result (λ taken. taken ≡ from_version_7 version text.now) }
+{
+    if version < SCOPE_VERSION {
+        return Ok(None);
+    }
+    match text {
+        None => Ok(None),
+        Some(text) => Ok(Some(text.clone()?)),
+    }
+}
+
+fn random_seed(version: u32, fallback: u64, seed: u64) -> u64
+    ensures { result ≡ random_seed version fallback seed }
+{
+    if version < RANDOM_SEED_VERSION {
+        return fallback;
+    }
+    seed
+}
+
+// What a handler is given: the invocation's part from the start, the rest from the input's own message.
+fn input_of(
+    alloc: Global,
+    version: u32,
+    fallback_random_seed: u64,
+    start: &StartMessage,
+    message: InputCommandMessage,
+) -> Result<Input, AllocError>
+    ensures { IfOk result (λ input. input ≡ input_given version fallback_random_seed start.now message) }
+{
+    Ok(Input {
+        invocation_id: start.debug_id.clone()?,
+        key: start.key.clone()?,
+        random_seed: random_seed(version, fallback_random_seed, start.random_seed),
+        headers: to_headers(alloc, message.headers)?,
+        input: content_of(message.value),
+        scope: from_version_7(version, &start.scope)?,
+        limit_key: from_version_7(version, &start.limit_key)?,
+        idempotency_key: from_version_7(version, &start.idempotency_key)?,
+    })
+}
+
+/// The input of the next message, for a start that was read.
+pub(crate) fn read_input(
+    alloc: Global,
+    version: u32,
+    options: &VMOptions,
+    decoder: &mut Decoder,
+    start: &StartMessage,
+) -> Result<Option<Input>, AttemptFailure>
+    ensures { (new : NewInvocation) (known retry_count duration : ℕ) (left more : List ℕ) → FitsFrames new known retry_count duration
+        → version ≡ new.version → AreToRead new known retry_count duration left more (Some start.now) decoder.old
+        → HasInput options.now new known retry_count duration left more start.now result decoder.new }
+{
+    let Some(message) = next_input(alloc, decoder)? else {
+        return Ok(None);
+    };
+    Ok(Some(input_of(alloc, version, options.fallback_random_seed, start, message)?))
+}
