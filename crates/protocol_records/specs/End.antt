@@ -5,7 +5,7 @@ use Rattle.protocol_wire.specs.Parts.{Part}
 use Rattle.protocol_records.specs.declared.end.EndMessage.{EndMessage}
 
 abbrev pub end_of : ℕ → List Field → EndMessage
-end_of levels fs = record { }
+end_of levels fs = record {}
 
 abbrev pub end_parts : EndMessage → List Part
 end_parts v = []

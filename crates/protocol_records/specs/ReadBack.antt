@@ -40,9 +40,10 @@ value_reads levels v h small =
     let ps = value_parts v in
     let below = payload_fault (levels - 1) in
     let table = descriptors_of types.Value in
-    let read = payload_holds levels types.Value ps h.level (
-      (bytes_holds below table value.CONTENT.number v.content (refl, refl),
-      tt)) small in
+    let read = payload_holds levels types.Value ps h.level ((
+      bytes_holds below table value.CONTENT.number v.content (refl, refl),
+      tt,
+    )) small in
     record {
       sound = read.0;
       value = sym (ap (value_of levels) read.1 ∙ λ i. record {
@@ -55,10 +56,13 @@ header_reads levels v h small =
     let ps = header_parts v in
     let below = payload_fault (levels - 1) in
     let table = descriptors_of types.Header in
-    let read = payload_holds levels types.Header ps h.level (
-      (text_holds below table header.KEY.number v.key (refl, refl) h.key,
-      (text_holds below table header.VALUE.number v.value (refl, refl) h.value,
-      tt))) small in
+    let read = payload_holds levels types.Header ps h.level ((
+      text_holds below table header.KEY.number v.key (refl, refl) h.key,
+      (
+        text_holds below table header.VALUE.number v.value (refl, refl) h.value,
+        tt,
+      ),
+    )) small in
     record {
       sound = read.0;
       value = sym (ap (header_of levels) read.1 ∙ λ i. record {
@@ -72,10 +76,13 @@ failure_metadata_reads levels v h small =
     let ps = failure_metadata_parts v in
     let below = payload_fault (levels - 1) in
     let table = descriptors_of types.FailureMetadata in
-    let read = payload_holds levels types.FailureMetadata ps h.level (
-      (text_holds below table failure_metadata.KEY.number v.key (refl, refl) h.key,
-      (text_holds below table failure_metadata.VALUE.number v.value (refl, refl) h.value,
-      tt))) small in
+    let read = payload_holds levels types.FailureMetadata ps h.level ((
+      text_holds below table failure_metadata.KEY.number v.key (refl, refl) h.key,
+      (
+        text_holds below table failure_metadata.VALUE.number v.value (refl, refl) h.value,
+        tt,
+      ),
+    )) small in
     record {
       sound = read.0;
       value = sym (ap (failure_metadata_of levels) read.1 ∙ λ i. record {
@@ -90,11 +97,16 @@ failure_reads levels v h small =
     let below = payload_fault (levels - 1) in
     let table = descriptors_of types.Failure in
     let lengths = lengths_fit ps small in
-    let read = payload_holds levels types.Failure ps h.level (
-      (u32_holds below table failure.CODE.number v.code (refl, refl) h.code,
-      (text_holds below table failure.MESSAGE.number v.message (refl, refl) h.message,
-      (records_hold below table failure.METADATA.number types.FailureMetadata (map (λ r. payload_of (failure_metadata_parts r)) v.metadata) (refl, refl) (each_sound (levels - 1) types.FailureMetadata failure_metadata_of (λ r. payload_of (failure_metadata_parts r)) (FailureMetadataFits (levels - 1)) (failure_metadata_reads (levels - 1)) v.metadata h.metadata lengths.1.1.0),
-      tt)))) small in
+    let read = payload_holds levels types.Failure ps h.level ((
+      u32_holds below table failure.CODE.number v.code (refl, refl) h.code,
+      (
+        text_holds below table failure.MESSAGE.number v.message (refl, refl) h.message,
+        (
+          records_hold below table failure.METADATA.number types.FailureMetadata (map (λ r. payload_of (failure_metadata_parts r)) v.metadata) (refl, refl) (each_sound (levels - 1) types.FailureMetadata failure_metadata_of (λ r. payload_of (failure_metadata_parts r)) (FailureMetadataFits (levels - 1)) (failure_metadata_reads (levels - 1)) v.metadata h.metadata lengths.1.1.0),
+          tt,
+        ),
+      ),
+    )) small in
     record {
       sound = read.0;
       value = sym (ap (failure_of levels) read.1 ∙ λ i. record {
@@ -109,10 +121,13 @@ state_entry_reads levels v h small =
     let ps = state_entry_parts v in
     let below = payload_fault (levels - 1) in
     let table = descriptors_of types.StateEntry in
-    let read = payload_holds levels types.StateEntry ps h.level (
-      (bytes_holds below table state_entry.KEY.number v.key (refl, refl),
-      (bytes_holds below table state_entry.VALUE.number v.value (refl, refl),
-      tt))) small in
+    let read = payload_holds levels types.StateEntry ps h.level ((
+      bytes_holds below table state_entry.KEY.number v.key (refl, refl),
+      (
+        bytes_holds below table state_entry.VALUE.number v.value (refl, refl),
+        tt,
+      ),
+    )) small in
     record {
       sound = read.0;
       value = sym (ap (state_entry_of levels) read.1 ∙ λ i. record {
@@ -127,20 +142,43 @@ start_reads levels v h small =
     let below = payload_fault (levels - 1) in
     let table = descriptors_of types.Start in
     let lengths = lengths_fit ps small in
-    let read = payload_holds levels types.Start ps h.level (
-      (bytes_holds below table start.ID.number v.id (refl, refl),
-      (text_holds below table start.DEBUG_ID.number v.debug_id (refl, refl) h.debug_id,
-      (u32_holds below table start.KNOWN_ENTRIES.number v.known_entries (refl, refl) h.known_entries,
-      (records_hold below table start.STATE_MAP.number types.StateEntry (map (λ r. payload_of (state_entry_parts r)) v.state_map) (refl, refl) (each_sound (levels - 1) types.StateEntry state_entry_of (λ r. payload_of (state_entry_parts r)) (StateEntryFits (levels - 1)) (state_entry_reads (levels - 1)) v.state_map h.state_map lengths.1.1.1.0),
-      (bool_holds below table start.PARTIAL_STATE.number v.partial_state (refl, refl),
-      (text_holds below table start.KEY.number v.key (refl, refl) h.key,
-      (u32_holds below table start.RETRY_COUNT_SINCE_LAST_STORED_ENTRY.number v.retry_count_since_last_stored_entry (refl, refl) h.retry_count_since_last_stored_entry,
-      (u64_holds below table start.DURATION_SINCE_LAST_STORED_ENTRY.number v.duration_since_last_stored_entry (refl, refl) h.duration_since_last_stored_entry,
-      (u64_holds below table start.RANDOM_SEED.number v.random_seed (refl, refl) h.random_seed,
-      (optional_text_holds below table start.SCOPE.number v.scope (refl, refl) h.scope,
-      (optional_text_holds below table start.LIMIT_KEY.number v.limit_key (refl, refl) h.limit_key,
-      (optional_text_holds below table start.IDEMPOTENCY_KEY.number v.idempotency_key (refl, refl) h.idempotency_key,
-      tt))))))))))))) small in
+    let read = payload_holds levels types.Start ps h.level ((
+      bytes_holds below table start.ID.number v.id (refl, refl),
+      (
+        text_holds below table start.DEBUG_ID.number v.debug_id (refl, refl) h.debug_id,
+        (
+          u32_holds below table start.KNOWN_ENTRIES.number v.known_entries (refl, refl) h.known_entries,
+          (
+            records_hold below table start.STATE_MAP.number types.StateEntry (map (λ r. payload_of (state_entry_parts r)) v.state_map) (refl, refl) (each_sound (levels - 1) types.StateEntry state_entry_of (λ r. payload_of (state_entry_parts r)) (StateEntryFits (levels - 1)) (state_entry_reads (levels - 1)) v.state_map h.state_map lengths.1.1.1.0),
+            (
+              bool_holds below table start.PARTIAL_STATE.number v.partial_state (refl, refl),
+              (
+                text_holds below table start.KEY.number v.key (refl, refl) h.key,
+                (
+                  u32_holds below table start.RETRY_COUNT_SINCE_LAST_STORED_ENTRY.number v.retry_count_since_last_stored_entry (refl, refl) h.retry_count_since_last_stored_entry,
+                  (
+                    u64_holds below table start.DURATION_SINCE_LAST_STORED_ENTRY.number v.duration_since_last_stored_entry (refl, refl) h.duration_since_last_stored_entry,
+                    (
+                      u64_holds below table start.RANDOM_SEED.number v.random_seed (refl, refl) h.random_seed,
+                      (
+                        optional_text_holds below table start.SCOPE.number v.scope (refl, refl) h.scope,
+                        (
+                          optional_text_holds below table start.LIMIT_KEY.number v.limit_key (refl, refl) h.limit_key,
+                          (
+                            optional_text_holds below table start.IDEMPOTENCY_KEY.number v.idempotency_key (refl, refl) h.idempotency_key,
+                            tt,
+                          ),
+                        ),
+                      ),
+                    ),
+                  ),
+                ),
+              ),
+            ),
+          ),
+        ),
+      ),
+    )) small in
     record {
       sound = read.0;
       value = sym (ap (start_of levels) read.1 ∙ λ i. record {
@@ -165,11 +203,16 @@ input_command_reads levels v h small =
     let below = payload_fault (levels - 1) in
     let table = descriptors_of types.InputCommand in
     let lengths = lengths_fit ps small in
-    let read = payload_holds levels types.InputCommand ps h.level (
-      (records_hold below table input_command.HEADERS.number types.Header (map (λ r. payload_of (header_parts r)) v.headers) (refl, refl) (each_sound (levels - 1) types.Header header_of (λ r. payload_of (header_parts r)) (HeaderFits (levels - 1)) (header_reads (levels - 1)) v.headers h.headers lengths.0),
-      (text_holds below table input_command.NAME.number v.name (refl, refl) h.name,
-      (optional_record_holds below table input_command.VALUE.number types.Value (option_map (λ r. payload_of (value_parts r)) v.value) (refl, refl) (optional_sound (levels - 1) types.Value value_of (λ r. payload_of (value_parts r)) (ValueFits (levels - 1)) (value_reads (levels - 1)) v.value h.value lengths.1.1.0),
-      tt)))) small in
+    let read = payload_holds levels types.InputCommand ps h.level ((
+      records_hold below table input_command.HEADERS.number types.Header (map (λ r. payload_of (header_parts r)) v.headers) (refl, refl) (each_sound (levels - 1) types.Header header_of (λ r. payload_of (header_parts r)) (HeaderFits (levels - 1)) (header_reads (levels - 1)) v.headers h.headers lengths.0),
+      (
+        text_holds below table input_command.NAME.number v.name (refl, refl) h.name,
+        (
+          optional_record_holds below table input_command.VALUE.number types.Value (option_map (λ r. payload_of (value_parts r)) v.value) (refl, refl) (optional_sound (levels - 1) types.Value value_of (λ r. payload_of (value_parts r)) (ValueFits (levels - 1)) (value_reads (levels - 1)) v.value h.value lengths.1.1.0),
+          tt,
+        ),
+      ),
+    )) small in
     record {
       sound = read.0;
       value = sym (ap (input_command_of levels) read.1 ∙ λ i. record {
@@ -184,11 +227,16 @@ sleep_command_reads levels v h small =
     let ps = sleep_command_parts v in
     let below = payload_fault (levels - 1) in
     let table = descriptors_of types.SleepCommand in
-    let read = payload_holds levels types.SleepCommand ps h.level (
-      (u64_holds below table sleep_command.WAKE_UP_TIME.number v.wake_up_time (refl, refl) h.wake_up_time,
-      (u32_holds below table sleep_command.RESULT_COMPLETION_ID.number v.result_completion_id (refl, refl) h.result_completion_id,
-      (text_holds below table sleep_command.NAME.number v.name (refl, refl) h.name,
-      tt)))) small in
+    let read = payload_holds levels types.SleepCommand ps h.level ((
+      u64_holds below table sleep_command.WAKE_UP_TIME.number v.wake_up_time (refl, refl) h.wake_up_time,
+      (
+        u32_holds below table sleep_command.RESULT_COMPLETION_ID.number v.result_completion_id (refl, refl) h.result_completion_id,
+        (
+          text_holds below table sleep_command.NAME.number v.name (refl, refl) h.name,
+          tt,
+        ),
+      ),
+    )) small in
     record {
       sound = read.0;
       value = sym (ap (sleep_command_of levels) read.1 ∙ λ i. record {

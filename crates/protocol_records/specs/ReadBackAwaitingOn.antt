@@ -1,5 +1,5 @@
 -- The canonical payload of an awaiting-on message is read again, to the same value.
-use Rattle.std.specs.Prelude.{ℕ, ◌-◌, ◌<◌, ◌^◌, length, map, option_map, refl}
+use Rattle.std.specs.Prelude.{ℕ, ◌-◌, ◌<◌, ◌^◌, length, option_map, refl}
 use Rattle.std.proofs.Common.{sym, ap, ◌∙◌}
 use Rattle.protocol_wire.specs.Check.{payload_fault}
 use Rattle.protocol_wire.specs.Table.{descriptors_of}
@@ -20,10 +20,13 @@ awaiting_on_reads levels v h small =
     let below = payload_fault (levels - 1) in
     let table = descriptors_of types.AwaitingOn in
     let lengths = lengths_fit ps small in
-    let read = payload_holds levels types.AwaitingOn ps h.level (
-      (optional_record_holds below table awaiting_on.AWAITING_ON.number types.Future (option_map (λ r. payload_of (future_parts r)) v.awaiting_on) (refl, refl) (optional_sound (levels - 1) types.Future future_of (λ r. payload_of (future_parts r)) (FutureFits (levels - 1)) (future_reads (levels - 1)) v.awaiting_on h.awaiting_on lengths.0),
-      (bool_holds below table awaiting_on.EXECUTING_SIDE_EFFECTS.number v.executing_side_effects (refl, refl),
-      tt))) small in
+    let read = payload_holds levels types.AwaitingOn ps h.level ((
+      optional_record_holds below table awaiting_on.AWAITING_ON.number types.Future (option_map (λ r. payload_of (future_parts r)) v.awaiting_on) (refl, refl) (optional_sound (levels - 1) types.Future future_of (λ r. payload_of (future_parts r)) (FutureFits (levels - 1)) (future_reads (levels - 1)) v.awaiting_on h.awaiting_on lengths.0),
+      (
+        bool_holds below table awaiting_on.EXECUTING_SIDE_EFFECTS.number v.executing_side_effects (refl, refl),
+        tt,
+      ),
+    )) small in
     record {
       sound = read.0;
       value = sym (ap (awaiting_on_of levels) read.1 ∙ λ i. record {

@@ -1,18 +1,16 @@
 -- The canonical payload of a future is read again, to the same value.
-use Rattle.std.specs.Prelude.{◌≡◌, ℕ, zero, suc, ◌<◌, ◌^◌, List, [], ◌∷◌, length, map, None, refl}
+use Rattle.std.specs.Prelude.{◌≡◌, ℕ, zero, suc, ◌<◌, ◌^◌, List, length, map, None, refl}
 use Rattle.std.proofs.Common.{sym, ap, subst, ◌∙◌}
 use Rattle.std.proofs.lemmas.Bool.{ltb-true}
-use Rattle.protocol_wire.specs.Wire.{Field}
 use Rattle.protocol_wire.specs.Fields.{fields}
 use Rattle.protocol_wire.specs.Check.{payload_fault}
 use Rattle.protocol_wire.specs.Table.{descriptors_of}
-use Rattle.protocol_wire.specs.Parts.{payload_of, fields_of}
+use Rattle.protocol_wire.specs.Parts.{payload_of}
 use Rattle.protocol_wire.specs.Decodes.{IsRead}
 use Rattle.protocol_wire.specs.declared.table.RecordType.TheVariants as types
 use Rattle.protocol_wire.specs.declared.table.future.TheConstants.{WAITING_COMPLETIONS, WAITING_SIGNALS, WAITING_NAMED_SIGNALS, NESTED_FUTURES, COMBINATOR_TYPE}
 use Rattle.protocol_wire.proofs.Holds.{u32_holds, numbers_hold, texts_hold, records_hold, lengths_fit, payload_holds_above, each_sound, each_reads_back}
 use Rattle.protocol_wire.proofs.Back.{u32_back, numbers_back, texts_back, records_back}
-use Rattle.protocol_wire.specs.Selection.{u32}
 use Rattle.protocol_records.specs.declared.future.CombinatorType.{CombinatorType}
 use Rattle.protocol_records.specs.declared.future.CombinatorType.TheVariants.{Unknown, FirstCompleted, AllCompleted, FirstSucceededOrAllFailed, AllSucceededOrFirstFailed}
 use Rattle.protocol_records.specs.declared.future.Future.{Future, out-Future, roll-Future, fold_out-Future}
@@ -47,13 +45,22 @@ future_payload_reads (suc k) f h small =
     let table = descriptors_of types.Future in
     let short = subst (λ (p : List ℕ). length p < 2 ^ 64) (future_payload_is f) small in
     let lengths = lengths_fit ps short in
-    let read = payload_holds_above k types.Future ps (
-      (numbers_hold below table WAITING_COMPLETIONS.number o.waiting_completions (refl, refl) h.0,
-      (numbers_hold below table WAITING_SIGNALS.number o.waiting_signals (refl, refl) h.1,
-      (texts_hold below table WAITING_NAMED_SIGNALS.number o.waiting_named_signals (refl, refl) h.2,
-      (records_hold below table NESTED_FUTURES.number types.Future (map future_payload o.nested_futures) (refl, refl) (each_sound k types.Future future_of future_payload (FutureFits k) (λ g. future_payload_reads k g) o.nested_futures h.3 lengths.1.1.1.0),
-      (u32_holds below table COMBINATOR_TYPE.number (combinator_number o.combinator_type) (refl, refl) (combinator_small o.combinator_type),
-      tt)))))) short in
+    let read = payload_holds_above k types.Future ps ((
+      numbers_hold below table WAITING_COMPLETIONS.number o.waiting_completions (refl, refl) h.0,
+      (
+        numbers_hold below table WAITING_SIGNALS.number o.waiting_signals (refl, refl) h.1,
+        (
+          texts_hold below table WAITING_NAMED_SIGNALS.number o.waiting_named_signals (refl, refl) h.2,
+          (
+            records_hold below table NESTED_FUTURES.number types.Future (map future_payload o.nested_futures) (refl, refl) (each_sound k types.Future future_of future_payload (FutureFits k) (λ g. future_payload_reads k g) o.nested_futures h.3 lengths.1.1.1.0),
+            (
+              u32_holds below table COMBINATOR_TYPE.number (combinator_number o.combinator_type) (refl, refl) (combinator_small o.combinator_type),
+              tt,
+            ),
+          ),
+        ),
+      ),
+    )) short in
     record {
       sound = subst (λ (p : List ℕ). payload_fault (suc k) types.Future p ≡ None) (sym (future_payload_is f)) read.0;
       value = sym (ap (λ (p : List ℕ). future_of (suc k) (fields p)) (future_payload_is f) ∙ ap (future_of (suc k)) read.1 ∙ ap roll-Future (λ i. record {

@@ -47,11 +47,16 @@ output_command_reads levels v h small =
     let below = payload_fault (levels - 1) in
     let table = descriptors_of types.OutputCommand in
     let lengths = lengths_fit ps small in
-    let read = payload_holds levels types.OutputCommand ps h.level (
-      (text_holds below table NAME.number v.name (refl, refl) h.name,
-      (optional_record_holds below table VALUE.number types.Value (value_in v.result) (refl, refl) (value_sound (levels - 1) v.result h.result lengths.1.0),
-      (optional_record_holds below table FAILURE.number types.Failure (failure_in v.result) (refl, refl) (failure_sound (levels - 1) v.result h.result lengths.1.1.0),
-      tt)))) small in
+    let read = payload_holds levels types.OutputCommand ps h.level ((
+      text_holds below table NAME.number v.name (refl, refl) h.name,
+      (
+        optional_record_holds below table VALUE.number types.Value (value_in v.result) (refl, refl) (value_sound (levels - 1) v.result h.result lengths.1.0),
+        (
+          optional_record_holds below table FAILURE.number types.Failure (failure_in v.result) (refl, refl) (failure_sound (levels - 1) v.result h.result lengths.1.1.0),
+          tt,
+        ),
+      ),
+    )) small in
     let result = ap (λ (fs : List Field). result_by levels (variant_of fs) fs) (run-fields_of result_variants ps) ∙ result_back levels v.name v.result h.result lengths.1.0 lengths.1.1.0 in
     record {
       sound = read.0;

@@ -1,6 +1,8 @@
 use bytes::ByteStr;
 use protocol_wire::table::{failure, failure_metadata};
-use protocol_wire::{Record, RecordType, put_records, put_text, put_u32, records_at, text_at, u32_at};
+use protocol_wire::{
+    Record, RecordType, put_records, put_text, put_u32, records_at, text_at, u32_at,
+};
 use sequence::Sequence;
 use std::alloc::{AllocError, Global};
 

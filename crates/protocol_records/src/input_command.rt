@@ -2,7 +2,10 @@ use crate::header::Header;
 use crate::value::Value;
 use bytes::ByteStr;
 use protocol_wire::table::input_command::{HEADERS, NAME, VALUE};
-use protocol_wire::{Record, RecordType, optional_record_at, put_optional_record, put_records, put_text, records_at, text_at};
+use protocol_wire::{
+    Record, RecordType, optional_record_at, put_optional_record, put_records, put_text, records_at,
+    text_at,
+};
 use sequence::Sequence;
 use std::alloc::{AllocError, Global};
 
@@ -32,7 +35,11 @@ impl Record for InputCommandMessage {
         RecordType::InputCommand
     }
 
-    fn select(alloc: Global, payload: &[u8], levels: u32) -> Result<InputCommandMessage, AllocError> {
+    fn select(
+        alloc: Global,
+        payload: &[u8],
+        levels: u32,
+    ) -> Result<InputCommandMessage, AllocError> {
         Ok(InputCommandMessage {
             headers: records_at(alloc, payload, HEADERS, levels)?,
             name: text_at(alloc, payload, NAME)?,

@@ -8,7 +8,9 @@ use crate::failure::Failure;
 use crate::value::Value;
 use bytes::ByteStr;
 use protocol_wire::table::output_command::{FAILURE, NAME, VALUE};
-use protocol_wire::{Record, RecordType, optional_record_at, put_record, put_text, run_at, text_at};
+use protocol_wire::{
+    Record, RecordType, optional_record_at, put_record, put_text, run_at, text_at,
+};
 use std::alloc::{AllocError, Global};
 
 /// What an invocation ends with.
@@ -25,7 +27,11 @@ pub struct OutputCommandMessage {
     pub result: Option<OutputCommandResult>,
 }
 
-fn result_at(alloc: Global, payload: &[u8], levels: u32) -> Result<Option<OutputCommandResult>, AllocError>
+fn result_at(
+    alloc: Global,
+    payload: &[u8],
+    levels: u32,
+) -> Result<Option<OutputCommandResult>, AllocError>
     requires { payload_fault levels output_command_type payload.now ≡ None }
     ensures { IfOk result (λ r. r ≡ output_command_result_of levels (fields payload.now)) }
 {
@@ -66,7 +72,11 @@ impl Record for OutputCommandMessage {
         RecordType::OutputCommand
     }
 
-    fn select(alloc: Global, payload: &[u8], levels: u32) -> Result<OutputCommandMessage, AllocError> {
+    fn select(
+        alloc: Global,
+        payload: &[u8],
+        levels: u32,
+    ) -> Result<OutputCommandMessage, AllocError> {
         Ok(OutputCommandMessage {
             name: text_at(alloc, payload, NAME)?,
             result: result_at(alloc, payload, levels)?,

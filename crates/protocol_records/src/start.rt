@@ -1,6 +1,10 @@
 use bytes::{ByteStr, Bytes};
 use protocol_wire::table::{start, state_entry};
-use protocol_wire::{Record, RecordType, bool_at, bytes_at, optional_text_at, put_bool, put_bytes, put_optional_text, put_records, put_text, put_u32, put_u64, records_at, text_at, u32_at, u64_at};
+use protocol_wire::{
+    Record, RecordType, bool_at, bytes_at, optional_text_at, put_bool, put_bytes,
+    put_optional_text, put_records, put_text, put_u32, put_u64, records_at, text_at, u32_at,
+    u64_at,
+};
 use sequence::Sequence;
 use std::alloc::{AllocError, Global};
 
@@ -93,8 +97,14 @@ impl Record for StartMessage {
             state_map: records_at(alloc, payload, start::STATE_MAP, levels)?,
             partial_state: bool_at(payload, start::PARTIAL_STATE),
             key: text_at(alloc, payload, start::KEY)?,
-            retry_count_since_last_stored_entry: u32_at(payload, start::RETRY_COUNT_SINCE_LAST_STORED_ENTRY),
-            duration_since_last_stored_entry: u64_at(payload, start::DURATION_SINCE_LAST_STORED_ENTRY),
+            retry_count_since_last_stored_entry: u32_at(
+                payload,
+                start::RETRY_COUNT_SINCE_LAST_STORED_ENTRY,
+            ),
+            duration_since_last_stored_entry: u64_at(
+                payload,
+                start::DURATION_SINCE_LAST_STORED_ENTRY,
+            ),
             random_seed: u64_at(payload, start::RANDOM_SEED),
             scope: optional_text_at(alloc, payload, start::SCOPE)?,
             limit_key: optional_text_at(alloc, payload, start::LIMIT_KEY)?,
@@ -109,8 +119,16 @@ impl Record for StartMessage {
         put_records(alloc, out, start::STATE_MAP, &self.state_map)?;
         put_bool(out, start::PARTIAL_STATE, self.partial_state)?;
         put_text(out, start::KEY, &self.key)?;
-        put_u32(out, start::RETRY_COUNT_SINCE_LAST_STORED_ENTRY, self.retry_count_since_last_stored_entry)?;
-        put_u64(out, start::DURATION_SINCE_LAST_STORED_ENTRY, self.duration_since_last_stored_entry)?;
+        put_u32(
+            out,
+            start::RETRY_COUNT_SINCE_LAST_STORED_ENTRY,
+            self.retry_count_since_last_stored_entry,
+        )?;
+        put_u64(
+            out,
+            start::DURATION_SINCE_LAST_STORED_ENTRY,
+            self.duration_since_last_stored_entry,
+        )?;
         put_u64(out, start::RANDOM_SEED, self.random_seed)?;
         put_optional_text(out, start::SCOPE, &self.scope)?;
         put_optional_text(out, start::LIMIT_KEY, &self.limit_key)?;

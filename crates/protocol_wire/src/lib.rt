@@ -19,7 +19,8 @@ pub use put::{
     put_records, put_tagged_bytes, put_text, put_texts, put_u32, put_u64,
 };
 pub use record::{
-    DecodeError, LEVELS, Record, decode, decode_of_encoded, encode, merge, optional_record_at, records_at,
+    DecodeError, LEVELS, Record, decode, decode_of_encoded, encode, merge, optional_record_at,
+    records_at,
 };
 pub use select::{
     bool_at, bytes_at, numbers_at, optional_text_at, run_at, text_at, texts_at, u32_at, u64_at,

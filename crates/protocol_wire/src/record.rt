@@ -168,5 +168,4 @@ pub fn merge<R: Record>(alloc: Global, one: &mut R, payload: &[u8]) -> Result<()
 /// stands more than a hundred levels below the payload, and the payload is shorter than 2^64 bytes.
 pub fn decode_of_encoded<R: Record>()
     ensures { (r : R) → R.fits LEVELS r → length (payload_of (R.parts r)) < 2 ^ 64 → IsRead LEVELS R.record_type R.of (payload_of (R.parts r)) r }
-{
-}
+{}

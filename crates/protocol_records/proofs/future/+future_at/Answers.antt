@@ -1,14 +1,12 @@
-use Rattle.std.proofs.Common.{◌≡◌, ◌∙◌, ◌-◌, ◌<◌, ◌++◌, map, sym, ap, refl, arith, rules, None, List}
+use Rattle.std.proofs.Common.{◌-◌, refl, arith, rules}
 use Rattle.std.proofs.lemmas.List.{append-nil}
-use Rattle.protocol_wire.specs.Wire.{Field}
 use Rattle.protocol_wire.specs.Seen.{field}
 use Rattle.protocol_wire.specs.Fields.{fields}
 use Rattle.protocol_wire.specs.Check.{payload_fault}
-use Rattle.protocol_wire.specs.Selection.{values, each_bytes, records, texts}
+use Rattle.protocol_wire.specs.Selection.{texts}
 use Rattle.protocol_wire.specs.declared.table.RecordType.TheVariants.{Future as future_type}
 use Rattle.protocol_wire.proofs.SoundAt.{records_sound, texts_sound, level_left, sound_first}
 use Rattle.protocol_wire.specs.declared.table.future.TheConstants.{NESTED_FUTURES, WAITING_NAMED_SIGNALS}
-use Rattle.protocol_records.specs.Future.{future_of, combinator_of}
 use Rattle.protocol_records.proofs.Futures.{future_of_is}
 use Rattle.protocol_records.proofs.future.+future_at.Goals as goal
 
@@ -22,9 +20,10 @@ pub overflow_sub-levels : goal.overflow_sub-levels
 overflow_sub-levels t c = omega (arith, level_left c.args.levels future_type c.args.payload.now c.requires)
 
 pub future_at-requires : goal.future_at-requires
-future_at-requires t c =
-    (omega (arith, level_left c.args.levels future_type c.args.payload.now c.requires, c.decreases),
-     sound_first (payload_fault (c.args.levels - 1) future_type) NESTED_FUTURES.number (field c.in-Some.found) (fields c.loop-found.found-iterator.0.now) (fields c.next.new.self.0.now) c.in-Bytes.bytes.now c.loop-found.invariant.sound c.in-Some.ensures.steps c.if-found.true (rw c.in-Bytes.is refl))
+future_at-requires t c = (
+  omega (arith, level_left c.args.levels future_type c.args.payload.now c.requires, c.decreases),
+  sound_first (payload_fault (c.args.levels - 1) future_type) NESTED_FUTURES.number (field c.in-Some.found) (fields c.loop-found.found-iterator.0.now) (fields c.next.new.self.0.now) c.in-Bytes.bytes.now c.loop-found.invariant.sound c.in-Some.ensures.steps c.if-found.true (rw c.in-Bytes.is refl),
+)
 
 pub texts_at-requires : goal.texts_at-requires
 texts_at-requires t c = texts_sound c.args.levels future_type WAITING_NAMED_SIGNALS.number c.args.payload.now c.requires refl

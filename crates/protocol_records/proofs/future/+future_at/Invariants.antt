@@ -14,5 +14,5 @@ decreases-future_at l = l.levels
 abbrev pub invariant-loop-found : goal.invariant-loop-found
 invariant-loop-found l = record {
   nested : l.nested_futures ++ map (λ p. future_of (l.levels - 1) (fields p)) (each_bytes (values NESTED_FUTURES.number (fields l.found-iterator.0.now))) ≡ records (future_of (l.levels - 1)) NESTED_FUTURES.number (fields l.payload);
-  sound : AreSound (payload_fault (l.levels - 1) future_type) (values NESTED_FUTURES.number (fields l.found-iterator.0.now))
+  sound : AreSound (payload_fault (l.levels - 1) future_type) (values NESTED_FUTURES.number (fields l.found-iterator.0.now));
 }

@@ -1,10 +1,10 @@
-use Rattle.std.proofs.Common.{◌≡◌, ◌∙◌, ◌++◌, take, map, sym, ap, refl, arith, List, ℕ}
+use Rattle.std.proofs.Common.{◌≡◌, ◌∙◌, ◌++◌, take, map, ap, refl, List, ℕ}
 use Rattle.std.proofs.lemmas.List.{take_all}
-use Rattle.protocol_wire.specs.Parts.{part_spelling, repeated_bytes, payload_of, plain_number}
+use Rattle.protocol_wire.specs.Parts.{part_spelling, repeated_bytes, payload_of}
 use Rattle.protocol_wire.proofs.Puts.{chained}
 use Rattle.protocol_records.specs.declared.future.Future.{Future, out-Future}
 use Rattle.protocol_wire.specs.declared.table.future.TheConstants.{NESTED_FUTURES}
-use Rattle.protocol_records.specs.Future.{future_parts, future_payload}
+use Rattle.protocol_records.specs.Future.{future_parts}
 use Rattle.protocol_records.proofs.Futures.{nested_is}
 use Rattle.protocol_records.proofs.future.+spell_future.Goals as goal
 
@@ -15,7 +15,7 @@ returns t c =
     let items = c.as_slice-nested-items.result.now in
     let whole : take c.loop-nested.nested-index items ≡ (out-Future c.args.one.now).nested_futures = take_all c.loop-nested.nested-index items c.loop-nested-test.false ∙ c.as_slice-nested-items.ensures in
     let nested = c.loop-nested.invariant
-        ∙ ap (λ (xs : List Future). c.put_texts.new.out.items ++ part_spelling (repeated_bytes NESTED_FUTURES.number (map (λ f. payload_of (future_parts f)) xs))) whole
-        ∙ ap (λ (ps : List (List ℕ)). c.put_texts.new.out.items ++ part_spelling (repeated_bytes NESTED_FUTURES.number ps)) (nested_is (out-Future c.args.one.now).nested_futures) in
+    ∙ ap (λ (xs : List Future). c.put_texts.new.out.items ++ part_spelling (repeated_bytes NESTED_FUTURES.number (map (λ f. payload_of (future_parts f)) xs))) whole
+    ∙ ap (λ (ps : List (List ℕ)). c.put_texts.new.out.items ++ part_spelling (repeated_bytes NESTED_FUTURES.number ps)) (nested_is (out-Future c.args.one.now).nested_futures) in
     let last = rw c.number_of.ensures at c.in_ok-put_u32.ensures in
     chained (future_parts c.args.one.now) c.args.out.now.items _ (_, c.in_ok-put_numbers.ensures, (_, c.in_ok-put_numbers-2.ensures, (_, c.in_ok-put_texts.ensures, (_, nested, (_, last, refl)))))
