@@ -1,6 +1,6 @@
 -- For each record: its canonical fields followed by others stand for what the fields that it was read from and these stand for.
 -- So a payload followed by another is the other merged into the first.
-use Rattle.std.proofs.Common.{◌≡◌, ℕ, ◌-◌, List, [], ◌∷◌, ◌++◌, Some, refl}
+use Rattle.std.proofs.Common.{◌≡◌, ℕ, ◌-◌, List, ◌++◌, Some, refl}
 use Rattle.std.specs.List.{AllByRecursion}
 use Rattle.protocol_wire.specs.Wire.{Field}
 use Rattle.protocol_wire.specs.Selection.{texts, joined_bytes}

@@ -1,5 +1,5 @@
 -- The variant of an output's result.
-use Rattle.std.proofs.Common.{◌≡◌, ◌≢◌, ℕ, ◌-◌, Bool, true, false, cond, eqb, List, [], ◌∷◌, Option, Some, None, refl, sym, ap, ◌∙◌, eq-eqb}
+use Rattle.std.proofs.Common.{◌≡◌, ◌≢◌, ℕ, ◌-◌, Bool, true, false, eqb, List, Some, refl, ap, eq-eqb}
 use Rattle.std.specs.Prelude.{option_map}
 use Rattle.std.proofs.lemmas.Bool.{eqb-true}
 use Rattle.protocol_wire.specs.Wire.{Wire, Field}
@@ -7,7 +7,6 @@ use Rattle.protocol_wire.specs.Fields.{fields}
 use Rattle.protocol_wire.specs.Selection.{values, each_bytes, texts, joined_bytes, optional_record, run, variant_of, among}
 use Rattle.protocol_wire.specs.declared.table.output_command.TheConstants.{VALUE, FAILURE}
 use Rattle.protocol_wire.proofs.Runs.{run_values}
-use Rattle.protocol_records.specs.declared.output_command.OutputCommandResult.{OutputCommandResult}
 use Rattle.protocol_records.specs.declared.output_command.OutputCommandResult.TheVariants as results
 use Rattle.protocol_records.specs.Value.{value_of}
 use Rattle.protocol_records.specs.Failure.{failure_of}

@@ -1,5 +1,5 @@
 -- Rows of the specification, computed by the definitions.
-use Rattle.std.proofs.Common.{◌≡◌, ℕ, List, [], ◌∷◌, ◌++◌, Some, false, refl, ap, ◌∙◌, arith}
+use Rattle.std.proofs.Common.{◌≡◌, List, [], ◌∷◌, Some, false, refl, ap, arith}
 use Rattle.protocol_wire.specs.Wire.{varint_within, varint_at, value_at, field_at}
 use Rattle.protocol_wire.specs.Items.{items_within, items, left_within, left}
 use Rattle.protocol_wire.specs.Fields.{fields}
@@ -15,7 +15,7 @@ use Rattle.protocol_records.specs.declared.future.Future.{Future, roll-Future}
 use Rattle.protocol_records.specs.declared.future.Future.TheOpen.{Future-F}
 use Rattle.protocol_records.specs.declared.future.CombinatorType.TheVariants.{FirstCompleted}
 use Rattle.protocol_records.specs.SleepCommand.{sleep_command_of, sleep_command_parts}
-use Rattle.protocol_records.specs.Future.{future_parts, FutureFits}
+use Rattle.protocol_records.specs.Future.{FutureFits}
 use Rattle.protocol_records.specs.AwaitingOn.{awaiting_on_parts}
 use Rattle.protocol_records.proofs.Futures.{future_parts_of, future_fits}
 

@@ -1,5 +1,5 @@
 -- The canonical payload of an awaiting-on message is read again, to the same value.
-use Rattle.std.specs.Prelude.{ℕ, ◌-◌, ◌<◌, ◌^◌, length, map, option_map, refl}
+use Rattle.std.specs.Prelude.{ℕ, ◌-◌, ◌<◌, ◌^◌, length, option_map, refl}
 use Rattle.std.proofs.Common.{sym, ap, ◌∙◌}
 use Rattle.protocol_wire.specs.Check.{payload_fault}
 use Rattle.protocol_wire.specs.Table.{descriptors_of}

@@ -1,18 +1,16 @@
 -- The canonical payload of a future is read again, to the same value.
-use Rattle.std.specs.Prelude.{◌≡◌, ℕ, zero, suc, ◌<◌, ◌^◌, List, [], ◌∷◌, length, map, None, refl}
+use Rattle.std.specs.Prelude.{◌≡◌, ℕ, zero, suc, ◌<◌, ◌^◌, List, length, map, None, refl}
 use Rattle.std.proofs.Common.{sym, ap, subst, ◌∙◌}
 use Rattle.std.proofs.lemmas.Bool.{ltb-true}
-use Rattle.protocol_wire.specs.Wire.{Field}
 use Rattle.protocol_wire.specs.Fields.{fields}
 use Rattle.protocol_wire.specs.Check.{payload_fault}
 use Rattle.protocol_wire.specs.Table.{descriptors_of}
-use Rattle.protocol_wire.specs.Parts.{payload_of, fields_of}
+use Rattle.protocol_wire.specs.Parts.{payload_of}
 use Rattle.protocol_wire.specs.Decodes.{IsRead}
 use Rattle.protocol_wire.specs.declared.table.RecordType.TheVariants as types
 use Rattle.protocol_wire.specs.declared.table.future.TheConstants.{WAITING_COMPLETIONS, WAITING_SIGNALS, WAITING_NAMED_SIGNALS, NESTED_FUTURES, COMBINATOR_TYPE}
 use Rattle.protocol_wire.proofs.Holds.{u32_holds, numbers_hold, texts_hold, records_hold, lengths_fit, payload_holds_above, each_sound, each_reads_back}
 use Rattle.protocol_wire.proofs.Back.{u32_back, numbers_back, texts_back, records_back}
-use Rattle.protocol_wire.specs.Selection.{u32}
 use Rattle.protocol_records.specs.declared.future.CombinatorType.{CombinatorType}
 use Rattle.protocol_records.specs.declared.future.CombinatorType.TheVariants.{Unknown, FirstCompleted, AllCompleted, FirstSucceededOrAllFailed, AllSucceededOrFirstFailed}
 use Rattle.protocol_records.specs.declared.future.Future.{Future, out-Future, roll-Future, fold_out-Future}

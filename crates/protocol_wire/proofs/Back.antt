@@ -1,19 +1,19 @@
 -- What was spelled of each kind is read back.
-use Rattle.std.proofs.Common.{◌≡◌, ℕ, zero, suc, ◌-◌, ◌%◌, ◌^◌, ◌<◌, Bool, true, false, not, cond, eqb, List, [], ◌∷◌, ◌++◌, map, Option, Some, None, refl, sym, ap, ◌∙◌, arith}
+use Rattle.std.proofs.Common.{◌≡◌, ℕ, ◌^◌, ◌<◌, Bool, true, false, cond, eqb, List, [], ◌∷◌, ◌++◌, map, Option, Some, None, refl, sym, ap, ◌∙◌, arith}
 use Rattle.std.specs.Prelude.{option_map, unwrap_or, IfSome}
 use Rattle.std.specs.List.{flat_map, AllByRecursion}
 use Rattle.std.proofs.lemmas.List.{append-nil}
 use Rattle.std.proofs.lemmas.List.Concat.{flat_map-cons}
 use Rattle.std.proofs.lemmas.Bool.{eqb-true}
-use Rattle.protocol_wire.specs.Wire.{Wire, varint, bytes, fixed, Field, varint_at}
+use Rattle.protocol_wire.specs.Wire.{Wire, varint, bytes, Field, varint_at}
 use Rattle.protocol_wire.specs.Items.{is_end}
-use Rattle.protocol_wire.specs.Fields.{fields, are_fields, varints, are_varints}
+use Rattle.protocol_wire.specs.Fields.{fields, varints, are_varints}
 use Rattle.protocol_wire.specs.Spelling.{varint_spelling}
-use Rattle.protocol_wire.specs.Selection.{values, last_number_or, last_number, last_bytes_or, last_bytes, u64, u32, bool, text, low, optional_text, each_bytes, texts, each_number, numbers, concat, joined_bytes, optional_record, records, is_among, among, last_run, run}
-use Rattle.protocol_wire.specs.Parts.{Part, plain_number, bool_number, nonempty, plain_bytes, bytes_if, optional_bytes, repeated_bytes, packed, payload_of, numbered, fields_of}
+use Rattle.protocol_wire.specs.Selection.{last_number_or, last_number, last_bytes_or, last_bytes, u64, u32, bool, text, low, optional_text, each_bytes, texts, each_number, numbers, joined_bytes, optional_record, records, is_among, among, last_run, run}
+use Rattle.protocol_wire.specs.Parts.{Part, plain_number, bool_number, nonempty, plain_bytes, bytes_if, optional_bytes, repeated_bytes, packed, numbered, fields_of}
 use Rattle.protocol_wire.proofs.Steps.{varint_at_shrinks, items_read, items_ended, left_read, left_ended, nil_ended}
 use Rattle.protocol_wire.proofs.Spelled.{varint-spelled}
-use Rattle.protocol_wire.proofs.Laws.{held, values-fields_of, texts_of, flag, flag_again, bytes_if_view}
+use Rattle.protocol_wire.proofs.Laws.{held, values-fields_of, flag, flag_again, bytes_if_view}
 
 -- ---- what was written is read back
 

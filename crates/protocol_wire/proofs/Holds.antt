@@ -1,8 +1,7 @@
 -- A canonical payload is one with which nothing is wrong, and its fields are those that were spelled.
-use Rattle.std.proofs.Common.{◌≡◌, ℕ, zero, suc, ◌*◌, ◌+◌, ◌-◌, ◌^◌, ◌<◌, ◌≤◌, Bool, true, false, cond, eqb, ltb, List, [], ◌∷◌, ◌++◌, length, map, Option, Some, None, refl, sym, ap, subst, ◌∙◌, arith}
+use Rattle.std.proofs.Common.{◌≡◌, ℕ, suc, ◌*◌, ◌+◌, ◌-◌, ◌^◌, ◌<◌, Bool, true, false, cond, eqb, ltb, List, [], ◌∷◌, ◌++◌, length, map, Option, Some, None, refl, sym, ap, subst, ◌∙◌, arith}
 use Rattle.std.specs.Prelude.{option_map, IsUtf8, IfSome}
 use Rattle.std.specs.List.{flat_map, AllByRecursion}
-use Rattle.std.specs.Str.{is_utf8}
 use Rattle.std.proofs.lemmas.Str.{is_utf8-from_IsUtf8}
 use Rattle.std.proofs.lemmas.Bool.{ltb-true}
 use Rattle.std.proofs.lemmas.List.{append-nil, length-append}
@@ -11,7 +10,7 @@ use Rattle.protocol_wire.specs.Wire.{Wire, varint, bytes, fixed, Field}
 use Rattle.protocol_wire.specs.Fields.{fields, are_fields, are_varints}
 use Rattle.protocol_wire.specs.Spelling.{varint_spelling, tagged, ValueFits, FieldFits}
 use Rattle.protocol_wire.specs.Table.{descriptors_of, kind_in}
-use Rattle.protocol_wire.specs.Check.{worse, bad_unless, fault_by, field_fault, fields_fault, payload_fault}
+use Rattle.protocol_wire.specs.Check.{worse, bad_unless, fault_by, fields_fault, payload_fault}
 use Rattle.protocol_wire.specs.Parts.{Part, plain_number, bool_number, nonempty, plain_bytes, bytes_if, optional_bytes, repeated_bytes, packed, part_spelling, payload_of, numbered, fields_of}
 use Rattle.protocol_wire.specs.declared.table.RecordType.{RecordType}
 use Rattle.protocol_wire.specs.declared.table.Kind.{Kind}

@@ -3,7 +3,7 @@
 ghost use Rattle.std.specs.Prelude.{◌≡◌, [], Some, IfNone, ◌++◌, ◌%◌, ◌^◌, ℕ, List, map, OnOk, option_map, IfOk, IfSome, IsUtf8};
 ghost use Rattle.protocol_wire.specs.Fields.{fields, varints};
 ghost use Rattle.protocol_wire.specs.Sound.{AreTexts};
-ghost use Rattle.protocol_wire.specs.Selection.{run, is_run as the_is_run, variant_of, among, last_number as the_last_number, last_bytes as the_last_bytes, values, u64 as the_u64, u32 as the_u32, bool as the_bool, text as the_text, numbers as the_numbers, texts as the_texts, optional_u32 as the_optional_u32, optional_text as the_optional_text};
+ghost use Rattle.protocol_wire.specs.Selection.{run, is_run as the_is_run, variant_of, among, last_number as the_last_number, last_bytes as the_last_bytes, values, u64 as the_u64, u32 as the_u32, bool as the_bool, text as the_text, numbers as the_numbers, texts as the_texts, optional_text as the_optional_text};
 
 use crate::field::field_at;
 use crate::varint::varint_at;
@@ -64,15 +64,6 @@ pub fn bool_at(payload: &[u8], field: FieldDescriptor) -> bool
     ensures { result ≡ the_bool field.number (fields payload.now) }
 {
     u64_at(payload, field) != 0
-}
-
-pub fn optional_u32_at(payload: &[u8], field: FieldDescriptor) -> Option<u32>
-    ensures { result ≡ the_optional_u32 field.number (fields payload.now) }
-{
-    match last_number(payload, field) {
-        None => None,
-        Some(number) => Some((number % (1 << 32)) as u32),
-    }
 }
 
 /// A copy of the last bytes of this field; empty where there are none.
