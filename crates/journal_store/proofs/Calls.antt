@@ -96,9 +96,9 @@ module _ (rows items : Rows) (same : items ≡ rows) (id : List ℕ) where
       → IsLiveAt rows id attempt place → read ≡ slice_index_or items place read → StepsRow read result after → Steps id attempt rows result (slice_set items place after)
   steps attempt place read after (Ok reply) p i step = changes_live (TakesFirst reply) attempt place read after p i step
   steps attempt place read after (Err refusal) p i step = elim step [
-      | inl memory ↦ inl (inr memory.0, unchanged place p.row read after p.at i memory.1)
-      | inr refused ↦ inr (changes_live (RefusesItem refusal) attempt place read after p i refused)
-    ]
+    | inl memory ↦ inl (inr memory.0, unchanged place p.row read after p.at i memory.1)
+    | inr refused ↦ inr (changes_live (RefusesItem refusal) attempt place read after p i refused)
+  ]
 
   -- ---- a begin of an open invocation
 

@@ -21,9 +21,9 @@ lacks_other_id id row ne = elim (true_or_false (has_id id row)) [ inl q ↦ absu
 pub found_passes : {A : Type 0} (test : A → Bool) (xs : List A) (x : A) → find test xs ≡ Some x → test x ≡ true
 found_passes test [] x e = absurd cc
 found_passes test (y ∷ ys) x e = elim (true_or_false (test y)) [
-    | inl q ↦ let f : Some y ≡ Some x = rw q at e in let same : y ≡ x = cc in ap test (sym same) ∙ q
-    | inr q ↦ found_passes test ys x (rw q at e)
-  ]
+  | inl q ↦ let f : Some y ≡ Some x = rw q at e in let same : y ≡ x = cc in ap test (sym same) ∙ q
+  | inr q ↦ found_passes test ys x (rw q at e)
+]
 
 pub row_of-id : (rows : Rows) (id : List ℕ) (row : StoredInvocation) → row_of rows id ≡ Some row → row.invocation.id ≡ id
 row_of-id rows id row e = own_id id row (found_passes (has_id id) rows row e)
@@ -42,3 +42,14 @@ row_of-further rows further e = let own = has_own_id further.invocation.id furth
 
 pub row_of-further_other : (rows : Rows) (id : List ℕ) (further : StoredInvocation) → further.invocation.id ≢ id → row_of (rows ++ further ∷ []) id ≡ row_of rows id
 row_of-further_other rows id further ne = first_push_other (has_id id) rows further (lacks_other_id id further ne)
+
+with_found : {A : Type 0} (test : A → Bool) (xs : List A) (x : A) → find test xs ≡ Some x → with_first test xs x ≡ xs
+with_found {A} test [] x e = refl
+with_found {A} test (y ∷ ys) x e = elim (true_or_false (test y)) [
+  | inl q ↦ let f : Some y ≡ Some x = rw q at e in let same : x ≡ y = cc in rw q (ap (λ (z : A). z ∷ ys) same)
+  | inr q ↦ rw q (ap (λ (zs : List A). y ∷ zs) (with_found test ys x (rw q at e)))
+]
+
+-- The row itself in its place changes nothing.
+pub with_row-same : (rows : Rows) (id : List ℕ) (row : StoredInvocation) → row_of rows id ≡ Some row → with_row rows id row ≡ rows
+with_row-same rows id row e = with_found (has_id id) rows row e

@@ -49,7 +49,7 @@ input-is new =
     let headers = map (λ r. payload_of (header_parts r)) (map header_record new.headers) in
     let content = payload_of (value_parts (record { content = new.input })) in
     spelled (input_command_parts (input_record new)) (model.repeated_bytes 1 headers ∷ [] ∷ model.bytes_field 14 content ∷ [])
-      (repeated_bytes-is 1 headers, (plain_bytes-is 12 [], (optional_bytes-is 14 (Some content), tt)))
+    (repeated_bytes-is 1 headers, (plain_bytes-is 12 [], (optional_bytes-is 14 (Some content), tt)))
     ∙ ap (λ (a : List ℕ). model.repeated_bytes 1 headers ++ a) (append-nil (model.bytes_field 14 content) ∙ ap (model.bytes_field 14) (value-is new.input))
     ∙ ap (λ (h : List (List ℕ)). model.repeated_bytes 1 h ++ model.bytes_field 14 (model.value_payload new.input)) (headers-are new.headers)
 
@@ -68,8 +68,32 @@ start-is row now =
     let retries = model.plain_number 7 (begun_since_entry row) in
     let since = model.plain_number 8 (since_first row now) in
     let seed = model.plain_number 9 row.invocation.seed in
-    spelled (start_parts (start_record row now)) (id ∷ debug_id ∷ entries ∷ [] ∷ state ∷ key ∷ retries ∷ since ∷ seed ∷ [] ∷ [] ∷ [] ∷ [])
-      (plain_bytes-is 1 row.invocation.id, (plain_bytes-is 2 row.invocation.id, (plain_number-is 3 (1 + length row.requests), (repeated_bytes-is 4 [], (state-is row.invocation.state,
-      (plain_bytes-is 6 row.invocation.object, (plain_number-is 7 (begun_since_entry row), (plain_number-is 8 (since_first row now), (plain_number-is 9 row.invocation.seed,
-      (optional_bytes-is 10 None, (optional_bytes-is 11 None, (optional_bytes-is 12 None, tt))))))))))))
+    spelled (start_parts (start_record row now)) (id ∷ debug_id ∷ entries ∷ [] ∷ state ∷ key ∷ retries ∷ since ∷ seed ∷ [] ∷ [] ∷ [] ∷ []) (
+      plain_bytes-is 1 row.invocation.id,
+      (
+        plain_bytes-is 2 row.invocation.id,
+        (
+          plain_number-is 3 (1 + length row.requests),
+          (
+            repeated_bytes-is 4 [],
+            (
+              state-is row.invocation.state,
+              (
+                plain_bytes-is 6 row.invocation.object,
+                (
+                  plain_number-is 7 (begun_since_entry row),
+                  (
+                    plain_number-is 8 (since_first row now),
+                    (
+                      plain_number-is 9 row.invocation.seed,
+                      (optional_bytes-is 10 None, (optional_bytes-is 11 None, (optional_bytes-is 12 None, tt))),
+                    ),
+                  ),
+                ),
+              ),
+            ),
+          ),
+        ),
+      ),
+    )
     ∙ ap (λ (a : List ℕ). id ++ (debug_id ++ (entries ++ (state ++ (key ++ (retries ++ (since ++ a))))))) (append-nil seed)

@@ -54,7 +54,7 @@ stepped row live taken (Ok None) after left last e t k = λ other o.
 stepped row live taken (Ok (Some reply)) after left last e t k = λ other o.
     let same : live ≡ other = some_is live other (sym e ∙ o) in
     let attempt : last ≡ attempt_after reply (record other { output = t.rest }) =
-        k ∙ ap (λ (v : LiveAttempt). attempt_after reply v) (t.left_is ∙ ap (λ (v : LiveAttempt). record v { output = t.rest }) same) in
+    k ∙ ap (λ (v : LiveAttempt). attempt_after reply v) (t.left_is ∙ ap (λ (v : LiveAttempt). record v { output = t.rest }) same) in
     let ty : MessageType = message_type t.frame.header in
     record {
       frame = t.frame;
@@ -69,14 +69,14 @@ stepped row live taken (Ok (Some reply)) after left last e t k = λ other o.
           ∙ ap (λ (v : Option LiveAttempt). with_live (frame_row row t.kind ty t.frame.payload) v) attempt;
     }
 stepped row live taken (Err refusal) after left last e t k = elim t.0 [
-    | inl memory ↦ inl (memory, put_back_memory row after taken last refusal live left memory e t.1 t.2 k)
-    | inr cause ↦ inr (λ other o.
-        let same : live ≡ other = some_is live other (sym e ∙ o) in
-        record {
-          item = cause.item;
-          rest = cause.rest;
-          first = ap (λ (v : LiveAttempt). item_at v.output) (sym same) ∙ cause.first;
-          refused = cause.refused;
-          after_is = settled row after taken last (ends_attempt refusal) live e t.1 (k ∙ ap (λ (v : LiveAttempt). if ends_attempt refusal then None else Some v) t.2);
-        })
-  ]
+  | inl memory ↦ inl (memory, put_back_memory row after taken last refusal live left memory e t.1 t.2 k)
+  | inr cause ↦ inr (λ other o.
+      let same : live ≡ other = some_is live other (sym e ∙ o) in
+      record {
+        item = cause.item;
+        rest = cause.rest;
+        first = ap (λ (v : LiveAttempt). item_at v.output) (sym same) ∙ cause.first;
+        refused = cause.refused;
+        after_is = settled row after taken last (ends_attempt refusal) live e t.1 (k ∙ ap (λ (v : LiveAttempt). if ends_attempt refusal then None else Some v) t.2);
+      })
+]

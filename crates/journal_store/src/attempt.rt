@@ -7,15 +7,14 @@ ghost use Rattle.journal_store.specs.Live.{HandsOut, PutsBehind, is_attempt};
 ghost use Rattle.journal_store.specs.Step.{accepted as the_accepted, payload_tests as the_payload_tests, payload_tests_of, row_tests, frame_tests, has_result as the_has_result, recorded};
 ghost use Rattle.journal_store.specs.RowCalls.{ChangesRow, AcceptsFrame, TakesFirstOf, kept as the_kept, StepsRow};
 
+use crate::output::{FirstItem, HEADER_LEN};
+use crate::refusal::Refusal;
+use crate::row::{FrameReply, LiveAttempt, RecordedRequest, StoredInvocation};
 use bytes::Bytes;
 use journal_protocol::MessageType;
 use protocol_wire::table::{output_command, sleep_command};
 use protocol_wire::{Fault, LEVELS, RecordType, fault_of, run_at, u32_at};
 use std::alloc::Global;
-
-use crate::output::{FirstItem, HEADER_LEN};
-use crate::refusal::Refusal;
-use crate::row::{FrameReply, LiveAttempt, RecordedRequest, StoredInvocation};
 
 /// The greatest place.
 const LAST_PLACE: usize = 0xFFFF_FFFE;
@@ -141,7 +140,7 @@ fn row_refusal(row: &StoredInvocation, kind: FrameKind, payload: &[u8]) -> Optio
 }
 
 /// Why a frame is refused.
-#[tactic(auto, using(crate::proofs::Tests::causes))]
+#[tactic(auto, using(crate::proofs::CauseLemmas::causes))]
 fn frame_refusal(row: &StoredInvocation, kind: FrameKind, payload: &[u8]) -> Option<Refusal>
     ensures { result ≡ first_cause (frame_tests row.now (Some kind) payload.now) }
 {
@@ -228,10 +227,7 @@ fn take_first(
 }
 
 /// What becomes of an attempt whose first item was taken or refused.
-fn kept(
-    taken: &Result<Option<FrameReply>, Refusal>,
-    live: LiveAttempt,
-) -> Option<LiveAttempt>
+fn kept(taken: &Result<Option<FrameReply>, Refusal>, live: LiveAttempt) -> Option<LiveAttempt>
     ensures { result ≡ the_kept taken.now live }
 {
     match taken {
@@ -248,10 +244,7 @@ fn kept(
 }
 
 /// Takes the first item of the live attempt's output.
-pub(crate) fn step(
-    alloc: Global,
-    row: &mut StoredInvocation,
-) -> Result<Option<FrameReply>, Refusal>
+pub(crate) fn step(alloc: Global, row: &mut StoredInvocation) -> Result<Option<FrameReply>, Refusal>
     ensures { StepsRow row.old result row.new }
 {
     let Some(mut live) = row.live.take() else {

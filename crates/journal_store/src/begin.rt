@@ -8,6 +8,9 @@ ghost use Rattle.journal_store.specs.Begin.{are_used_up, begun_since_entry, sinc
 ghost use Rattle.journal_store.specs.Payloads.{header_record, input_record, start_record};
 ghost use Rattle.journal_store.specs.Writes.{Writes};
 
+use crate::output::AttemptOutput;
+use crate::refusal::Refusal;
+use crate::row::{BegunAttempt, LiveAttempt, RecordedRequest, StoredInvocation};
 use bytes::{Bytes, BytesMut};
 use journal_model::{NewInvocation, StateMode};
 use journal_protocol::{MessageType, write_message};
@@ -15,10 +18,6 @@ use protocol_records::{Header, InputCommandMessage, StartMessage, Value};
 use protocol_wire::encode;
 use sequence::Sequence;
 use std::alloc::{AllocError, Global};
-
-use crate::output::AttemptOutput;
-use crate::refusal::Refusal;
-use crate::row::{BegunAttempt, LiveAttempt, RecordedRequest, StoredInvocation};
 
 /// A header as the record of an input has it.
 fn header_record_of(header: &journal_model::Header) -> Result<Header, AllocError>
@@ -45,10 +44,7 @@ fn header_records(
 }
 
 /// The record of an invocation's input.
-fn input_record_of(
-    alloc: Global,
-    new: &NewInvocation,
-) -> Result<InputCommandMessage, AllocError>
+fn input_record_of(alloc: Global, new: &NewInvocation) -> Result<InputCommandMessage, AllocError>
     ensures { IfOk result (λ input. input ≡ input_record new.now) }
 {
     Ok(InputCommandMessage {
@@ -160,11 +156,7 @@ impl StoredInvocation {
 }
 
 /// The payload of that start.
-fn start_payload(
-    alloc: Global,
-    row: &StoredInvocation,
-    now: u64,
-) -> Result<Vec<u8>, AllocError>
+fn start_payload(alloc: Global, row: &StoredInvocation, now: u64) -> Result<Vec<u8>, AllocError>
     requires { length row.now.requests + 1 < 2 ^ 32 }
     ensures payload { IfOk result (λ payload. payload.items ≡ start_payload_at row.now now) }
     ensures fits { IfOk result (λ _. StartFits row.now now) }

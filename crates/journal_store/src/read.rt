@@ -3,15 +3,14 @@ ghost use Rattle.std.specs.Prelude.{◌≡◌, None, map, IfOk, option_map};
 ghost use Rattle.journal_store.specs.Read.{code_of as the_code_of, pair_of, value_of_result, output_in, is_output_kind, last_output as the_last_output, answer_of};
 ghost use Rattle.journal_store.specs.Step.{accepted as the_accepted};
 
+use crate::attempt::{FrameKind, accepted};
+use crate::row::{RecordedRequest, StoredInvocation};
 use bytes::{ByteStr, Bytes};
 use journal_model::{NonEmptyValue, TerminalFailure};
 use protocol_records::{Failure, FailureMetadata, OutputCommandMessage, OutputCommandResult};
 use protocol_wire::{DecodeError, decode};
 use sequence::Sequence;
 use std::alloc::{AllocError, Global};
-
-use crate::attempt::{FrameKind, accepted};
-use crate::row::{RecordedRequest, StoredInvocation};
 
 /// What a failure answers for a code that does not fit sixteen bits.
 const UNREADABLE_CODE: u16 = 500;
@@ -56,7 +55,10 @@ fn output_of(alloc: Global, payload: &[u8]) -> Result<Option<NonEmptyValue>, All
 {
     match decode(alloc, payload) {
         Ok(output) => {
-            let OutputCommandMessage { name: _name, result } = output;
+            let OutputCommandMessage {
+                name: _name,
+                result,
+            } = output;
             match result {
                 Some(value) => Ok(Some(value_of(alloc, value)?)),
                 None => Ok(None),

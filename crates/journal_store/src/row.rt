@@ -1,10 +1,9 @@
 // What the store keeps of an invocation.
+use crate::output::AttemptOutput;
 use bytes::Bytes;
 use journal_model::NewInvocation;
 use journal_protocol::MessageType;
 use sequence::Sequence;
-
-use crate::output::AttemptOutput;
 
 /// A recorded request: the type of its frame, and its payload as the attempt wrote it.
 #[derive(Debug, Clone, PartialEq, Eq, Drop)]

@@ -9,20 +9,20 @@ ghost use Rattle.journal_store.specs.Live.{live_tests, NextInput, Feeds, Stops};
 ghost use Rattle.journal_store.specs.Step.{Steps};
 ghost use Rattle.journal_store.specs.Read.{IsUnknown, Reads, AnswersWith};
 
+use crate::attempt::{hand_out, put_behind, step};
+use crate::begin::{begin, input_payload};
+use crate::read::answer;
+use crate::refusal::Refusal;
+use crate::row::{BegunAttempt, FrameReply, RecordedRequest, StoredInvocation};
 use bytes::{ByteStr, Bytes};
 use journal_model::{NewInvocation, NonEmptyValue};
 use sequence::Sequence;
 use std::alloc::Global;
 use std::marker::Model;
 
-use crate::attempt::{hand_out, put_behind, step};
-use crate::begin::{begin, input_payload};
-use crate::read::answer;
-use crate::refusal::Refusal;
-use crate::row::{BegunAttempt, FrameReply, RecordedRequest, StoredInvocation};
-
 // The versions of the protocol that are supported.
 const OLDEST_VERSION: u32 = 5;
+
 const NEWEST_VERSION: u32 = 8;
 
 /// What is recorded of each invocation, and the attempts that are live.
@@ -177,12 +177,7 @@ impl Store {
     }
 
     /// The next bytes that the attempt is handed, at most so many: none only where `most` is 0 or all were handed out.
-    pub fn next_input(
-        &mut self,
-        id: &ByteStr,
-        attempt: u32,
-        most: usize,
-    ) -> Result<Bytes, Refusal>
+    pub fn next_input(&mut self, id: &ByteStr, attempt: u32, most: usize) -> Result<Bytes, Refusal>
         ensures { NextInput id.now attempt most self.old result self.new }
     {
         let place = self.live_place(id, attempt)?;

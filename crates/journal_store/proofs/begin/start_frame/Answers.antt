@@ -13,7 +13,7 @@ if_ok P (Err e) p = tt
 pub returns-clause-start : goal.returns-clause-start
 returns-clause-start c =
     subst (λ (payload : List ℕ). Writes (message_of types.Start payload ∷ []) (λ bytes. bytes ≡ spelled (message_of types.Start payload)) c.frame.result)
-      (c.as_slice.ensures.value ∙ c.in_ok-payload.ensures.payload) c.frame.ensures
+    (c.as_slice.ensures.value ∙ c.in_ok-payload.ensures.payload) c.frame.ensures
 
 pub returns-clause-fits : goal.returns-clause-fits
 returns-clause-fits c = if_ok _ c.frame.result c.in_ok-payload.ensures.fits
