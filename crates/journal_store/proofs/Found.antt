@@ -44,8 +44,8 @@ pub row_of-further_other : (rows : Rows) (id : List ℕ) (further : StoredInvoca
 row_of-further_other rows id further ne = first_push_other (has_id id) rows further (lacks_other_id id further ne)
 
 with_found : {A : Type 0} (test : A → Bool) (xs : List A) (x : A) → find test xs ≡ Some x → with_first test xs x ≡ xs
-with_found test [] x e = refl
-with_found test (y ∷ ys) x e = elim (true_or_false (test y)) [
+with_found {A} test [] x e = refl
+with_found {A} test (y ∷ ys) x e = elim (true_or_false (test y)) [
   | inl q ↦ let f : Some y ≡ Some x = rw q at e in let same : x ≡ y = cc in rw q (ap (λ (z : A). z ∷ ys) same)
   | inr q ↦ rw q (ap (λ (zs : List A). y ∷ zs) (with_found test ys x (rw q at e)))
 ]
