@@ -78,7 +78,10 @@ pub enum LineReply {
     /// So many bytes were handed out.
     Fed(usize),
     /// So many turns were taken.
-    Turned { count: u32, last: LastTurn },
+    Turned {
+        count: u32,
+        last: LastTurn,
+    },
     /// So many bytes were moved and so many frames taken, and why no further one was.
     Moved {
         bytes: usize,
@@ -100,10 +103,16 @@ impl fmt::Display for LineReply {
             LineReply::Begun(attempt) => write!(f, "attempt {attempt}"),
             LineReply::Fed(bytes) => write!(f, "fed {bytes}"),
             LineReply::Turned { count, last } => write!(f, "turn {count} {last}"),
-            LineReply::Moved { bytes, frames, refusal: None } => write!(f, "moved {bytes} frames {frames}"),
-            LineReply::Moved { bytes, frames, refusal: Some(name) } => {
-                write!(f, "moved {bytes} frames {frames} refused {name}")
-            }
+            LineReply::Moved {
+                bytes,
+                frames,
+                refusal: None,
+            } => write!(f, "moved {bytes} frames {frames}"),
+            LineReply::Moved {
+                bytes,
+                frames,
+                refusal: Some(name),
+            } => { write!(f, "moved {bytes} frames {frames} refused {name}") }
             LineReply::Refused(name) => write!(f, "refused {name}"),
         }
     }

@@ -33,16 +33,17 @@ fn nap_waits(rt: HostRuntime) -> Result<(), Fail> {
     assert_eq!(rt; attempt.turn(), Turn::Waiting);
     attempt.feed(&START_AND_INPUT[30..]);
     assert_eq!(rt; attempt.turn(), Turn::Answered);
-    assert_eq!(rt; attempt.output(), &[]);
+    assert_eq!(rt; attempt.output().len(), 0);
     assert_eq!(rt; attempt.turn(), Turn::Answered);
-    assert_eq!(rt; attempt.output(), &SLEEP);
+    assert_eq!(rt; attempt.output(), SLEEP.as_slice());
     assert_eq!(rt; attempt.turn(), Turn::Waiting);
-    assert_eq!(rt; attempt.take_output(12)?.as_slice(), &SLEEP);
-    assert_eq!(rt; attempt.output(), &AWAITING);
-    attempt.advance_output(8);
+    assert_eq!(rt; attempt.take_output(12)?.as_slice(), SLEEP.as_slice());
+    assert_eq!(rt; attempt.output(), AWAITING.as_slice());
+    let header = attempt.output().len().min(8);
+    attempt.advance_output(header);
     assert_eq!(rt; attempt.take_output(100)?.as_slice(), &AWAITING[8..]);
     assert_eq!(rt; attempt.turn(), Turn::Waiting);
-    assert_eq!(rt; attempt.output(), &AWAITING);
+    assert_eq!(rt; attempt.output(), AWAITING.as_slice());
     Ok(())
 }
 
@@ -58,7 +59,7 @@ fn awaits_are_not_told_before_version_7(rt: HostRuntime) -> Result<(), Fail> {
     assert_eq!(rt; attempt.turn(), Turn::Answered);
     assert_eq!(rt; attempt.turn(), Turn::Answered);
     assert_eq!(rt; attempt.turn(), Turn::Waiting);
-    assert_eq!(rt; attempt.output(), &SLEEP);
+    assert_eq!(rt; attempt.output(), SLEEP.as_slice());
     Ok(())
 }
 
@@ -78,10 +79,10 @@ fn options_decide_what_is_told(rt: HostRuntime) -> Result<(), Fail> {
     attempt.feed(&START_AND_INPUT);
     assert_eq!(rt; attempt.turn(), Turn::Answered);
     assert_eq!(rt; attempt.turn(), Turn::Answered);
-    attempt.advance_output(12);
+    assert_eq!(rt; attempt.take_output(12)?.as_slice(), SLEEP.as_slice());
     assert_eq!(rt; attempt.turn(), Turn::Waiting);
     let told: [u8; 15] = [0, 4, 0, 0, 0, 0, 0, 7, 0x0a, 5, 0x0a, 1, 1, 0x28, 1];
-    assert_eq!(rt; attempt.output(), &told);
+    assert_eq!(rt; attempt.output(), told.as_slice());
     Ok(())
 }
 
@@ -95,7 +96,7 @@ fn other_calls_fail(rt: HostRuntime) {
     assert_eq!(rt; attempt.turn(), failed);
     attempt.feed(&START_AND_INPUT);
     assert_eq!(rt; attempt.turn(), failed);
-    assert_eq!(rt; attempt.output(), &[]);
+    assert_eq!(rt; attempt.output().len(), 0);
 }
 
 #[test]
