@@ -151,9 +151,9 @@ module _ {H : Type 0} (function : H → Handler) (next : Handler) (options : VMO
                 options = refl;
               };
               fits = record {
-                known_fits = b.fits.known_entries;
-                retry_count_fits = b.fits.retry_count;
-                duration_fits = b.fits.duration;
+                entries = b.fits.known_entries;
+                attempts = b.fits.retry_count;
+                time = b.fits.duration;
                 seed = b.fits.seed;
                 start = short.start;
                 input = subst (λ (s : List ℕ). length s < 2 ^ 32) input short.input;

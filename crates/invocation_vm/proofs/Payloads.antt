@@ -25,7 +25,7 @@ message-is (ImplicitCancellationOption.Enabled calls sends) (Some (NotificationI
 pub awaiting_on_payload : (cancellation : ImplicitCancellationOption) (id : Option NotificationId)
     → payload_of (awaiting_on_parts (awaiting_on_message cancellation id)) ≡ suspension_payload (tree_awaited cancellation id)
 awaiting_on_payload cancellation id =
-    ap (λ (message : AwaitingOnMessage). payload_of (awaiting_on_parts message)) (message-is cancellation id) ∙ awaiting_on_spelled (tree_awaited cancellation id)
+    ap (λ (message : AwaitingOnMessage). payload_of (awaiting_on_parts message)) (message-is cancellation id) ∙ awaiting_on_spelled (tree_awaited cancellation id) false
 
 -- ---- it fits a frame where it waits for numbers alone
 
