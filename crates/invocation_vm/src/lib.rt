@@ -19,6 +19,3 @@ pub use options::{
 };
 pub use output::Output;
 pub use progress::{Progress, Turn};
-
-#[cfg(test)]
-mod tests;

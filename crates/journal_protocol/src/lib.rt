@@ -16,6 +16,3 @@ pub use decoder::{Decoder, DecodingError, RawMessage};
 pub use encoder::{EncodingError, write_message};
 pub use header::MessageHeader;
 pub use message_type::{MessageType, UnknownMessageType};
-
-#[cfg(test)]
-mod tests;

@@ -15,6 +15,3 @@ pub use output::AttemptOutput;
 pub use refusal::Refusal;
 pub use row::{BegunAttempt, FrameReply, LiveAttempt, RecordedRequest, StoredInvocation};
 pub use store::Store;
-
-#[cfg(test)]
-mod tests;

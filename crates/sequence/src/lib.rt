@@ -6,7 +6,5 @@
 #![tactic(auto)]
 
 mod sequence;
-#[cfg(test)]
-mod tests;
 
 pub use sequence::Sequence;

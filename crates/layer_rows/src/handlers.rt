@@ -1,11 +1,11 @@
 //! Each public call once, and the built-in handlers by the tables of their calls.
-use crate::handlers::{Ask, Both, Effect, Go, Hook, Keys, Nap, Pair, Race, Read, Twice};
-use crate::{
+use bytes::{ByteStr, Bytes};
+use journal_model::handlers::{Ask, Both, Effect, Go, Hook, Keys, Nap, Pair, Race, Read, Twice};
+use journal_model::{
     Answer, AwaitedFuture, CANCEL_NOTIFICATION_HANDLE, Call, Handler, Header, Input, Moment,
     NewInvocation, NonEmptyValue, NotificationHandle, PayloadOptions, StateMode, UnresolvedFuture,
     Value, laws,
 };
-use bytes::{ByteStr, Bytes};
 use sequence::Sequence;
 use std::alloc::{AllocError, Global};
 use std::process::Abort;

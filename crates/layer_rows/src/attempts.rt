@@ -1,5 +1,5 @@
 //! Worked values of the first path, through the public calls.
-use crate::{
+use invocation_vm::{
     Attempt, AttemptFailure, AwaitingOnPolicy, CallRefusal, ImplicitCancellationOption, Turn,
     VMOptions,
 };

@@ -1,6 +1,7 @@
-use super::*;
+//! Start frames, input in pieces, requests and refusals of a store.
 use bytes::{ByteStr, Bytes};
 use journal_model::{NewInvocation, NonEmptyValue, StateMode};
+use journal_store::{BegunAttempt, FrameReply, RecordedRequest, Refusal, Store};
 use sequence::Sequence;
 use std::alloc::Global;
 use std::test::Fail;

@@ -1,4 +1,5 @@
-use crate::Sequence;
+//! An owned list.
+use sequence::Sequence;
 use std::test::Fail;
 
 /// A type that holds itself through a sequence.

@@ -1,11 +1,11 @@
 //! Worked values of the format, through the public calls.
-use crate::{
+use bytes::{ByteStr, Bytes, BytesMut};
+use journal_model::{Header, NonEmptyValue, TerminalFailure};
+use journal_protocol::{
     Decoder, DecodingError, EncodingError, MessageHeader, MessageType, UnknownMessageType,
     to_failure, to_failure_record, to_header_records, to_headers, to_non_empty_value,
     to_output_result, to_terminal_failure, write_message,
 };
-use bytes::{ByteStr, Bytes, BytesMut};
-use journal_model::{Header, NonEmptyValue, TerminalFailure};
 use protocol_records::Failure as FailureRecord;
 use sequence::Sequence;
 use std::test::Fail;

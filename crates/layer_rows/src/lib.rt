@@ -1,0 +1,16 @@
+//! What proofs do not show of each layer, as tests: that its calls succeed with ample memory, and worked values. A crate with
+//! tests of its own would be proved twice.
+#![tactic(auto)]
+
+#[cfg(test)]
+mod attempts;
+#[cfg(test)]
+mod handlers;
+#[cfg(test)]
+mod records;
+#[cfg(test)]
+mod sequences;
+#[cfg(test)]
+mod store;
+#[cfg(test)]
+mod stream;
