@@ -4,7 +4,7 @@ use invocation_vm::{
     VMOptions,
 };
 use journal_model::Handler;
-use journal_model::handlers::{Ask, Nap};
+use built_in_handlers::handlers::{Ask, Nap};
 use std::process::Abort;
 use std::test::Fail;
 

@@ -1,10 +1,10 @@
 //! Each public call once, and the built-in handlers by the tables of their calls.
 use bytes::{ByteStr, Bytes};
-use journal_model::handlers::{Ask, Both, Effect, Go, Hook, Keys, Nap, Pair, Race, Read, Twice};
+use built_in_handlers::handlers::{Ask, Both, Effect, Go, Hook, Keys, Nap, Pair, Race, Read, Twice};
 use journal_model::{
     Answer, AwaitedFuture, CANCEL_NOTIFICATION_HANDLE, Call, Handler, Header, Input, Moment,
     NewInvocation, NonEmptyValue, NotificationHandle, PayloadOptions, StateMode, UnresolvedFuture,
-    Value, laws,
+    Value,
 };
 use sequence::Sequence;
 use std::alloc::{AllocError, Global};
@@ -268,9 +268,9 @@ fn copy_of_a_new_invocation(rt: HostRuntime) -> Result<(), Fail> {
 
 #[test]
 fn laws_are_called() {
-    laws::runs_extend();
-    laws::suspensions_wake();
-    laws::state_stands();
-    laws::invocations_isolated();
-    laws::events_accepted();
+    journal_laws::runs_extend();
+    journal_laws::suspensions_wake();
+    journal_laws::state_stands();
+    journal_laws::invocations_isolated();
+    journal_laws::events_accepted();
 }

@@ -1,0 +1,11 @@
+pub mod Rows
+pub mod TreeRows
+pub mod RecordRows
+pub mod SpellingRows
+pub mod WakingRows
+pub mod Leaving
+pub mod Pruning
+pub mod Isolation
+pub mod Applying
+pub mod ObjectState
+pub mod Asking
