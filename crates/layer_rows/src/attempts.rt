@@ -1,10 +1,10 @@
 //! Worked values of the first path, through the public calls.
+use built_in_handlers::handlers::{Ask, Nap};
 use invocation_vm::{
     Attempt, AttemptFailure, AwaitingOnPolicy, CallRefusal, ImplicitCancellationOption, Turn,
     VMOptions,
 };
 use journal_model::Handler;
-use built_in_handlers::handlers::{Ask, Nap};
 use std::process::Abort;
 use std::test::Fail;
 

@@ -1,6 +1,8 @@
 //! Each public call once, and the built-in handlers by the tables of their calls.
+use built_in_handlers::handlers::{
+    Ask, Both, Effect, Go, Hook, Keys, Nap, Pair, Race, Read, Twice,
+};
 use bytes::{ByteStr, Bytes};
-use built_in_handlers::handlers::{Ask, Both, Effect, Go, Hook, Keys, Nap, Pair, Race, Read, Twice};
 use journal_model::{
     Answer, AwaitedFuture, CANCEL_NOTIFICATION_HANDLE, Call, Handler, Header, Input, Moment,
     NewInvocation, NonEmptyValue, NotificationHandle, PayloadOptions, StateMode, UnresolvedFuture,
@@ -76,175 +78,271 @@ fn kinds<H: Handler>(
     Ok(kinds)
 }
 
-fn output_of(rt: &impl Abort, call: Call) -> NonEmptyValue {
-    match call {
-        Call::Output { value, .. } => value,
-        _ => panic!(rt; "no output"),
+/// Whether these are the kinds of its calls. It promises nothing, so that a test stays short to prove.
+fn calls_are<H: Handler>(
+    alloc: Global,
+    handler: &H,
+    answers: &[Answer],
+    wanted: &[&'static str],
+) -> Result<bool, AllocError> {
+    let kinds = kinds(alloc, handler, answers)?;
+    Ok(kinds.as_slice() == wanted)
+}
+
+/// What a handler puts out behind these answers.
+fn output_behind<H: Handler>(
+    alloc: Global,
+    handler: &H,
+    answers: &[Answer],
+) -> Result<Option<NonEmptyValue>, AllocError> {
+    match handler.next(&input(alloc), answers)? {
+        Call::Output { value, .. } => Ok(Some(value)),
+        _other => Ok(None),
     }
 }
 
+/// The answers to a call, to the await and the take of its result, and to the output.
+fn answers_of(call: Answer, value: Value) -> [Answer; 4] {
+    [call, Answer::Woken, taken(value), Answer::Done]
+}
+
+fn text(text: &'static str) -> Value {
+    Value::Success(Bytes::from_static(text.as_bytes()))
+}
+
+fn nap_until(alloc: Global, until_ms: u64) -> Nap {
+    Nap { alloc, until_ms }
+}
+
 #[test]
-fn calls_of_sleeping_handlers(rt: HostRuntime) -> Result<(), Fail> {
+fn calls_of_nap(rt: HostRuntime) -> Result<(), Fail> {
     let alloc = rt.alloc();
-    let nap = Nap {
-        alloc,
-        until_ms: 10,
-    };
-    let answers = [handle(17), Answer::Woken, taken(Value::Void), Answer::Done];
+    let answers = answers_of(handle(17), Value::Void);
     let wanted = ["sleep", "await", "take", "output", "end"];
-    assert_eq!(rt; kinds(alloc, &nap, &answers)?.as_slice(), wanted.as_slice());
-    match nap.next(&input(alloc), &[])? {
+    assert!(rt; calls_are(alloc, &nap_until(alloc, 10), &answers, &wanted)?);
+    Ok(())
+}
+
+#[test]
+fn sleep_of_nap(rt: HostRuntime) -> Result<(), Fail> {
+    let alloc = rt.alloc();
+    match nap_until(alloc, 10).next(&input(alloc), &[])? {
         Call::Sleep { name, wake_up, .. } => {
-            assert_eq!(rt; name, ByteStr::new());
+            assert_eq!(rt; name.len(), 0);
             assert_eq!(rt; wake_up.duration(), Duration::from_millis(10));
         }
-        _ => panic!(rt; "no sleep"),
+        _other => panic!(rt; "no sleep"),
     }
-    let answers = [
+    Ok(())
+}
+
+fn answers_of_race() -> [Answer; 5] {
+    [
         handle(17),
         handle(18),
         Answer::Woken,
         Answer::Completed(false),
         Answer::Done,
-    ];
+    ]
+}
+
+#[test]
+fn calls_of_race(rt: HostRuntime) -> Result<(), Fail> {
+    let alloc = rt.alloc();
     let wanted = ["sleep", "sleep", "await", "is completed", "output", "end"];
-    let race = Race { alloc };
+    assert!(rt; calls_are(alloc, &Race { alloc }, &answers_of_race(), &wanted)?);
+    Ok(())
+}
+
+#[test]
+fn output_of_race(rt: HostRuntime) -> Result<(), Fail> {
+    let alloc = rt.alloc();
+    let output = output_behind(alloc, &Race { alloc }, &answers_of_race()[..4])?;
     assert_eq!(rt;
-        kinds(alloc, &race, &answers)?.as_slice(),
-        wanted.as_slice()
+        output,
+        Some(NonEmptyValue::Success(Bytes::from_static(b"2")))
     );
-    let (before, _) = answers.split_at(4);
-    let second = NonEmptyValue::Success(Bytes::from_static(b"2"));
-    assert_eq!(rt; output_of(&rt, race.next(&input(alloc), before)?), second);
+    Ok(())
+}
+
+#[test]
+fn calls_of_both(rt: HostRuntime) -> Result<(), Fail> {
+    let alloc = rt.alloc();
     let answers = [handle(17), handle(18), Answer::Woken, Answer::Done];
     let wanted = ["sleep", "sleep", "await", "output", "end"];
-    assert_eq!(rt;
-        kinds(alloc, &Both { alloc }, &answers)?.as_slice(),
-        wanted.as_slice()
-    );
+    assert!(rt; calls_are(alloc, &Both { alloc }, &answers, &wanted)?);
     Ok(())
 }
 
 #[test]
-fn calls_of_asking_handlers(rt: HostRuntime) -> Result<(), Fail> {
+fn calls_of_ask(rt: HostRuntime) -> Result<(), Fail> {
     let alloc = rt.alloc();
-    let asked = taken(Value::Success(Bytes::from_static(b"x")));
-    let answers = [called(17, 18), Answer::Woken, asked, Answer::Done];
+    let answers = answers_of(called(17, 18), text("x"));
     let wanted = ["call", "await", "take", "output", "end"];
-    assert_eq!(rt;
-        kinds(alloc, &Ask { alloc }, &answers)?.as_slice(),
-        wanted.as_slice()
-    );
+    assert!(rt; calls_are(alloc, &Ask { alloc }, &answers, &wanted)?);
+    Ok(())
+}
+
+#[test]
+fn calls_of_pair(rt: HostRuntime) -> Result<(), Fail> {
+    let alloc = rt.alloc();
     let answers = [called(17, 18), called(19, 20), Answer::Woken, Answer::Done];
     let wanted = ["call", "call", "await", "output", "end"];
-    assert_eq!(rt;
-        kinds(alloc, &Pair { alloc }, &answers)?.as_slice(),
-        wanted.as_slice()
-    );
-    let value = taken(Value::Success(Bytes::from_static(b"z")));
-    let answers = [handle(17), Answer::Woken, value, Answer::Done];
-    let wanted = ["run", "await", "take", "output", "end"];
-    assert_eq!(rt;
-        kinds(alloc, &Effect { alloc }, &answers)?.as_slice(),
-        wanted.as_slice()
-    );
-    let wanted = ["signal", "await", "take", "output", "end"];
-    assert_eq!(rt;
-        kinds(alloc, &Go { alloc }, &answers)?.as_slice(),
-        wanted.as_slice()
-    );
-    let wanted = ["awakeable", "await", "take", "output", "end"];
-    assert_eq!(rt;
-        kinds(alloc, &Hook { alloc }, &answers)?.as_slice(),
-        wanted.as_slice()
-    );
+    assert!(rt; calls_are(alloc, &Pair { alloc }, &answers, &wanted)?);
     Ok(())
 }
 
 #[test]
-fn calls_of_handlers_of_state(rt: HostRuntime) -> Result<(), Fail> {
+fn calls_of_effect(rt: HostRuntime) -> Result<(), Fail> {
+    let alloc = rt.alloc();
+    let wanted = ["run", "await", "take", "output", "end"];
+    let answers = answers_of(handle(17), text("z"));
+    assert!(rt; calls_are(alloc, &Effect { alloc }, &answers, &wanted)?);
+    Ok(())
+}
+
+#[test]
+fn calls_of_go(rt: HostRuntime) -> Result<(), Fail> {
+    let alloc = rt.alloc();
+    let wanted = ["signal", "await", "take", "output", "end"];
+    let answers = answers_of(handle(17), text("z"));
+    assert!(rt; calls_are(alloc, &Go { alloc }, &answers, &wanted)?);
+    Ok(())
+}
+
+#[test]
+fn calls_of_hook(rt: HostRuntime) -> Result<(), Fail> {
+    let alloc = rt.alloc();
+    let wanted = ["awakeable", "await", "take", "output", "end"];
+    let answers = answers_of(handle(17), text("z"));
+    assert!(rt; calls_are(alloc, &Hook { alloc }, &answers, &wanted)?);
+    Ok(())
+}
+
+#[test]
+fn calls_of_twice(rt: HostRuntime) -> Result<(), Fail> {
     let alloc = rt.alloc();
     let answers = [Answer::Done, Answer::Done, Answer::Done];
     let wanted = ["set", "set", "output", "end"];
-    assert_eq!(rt;
-        kinds(alloc, &Twice { alloc }, &answers)?.as_slice(),
-        wanted.as_slice()
-    );
-    let answers = [handle(17), Answer::Woken, taken(Value::Void), Answer::Done];
+    assert!(rt; calls_are(alloc, &Twice { alloc }, &answers, &wanted)?);
+    Ok(())
+}
+
+#[test]
+fn calls_of_read(rt: HostRuntime) -> Result<(), Fail> {
+    let alloc = rt.alloc();
+    let answers = answers_of(handle(17), Value::Void);
     let wanted = ["read", "await", "take", "output", "end"];
-    assert_eq!(rt;
-        kinds(alloc, &Read { alloc }, &answers)?.as_slice(),
-        wanted.as_slice()
-    );
-    let two = Sequence::from_vec(vec![in alloc;
-        ByteStr::from_static("a"),
-        ByteStr::from_static("b"),
-    ]?);
-    let answers = [
+    assert!(rt; calls_are(alloc, &Read { alloc }, &answers, &wanted)?);
+    Ok(())
+}
+
+fn answers_of_keys(keys: Value) -> [Answer; 5] {
+    [
         Answer::Done,
         Answer::Done,
         handle(17),
         Answer::Woken,
-        taken(Value::StateKeys(two)),
-    ];
+        taken(keys),
+    ]
+}
+
+fn keys_a_and_b(alloc: Global) -> Result<Value, AllocError> {
+    let mut keys = Sequence::new(alloc);
+    keys.push(ByteStr::from_static("a"))?;
+    keys.push(ByteStr::from_static("b"))?;
+    Ok(Value::StateKeys(keys))
+}
+
+#[test]
+fn calls_of_keys(rt: HostRuntime) -> Result<(), Fail> {
+    let alloc = rt.alloc();
     let wanted = ["set", "clear", "keys", "await", "take", "output"];
-    let keys = Keys { alloc };
-    assert_eq!(rt;
-        kinds(alloc, &keys, &answers)?.as_slice(),
-        wanted.as_slice()
-    );
-    let joined = NonEmptyValue::Success(Bytes::from_static(b"a,b"));
-    assert_eq!(rt; output_of(&rt, keys.next(&input(alloc), &answers)?), joined);
+    let answers = answers_of_keys(Value::Void);
+    assert!(rt; calls_are(alloc, &Keys { alloc }, &answers, &wanted)?);
     Ok(())
 }
 
 #[test]
-fn cancelled_await(rt: HostRuntime) -> Result<(), Fail> {
+fn output_of_keys(rt: HostRuntime) -> Result<(), Fail> {
     let alloc = rt.alloc();
-    let nap = Nap {
-        alloc,
-        until_ms: 99,
-    };
+    let answers = answers_of_keys(keys_a_and_b(alloc)?);
+    let output = output_behind(alloc, &Keys { alloc }, &answers)?;
+    assert_eq!(rt;
+        output,
+        Some(NonEmptyValue::Success(Bytes::from_static(b"a,b")))
+    );
+    Ok(())
+}
+
+#[test]
+fn calls_behind_a_cancelled_await(rt: HostRuntime) -> Result<(), Fail> {
+    let alloc = rt.alloc();
     let answers = [handle(17), Answer::Cancelled, Answer::Done];
     let wanted = ["sleep", "await", "output", "end"];
-    assert_eq!(rt; kinds(alloc, &nap, &answers)?.as_slice(), wanted.as_slice());
-    let (before, _) = answers.split_at(2);
-    match output_of(&rt, nap.next(&input(alloc), before)?) {
-        NonEmptyValue::Failure(failure) => {
+    assert!(rt; calls_are(alloc, &nap_until(alloc, 99), &answers, &wanted)?);
+    Ok(())
+}
+
+#[test]
+fn output_behind_a_cancelled_await(rt: HostRuntime) -> Result<(), Fail> {
+    let alloc = rt.alloc();
+    let answers = [handle(17), Answer::Cancelled];
+    match output_behind(alloc, &nap_until(alloc, 99), &answers)? {
+        Some(NonEmptyValue::Failure(failure)) => {
             assert_eq!(rt; failure.code, 409);
-            assert_eq!(rt; failure.message, ByteStr::from_static("cancelled"));
-            assert!(rt; failure.metadata.is_empty());
+            assert_eq!(rt;
+                failure.message.as_bytes().as_slice(),
+                b"cancelled".as_slice()
+            );
         }
-        NonEmptyValue::Success(_) => panic!(rt; "no failure"),
+        _other => panic!(rt; "no failure"),
     }
     Ok(())
 }
 
 #[test]
-fn copies_and_conversions(rt: HostRuntime) -> Result<(), Fail> {
-    let alloc = rt.alloc();
-    let first = NotificationHandle::new(17);
-    assert_eq!(rt; u32::from(first), 17);
+fn numbers_of_handles(rt: HostRuntime) {
+    assert_eq!(rt; u32::from(NotificationHandle::new(17)), 17);
     assert_eq!(rt; CANCEL_NOTIFICATION_HANDLE.number(), 1);
-    let two = UnresolvedFuture::two(alloc, first, NotificationHandle::new(18))?;
+}
+
+#[test]
+fn copy_of_a_future(rt: HostRuntime) -> Result<(), Fail> {
+    let handles = (NotificationHandle::new(17), NotificationHandle::new(18));
+    let two = UnresolvedFuture::two(rt.alloc(), handles.0, handles.1)?;
     let future = UnresolvedFuture::AllCompleted(two);
-    let copy = future.clone()?;
-    assert!(rt; copy == future);
-    let awaited = AwaitedFuture::new(future);
-    assert!(rt; awaited.clone()?.into_future() == copy);
+    assert!(rt; future.clone()? == future);
+    Ok(())
+}
+
+#[test]
+fn copy_of_an_awaited_future(rt: HostRuntime) -> Result<(), Fail> {
+    let first = NotificationHandle::new(17);
+    let awaited = AwaitedFuture::new(UnresolvedFuture::from(first));
+    assert!(rt; awaited.clone()?.into_future() == UnresolvedFuture::from(first));
     assert!(rt; AwaitedFuture::single(first).future() == &UnresolvedFuture::from(first));
+    Ok(())
+}
+
+#[test]
+fn copy_of_an_answer(rt: HostRuntime) -> Result<(), Fail> {
     let answer = Answer::Awakeable {
         id: ByteStr::from_static("sign_1aW52MQAAABE"),
-        handle: first,
+        handle: NotificationHandle::new(17),
     };
     assert!(rt; answer.clone()? == answer);
+    Ok(())
+}
+
+#[test]
+fn options_and_moments(rt: HostRuntime) {
     assert!(rt; !PayloadOptions::stable_serialization().unstable_serialization);
     assert!(rt; PayloadOptions::unstable_serialization().unstable_serialization);
     assert_eq!(rt;
         Moment::new(Duration::from_secs(2)).duration(),
         Duration::from_secs(2)
     );
-    Ok(())
 }
 
 #[test]

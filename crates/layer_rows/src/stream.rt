@@ -8,6 +8,7 @@ use journal_protocol::{
 };
 use protocol_records::Failure as FailureRecord;
 use sequence::Sequence;
+use std::alloc::{AllocError, Global};
 use std::test::Fail;
 
 /// An input command whose value is `input`: its header, and its payload.
@@ -92,38 +93,61 @@ fn messages_are_written(rt: HostRuntime) -> Result<(), Fail> {
     let mut out = BytesMut::new(rt.alloc());
     write_message(&mut out, MessageType::InputCommand, &INPUT_FRAME[8..])?;
     assert_eq!(rt; out.as_slice(), INPUT_FRAME.as_slice());
-    out.clear();
+    Ok(())
+}
+
+#[test]
+fn empty_messages_are_written(rt: HostRuntime) -> Result<(), Fail> {
+    let mut out = BytesMut::new(rt.alloc());
     write_message(&mut out, MessageType::End, &[])?;
     assert_eq!(rt; out.as_slice(), [0, 3, 0, 0, 0, 0, 0, 0].as_slice());
+    Ok(())
+}
+
+#[test]
+fn payloads_are_too_long(rt: HostRuntime) -> Result<(), Fail> {
     let shown = format!(in rt.alloc(); "{}", EncodingError::PayloadTooLong)?;
     assert_eq!(rt; shown.as_str(), "a payload of more than 4294967295 bytes");
     Ok(())
 }
 
-#[test]
-fn failures_there_and_back(rt: HostRuntime) -> Result<(), Fail> {
-    let mut metadata = Sequence::new(rt.alloc());
+/// A cancellation's failure with one piece of metadata.
+fn cancelled(alloc: Global) -> Result<TerminalFailure, AllocError> {
+    let mut metadata = Sequence::new(alloc);
     metadata.push((ByteStr::from_static("k"), ByteStr::from_static("v")))?;
-    let failure = TerminalFailure {
+    Ok(TerminalFailure {
         code: 409,
         message: ByteStr::from_static("cancelled"),
         metadata,
-    };
-    let recorded = to_failure_record(rt.alloc(), failure.clone()?)?;
-    assert_eq!(rt; recorded.code, 409);
-    assert_eq!(rt; to_terminal_failure(rt.alloc(), recorded)?, failure);
+    })
+}
 
+#[test]
+fn failures_there_and_back(rt: HostRuntime) -> Result<(), Fail> {
+    let recorded = to_failure_record(rt.alloc(), cancelled(rt.alloc())?)?;
+    assert_eq!(rt; recorded.code, 409);
+    let back = to_terminal_failure(rt.alloc(), recorded)?;
+    assert!(rt; back == cancelled(rt.alloc())?);
+    Ok(())
+}
+
+#[test]
+fn failures_that_arrive(rt: HostRuntime) -> Result<(), Fail> {
+    let recorded = to_failure_record(rt.alloc(), cancelled(rt.alloc())?)?;
+    let told = to_failure(rt.alloc(), recorded)?;
+    assert_eq!(rt; told.code, 409);
+    assert_eq!(rt; told.metadata.len(), 1);
+    Ok(())
+}
+
+#[test]
+fn large_codes_are_500(rt: HostRuntime) -> Result<(), Fail> {
     let large = FailureRecord {
         code: 65_536,
         message: ByteStr::new(),
         metadata: Sequence::new(rt.alloc()),
     };
     assert_eq!(rt; to_terminal_failure(rt.alloc(), large)?.code, 500);
-
-    let recorded = to_failure_record(rt.alloc(), failure.clone()?)?;
-    let told = to_failure(rt.alloc(), recorded)?;
-    assert_eq!(rt; told.code, 409);
-    assert_eq!(rt; told.metadata, failure.metadata);
     Ok(())
 }
 
@@ -135,18 +159,22 @@ fn values_there_and_back(rt: HostRuntime) -> Result<(), Fail> {
     Ok(())
 }
 
+/// Two headers.
+fn headers(alloc: Global) -> Result<Sequence<Header>, AllocError> {
+    let mut headers = Sequence::new(alloc);
+    for (key, value) in [("a", "1"), ("b", "")] {
+        headers.push(Header {
+            key: ByteStr::from_static(key),
+            value: ByteStr::from_static(value),
+        })?;
+    }
+    Ok(headers)
+}
+
 #[test]
 fn headers_there_and_back(rt: HostRuntime) -> Result<(), Fail> {
-    let mut headers = Sequence::new(rt.alloc());
-    headers.push(Header {
-        key: ByteStr::from_static("a"),
-        value: ByteStr::from_static("1"),
-    })?;
-    headers.push(Header {
-        key: ByteStr::from_static("b"),
-        value: ByteStr::new(),
-    })?;
-    let recorded = to_header_records(rt.alloc(), headers.clone()?)?;
-    assert_eq!(rt; to_headers(rt.alloc(), recorded)?, headers);
+    let recorded = to_header_records(rt.alloc(), headers(rt.alloc())?)?;
+    let back = to_headers(rt.alloc(), recorded)?;
+    assert!(rt; back == headers(rt.alloc())?);
     Ok(())
 }
