@@ -30,23 +30,38 @@ turn_text (Failed code) = codes "failed " ++ decimal code
 abbrev pub moved_text : ℕ → ℕ → List ℕ
 moved_text bytes frames = codes "moved " ++ decimal bytes ++ codes " frames " ++ decimal frames
 
+abbrev pub moved_until_text : ℕ → ℕ → List ℕ → List ℕ
+moved_until_text bytes frames name = moved_text bytes frames ++ codes " refused " ++ name
+
+abbrev pub refused_text : List ℕ → List ℕ
+refused_text name = codes "refused " ++ name
+
 abbrev pub reply_text : LineReply → List ℕ
 reply_text Done = codes "ok"
 reply_text (Begun attempt) = codes "attempt " ++ decimal attempt
 reply_text (Fed bytes) = codes "fed " ++ decimal bytes
 reply_text (Turned count last) = codes "turn " ++ decimal count ++ codes " " ++ turn_text last
 reply_text (Moved bytes frames None) = moved_text bytes frames
-reply_text (Moved bytes frames (Some name)) = moved_text bytes frames ++ codes " refused " ++ name.now
-reply_text (Refused name) = codes "refused " ++ name.now
+reply_text (Moved bytes frames (Some name)) = moved_until_text bytes frames name.now
+reply_text (Refused name) = refused_text name.now
 
 -- a recorded request: its place, its type as two bytes, and its payload
+abbrev pub request_line : ℕ → ℕ → List ℕ → List ℕ
+request_line place ty payload = decimal place ++ codes " request " ++ hex_text (to_be_bytes w16 ty) ++ codes " " ++ hex_text payload
+
 abbrev pub request_text : ShownRequest → List ℕ
-request_text request = decimal request.place ++ codes " request " ++ hex_text (to_be_bytes w16 request.ty) ++ codes " " ++ hex_text request.payload.now
+request_text request = request_line request.place request.ty request.payload.now
+
+abbrev pub value_line : List ℕ → List ℕ
+value_line bytes = codes "answer value " ++ hex_text bytes
+
+abbrev pub failure_line : ℕ → List ℕ → List ℕ
+failure_line code message = codes "answer failure " ++ decimal code ++ codes " " ++ hex_text message
 
 abbrev pub answer_text : ShownAnswer → List ℕ
 answer_text Missing = codes "answer none"
-answer_text (Value bytes) = codes "answer value " ++ hex_text bytes.now
-answer_text (Failure code message) = codes "answer failure " ++ decimal code ++ codes " " ++ hex_text message.now
+answer_text (Value bytes) = value_line bytes.now
+answer_text (Failure code message) = failure_line code message.now
 
 abbrev pub open_text : Bool → List ℕ
 open_text true = codes "open"

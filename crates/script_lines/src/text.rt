@@ -121,7 +121,7 @@ impl fmt::Display for LineReply {
 /// A recorded request: its place, counted from 1, the number of its frame's type, and its payload.
 #[derive(Clone, Copy, Debug)]
 pub struct ShownRequest<'a> {
-    pub place: u32,
+    pub place: usize,
     pub ty: u16,
     pub payload: &'a [u8],
 }

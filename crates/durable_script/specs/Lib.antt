@@ -1,0 +1,7 @@
+pub mod Fault
+pub mod Printed
+pub mod Shown
+pub mod Line
+pub mod Asked
+pub mod Runner
+pub mod Run

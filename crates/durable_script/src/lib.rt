@@ -1,0 +1,13 @@
+//! A script, run over a scheduler line by line: what each line does, and what is written of it.
+#![tactic(auto)]
+
+mod fault;
+pub mod laws;
+mod output;
+mod reply;
+mod run;
+mod runner;
+mod show;
+
+pub use fault::ScriptFault;
+pub use run::{ScriptEnd, run_script};
