@@ -1,5 +1,5 @@
 -- What a line does to the scheduler, and its text with the line feed.
-use Rattle.std.specs.Prelude.{◌≡◌, ℕ, suc, zero, ◌+◌, ◌<◌, ◌≤◌, List, [], ◌∷◌, ◌++◌}
+use Rattle.std.specs.Prelude.{◌≡◌, ℕ, Bool, true, false, suc, zero, ◌+◌, ◌<◌, ◌≤◌, List, [], ◌∷◌, ◌++◌}
 use Rattle.std.specs.declared.alloc.Global.{Global}
 use Rattle.journal_model.specs.declared.handlers.Nap.{Nap}
 use Rattle.journal_model.specs.Handlers.{nap_until}
@@ -45,6 +45,11 @@ pub record DoesEvent (one : Event Nap) (text : List ℕ) (old new : Scheduler Na
   pub applied : Applies nap_function one reply old new
   pub text_is : text ≡ printed 1 reply ++ 10 ∷ []
 
+-- whether a reply is that of a turn that was answered
+abbrev pub was_answered : Reply → Bool
+was_answered (Turned Answered) = true
+was_answered _ = false
+
 -- so many turns, each of which is answered
 abbrev pub AnsweredTurns : List ℕ → ℕ → ℕ → Scheduler Nap → Scheduler Nap → Type 0
 AnsweredTurns id attempt zero old new = new ≡ old
@@ -59,7 +64,7 @@ pub record TookTurns (id : List ℕ) (attempt asked taken : ℕ) (last : Reply) 
   pub applied : Applies nap_function (event.Turn id attempt) last between new
   pub taken_are : taken ≡ before + 1
   pub within : taken ≤ asked
-  pub all : last ≡ Turned Answered → taken ≡ asked
+  pub all : was_answered last ≡ true → taken ≡ asked
 
 pub record TakesTurns (id : List ℕ) (attempt asked : ℕ) (text : List ℕ) (old new : Scheduler Nap) : Type 0 where
   pub taken : ℕ

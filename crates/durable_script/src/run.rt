@@ -33,7 +33,7 @@ fn do_lines<W: Write>(
     ensures { DoesLines (numbered_lines script.now) runner.old.scheduler runner.new.scheduler (W.contents writer.old) (W.contents writer.new) result }
 {
     for line in ScriptLines::new(script) {
-        let text = runner.do_line(line)?;
+        let text = runner.do_line(line.number, line.bytes)?;
         write_text(writer, text.as_bytes())?;
     }
     Ok(())

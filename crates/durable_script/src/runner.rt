@@ -3,7 +3,7 @@ ghost use Rattle.std.specs.Prelude.{◌≡◌, ◌<◌, ◌≤◌, ◌+◌, ◌�
 ghost use Rattle.script_lines.specs.Line.{IsLine};
 ghost use Rattle.invocation_vm.specs.Options.{default_options};
 ghost use Rattle.durable_schedule.specs.Schedule.{IsNew};
-ghost use Rattle.durable_script.specs.Line.{new_invocation, DoesEvent, TakesTurns, TookTurns, DoesLine};
+ghost use Rattle.durable_script.specs.Line.{new_invocation, was_answered, DoesEvent, TakesTurns, TookTurns, DoesLine};
 ghost use Rattle.durable_script.specs.Asked.{none_asked, is_second, asked_after, Understands};
 ghost use Rattle.durable_script.specs.Runner.{DoesNext, StopsAt};
 
@@ -17,7 +17,6 @@ use journal_model::handlers::Nap;
 use journal_model::NewInvocation;
 use journal_store::Store;
 use script_lines::line::{Line, parse_line};
-use script_lines::script::NumberedLine;
 use script_lines::text::LineReply;
 use script_lines::word::{HandlerName, StateMode};
 use sequence::Sequence;
@@ -78,6 +77,13 @@ fn do_event(scheduler: &mut Scheduler<Nap>, event: Event<Nap>) -> Result<String,
     reply_line(scheduler.alloc, line_reply(1, reply))
 }
 
+/// Whether a reply is that of a turn that was answered.
+fn was_answered(reply: Reply) -> bool
+    ensures { result ≡ was_answered reply }
+{
+    matches!(reply, Reply::Turned(Turn::Answered))
+}
+
 /// Takes up to so many turns, and answers how many, and the last reply.
 fn take_turns(
     scheduler: &mut Scheduler<Nap>,
@@ -91,7 +97,7 @@ fn take_turns(
     let mut taken = 1u32;
     loop {
         let reply = scheduler.take_turn(id, attempt);
-        if taken == count || reply != Reply::Turned(Turn::Answered) {
+        if taken == count || !was_answered(reply) {
             return (taken, reply);
         }
         taken += 1;
@@ -190,6 +196,9 @@ impl Asked {
     }
 }
 
+/// Lets go of a line that is not understood.
+fn let_go(_line: Line) {}
+
 /// The line that the bytes spell, where it is understood.
 fn understand(
     alloc: Global,
@@ -202,10 +211,10 @@ fn understand(
         return Ok(None);
     };
     if asked.admit(&line) {
-        Ok(Some(line))
-    } else {
-        Ok(None)
+        return Ok(Some(line));
     }
+    let_go(line);
+    Ok(None)
 }
 
 impl Runner {
@@ -224,14 +233,14 @@ impl Runner {
     }
 
     /// Does a line, and answers what is to be written.
-    pub fn do_line(&mut self, line: NumberedLine<'_>) -> Result<String, ScriptFault>
-        ensures ok { IfOk result (λ text. DoesNext line.bytes.now (string_bytes text) self.old self.new) }
-        ensures err { IfErr result (λ fault. StopsAt line.number line.bytes.now fault self.old self.new) }
+    pub fn do_line(&mut self, number: usize, bytes: &[u8]) -> Result<String, ScriptFault>
+        ensures ok { IfOk result (λ text. DoesNext bytes.now (string_bytes text) self.old self.new) }
+        ensures err { IfErr result (λ fault. StopsAt number bytes.now fault self.old self.new) }
     {
         let alloc = self.scheduler.alloc;
-        match understand(alloc, &mut self.asked, line.bytes)? {
+        match understand(alloc, &mut self.asked, bytes)? {
             Some(understood) => Ok(carry_out(&mut self.scheduler, understood)?),
-            None => Err(ScriptFault::LineNotUnderstood(line.number)),
+            None => Err(ScriptFault::LineNotUnderstood(number)),
         }
     }
 }
