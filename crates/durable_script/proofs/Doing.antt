@@ -12,7 +12,7 @@ use Rattle.durable_script.specs.declared.runner.Asked.{Asked}
 use Rattle.durable_script.specs.declared.runner.Runner.{Runner}
 use Rattle.durable_script.specs.Asked.{is_second, asked_after, IsNotUnderstood}
 use Rattle.durable_script.specs.Runner.{DoesNext, StopsAt}
-use Rattle.durable_script.specs.Run.{DoneLine, lines_of, texts_of, asked_by, DoesAll, HasDone, DoesLines}
+use Rattle.durable_script.specs.Run.{DoneLine, lines_of, texts_of, asked_by, DoesAll, HasDone, DoesLines, ComesTo}
 
 module _ (lines : List (ℕ × List ℕ)) (start : Scheduler Nap) (done : List DoneLine) where
   -- the line that was done next
@@ -109,3 +109,12 @@ module _ (lines : List (ℕ × List ℕ)) (start : Scheduler Nap) (done : List D
       written = refl;
     };
   }
+
+-- however far it came, some lines were done
+pub some_done : (lines : List (ℕ × List ℕ)) (old new : Scheduler Nap) (output : List ℕ) (result : Result (Unit {0}) ScriptFault) → ComesTo lines old new output result
+    → (done : List DoneLine) × DoesAll done old new
+some_done lines old new output (Ok done) c = (c.done, c.has_done.does)
+some_done lines old new output (Err (LineNotUnderstood number)) c = (c.done, c.has_done.does)
+some_done lines old new output (Err OutOfMemory) c = elim c [ inl r ↦ (r.done, r.has_done.does) | inr t ↦ (t.last ∷ t.before, t.has_done.does) ]
+some_done lines old new output (Err OutputUnwritable) c = (c.last ∷ c.before, c.has_done.does)
+some_done lines old new output (Err ScriptUnreadable) c = absurd c
