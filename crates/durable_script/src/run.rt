@@ -24,11 +24,7 @@ pub struct ScriptEnd {
 }
 
 /// Does the lines of a script in order, and writes the text of each when it is done.
-fn do_lines<W: Write>(
-    runner: &mut Runner,
-    script: &[u8],
-    writer: &mut W,
-) -> Result<(), ScriptFault>
+fn do_lines<W: Write>(runner: &mut Runner, script: &[u8], writer: &mut W) -> Result<(), ScriptFault>
     requires { runner.old.asked ≡ none_asked }
     ensures { DoesLines (numbered_lines script.now) runner.old.scheduler runner.new.scheduler (W.contents writer.old) (W.contents writer.new) result }
 {
@@ -40,10 +36,7 @@ fn do_lines<W: Write>(
 }
 
 /// Lets a writer write what it has taken. Where it has failed already, that stays the fault.
-fn finish<W: Write>(
-    writer: &mut W,
-    reached: Result<(), ScriptFault>,
-) -> Result<(), ScriptFault>
+fn finish<W: Write>(writer: &mut W, reached: Result<(), ScriptFault>) -> Result<(), ScriptFault>
     ensures ends { EndsWith reached result }
     ensures bytes { Keeps (W.contents writer.old) (W.contents writer.new) }
 {

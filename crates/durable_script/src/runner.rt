@@ -13,8 +13,8 @@ use crate::show::show;
 use bytes::{ByteStr, Bytes};
 use durable_schedule::{Event, Reply, Scheduler};
 use invocation_vm::{Turn, VMOptions};
-use journal_model::handlers::Nap;
 use journal_model::NewInvocation;
+use journal_model::handlers::Nap;
 use journal_store::Store;
 use script_lines::line::{Line, parse_line};
 use script_lines::text::LineReply;
@@ -200,11 +200,7 @@ impl Asked {
 fn let_go(_line: Line) {}
 
 /// The line that the bytes spell, where it is understood.
-fn understand(
-    alloc: Global,
-    asked: &mut Asked,
-    bytes: &[u8],
-) -> Result<Option<Line>, AllocError>
+fn understand(alloc: Global, asked: &mut Asked, bytes: &[u8]) -> Result<Option<Line>, AllocError>
     ensures { IfOk result (Understands asked.old bytes.now asked.new) }
 {
     let Some(line) = parse_line(alloc, bytes)? else {

@@ -9,8 +9,8 @@ ghost use Rattle.script_lines.specs.Text.{request_line};
 use crate::reply::reply_line;
 use bytes::ByteStr;
 use durable_schedule::Scheduler;
-use journal_model::handlers::Nap;
 use journal_model::NonEmptyValue;
+use journal_model::handlers::Nap;
 use journal_store::{RecordedRequest, Refusal};
 use script_lines::text::{LineReply, ShownAnswer, ShownOpenness, ShownRequest};
 use std::alloc::AllocError;
@@ -63,10 +63,7 @@ impl fmt::Display for ShownInvocation<'_> {
 }
 
 /// What the store holds of an invocation.
-fn shown<'a>(
-    scheduler: &'a Scheduler<Nap>,
-    id: &ByteStr,
-) -> Result<ShownInvocation<'a>, Refusal>
+fn shown<'a>(scheduler: &'a Scheduler<Nap>, id: &ByteStr) -> Result<ShownInvocation<'a>, Refusal>
     ensures ok { IfOk result (λ shown. ReadsRow (λ row. (shown.requests.now ≡ row.requests) × (shown.answer ≡ answer_of row) × (shown.is_open ≡ not row.is_closed)) id.now scheduler.now.store) }
     ensures err { IfErr result (RefusesShow id.now scheduler.now.store) }
 {

@@ -34,7 +34,9 @@ loop-taken-preserved c =
       taken = refl;
       within = omega arith;
       answered =
-          subst (λ (n : ℕ). AnsweredTurns id c.args.attempt n c.args.scheduler.now c.take_turn-reply.new.self) (sym (inv.taken ∙ add-one inv.before))
-          (c.loop-taken.scheduler, inv.answered,
-          subst (λ (r : Reply). Applies nap_function (event.Turn id c.args.attempt) r c.loop-taken.scheduler c.take_turn-reply.new.self) is c.take_turn-reply.ensures);
+          subst (λ (n : ℕ). AnsweredTurns id c.args.attempt n c.args.scheduler.now c.take_turn-reply.new.self) (sym (inv.taken ∙ add-one inv.before)) (
+            c.loop-taken.scheduler,
+            inv.answered,
+            subst (λ (r : Reply). Applies nap_function (event.Turn id c.args.attempt) r c.loop-taken.scheduler c.take_turn-reply.new.self) is c.take_turn-reply.ensures,
+          );
     }
