@@ -24,7 +24,8 @@ fn check(
 
 #[test]
 fn nap_stopped(rt: HostRuntime) {
-    let script = "invoke i1 o 7 whole 1 -\nbegin i1 nap 0\nfeed i1 1 1000\nturn i1 1 2\nmove i1 1 11\nstop i1 1\nshow i1\n";
+    let script =
+        "invoke i1 o 7 whole 1 -\nbegin i1 nap 0\nfeed i1 1 1000\nturn i1 1 2\nmove i1 1 11\nstop i1 1\nshow i1\n";
     let printed =
         "ok\nattempt 1\nfed 10\nturn 2 answered\nmoved 11 frames 0\nok\nanswer none\nopen\n";
     check(&rt, rt.alloc(), script, printed, Ok(()));
@@ -32,15 +33,19 @@ fn nap_stopped(rt: HostRuntime) {
 
 #[test]
 fn nap_moved_whole(rt: HostRuntime) {
-    let script = "invoke i1 o 7 whole 1 -\nbegin i1 nap 0\nfeed i1 1 1000\nturn i1 1 2\nmove i1 1 11\nmove i1 1 1\nstop i1 1\nshow i1\n";
-    let printed = "ok\nattempt 1\nfed 10\nturn 2 answered\nmoved 11 frames 0\nmoved 1 frames 1\nok\n1 request 040c 080a5801\nanswer none\nopen\n";
+    let script =
+        "invoke i1 o 7 whole 1 -\nbegin i1 nap 0\nfeed i1 1 1000\nturn i1 1 2\nmove i1 1 11\nmove i1 1 1\nstop i1 1\nshow i1\n";
+    let printed =
+        "ok\nattempt 1\nfed 10\nturn 2 answered\nmoved 11 frames 0\nmoved 1 frames 1\nok\n1 request 040c 080a5801\nanswer none\nopen\n";
     check(&rt, rt.alloc(), script, printed, Ok(()));
 }
 
 #[test]
 fn nap_waits(rt: HostRuntime) {
-    let script = "invoke i1 o 7 whole 1 -\nbegin i1 nap 0\nfeed i1 1 1000\nturn i1 1 9\nmove i1 1 1000\nshow i1";
-    let printed = "ok\nattempt 1\nfed 10\nturn 3 waiting\nmoved 30 frames 2\n1 request 040c 080a5801\nanswer none\nopen\n";
+    let script =
+        "invoke i1 o 7 whole 1 -\nbegin i1 nap 0\nfeed i1 1 1000\nturn i1 1 9\nmove i1 1 1000\nshow i1";
+    let printed =
+        "ok\nattempt 1\nfed 10\nturn 3 waiting\nmoved 30 frames 2\n1 request 040c 080a5801\nanswer none\nopen\n";
     check(&rt, rt.alloc(), script, printed, Ok(()));
 }
 
@@ -185,7 +190,11 @@ impl Write for Failing {
 #[test]
 fn failing_writers(rt: HostRuntime) {
     let alloc = rt.alloc();
-    let printed = [b"".as_slice(), b"ok\n".as_slice(), b"ok\nattempt 1\n".as_slice()];
+    let printed = [
+        b"".as_slice(),
+        b"ok\n".as_slice(),
+        b"ok\nattempt 1\n".as_slice(),
+    ];
     let mut left = 0;
     for taken in printed {
         let mut reader: &[u8] = b"invoke i1 o 7 whole 1 -\nbegin i1 nap 0\nstop i1 1\n";
@@ -204,7 +213,11 @@ fn failing_writers(rt: HostRuntime) {
 fn texts_of_faults(rt: HostRuntime) -> Result<(), Fail> {
     let alloc = rt.alloc();
     let rows = [
-        (ScriptFault::LineNotUnderstood(7), 1, "line 7: not understood"),
+        (
+            ScriptFault::LineNotUnderstood(7),
+            1,
+            "line 7: not understood",
+        ),
         (ScriptFault::ScriptUnreadable, 2, "script cannot be read"),
         (ScriptFault::OutputUnwritable, 2, "output cannot be written"),
     ];
