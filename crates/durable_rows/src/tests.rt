@@ -1,4 +1,5 @@
 //! Scripts, run over a store in memory: what they print, and how they end.
+use bytes::ByteStr;
 use durable_script::{ScriptFault, run_script};
 use journal_store::Store;
 use std::alloc::Global;
@@ -165,47 +166,59 @@ fn unreadable_scripts(rt: HostRuntime) {
     assert!(rt; is_unreadable(alloc, broken));
 }
 
-/// Takes so many writes, and then fails.
+/// Takes so many calls, and then fails.
 #[derive(Drop)]
 struct Failing {
     taken: Vec<u8>,
     left: u32,
 }
 
-impl Write for Failing {
-    fn write(&mut self, buf: &[u8]) -> io::Result<usize> {
+impl Failing {
+    fn call(&mut self) -> io::Result<()> {
         if self.left == 0 {
             return Err(io::Error::from(ErrorKind::Other));
         }
         self.left -= 1;
-        self.taken.extend_from_slice(buf)?;
-        Ok(buf.len())
-    }
-
-    fn flush(&mut self) -> io::Result<()> {
         Ok(())
     }
 }
 
+impl Write for Failing {
+    fn write(&mut self, buf: &[u8]) -> io::Result<usize> {
+        self.call()?;
+        let count = buf.len().min(8);
+        self.taken.extend_from_slice(&buf[..count])?;
+        Ok(count)
+    }
+
+    fn flush(&mut self) -> io::Result<()> {
+        self.call()
+    }
+}
+
+/// What is done is written before the next line is done, and the line whose text is not taken is done.
 #[test]
 fn failing_writers(rt: HostRuntime) {
     let alloc = rt.alloc();
-    let printed = [
-        b"".as_slice(),
-        b"ok\n".as_slice(),
-        b"ok\nattempt 1\n".as_slice(),
+    let unwritable = Err(ScriptFault::OutputUnwritable);
+    let rows = [
+        (0, "", unwritable),
+        (1, "ok\n", unwritable),
+        (2, "ok\nattempt ", unwritable),
+        (3, "ok\nattempt 1\n", unwritable),
+        (4, "ok\nattempt 1\nok\n", unwritable),
+        (5, "ok\nattempt 1\nok\n", Ok(())),
     ];
-    let mut left = 0;
-    for taken in printed {
+    for (left, taken, ending) in rows {
         let mut reader: &[u8] = b"invoke i1 o 7 whole 1 -\nbegin i1 nap 0\nstop i1 1\n";
         let mut writer = Failing {
             taken: Vec::new(alloc),
             left,
         };
         let end = run_script(alloc, &mut reader, &mut writer, Store::new(alloc));
-        assert_eq!(rt; end.result, Err(ScriptFault::OutputUnwritable));
-        assert_eq!(rt; writer.taken.as_slice(), taken);
-        left += 1;
+        assert_eq!(rt; end.result, ending);
+        assert_eq!(rt; writer.taken.as_slice(), taken.as_bytes());
+        assert_eq!(rt; end.store.is_open(&ByteStr::from_static("i1")), Ok(true));
     }
 }
 
