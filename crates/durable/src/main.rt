@@ -3,6 +3,8 @@
 
 mod fault;
 
+ghost use Rattle.std.specs.Prelude.{◌≡◌, ◌≢◌, [], codes, IfOk, IfErr};
+
 use durable_script::{ScriptFault, run_script};
 use fault::ProgramFault;
 use journal_store::Store;
@@ -38,7 +40,10 @@ fn read_words<R: Env + AllocGlobal>(rt: &R) -> Result<Words, ProgramFault> {
 }
 
 /// The store that a database holds.
-fn open_store(alloc: Global, database: &str) -> Result<Store, ProgramFault> {
+fn open_store(alloc: Global, database: &str) -> Result<Store, ProgramFault>
+    ensures ok { IfOk result (λ store. (database.now ≡ codes ":memory:") × (store ≡ [])) }
+    ensures err { IfErr result (λ fault. (fault ≡ ProgramFault.DatabaseRefused) × (database.now ≢ codes ":memory:")) }
+{
     if database == ":memory:" {
         Ok(Store::new(alloc))
     } else {
