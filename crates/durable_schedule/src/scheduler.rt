@@ -153,6 +153,13 @@ impl<H: Handler + Drop> Scheduler<H> {
         }
     }
 
+    /// One turn of an attempt: what `apply` does for `Event::Turn`, for a caller that keeps the id.
+    pub fn take_turn(&mut self, invocation: &ByteStr, attempt: u32) -> Reply
+        ensures { Applies H.next_call (Event.Turn invocation.now attempt) result self.old self.new }
+    {
+        self.turn(invocation, attempt)
+    }
+
     /// The recorded requests of an invocation, by place from 1.
     pub fn requests(&self, id: &ByteStr) -> Result<&[RecordedRequest], journal_store::Refusal>
         ensures { Reads (λ requests row. requests.now ≡ row.requests) id.now self.now.store result }

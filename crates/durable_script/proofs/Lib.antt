@@ -1,3 +1,5 @@
-pub mod WordLaws
-pub mod LineLaws
-pub mod ScriptLaws
+pub mod Following
+pub mod Showing
+pub mod Doing
+pub mod Turning
+pub mod Writing

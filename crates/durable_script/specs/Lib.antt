@@ -1,6 +1,7 @@
-pub mod Word
+pub mod Fault
+pub mod Printed
+pub mod Shown
 pub mod Line
-pub mod Reading
-pub mod Script
-pub mod ScriptLines
-pub mod Text
+pub mod Asked
+pub mod Runner
+pub mod Run

@@ -1,32 +1,83 @@
--- The lines of a script, and the one spelling of each.
-use Rattle.std.specs.Prelude.{ℕ, ◌<◌, ◌≤◌, ◌^◌, List, [], ◌∷◌, codes, decimal}
-use Rattle.std.specs.List.{join_with_byte}
-use Rattle.durable_script.specs.declared.line.Line.{Line}
-use Rattle.durable_script.specs.declared.line.Line.TheVariants.{Invoke, Begin, Feed, Turn, Move, Stop, Show}
-use Rattle.durable_script.specs.Word.{text_word, IsText, state_word, handler_word}
+-- What a line does to the scheduler, and its text with the line feed.
+use Rattle.std.specs.Prelude.{◌≡◌, ℕ, Bool, true, false, suc, zero, ◌+◌, ◌<◌, ◌≤◌, List, [], ◌∷◌, ◌++◌}
+use Rattle.std.specs.declared.alloc.Global.{Global}
+use Rattle.built_in_handlers.specs.declared.handlers.Nap.{Nap}
+use Rattle.built_in_handlers.specs.Handlers.{nap_until}
+use Rattle.journal_model.specs.Run.{Handler}
+use Rattle.journal_model.specs.declared.invocation.NewInvocation.{NewInvocation}
+use Rattle.journal_model.specs.declared.invocation.StateMode as model
+use Rattle.journal_model.specs.declared.invocation.StateMode.TheVariants as mode
+use Rattle.invocation_vm.specs.declared.progress.Turn.TheVariants.{Answered}
+use Rattle.durable_schedule.specs.declared.event.Event.{Event}
+use Rattle.durable_schedule.specs.declared.event.Event.TheVariants as event
+use Rattle.durable_schedule.specs.declared.event.Reply.{Reply}
+use Rattle.durable_schedule.specs.declared.event.Reply.TheVariants.{Turned}
+use Rattle.durable_schedule.specs.declared.scheduler.Scheduler.{Scheduler}
+use Rattle.durable_schedule.specs.Schedule.{Applies}
+use Rattle.script_lines.specs.declared.line.Line.{Line}
+use Rattle.script_lines.specs.declared.line.Line.TheVariants.{Invoke, Begin, Feed, Turn, Move, Stop, Show}
+use Rattle.script_lines.specs.declared.word.StateMode.{StateMode}
+use Rattle.script_lines.specs.declared.word.StateMode.TheVariants.{Whole, Hidden}
+use Rattle.script_lines.specs.declared.word.HandlerName.{HandlerName}
+use Rattle.durable_script.specs.Printed.{printed}
+use Rattle.durable_script.specs.Shown.{Shows}
 
--- the words of a line: a command, and what it is about; numbers are decimal
-abbrev pub words_of : Line → List (List ℕ)
-words_of (Invoke id object version state seed input) =
-    codes "invoke" ∷ text_word id ∷ text_word object ∷ decimal version ∷ state_word state ∷ decimal seed ∷ text_word input ∷ []
-words_of (Begin id handler now) = codes "begin" ∷ text_word id ∷ handler_word handler ∷ decimal now ∷ []
-words_of (Feed id attempt count) = codes "feed" ∷ text_word id ∷ decimal attempt ∷ decimal count ∷ []
-words_of (Turn id attempt count) = codes "turn" ∷ text_word id ∷ decimal attempt ∷ decimal count ∷ []
-words_of (Move id attempt count) = codes "move" ∷ text_word id ∷ decimal attempt ∷ decimal count ∷ []
-words_of (Stop id attempt) = codes "stop" ∷ text_word id ∷ decimal attempt ∷ []
-words_of (Show id) = codes "show" ∷ text_word id ∷ []
+-- the next-call function of the handler `nap`
+abbrev pub nap_function : Nap → Handler
+nap_function nap = nap_until nap.until_ms
 
--- the spelling of a line: its words, with one space between two
-abbrev pub spelled : Line → List ℕ
-spelled line = join_with_byte 32 (words_of line)
+-- the handler `nap`: it sleeps until 10
+abbrev pub nap : Global → Nap
+nap alloc = record { alloc = alloc; until_ms = 10 }
 
--- what has a spelling: texts that have a word, numbers that fit, and at least one turn
-abbrev pub IsLine : Line → Type 0
-IsLine (Invoke id object version state seed input) =
-    IsText id × IsText object × (version < 2 ^ 32) × (seed < 2 ^ 64) × IsText input
-IsLine (Begin id handler now) = IsText id × (now < 2 ^ 64)
-IsLine (Feed id attempt count) = IsText id × (attempt < 2 ^ 32) × (count < 2 ^ 32)
-IsLine (Turn id attempt count) = IsText id × (attempt < 2 ^ 32) × (1 ≤ count) × (count < 2 ^ 32)
-IsLine (Move id attempt count) = IsText id × (attempt < 2 ^ 32) × (count < 2 ^ 32)
-IsLine (Stop id attempt) = IsText id × (attempt < 2 ^ 32)
-IsLine (Show id) = IsText id
+abbrev pub state_mode : StateMode → model.StateMode
+state_mode Whole = mode.Whole
+state_mode Hidden = mode.None
+
+-- a line's invocation has no headers
+abbrev pub new_invocation : List ℕ → List ℕ → ℕ → StateMode → ℕ → List ℕ → NewInvocation
+new_invocation id object version state seed input =
+    record { id = id; object = object; input = input; headers = []; version = version; seed = seed; state = state_mode state }
+
+-- one event is applied, and its reply printed
+pub record DoesEvent (one : Event Nap) (text : List ℕ) (old new : Scheduler Nap) : Type 0 where
+  pub reply : Reply
+  pub applied : Applies nap_function one reply old new
+  pub text_is : text ≡ printed 1 reply ++ 10 ∷ []
+
+-- whether a reply is that of a turn that was answered
+abbrev pub was_answered : Reply → Bool
+was_answered (Turned Answered) = true
+was_answered _ = false
+
+-- so many turns, each of which is answered
+abbrev pub AnsweredTurns : List ℕ → ℕ → ℕ → Scheduler Nap → Scheduler Nap → Type 0
+AnsweredTurns id attempt zero old new = new ≡ old
+AnsweredTurns id attempt (suc turns) old new =
+    (between : Scheduler Nap) × AnsweredTurns id attempt turns old between × Applies nap_function (event.Turn id attempt) (Turned Answered) between new
+
+-- so many turns were taken, of as many as were asked for: behind the first that is not answered there is none
+pub record TookTurns (id : List ℕ) (attempt asked taken : ℕ) (last : Reply) (old new : Scheduler Nap) : Type 0 where
+  pub before : ℕ
+  pub between : Scheduler Nap
+  pub answered : AnsweredTurns id attempt before old between
+  pub applied : Applies nap_function (event.Turn id attempt) last between new
+  pub taken_are : taken ≡ before + 1
+  pub within : taken ≤ asked
+  pub all : was_answered last ≡ true → taken ≡ asked
+
+pub record TakesTurns (id : List ℕ) (attempt asked : ℕ) (text : List ℕ) (old new : Scheduler Nap) : Type 0 where
+  pub taken : ℕ
+  pub last : Reply
+  pub took : TookTurns id attempt asked taken last old new
+  pub text_is : text ≡ printed taken last ++ 10 ∷ []
+
+-- Each line is one event, but for the turns, and for what is shown, which changes nothing.
+abbrev pub DoesLine : Line → List ℕ → Scheduler Nap → Scheduler Nap → Type 0
+DoesLine (Invoke id object version state seed input) text old new = DoesEvent (event.Invoke (new_invocation id object version state seed input)) text old new
+DoesLine (Begin id handler now) text old new = DoesEvent (event.Begin id (nap old.alloc) now) text old new
+DoesLine (Feed id attempt count) text old new = DoesEvent (event.Feed id attempt count) text old new
+DoesLine (Turn id attempt count) text old new = TakesTurns id attempt count text old new
+DoesLine (Move id attempt count) text old new = DoesEvent (event.Move id attempt count) text old new
+DoesLine (Stop id attempt) text old new = DoesEvent (event.Stop id attempt) text old new
+DoesLine (Show id) text old new = Shows id old.store text × (new ≡ old)

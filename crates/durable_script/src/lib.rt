@@ -1,8 +1,13 @@
-//! The script: its lines, and the texts that it prints.
+//! A script, run over a scheduler line by line: what each line does, and what is written of it.
 #![tactic(auto)]
 
-pub mod line;
-pub mod reading;
-pub mod script;
-pub mod text;
-pub mod word;
+mod fault;
+pub mod laws;
+mod output;
+mod reply;
+mod run;
+mod runner;
+mod show;
+
+pub use fault::ScriptFault;
+pub use run::{ScriptEnd, run_script};

@@ -1,0 +1,15 @@
+-- The text and the status of a fault of the program.
+use Rattle.std.specs.Prelude.{ℕ, List, codes}
+use Rattle.durable_script.specs.Fault as script
+use Rattle.durable.specs.declared.fault.ProgramFault.{ProgramFault}
+use Rattle.durable.specs.declared.fault.ProgramFault.TheVariants.{Usage, DatabaseRefused, Script}
+
+abbrev pub status_of : ProgramFault → ℕ
+status_of Usage = 3
+status_of DatabaseRefused = 2
+status_of (Script fault) = script.status_of fault
+
+abbrev pub fault_text : ProgramFault → List ℕ
+fault_text Usage = codes "usage: durable SCRIPT DATABASE"
+fault_text DatabaseRefused = codes "database refused"
+fault_text (Script fault) = script.fault_text fault

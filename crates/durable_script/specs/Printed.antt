@@ -1,0 +1,29 @@
+-- What a line prints for the reply that it got, without its line feed.
+use Rattle.std.specs.Prelude.{ℕ, List, Some, None}
+use Rattle.invocation_vm.specs.declared.progress.Turn.{Turn}
+use Rattle.invocation_vm.specs.declared.progress.Turn.TheVariants as turn
+use Rattle.invocation_vm.specs.Failure.{code_of}
+use Rattle.journal_store.specs.Names as store
+use Rattle.durable_schedule.specs.declared.event.Reply.{Reply}
+use Rattle.durable_schedule.specs.declared.event.Reply.TheVariants as reply
+use Rattle.durable_schedule.specs.Names.{name_of}
+use Rattle.script_lines.specs.declared.text.LastTurn.{LastTurn}
+use Rattle.script_lines.specs.declared.text.LastTurn.TheVariants as last
+use Rattle.script_lines.specs.declared.text.LineReply.TheVariants.{Done, Begun, Fed, Turned}
+use Rattle.script_lines.specs.Text.{reply_text, moved_text, moved_until_text, refused_text}
+
+abbrev pub word_of : Turn → LastTurn
+word_of turn.Answered = last.Answered
+word_of turn.Waiting = last.Waiting
+word_of turn.Ended = last.Ended
+word_of (turn.Failed failure) = last.Failed (code_of failure)
+
+-- the text of a reply, the last one to so many turns where it is that of a turn
+abbrev pub printed : ℕ → Reply → List ℕ
+printed turns reply.Done = reply_text Done
+printed turns (reply.Begun attempt) = reply_text (Begun attempt)
+printed turns (reply.Fed bytes) = reply_text (Fed bytes)
+printed turns (reply.Turned turn) = reply_text (Turned turns (word_of turn))
+printed turns (reply.Moved bytes frames None) = moved_text bytes frames
+printed turns (reply.Moved bytes frames (Some why)) = moved_until_text bytes frames (store.name_of why)
+printed turns (reply.Refused why) = refused_text (name_of why)

@@ -1,0 +1,242 @@
+//! A line of a script, from its bytes to its text.
+ghost use Rattle.std.specs.Prelude.{◌≡◌, ◌<◌, ◌≤◌, ◌+◌, ◌∷◌, [], ◌++◌, List, ℕ, not, IfOk, IfErr, OnErr, string_bytes};
+ghost use Rattle.script_lines.specs.Line.{IsLine};
+ghost use Rattle.invocation_vm.specs.Options.{default_options};
+ghost use Rattle.durable_schedule.specs.Schedule.{IsNew};
+ghost use Rattle.durable_script.specs.Line.{new_invocation, was_answered, DoesEvent, TakesTurns, TookTurns, DoesLine};
+ghost use Rattle.durable_script.specs.Asked.{none_asked, is_second, asked_after, Understands};
+ghost use Rattle.durable_script.specs.Runner.{DoesNext, StopsAt};
+
+use crate::fault::ScriptFault;
+use crate::reply::{line_reply, reply_line};
+use crate::show::show;
+use bytes::{ByteStr, Bytes};
+use durable_schedule::{Event, Reply, Scheduler};
+use invocation_vm::{Turn, VMOptions};
+use journal_model::NewInvocation;
+use built_in_handlers::handlers::Nap;
+use journal_store::Store;
+use script_lines::line::{Line, parse_line};
+use script_lines::text::LineReply;
+use script_lines::word::{HandlerName, StateMode};
+use sequence::Sequence;
+use std::alloc::{AllocError, Global};
+use std::mem;
+
+/// The moment until which the handler `nap` sleeps, in milliseconds.
+const NAP_UNTIL: u64 = 10;
+
+/// What earlier lines have asked for, whether it was refused or not: a script asks for each once.
+#[derive(Clone, Copy, Debug, PartialEq, Eq)]
+pub(crate) struct Asked {
+    /// An invocation.
+    pub invoked: bool,
+    /// An attempt.
+    pub begun: bool,
+}
+
+/// A scheduler that the lines of a script are done on.
+#[derive(Drop)]
+pub(crate) struct Runner {
+    pub scheduler: Scheduler<Nap>,
+    pub asked: Asked,
+}
+
+/// The whole of a new invocation. It has no headers.
+fn new_invocation(
+    alloc: Global,
+    id: ByteStr,
+    object: ByteStr,
+    version: u32,
+    state: StateMode,
+    seed: u64,
+    input: Bytes,
+) -> NewInvocation
+    ensures { result ≡ new_invocation id object version state seed input }
+{
+    NewInvocation {
+        id,
+        object,
+        input,
+        headers: Sequence::new(alloc),
+        version,
+        seed,
+        state: match state {
+            StateMode::Whole => journal_model::StateMode::Whole,
+            StateMode::Hidden => journal_model::StateMode::None,
+        },
+    }
+}
+
+/// Applies one event.
+fn do_event(scheduler: &mut Scheduler<Nap>, event: Event<Nap>) -> Result<String, AllocError>
+    ensures ok { IfOk result (λ text. DoesEvent event (string_bytes text) scheduler.old scheduler.new) }
+    ensures err { OnErr result ((text : List ℕ) × DoesEvent event text scheduler.old scheduler.new) }
+{
+    let reply = scheduler.apply(event);
+    reply_line(scheduler.alloc, line_reply(1, reply))
+}
+
+/// Whether a reply is that of a turn that was answered.
+fn was_answered(reply: Reply) -> bool
+    ensures { result ≡ was_answered reply }
+{
+    matches!(reply, Reply::Turned(Turn::Answered))
+}
+
+/// Takes up to so many turns, and answers how many, and the last reply.
+fn take_turns(
+    scheduler: &mut Scheduler<Nap>,
+    id: &ByteStr,
+    attempt: u32,
+    count: u32,
+) -> (u32, Reply)
+    requires { 1 ≤ count }
+    ensures { TookTurns id.now attempt count result.0 result.1 scheduler.old scheduler.new }
+{
+    let mut taken = 1u32;
+    loop {
+        let reply = scheduler.take_turn(id, attempt);
+        if taken == count || !was_answered(reply) {
+            return (taken, reply);
+        }
+        taken += 1;
+    }
+}
+
+/// Takes up to so many turns, and makes their text.
+fn do_turns(
+    scheduler: &mut Scheduler<Nap>,
+    id: &ByteStr,
+    attempt: u32,
+    count: u32,
+) -> Result<String, AllocError>
+    requires { 1 ≤ count }
+    ensures ok { IfOk result (λ text. TakesTurns id.now attempt count (string_bytes text) scheduler.old scheduler.new) }
+    ensures err { OnErr result ((text : List ℕ) × TakesTurns id.now attempt count text scheduler.old scheduler.new) }
+{
+    let (taken, reply) = take_turns(scheduler, id, attempt, count);
+    reply_line(scheduler.alloc, line_reply(taken, reply))
+}
+
+/// Does what a line says, and makes its text.
+fn carry_out(scheduler: &mut Scheduler<Nap>, line: Line) -> Result<String, AllocError>
+    requires { IsLine line }
+    ensures ok { IfOk result (λ text. DoesLine line (string_bytes text) scheduler.old scheduler.new) }
+    ensures err { OnErr result ((text : List ℕ) × DoesLine line text scheduler.old scheduler.new) }
+{
+    let alloc = scheduler.alloc;
+    match line {
+        Line::Invoke {
+            id,
+            object,
+            version,
+            state,
+            seed,
+            input,
+        } => {
+            let new = new_invocation(alloc, id, object, version, state, seed, input);
+            do_event(scheduler, Event::Invoke(new))
+        }
+        Line::Begin {
+            id: invocation,
+            handler: HandlerName::Nap,
+            now,
+        } => {
+            let until_ms = NAP_UNTIL;
+            let handler = Nap { alloc, until_ms };
+            do_event(
+                scheduler,
+                Event::Begin {
+                    invocation,
+                    handler,
+                    now,
+                },
+            )
+        }
+        Line::Feed { id, attempt, count } => do_event(
+            scheduler,
+            Event::Feed {
+                invocation: id,
+                attempt,
+                count: count as usize,
+            },
+        ),
+        Line::Turn { id, attempt, count } => do_turns(scheduler, &id, attempt, count),
+        Line::Move { id, attempt, count } => do_event(
+            scheduler,
+            Event::Move {
+                invocation: id,
+                attempt,
+                count: count as usize,
+            },
+        ),
+        Line::Stop { id, attempt } => do_event(
+            scheduler,
+            Event::Stop {
+                invocation: id,
+                attempt,
+            },
+        ),
+        Line::Show { id } => show(scheduler, &id),
+    }
+}
+
+impl Asked {
+    /// Whether a line may still be asked for; from then on it was.
+    fn admit(&mut self, line: &Line) -> bool
+        ensures admitted { result ≡ not (is_second self.old line.now) }
+        ensures after { self.new ≡ asked_after self.old line.now }
+    {
+        match line {
+            Line::Invoke { .. } => !mem::replace(&mut self.invoked, true),
+            Line::Begin { .. } => !mem::replace(&mut self.begun, true),
+            _ => true,
+        }
+    }
+}
+
+/// Lets go of a line that is not understood.
+fn let_go(_line: Line) {}
+
+/// The line that the bytes spell, where it is understood.
+fn understand(alloc: Global, asked: &mut Asked, bytes: &[u8]) -> Result<Option<Line>, AllocError>
+    ensures { IfOk result (Understands asked.old bytes.now asked.new) }
+{
+    let Some(line) = parse_line(alloc, bytes)? else {
+        return Ok(None);
+    };
+    if asked.admit(&line) {
+        return Ok(Some(line));
+    }
+    let_go(line);
+    Ok(None)
+}
+
+impl Runner {
+    /// A new scheduler over a store.
+    pub fn new(alloc: Global, store: Store) -> Runner
+        ensures scheduler { IsNew store default_options result.scheduler }
+        ensures asked { result.asked ≡ none_asked }
+    {
+        Runner {
+            scheduler: Scheduler::new(alloc, store, VMOptions::default()),
+            asked: Asked {
+                invoked: false,
+                begun: false,
+            },
+        }
+    }
+
+    /// Does a line, and answers what is to be written.
+    pub fn do_line(&mut self, number: usize, bytes: &[u8]) -> Result<String, ScriptFault>
+        ensures ok { IfOk result (λ text. DoesNext bytes.now (string_bytes text) self.old self.new) }
+        ensures err { IfErr result (λ fault. StopsAt number bytes.now fault self.old self.new) }
+    {
+        let alloc = self.scheduler.alloc;
+        match understand(alloc, &mut self.asked, bytes)? {
+            Some(understood) => Ok(carry_out(&mut self.scheduler, understood)?),
+            None => Err(ScriptFault::LineNotUnderstood(number)),
+        }
+    }
+}

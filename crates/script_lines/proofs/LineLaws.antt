@@ -1,0 +1,289 @@
+-- A line is read just where the bytes are its spelling.
+use Rattle.std.proofs.Common.{◌≡◌, ℕ, zero, suc, ◌+◌, ◌^◌, ◌<◌, ◌≤◌, Bool, true, false, cond, eqb, inl, inr, ◌⊎◌, List, [], ◌∷◌, ◌++◌, length, All, Option, Some, None, Result, Ok, Err, refl, sym, ap, subst, ◌∙◌, arith, ◌≢◌}
+use Rattle.std.specs.Prelude.{codes, decimal, bytes_eq, nat_lt}
+use Rattle.std.specs.List.{AllByRecursion, list_all, join_with_byte, slice_split}
+use Rattle.std.specs.Str.Parse.{AllDigits}
+use Rattle.std.proofs.lemmas.Bool.{ne_eqb, eqb-false, and_parts, ltb-true}
+use Rattle.std.proofs.lemmas.Option.{none-some, same_Some}
+use Rattle.std.proofs.lemmas.Slice.Eq.{bytes_eq-Decides}
+use Rattle.std.proofs.lemmas.Fmt.{decimal_is_IsNumeral}
+use Rattle.std.proofs.lemmas.Str.Parse.{digit_from_value}
+use Rattle.std.proofs.lemmas.List.Elements.{All-from_recursion, recursion_from_All}
+use Rattle.std.proofs.lemmas.List.Splits.{slice_split_at, slice_split_none, join_with_byte-slice_split}
+use Rattle.script_lines.specs.declared.word.StateMode.{StateMode}
+use Rattle.script_lines.specs.declared.word.StateMode.TheVariants.{Whole, Hidden}
+use Rattle.script_lines.specs.declared.word.HandlerName.{HandlerName}
+use Rattle.script_lines.specs.declared.word.HandlerName.TheVariants.{Nap}
+use Rattle.script_lines.specs.declared.word.Command.{Command}
+use Rattle.script_lines.specs.declared.word.Command.TheVariants.{Invoke as InvokeCommand, Begin as BeginCommand, Feed as FeedCommand, Turn as TurnCommand, Move as MoveCommand, Stop as StopCommand, Show as ShowCommand}
+use Rattle.script_lines.specs.declared.line.Line.{Line}
+use Rattle.script_lines.specs.declared.line.Line.TheVariants.{Invoke, Begin, Feed, Turn, Move, Stop, Show}
+use Rattle.script_lines.specs.Word.{Reads, text_word, IsText, IsWordByte, state_word, handler_word}
+use Rattle.script_lines.specs.Line.{words_of, spelled, IsLine}
+use Rattle.script_lines.specs.Reading.{then_read, ◌>>=◌, number_below, text_of, state_of, handler_of, invoke_of, begin_of, feed_of, turn_of, move_of, stop_of, show_of, of_one, of_two, of_three, of_six, command_of, arguments_of, line_of}
+use Rattle.script_lines.proofs.WordLaws.{IsReading, number_reading, text_reading, state_reading, handler_reading, chosen}
+
+-- the words are those of the line
+record Spells (words : List (List ℕ)) (line : Line) : Type 0 where
+  is_line : IsLine line
+  same : words ≡ words_of line
+
+-- the value of a step that did not fail
+step : {A B : Type 0} (o : Option A) (f : A → Option B) (y : B) → then_read o f ≡ Some y → (x : A) × (o ≡ Some x) × (f x ≡ Some y)
+unfolding then_read
+step None f y e = absurd cc
+step (Some x) f y e = (x, refl, e)
+
+read_step : {A B : Type 0} {o : Option A} {f : A → Option B} {y : B} → then_read o f ≡ Some y → (x : A) × (o ≡ Some x) × (f x ≡ Some y)
+read_step {o = o} {f = f} {y = y} e = step o f y e
+
+next : {A : Type 0} {x y : A} {xs ys : List A} → x ≡ y → xs ≡ ys → x ∷ xs ≡ y ∷ ys
+next e f = cc
+
+made : (words : List (List ℕ)) (line result : Line) → Some line ≡ Some result → Spells words line → Spells words result
+made words line result e h = subst (λ (l : Line). Spells words l) (same_Some line result e) h
+
+number_32 : IsReading (number_below (2 ^ 32)) (λ number. decimal number) (λ number. number < 2 ^ 32)
+number_32 = number_reading (2 ^ 32) (omega arith)
+
+number_64 : IsReading (number_below (2 ^ 64)) (λ number. decimal number) (λ number. number < 2 ^ 64)
+number_64 = number_reading (2 ^ 64) (omega arith)
+
+-- ---- what is read is spelled so
+
+invoke_takes : (id object version state seed input : List ℕ) (line : Line) → invoke_of id object version state seed input ≡ Some line → Spells (codes "invoke" ∷ id ∷ object ∷ version ∷ state ∷ seed ∷ input ∷ []) line
+unfolding invoke_of
+invoke_takes id object version state seed input line e =
+    let i = read_step e in let o = read_step i.2 in let v = read_step o.2 in let s = read_step v.2 in let r = read_step s.2 in let p = read_step r.2 in
+    let it = text_reading.takes id i.0 i.1 in
+    let ot = text_reading.takes object o.0 o.1 in
+    let vt = number_32.takes version v.0 v.1 in
+    let st = state_reading.takes state s.0 s.1 in
+    let rt = number_64.takes seed r.0 r.1 in
+    let pt = text_reading.takes input p.0 p.1 in
+    made _ (Invoke i.0 o.0 v.0 s.0 r.0 p.0) line p.2 (record { is_line = (it.0, ot.0, vt.0, rt.0, pt.0); same = next refl (next it.1 (next ot.1 (next vt.1 (next st.1 (next rt.1 (next pt.1 refl)))))) })
+
+begin_takes : (id handler now : List ℕ) (line : Line) → begin_of id handler now ≡ Some line → Spells (codes "begin" ∷ id ∷ handler ∷ now ∷ []) line
+unfolding begin_of
+begin_takes id handler now line e =
+    let i = read_step e in let h = read_step i.2 in let n = read_step h.2 in
+    let it = text_reading.takes id i.0 i.1 in
+    let ht = handler_reading.takes handler h.0 h.1 in
+    let nt = number_64.takes now n.0 n.1 in
+    made _ (Begin i.0 h.0 n.0) line n.2 (record { is_line = (it.0, nt.0); same = next refl (next it.1 (next ht.1 (next nt.1 refl))) })
+
+feed_takes : (id attempt count : List ℕ) (line : Line) → feed_of id attempt count ≡ Some line → Spells (codes "feed" ∷ id ∷ attempt ∷ count ∷ []) line
+unfolding feed_of
+feed_takes id attempt count line e =
+    let i = read_step e in let a = read_step i.2 in let c = read_step a.2 in
+    let it = text_reading.takes id i.0 i.1 in
+    let at = number_32.takes attempt a.0 a.1 in
+    let ct = number_32.takes count c.0 c.1 in
+    made _ (Feed i.0 a.0 c.0) line c.2 (record { is_line = (it.0, at.0, ct.0); same = next refl (next it.1 (next at.1 (next ct.1 refl))) })
+
+turn_takes : (id attempt count : List ℕ) (line : Line) → turn_of id attempt count ≡ Some line → Spells (codes "turn" ∷ id ∷ attempt ∷ count ∷ []) line
+unfolding turn_of
+turn_takes id attempt count line e =
+    let i = read_step e in let a = read_step i.2 in let c = read_step a.2 in
+    let it = text_reading.takes id i.0 i.1 in
+    let at = number_32.takes attempt a.0 a.1 in
+    let ct = number_32.takes count c.0 c.1 in
+    elim (chosen (eqb c.0 0) None (Some (Turn i.0 a.0 c.0)) (Some line) c.2) [
+      | inl h ↦ absurd (none-some line h.1)
+      | inr h ↦ let some : 1 ≤ c.0 = let no_zero : c.0 ≢ 0 = eqb-false c.0 0 h.0 in omega arith in
+          made _ (Turn i.0 a.0 c.0) line h.1 (record { is_line = (it.0, at.0, some, ct.0); same = next refl (next it.1 (next at.1 (next ct.1 refl))) })
+    ]
+
+move_takes : (id attempt count : List ℕ) (line : Line) → move_of id attempt count ≡ Some line → Spells (codes "move" ∷ id ∷ attempt ∷ count ∷ []) line
+unfolding move_of
+move_takes id attempt count line e =
+    let i = read_step e in let a = read_step i.2 in let c = read_step a.2 in
+    let it = text_reading.takes id i.0 i.1 in
+    let at = number_32.takes attempt a.0 a.1 in
+    let ct = number_32.takes count c.0 c.1 in
+    made _ (Move i.0 a.0 c.0) line c.2 (record { is_line = (it.0, at.0, ct.0); same = next refl (next it.1 (next at.1 (next ct.1 refl))) })
+
+stop_takes : (id attempt : List ℕ) (line : Line) → stop_of id attempt ≡ Some line → Spells (codes "stop" ∷ id ∷ attempt ∷ []) line
+unfolding stop_of
+stop_takes id attempt line e =
+    let i = read_step e in let a = read_step i.2 in
+    let it = text_reading.takes id i.0 i.1 in
+    let at = number_32.takes attempt a.0 a.1 in
+    made _ (Stop i.0 a.0) line a.2 (record { is_line = (it.0, at.0); same = next refl (next it.1 (next at.1 refl)) })
+
+show_takes : (id : List ℕ) (line : Line) → show_of id ≡ Some line → Spells (codes "show" ∷ id ∷ []) line
+unfolding show_of
+show_takes id line e =
+    let i = read_step e in
+    let it = text_reading.takes id i.0 i.1 in
+    made _ (Show i.0) line i.2 (record { is_line = it.0; same = next refl (next it.1 refl) })
+
+-- so many words were read
+one_words : (read : List ℕ → Option Line) (words : List (List ℕ)) (line : Line) → of_one read words ≡ Some line → (a : List ℕ) × (words ≡ a ∷ []) × (read a ≡ Some line)
+unfolding of_one
+one_words read (a ∷ []) line e = (a, refl, e)
+one_words read [] line e = absurd cc
+one_words read (a ∷ b ∷ more) line e = absurd cc
+
+two_words : (read : List ℕ → List ℕ → Option Line) (words : List (List ℕ)) (line : Line) → of_two read words ≡ Some line → (a b : List ℕ) × (words ≡ a ∷ b ∷ []) × (read a b ≡ Some line)
+unfolding of_two
+two_words read (a ∷ b ∷ []) line e = (a, b, refl, e)
+two_words read [] line e = absurd cc
+two_words read (a ∷ []) line e = absurd cc
+two_words read (a ∷ b ∷ c ∷ more) line e = absurd cc
+
+three_words : (read : List ℕ → List ℕ → List ℕ → Option Line) (words : List (List ℕ)) (line : Line) → of_three read words ≡ Some line → (a b c : List ℕ) × (words ≡ a ∷ b ∷ c ∷ []) × (read a b c ≡ Some line)
+unfolding of_three
+three_words read (a ∷ b ∷ c ∷ []) line e = (a, b, c, refl, e)
+three_words read [] line e = absurd cc
+three_words read (a ∷ []) line e = absurd cc
+three_words read (a ∷ b ∷ []) line e = absurd cc
+three_words read (a ∷ b ∷ c ∷ d ∷ more) line e = absurd cc
+
+six_words : (read : List ℕ → List ℕ → List ℕ → List ℕ → List ℕ → List ℕ → Option Line) (words : List (List ℕ)) (line : Line) → of_six read words ≡ Some line → (a b c d e f : List ℕ) × (words ≡ a ∷ b ∷ c ∷ d ∷ e ∷ f ∷ []) × (read a b c d e f ≡ Some line)
+unfolding of_six
+six_words read (a ∷ b ∷ c ∷ d ∷ e ∷ f ∷ []) line h = (a, b, c, d, e, f, refl, h)
+six_words read [] line e = absurd cc
+six_words read (a ∷ []) line e = absurd cc
+six_words read (a ∷ b ∷ []) line e = absurd cc
+six_words read (a ∷ b ∷ c ∷ []) line e = absurd cc
+six_words read (a ∷ b ∷ c ∷ d ∷ []) line h = absurd cc
+six_words read (a ∷ b ∷ c ∷ d ∷ e ∷ []) line h = absurd cc
+six_words read (a ∷ b ∷ c ∷ d ∷ e ∷ f ∷ g ∷ more) line h = absurd cc
+
+abbrev command_word : Command → List ℕ
+command_word InvokeCommand = codes "invoke"
+command_word BeginCommand = codes "begin"
+command_word FeedCommand = codes "feed"
+command_word TurnCommand = codes "turn"
+command_word MoveCommand = codes "move"
+command_word StopCommand = codes "stop"
+command_word ShowCommand = codes "show"
+
+-- a command that was tested for, and those behind it
+tested : (word : List ℕ) (name : Command) (rest : Option Command) (command : Command) → (rest ≡ Some command → word ≡ command_word command) → cond (bytes_eq word (command_word name)) (Some name) rest ≡ Some command → word ≡ command_word command
+tested word name rest command behind e =
+    elim (chosen (bytes_eq word (command_word name)) (Some name) rest (Some command) e) [
+      | inl h ↦ (bytes_eq-Decides word (command_word name)).0 h.0 ∙ ap command_word (same_Some name command h.1)
+      | inr h ↦ behind h.1
+    ]
+
+command_takes : (word : List ℕ) (command : Command) → command_of word ≡ Some command → word ≡ command_word command
+unfolding command_of
+command_takes word command =
+    tested word InvokeCommand _ command (tested word BeginCommand _ command (tested word FeedCommand _ command (tested word TurnCommand _ command
+    (tested word MoveCommand _ command (tested word StopCommand _ command (tested word ShowCommand _ command (λ e. absurd (none-some command e))))))))
+
+retold : (name : List ℕ) (words others : List (List ℕ)) (line : Line) → words ≡ others → Spells (name ∷ others) line → Spells (name ∷ words) line
+retold name words others line e h = record { is_line = h.is_line; same = ap (λ (ws : List (List ℕ)). name ∷ ws) e ∙ h.same }
+
+arguments_take : (command : Command) (words : List (List ℕ)) (line : Line) → arguments_of command words ≡ Some line → Spells (command_word command ∷ words) line
+unfolding arguments_of
+arguments_take InvokeCommand words line e = let w = six_words invoke_of words line e in retold _ words _ line w.6 (invoke_takes w.0 w.1 w.2 w.3 w.4 w.5 line w.7)
+arguments_take BeginCommand words line e = let w = three_words begin_of words line e in retold _ words _ line w.3 (begin_takes w.0 w.1 w.2 line w.4)
+arguments_take FeedCommand words line e = let w = three_words feed_of words line e in retold _ words _ line w.3 (feed_takes w.0 w.1 w.2 line w.4)
+arguments_take TurnCommand words line e = let w = three_words turn_of words line e in retold _ words _ line w.3 (turn_takes w.0 w.1 w.2 line w.4)
+arguments_take MoveCommand words line e = let w = three_words move_of words line e in retold _ words _ line w.3 (move_takes w.0 w.1 w.2 line w.4)
+arguments_take StopCommand words line e = let w = two_words stop_of words line e in retold _ words _ line w.2 (stop_takes w.0 w.1 line w.3)
+arguments_take ShowCommand words line e = let w = one_words show_of words line e in retold _ words _ line w.1 (show_takes w.0 line w.2)
+
+line_takes : (words : List (List ℕ)) (line : Line) → line_of words ≡ Some line → Spells words line
+unfolding line_of
+line_takes [] line e = absurd cc
+line_takes (word ∷ words) line e =
+    let c = read_step e in
+    let h = arguments_take c.0 words line c.2 in
+    record { is_line = h.is_line; same = next (command_takes word c.0 c.1) refl ∙ h.same }
+
+-- ---- what is spelled so is read
+
+line_again : (line : Line) → IsLine line → line_of (words_of line) ≡ Some line
+unfolding line_of then_read command_of arguments_of of_one of_two of_three of_six invoke_of begin_of feed_of turn_of move_of stop_of show_of
+line_again (Invoke id object version state seed input) h =
+    rw (text_reading.again id h.0, text_reading.again object h.1, number_32.again version h.2, state_reading.again state tt, number_64.again seed h.3, text_reading.again input h.4) refl
+line_again (Begin id handler now) h = rw (text_reading.again id h.0, handler_reading.again handler tt, number_64.again now h.1) refl
+line_again (Feed id attempt count) h = rw (text_reading.again id h.0, number_32.again attempt h.1, number_32.again count h.2) refl
+line_again (Turn id attempt count) h =
+    let some : eqb count 0 ≡ false = ne_eqb count 0 (λ e. let least = h.2 in omega arith) in
+    rw (text_reading.again id h.0, number_32.again attempt h.1, number_32.again count h.3, some) refl
+line_again (Move id attempt count) h = rw (text_reading.again id h.0, number_32.again attempt h.1, number_32.again count h.2) refl
+line_again (Stop id attempt) h = rw (text_reading.again id h.0, number_32.again attempt h.1) refl
+line_again (Show id) h = rw (text_reading.again id h) refl
+
+-- ---- words and spaces
+
+-- a word has no space
+abbrev NoSpace : List ℕ → Type 0
+NoSpace word = AllByRecursion (λ byte. eqb byte 32 ≡ false) word
+
+digits-no_space : (digits : List ℕ) → AllDigits 10 digits → NoSpace digits
+digits-no_space [] h = tt
+digits-no_space (digit ∷ digits) h =
+    let range = digit_from_value digit h.0 in
+    (ne_eqb digit 32 (λ e. let low = range.0 in omega arith), digits-no_space digits h.1)
+
+decimal-no_space : (number : ℕ) → number < 2 ^ 64 → NoSpace (decimal number)
+decimal-no_space number below = digits-no_space (decimal number) (decimal_is_IsNumeral number below).0.1
+
+printable-no_space : (bytes : List ℕ) → AllByRecursion IsWordByte bytes → NoSpace bytes
+printable-no_space [] h = tt
+printable-no_space (byte ∷ bytes) h = (ne_eqb byte 32 (λ e. let low = h.0.0 in omega arith), printable-no_space bytes h.1)
+
+text-no_space : (text : List ℕ) → IsText text → NoSpace (text_word text)
+text-no_space [] h = (refl, tt)
+text-no_space (byte ∷ bytes) h = printable-no_space (byte ∷ bytes) (recursion_from_All IsWordByte (byte ∷ bytes) h.bytes)
+
+letters : (word : List ℕ) → list_all (λ byte. nat_lt 32 byte) word ≡ true → NoSpace word
+letters [] e = tt
+letters (byte ∷ word) e =
+    let tests = and_parts (nat_lt 32 byte) (list_all (λ b. nat_lt 32 b) word) e in
+    let above : 32 < byte = ltb-true 32 byte tests.0 in
+    (ne_eqb byte 32 (λ same. omega arith), letters word tests.1)
+
+state-no_space : (state : StateMode) → NoSpace (state_word state)
+state-no_space Whole = letters (codes "whole") refl
+state-no_space Hidden = letters (codes "none") refl
+
+handler-no_space : (handler : HandlerName) → NoSpace (handler_word handler)
+handler-no_space Nap = letters (codes "nap") refl
+
+counted-no_space : (command id : List ℕ) (attempt count : ℕ) → NoSpace command → IsText id → attempt < 2 ^ 32 → count < 2 ^ 32 → AllByRecursion NoSpace (command ∷ text_word id ∷ decimal attempt ∷ decimal count ∷ [])
+counted-no_space command id attempt count h text a c = (h, (text-no_space id text, (decimal-no_space attempt (omega arith), (decimal-no_space count (omega arith), tt))))
+
+words-no_space : (line : Line) → IsLine line → AllByRecursion NoSpace (words_of line)
+words-no_space (Invoke id object version state seed input) h =
+    let v = h.2 in let s = h.3 in
+    (letters (codes "invoke") refl, (text-no_space id h.0, (text-no_space object h.1, (decimal-no_space version (omega arith), (state-no_space state, (decimal-no_space seed (omega arith), (text-no_space input h.4, tt)))))))
+words-no_space (Begin id handler now) h =
+    let n = h.1 in
+    (letters (codes "begin") refl, (text-no_space id h.0, (handler-no_space handler, (decimal-no_space now (omega arith), tt))))
+words-no_space (Feed id attempt count) h = counted-no_space (codes "feed") id attempt count (letters (codes "feed") refl) h.0 h.1 h.2
+words-no_space (Turn id attempt count) h = counted-no_space (codes "turn") id attempt count (letters (codes "turn") refl) h.0 h.1 h.3
+words-no_space (Move id attempt count) h = counted-no_space (codes "move") id attempt count (letters (codes "move") refl) h.0 h.1 h.2
+words-no_space (Stop id attempt) h = let a = h.1 in (letters (codes "stop") refl, (text-no_space id h.0, (decimal-no_space attempt (omega arith), tt)))
+words-no_space (Show id) h = (letters (codes "show") refl, (text-no_space id h, tt))
+
+split_again : (word : List ℕ) (words : List (List ℕ)) → AllByRecursion NoSpace (word ∷ words) → slice_split (λ byte. eqb byte 32) (join_with_byte 32 (word ∷ words)) ≡ word ∷ words
+split_again word [] h = slice_split_none (λ byte. eqb byte 32) word (All-from_recursion (λ byte. eqb byte 32 ≡ false) word h.0)
+split_again word (other ∷ words) h =
+    slice_split_at (λ byte. eqb byte 32) word 32 (join_with_byte 32 (other ∷ words)) (All-from_recursion (λ byte. eqb byte 32 ≡ false) word h.0) refl ∙ next refl (split_again other words h.1)
+
+words_again : (line : Line) → IsLine line → slice_split (λ byte. eqb byte 32) (spelled line) ≡ words_of line
+words_again (Invoke id object version state seed input) h = split_again _ _ (words-no_space (Invoke id object version state seed input) h)
+words_again (Begin id handler now) h = split_again _ _ (words-no_space (Begin id handler now) h)
+words_again (Feed id attempt count) h = split_again _ _ (words-no_space (Feed id attempt count) h)
+words_again (Turn id attempt count) h = split_again _ _ (words-no_space (Turn id attempt count) h)
+words_again (Move id attempt count) h = split_again _ _ (words-no_space (Move id attempt count) h)
+words_again (Stop id attempt) h = split_again _ _ (words-no_space (Stop id attempt) h)
+words_again (Show id) h = split_again _ _ (words-no_space (Show id) h)
+
+-- ---- the reader of a line
+
+pub read_line : (bytes : List ℕ) (line : Line) → line_of (slice_split (λ byte. eqb byte 32) bytes) ≡ Some line → IsLine line × (bytes ≡ spelled line)
+read_line bytes line e =
+    let h = line_takes (slice_split (λ byte. eqb byte 32) bytes) line e in
+    (h.is_line, sym (join_with_byte-slice_split 32 bytes) ∙ ap (λ (ws : List (List ℕ)). join_with_byte 32 ws) h.same)
+
+pub read_no_line : (bytes : List ℕ) → line_of (slice_split (λ byte. eqb byte 32) bytes) ≡ None → (line : Line) → IsLine line → bytes ≢ spelled line
+read_no_line bytes e line h spells =
+    none-some line (sym e ∙ ap line_of (ap (λ (bs : List ℕ). slice_split (λ byte. eqb byte 32) bs) spells ∙ words_again line h) ∙ line_again line h)

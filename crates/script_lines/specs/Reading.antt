@@ -1,0 +1,140 @@
+-- Reading a line from its words, as a computation: what the parts of the reader cite. That it reads just
+-- the spellings of lines is what the public reader says.
+use Rattle.std.specs.Prelude.{◌≡◌, ℕ, ◌^◌, ◌&&◌, ◌==◌, Bool, List, [], ◌∷◌, length, Option, Some, None, Result, Ok, Err, option_and_then, codes, if◌then◌else◌, bytes_eq, decimal, nat_lt, nat_le}
+use Rattle.std.specs.List.{list_all}
+use Rattle.std.specs.Str.Parse.{digits_value}
+use Rattle.script_lines.specs.declared.word.StateMode.{StateMode}
+use Rattle.script_lines.specs.declared.word.StateMode.TheVariants.{Whole, Hidden}
+use Rattle.script_lines.specs.declared.word.HandlerName.{HandlerName}
+use Rattle.script_lines.specs.declared.word.HandlerName.TheVariants.{Nap}
+use Rattle.script_lines.specs.declared.word.LineError.{LineError}
+use Rattle.script_lines.specs.declared.word.LineError.TheVariants.{NotUnderstood, Memory}
+use Rattle.script_lines.specs.declared.word.Command.{Command}
+use Rattle.script_lines.specs.declared.word.Command.TheVariants.{Invoke as InvokeCommand, Begin as BeginCommand, Feed as FeedCommand, Turn as TurnCommand, Move as MoveCommand, Stop as StopCommand, Show as ShowCommand}
+use Rattle.script_lines.specs.declared.line.Line.{Line}
+use Rattle.script_lines.specs.declared.line.Line.TheVariants.{Invoke, Begin, Feed, Turn, Move, Stop, Show}
+
+-- the next step of a reading, where there was a value so far
+unfoldable pub then_read : {A B : Type 0} → Option A → (A → Option B) → Option B
+then_read o next = option_and_then next o
+
+infixl 10 ◌>>=◌
+abbrev pub ◌>>=◌ : {A B : Type 0} → Option A → (A → Option B) → Option B
+o >>= next = then_read o next
+
+-- a function answered what the reading gives, unless memory ran out
+abbrev pub Gives : {A : Type 0} → Result A LineError → Option A → Type 0
+Gives (Ok value) read = read ≡ Some value
+Gives (Err NotUnderstood) read = read ≡ None
+Gives (Err Memory) read = Unit {0}
+
+-- the number that a word spells, where it is below the limit
+unfoldable pub number_below : ℕ → List ℕ → Option ℕ
+number_below limit word = let number = digits_value 10 word in
+    if bytes_eq word (decimal number) && nat_lt number limit then Some number else None
+
+abbrev pub is_word_byte : ℕ → Bool
+is_word_byte byte = nat_le 33 byte && nat_le byte 126
+
+unfoldable pub text_of : List ℕ → Option (List ℕ)
+text_of word = if bytes_eq word (codes "-") then Some [] else
+    (if nat_lt 0 (length word) && list_all is_word_byte word then Some word else None)
+
+unfoldable pub state_of : List ℕ → Option StateMode
+state_of word = if bytes_eq word (codes "whole") then Some Whole else
+    (if bytes_eq word (codes "none") then Some Hidden else None)
+
+unfoldable pub handler_of : List ℕ → Option HandlerName
+handler_of word = if bytes_eq word (codes "nap") then Some Nap else None
+
+unfoldable pub invoke_of : List ℕ → List ℕ → List ℕ → List ℕ → List ℕ → List ℕ → Option Line
+invoke_of id object version state seed input = do
+  id ← text_of id
+  object ← text_of object
+  version ← number_below (2 ^ 32) version
+  state ← state_of state
+  seed ← number_below (2 ^ 64) seed
+  input ← text_of input
+  Some (Invoke id object version state seed input)
+
+unfoldable pub begin_of : List ℕ → List ℕ → List ℕ → Option Line
+begin_of id handler now = do
+  id ← text_of id
+  handler ← handler_of handler
+  now ← number_below (2 ^ 64) now
+  Some (Begin id handler now)
+
+unfoldable pub feed_of : List ℕ → List ℕ → List ℕ → Option Line
+feed_of id attempt count = do
+  id ← text_of id
+  attempt ← number_below (2 ^ 32) attempt
+  count ← number_below (2 ^ 32) count
+  Some (Feed id attempt count)
+
+unfoldable pub turn_of : List ℕ → List ℕ → List ℕ → Option Line
+turn_of id attempt count = do
+  id ← text_of id
+  attempt ← number_below (2 ^ 32) attempt
+  count ← number_below (2 ^ 32) count
+  if count == 0 then None else Some (Turn id attempt count)
+
+unfoldable pub move_of : List ℕ → List ℕ → List ℕ → Option Line
+move_of id attempt count = do
+  id ← text_of id
+  attempt ← number_below (2 ^ 32) attempt
+  count ← number_below (2 ^ 32) count
+  Some (Move id attempt count)
+
+unfoldable pub stop_of : List ℕ → List ℕ → Option Line
+stop_of id attempt = do
+  id ← text_of id
+  attempt ← number_below (2 ^ 32) attempt
+  Some (Stop id attempt)
+
+unfoldable pub show_of : List ℕ → Option Line
+show_of id = do
+  id ← text_of id
+  Some (Show id)
+
+-- what is read from just so many words
+unfoldable pub of_one : (List ℕ → Option Line) → List (List ℕ) → Option Line
+of_one read (a ∷ []) = read a
+of_one read words = None
+
+unfoldable pub of_two : (List ℕ → List ℕ → Option Line) → List (List ℕ) → Option Line
+of_two read (a ∷ b ∷ []) = read a b
+of_two read words = None
+
+unfoldable pub of_three : (List ℕ → List ℕ → List ℕ → Option Line) → List (List ℕ) → Option Line
+of_three read (a ∷ b ∷ c ∷ []) = read a b c
+of_three read words = None
+
+unfoldable pub of_six : (List ℕ → List ℕ → List ℕ → List ℕ → List ℕ → List ℕ → Option Line) → List (List ℕ) → Option Line
+of_six read (a ∷ b ∷ c ∷ d ∷ e ∷ f ∷ []) = read a b c d e f
+of_six read words = None
+
+unfoldable pub command_of : List ℕ → Option Command
+command_of word =
+    if bytes_eq word (codes "invoke") then Some InvokeCommand else
+    (if bytes_eq word (codes "begin") then Some BeginCommand else
+    (if bytes_eq word (codes "feed") then Some FeedCommand else
+    (if bytes_eq word (codes "turn") then Some TurnCommand else
+    (if bytes_eq word (codes "move") then Some MoveCommand else
+    (if bytes_eq word (codes "stop") then Some StopCommand else
+    (if bytes_eq word (codes "show") then Some ShowCommand else None))))))
+
+unfoldable pub arguments_of : Command → List (List ℕ) → Option Line
+arguments_of InvokeCommand = of_six invoke_of
+arguments_of BeginCommand = of_three begin_of
+arguments_of FeedCommand = of_three feed_of
+arguments_of TurnCommand = of_three turn_of
+arguments_of MoveCommand = of_three move_of
+arguments_of StopCommand = of_two stop_of
+arguments_of ShowCommand = of_one show_of
+
+-- the line that the words spell
+unfoldable pub line_of : List (List ℕ) → Option Line
+line_of [] = None
+line_of (word ∷ words) = do
+  command ← command_of word
+  arguments_of command words

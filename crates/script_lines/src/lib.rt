@@ -1,0 +1,8 @@
+//! The script: its lines, and the texts that it prints.
+#![tactic(auto)]
+
+pub mod line;
+pub mod reading;
+pub mod script;
+pub mod text;
+pub mod word;

@@ -1,0 +1,207 @@
+//! The lines of a script.
+#![tactic(auto, unfolding(crate::specs::Reading::then_read, crate::specs::Reading::invoke_of, crate::specs::Reading::begin_of, crate::specs::Reading::feed_of, crate::specs::Reading::turn_of, crate::specs::Reading::move_of, crate::specs::Reading::stop_of, crate::specs::Reading::show_of, crate::specs::Reading::of_one, crate::specs::Reading::of_two, crate::specs::Reading::of_three, crate::specs::Reading::of_six))]
+
+ghost use Rattle.std.specs.Prelude.{◌≡◌, ◌==◌, map, IfOk};
+ghost use Rattle.std.specs.List.{slice_split};
+ghost use Rattle.script_lines.specs.Word.{Reads};
+ghost use Rattle.script_lines.specs.Line.{spelled, IsLine};
+ghost use Rattle.script_lines.specs.Reading.{Gives, invoke_of, begin_of, feed_of, turn_of, move_of, stop_of, show_of, of_one, of_two, of_three, of_six, line_of};
+
+use crate::word::{
+    Command, HandlerName, LineError, StateMode, parse_command, parse_handler, parse_state,
+    parse_text, parse_u32, parse_u64,
+};
+use bytes::{ByteStr, Bytes};
+use std::alloc::{AllocError, Global};
+
+/// A line that is understood. `id` names an invocation, `attempt` one of its attempts.
+#[derive(Debug, PartialEq, Eq, Drop)]
+pub enum Line {
+    /// Makes an invocation of an object, at a protocol version.
+    Invoke {
+        id: ByteStr,
+        object: ByteStr,
+        version: u32,
+        state: StateMode,
+        seed: u64,
+        input: Bytes,
+    },
+    /// Begins an attempt with a handler, at a moment in milliseconds.
+    Begin {
+        id: ByteStr,
+        handler: HandlerName,
+        now: u64,
+    },
+    /// Moves up to `count` input bytes to the attempt.
+    Feed {
+        id: ByteStr,
+        attempt: u32,
+        count: u32,
+    },
+    /// Takes up to `count` turns, at least one.
+    Turn {
+        id: ByteStr,
+        attempt: u32,
+        count: u32,
+    },
+    /// Moves up to `count` output bytes to the store.
+    Move {
+        id: ByteStr,
+        attempt: u32,
+        count: u32,
+    },
+    /// Ends the attempt.
+    Stop {
+        id: ByteStr,
+        attempt: u32,
+    },
+    /// Prints what is recorded.
+    Show {
+        id: ByteStr,
+    },
+}
+
+fn parse_invoke(alloc: Global, arguments: &[&[u8]]) -> Result<Line, LineError>
+    ensures { Gives result (of_six invoke_of (map (λ word. word.now) arguments.now)) }
+{
+    let [id, object, version, state, seed, input] = arguments else {
+        return Err(LineError::NotUnderstood);
+    };
+    parse_invocation(alloc, id, object, version, state, seed, input)
+}
+
+fn parse_invocation(
+    alloc: Global,
+    id: &[u8],
+    object: &[u8],
+    version: &[u8],
+    state: &[u8],
+    seed: &[u8],
+    input: &[u8],
+) -> Result<Line, LineError>
+    ensures { Gives result (invoke_of id.now object.now version.now state.now seed.now input.now) }
+{
+    let id = parse_text(alloc, id)?;
+    let object = parse_text(alloc, object)?;
+    let version = parse_u32(version).ok_or(LineError::NotUnderstood)?;
+    let state = parse_state(state).ok_or(LineError::NotUnderstood)?;
+    let seed = parse_u64(seed).ok_or(LineError::NotUnderstood)?;
+    let input = parse_text(alloc, input)?.into_bytes();
+    Ok(Line::Invoke {
+        id,
+        object,
+        version,
+        state,
+        seed,
+        input,
+    })
+}
+
+fn parse_begin(alloc: Global, arguments: &[&[u8]]) -> Result<Line, LineError>
+    ensures { Gives result (of_three begin_of (map (λ word. word.now) arguments.now)) }
+{
+    let [id, handler, now] = arguments else {
+        return Err(LineError::NotUnderstood);
+    };
+    let id = parse_text(alloc, id)?;
+    let handler = parse_handler(handler).ok_or(LineError::NotUnderstood)?;
+    let now = parse_u64(now).ok_or(LineError::NotUnderstood)?;
+    Ok(Line::Begin { id, handler, now })
+}
+
+fn parse_feed(alloc: Global, arguments: &[&[u8]]) -> Result<Line, LineError>
+    ensures { Gives result (of_three feed_of (map (λ word. word.now) arguments.now)) }
+{
+    let [id, attempt, count] = arguments else {
+        return Err(LineError::NotUnderstood);
+    };
+    let id = parse_text(alloc, id)?;
+    let attempt = parse_u32(attempt).ok_or(LineError::NotUnderstood)?;
+    let count = parse_u32(count).ok_or(LineError::NotUnderstood)?;
+    Ok(Line::Feed { id, attempt, count })
+}
+
+fn parse_turn(alloc: Global, arguments: &[&[u8]]) -> Result<Line, LineError>
+    ensures { Gives result (of_three turn_of (map (λ word. word.now) arguments.now)) }
+{
+    let [id, attempt, count] = arguments else {
+        return Err(LineError::NotUnderstood);
+    };
+    let id = parse_text(alloc, id)?;
+    let attempt = parse_u32(attempt).ok_or(LineError::NotUnderstood)?;
+    let count = parse_u32(count).ok_or(LineError::NotUnderstood)?;
+    if count == 0 {
+        return Err(LineError::NotUnderstood);
+    }
+    Ok(Line::Turn { id, attempt, count })
+}
+
+fn parse_move(alloc: Global, arguments: &[&[u8]]) -> Result<Line, LineError>
+    ensures { Gives result (of_three move_of (map (λ word. word.now) arguments.now)) }
+{
+    let [id, attempt, count] = arguments else {
+        return Err(LineError::NotUnderstood);
+    };
+    let id = parse_text(alloc, id)?;
+    let attempt = parse_u32(attempt).ok_or(LineError::NotUnderstood)?;
+    let count = parse_u32(count).ok_or(LineError::NotUnderstood)?;
+    Ok(Line::Move { id, attempt, count })
+}
+
+fn parse_stop(alloc: Global, arguments: &[&[u8]]) -> Result<Line, LineError>
+    ensures { Gives result (of_two stop_of (map (λ word. word.now) arguments.now)) }
+{
+    let [id, attempt] = arguments else {
+        return Err(LineError::NotUnderstood);
+    };
+    let id = parse_text(alloc, id)?;
+    let attempt = parse_u32(attempt).ok_or(LineError::NotUnderstood)?;
+    Ok(Line::Stop { id, attempt })
+}
+
+fn parse_show(alloc: Global, arguments: &[&[u8]]) -> Result<Line, LineError>
+    ensures { Gives result (of_one show_of (map (λ word. word.now) arguments.now)) }
+{
+    let [id] = arguments else {
+        return Err(LineError::NotUnderstood);
+    };
+    let id = parse_text(alloc, id)?;
+    Ok(Line::Show { id })
+}
+
+/// The words between single spaces.
+fn words_between<'a>(alloc: Global, bytes: &'a [u8]) -> Result<Vec<&'a [u8]>, AllocError>
+    ensures { IfOk result (λ words. map (λ word. word.now) words.items ≡ slice_split (λ byte. byte == 32) bytes.now) }
+{
+    bytes.split(|byte| *byte == b' ').collect(alloc)
+}
+
+#[tactic(auto, unfolding(crate::specs::Reading::line_of, crate::specs::Reading::arguments_of, crate::specs::Reading::then_read))]
+fn parse_words(alloc: Global, words: &[&[u8]]) -> Result<Line, LineError>
+    ensures { Gives result (line_of (map (λ word. word.now) words.now)) }
+{
+    let [command, arguments @ ..] = words else {
+        return Err(LineError::NotUnderstood);
+    };
+    match parse_command(command).ok_or(LineError::NotUnderstood)? {
+        Command::Invoke => parse_invoke(alloc, arguments),
+        Command::Begin => parse_begin(alloc, arguments),
+        Command::Feed => parse_feed(alloc, arguments),
+        Command::Turn => parse_turn(alloc, arguments),
+        Command::Move => parse_move(alloc, arguments),
+        Command::Stop => parse_stop(alloc, arguments),
+        Command::Show => parse_show(alloc, arguments),
+    }
+}
+
+/// The line that the bytes spell, without its line feed; `None` where they spell no line.
+pub fn parse_line(alloc: Global, bytes: &[u8]) -> Result<Option<Line>, AllocError>
+    ensures { IfOk result (Reads spelled IsLine bytes.now) }
+{
+    let words = words_between(alloc, bytes)?;
+    match parse_words(alloc, &words) {
+        Ok(line) => Ok(Some(line)),
+        Err(LineError::NotUnderstood) => Ok(None),
+        Err(LineError::Memory) => Err(AllocError),
+    }
+}

@@ -1,0 +1,188 @@
+//! What the lines of a script print, each without its line feed.
+
+ghost use Rattle.std.specs.Prelude.{Some};
+
+use std::fmt;
+
+/// A byte as two hexadecimal digits in lower case.
+#[derive(Clone, Copy, Debug)]
+struct HexByte(u8);
+
+impl fmt::Display for HexByte {
+    ghost use Rattle.script_lines.specs.Text.{hex_byte};
+
+    ghost output = { λ byte. Some (hex_byte byte.0) };
+
+    fn fmt<W: fmt::Write>(&self, f: &mut fmt::Formatter<W>) -> fmt::Result {
+        let byte = self.0;
+        write!(f, "{byte:02x}")
+    }
+}
+
+/// Bytes as hexadecimal digits in lower case, and a dash where there are none.
+#[derive(Clone, Copy, Debug)]
+pub struct Hex<'a>(pub &'a [u8]);
+
+impl fmt::Display for Hex<'_> {
+    ghost use Rattle.script_lines.specs.Text.{hex_text};
+
+    ghost output = { λ hex. Some (hex_text hex.0.now) };
+
+    fn fmt<W: fmt::Write>(&self, f: &mut fmt::Formatter<W>) -> fmt::Result {
+        if self.0.is_empty() {
+            return write!(f, "-");
+        }
+        for byte in self.0 {
+            let digits = HexByte(*byte);
+            write!(f, "{digits}")?;
+        }
+        Ok(())
+    }
+}
+
+/// What the last of a line's turns came to.
+#[derive(Clone, Copy, Debug, PartialEq, Eq)]
+pub enum LastTurn {
+    /// A call was answered.
+    Answered,
+    /// The attempt waits for input.
+    Waiting,
+    /// The handler has ended.
+    Ended,
+    /// The attempt has failed, with this error code.
+    Failed(u16),
+}
+
+impl fmt::Display for LastTurn {
+    ghost use Rattle.script_lines.specs.Text.{turn_text};
+
+    ghost output = { λ turn. Some (turn_text turn) };
+
+    fn fmt<W: fmt::Write>(&self, f: &mut fmt::Formatter<W>) -> fmt::Result {
+        match self {
+            LastTurn::Answered => write!(f, "answered"),
+            LastTurn::Waiting => write!(f, "waiting"),
+            LastTurn::Ended => write!(f, "ended"),
+            LastTurn::Failed(code) => write!(f, "failed {code}"),
+        }
+    }
+}
+
+/// What a line came to, but for `show`. A refusal goes by its printed name, as `S9`.
+#[derive(Clone, Copy, Debug, PartialEq, Eq)]
+pub enum LineReply {
+    /// An invocation was made, or an attempt stopped.
+    Done,
+    /// An attempt of this number was begun.
+    Begun(u32),
+    /// So many bytes were handed out.
+    Fed(usize),
+    /// So many turns were taken.
+    Turned {
+        count: u32,
+        last: LastTurn,
+    },
+    /// So many bytes were moved and so many frames taken, and why no further one was.
+    Moved {
+        bytes: usize,
+        frames: usize,
+        refusal: Option<&'static str>,
+    },
+    /// Nothing was done.
+    Refused(&'static str),
+}
+
+impl fmt::Display for LineReply {
+    ghost use Rattle.script_lines.specs.Text.{reply_text};
+
+    ghost output = { λ reply. Some (reply_text reply) };
+
+    fn fmt<W: fmt::Write>(&self, f: &mut fmt::Formatter<W>) -> fmt::Result {
+        match self {
+            LineReply::Done => write!(f, "ok"),
+            LineReply::Begun(attempt) => write!(f, "attempt {attempt}"),
+            LineReply::Fed(bytes) => write!(f, "fed {bytes}"),
+            LineReply::Turned { count, last } => write!(f, "turn {count} {last}"),
+            LineReply::Moved {
+                bytes,
+                frames,
+                refusal: None,
+            } => write!(f, "moved {bytes} frames {frames}"),
+            LineReply::Moved {
+                bytes,
+                frames,
+                refusal: Some(name),
+            } => { write!(f, "moved {bytes} frames {frames} refused {name}") }
+            LineReply::Refused(name) => write!(f, "refused {name}"),
+        }
+    }
+}
+
+/// A recorded request: its place, counted from 1, the number of its frame's type, and its payload.
+#[derive(Clone, Copy, Debug)]
+pub struct ShownRequest<'a> {
+    pub place: usize,
+    pub ty: u16,
+    pub payload: &'a [u8],
+}
+
+impl fmt::Display for ShownRequest<'_> {
+    ghost use Rattle.script_lines.specs.Text.{request_text};
+
+    ghost output = { λ request. Some (request_text request) };
+
+    fn fmt<W: fmt::Write>(&self, f: &mut fmt::Formatter<W>) -> fmt::Result {
+        let place = self.place;
+        let ty = self.ty.to_be_bytes();
+        let ty = Hex(&ty);
+        let payload = Hex(self.payload);
+        write!(f, "{place} request {ty} {payload}")
+    }
+}
+
+/// The answer of an invocation.
+#[derive(Clone, Copy, Debug)]
+pub enum ShownAnswer<'a> {
+    /// There is none.
+    Missing,
+    Value(&'a [u8]),
+    Failure { code: u16, message: &'a [u8] },
+}
+
+impl fmt::Display for ShownAnswer<'_> {
+    ghost use Rattle.script_lines.specs.Text.{answer_text};
+
+    ghost output = { λ answer. Some (answer_text answer) };
+
+    fn fmt<W: fmt::Write>(&self, f: &mut fmt::Formatter<W>) -> fmt::Result {
+        match self {
+            ShownAnswer::Missing => write!(f, "answer none"),
+            ShownAnswer::Value(bytes) => {
+                let bytes = Hex(bytes);
+                write!(f, "answer value {bytes}")
+            }
+            ShownAnswer::Failure { code, message } => {
+                let message = Hex(message);
+                write!(f, "answer failure {code} {message}")
+            }
+        }
+    }
+}
+
+/// Whether an invocation is open.
+#[derive(Clone, Copy, Debug)]
+pub struct ShownOpenness(pub bool);
+
+impl fmt::Display for ShownOpenness {
+    ghost use Rattle.script_lines.specs.Text.{open_text};
+
+    ghost output = { λ shown. Some (open_text shown.0) };
+
+    fn fmt<W: fmt::Write>(&self, f: &mut fmt::Formatter<W>) -> fmt::Result {
+        if self.0 {
+            write!(f, "open")
+        } else {
+            write!(f, "closed")
+        }
+    }
+}
