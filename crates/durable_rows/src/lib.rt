@@ -1,5 +1,7 @@
-//! The worked rows of the specification, as scripts.
+//! The worked rows of the specification, as scripts and as schedules.
 #![tactic(auto)]
 
 #[cfg(test)]
-mod tests;
+mod schedules;
+#[cfg(test)]
+mod scripts;
