@@ -124,8 +124,9 @@ fn store_of_a_nap(rt: HostRuntime) -> Result<(), Fail> {
     let (scheduler, _replies) = ran(rt.alloc())?;
     let store = scheduler.into_store();
     let requests = store.requests(&i1()).ok().ok_or("no invocation")?;
+    let first = requests.first().ok_or("no request")?;
     assert_eq!(rt;
-        requests[0].payload.as_slice(),
+        first.payload.as_slice(),
         [0x08, 0x0a, 0x58, 0x01].as_slice()
     );
     Ok(())
