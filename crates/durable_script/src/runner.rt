@@ -3,7 +3,7 @@ ghost use Rattle.std.specs.Prelude.{◌≡◌, ◌<◌, ◌≤◌, ◌+◌, ◌�
 ghost use Rattle.script_lines.specs.Line.{IsLine};
 ghost use Rattle.invocation_vm.specs.Options.{default_options};
 ghost use Rattle.durable_schedule.specs.Schedule.{IsNew};
-ghost use Rattle.durable_script.specs.Line.{new_invocation, was_answered, DoesEvent, TakesTurns, TookTurns, DoesLine};
+ghost use Rattle.durable_script.specs.Line.{new_invocation, nap, was_answered, DoesEvent, TakesTurns, TookTurns, DoesLine};
 ghost use Rattle.durable_script.specs.Asked.{none_asked, is_second, asked_after, Understands};
 ghost use Rattle.durable_script.specs.Runner.{DoesNext, StopsAt};
 
@@ -42,8 +42,8 @@ pub(crate) struct Runner {
     pub asked: Asked,
 }
 
-/// The whole of a new invocation. It has no headers.
-fn new_invocation(
+/// An invocation is made, without headers.
+fn invoke(
     alloc: Global,
     id: ByteStr,
     object: ByteStr,
@@ -51,10 +51,10 @@ fn new_invocation(
     state: StateMode,
     seed: u64,
     input: Bytes,
-) -> NewInvocation
-    ensures { result ≡ new_invocation id object version state seed input }
+) -> Event<Nap>
+    ensures { result ≡ Event.Invoke (new_invocation id object version state seed input) }
 {
-    NewInvocation {
+    Event::Invoke(NewInvocation {
         id,
         object,
         input,
@@ -65,6 +65,19 @@ fn new_invocation(
             StateMode::Whole => journal_model::StateMode::Whole,
             StateMode::Hidden => journal_model::StateMode::None,
         },
+    })
+}
+
+/// An attempt is begun, with the handler `nap`.
+fn begin(alloc: Global, invocation: ByteStr, now: u64) -> Event<Nap>
+    ensures { result ≡ Event.Begin invocation (nap alloc) now }
+{
+    let until_ms = NAP_UNTIL;
+    let handler = Nap { alloc, until_ms };
+    Event::Begin {
+        invocation,
+        handler,
+        now,
     }
 }
 
@@ -135,25 +148,14 @@ fn carry_out(scheduler: &mut Scheduler<Nap>, line: Line) -> Result<String, Alloc
             seed,
             input,
         } => {
-            let new = new_invocation(alloc, id, object, version, state, seed, input);
-            do_event(scheduler, Event::Invoke(new))
+            let event = invoke(alloc, id, object, version, state, seed, input);
+            do_event(scheduler, event)
         }
         Line::Begin {
-            id: invocation,
+            id,
             handler: HandlerName::Nap,
             now,
-        } => {
-            let until_ms = NAP_UNTIL;
-            let handler = Nap { alloc, until_ms };
-            do_event(
-                scheduler,
-                Event::Begin {
-                    invocation,
-                    handler,
-                    now,
-                },
-            )
-        }
+        } => do_event(scheduler, begin(alloc, id, now)),
         Line::Feed { id, attempt, count } => do_event(
             scheduler,
             Event::Feed {

@@ -5,10 +5,10 @@ use Rattle.durable_script.proofs.Showing.{shows_some}
 use Rattle.durable_script.proofs.runner.carry_out.Goals as goal
 
 pub returns-in-Invoke-clause-err : goal.returns-in-Invoke-clause-err
-returns-in-Invoke-clause-err c = rw (c.in-Invoke.is, ← c.new_invocation-new.ensures) c.do_event.ensures.err
+returns-in-Invoke-clause-err c = rw (c.in-Invoke.is, ← c.invoke-event.ensures) c.do_event.ensures.err
 
 pub returns-in-Begin-default-Nap-default-clause-err : goal.returns-in-Begin-default-Nap-default-clause-err
-returns-in-Begin-default-Nap-default-clause-err c = rw c.in-Begin-default-Nap-default.is c.do_event-in-Begin-default-Nap-default.ensures.err
+returns-in-Begin-default-Nap-default-clause-err c = rw (c.in-Begin-default-Nap-default.is, ← c.begin.ensures) c.do_event-in-Begin-default-Nap-default.ensures.err
 
 pub returns-in-Feed-clause-err : goal.returns-in-Feed-clause-err
 returns-in-Feed-clause-err c = rw c.in-Feed.is c.do_event-in-Feed.ensures.err
