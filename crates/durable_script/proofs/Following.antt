@@ -1,5 +1,5 @@
 -- Each line keeps each invocation in the run of `nap`.
-use Rattle.std.proofs.Common.{◌≡◌, ℕ, suc, zero, List, [], ◌∷◌, Option, Some, None, Result, Ok, Err, OnErr, refl, sym, ap, subst, ◌∙◌}
+use Rattle.std.proofs.Common.{◌≡◌, ℕ, suc, zero, List, [], ◌∷◌, Option, None, Result, Ok, Err, OnErr, refl, sym, ap, subst, ◌∙◌}
 use Rattle.built_in_handlers.specs.declared.handlers.Nap.{Nap}
 use Rattle.built_in_handlers.specs.Handlers.{nap_until}
 use Rattle.journal_store.specs.declared.row.StoredInvocation.{StoredInvocation}

@@ -1,5 +1,5 @@
 -- What is shown of an invocation.
-use Rattle.std.proofs.Common.{◌≡◌, ℕ, ◌+◌, zero, suc, not, List, [], ◌∷◌, ◌++◌, length, Option, Some, None, refl, sym, ap, ◌∙◌, inl, inr, append_assoc, append-nil, arith, add-one}
+use Rattle.std.proofs.Common.{◌≡◌, ℕ, ◌+◌, not, List, [], ◌∷◌, ◌++◌, length, Option, Some, None, refl, sym, ap, ◌∙◌, inl, inr, append_assoc, append-nil, arith}
 use Rattle.journal_protocol.specs.MessageType.{number_of}
 use Rattle.journal_store.specs.declared.row.StoredInvocation.{StoredInvocation}
 use Rattle.journal_store.specs.declared.row.RecordedRequest.{RecordedRequest}

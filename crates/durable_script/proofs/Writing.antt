@@ -1,5 +1,5 @@
 -- What a writer holds behind one write more.
-use Rattle.std.proofs.Common.{◌≡◌, ℕ, ◌+◌, ◌-◌, ◌≤◌, List, [], ◌∷◌, ◌++◌, length, take, drop, Option, Some, None, Result, Ok, Err, refl, sym, ap, subst, ◌∙◌, arith, length-drop}
+use Rattle.std.proofs.Common.{◌≡◌, ℕ, ◌+◌, ◌-◌, ◌≤◌, List, length, take, drop, Option, Some, None, Result, Ok, Err, sym, ap, subst, ◌∙◌, arith, length-drop}
 use lib.Seq.{take-add}
 use Rattle.std.proofs.Math.Seq.{take-length}
 use Rattle.std.specs.Io.{WritesAtMost}

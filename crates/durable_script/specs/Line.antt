@@ -1,5 +1,5 @@
 -- What a line does to the scheduler, and its text with the line feed.
-use Rattle.std.specs.Prelude.{◌≡◌, ℕ, Bool, true, false, suc, zero, ◌+◌, ◌<◌, ◌≤◌, List, [], ◌∷◌, ◌++◌}
+use Rattle.std.specs.Prelude.{◌≡◌, ℕ, Bool, true, false, suc, zero, ◌+◌, ◌≤◌, List, [], ◌∷◌, ◌++◌}
 use Rattle.std.specs.declared.alloc.Global.{Global}
 use Rattle.built_in_handlers.specs.declared.handlers.Nap.{Nap}
 use Rattle.built_in_handlers.specs.Handlers.{nap_until}
@@ -18,7 +18,6 @@ use Rattle.script_lines.specs.declared.line.Line.{Line}
 use Rattle.script_lines.specs.declared.line.Line.TheVariants.{Invoke, Begin, Feed, Turn, Move, Stop, Show}
 use Rattle.script_lines.specs.declared.word.StateMode.{StateMode}
 use Rattle.script_lines.specs.declared.word.StateMode.TheVariants.{Whole, Hidden}
-use Rattle.script_lines.specs.declared.word.HandlerName.{HandlerName}
 use Rattle.durable_script.specs.Printed.{printed}
 use Rattle.durable_script.specs.Shown.{Shows}
 

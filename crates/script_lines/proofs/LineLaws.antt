@@ -1,5 +1,5 @@
 -- A line is read just where the bytes are its spelling.
-use Rattle.std.proofs.Common.{◌≡◌, ℕ, zero, suc, ◌+◌, ◌^◌, ◌<◌, ◌≤◌, Bool, true, false, cond, eqb, inl, inr, ◌⊎◌, List, [], ◌∷◌, ◌++◌, length, All, Option, Some, None, Result, Ok, Err, refl, sym, ap, subst, ◌∙◌, arith, ◌≢◌}
+use Rattle.std.proofs.Common.{◌≡◌, ℕ, ◌^◌, ◌<◌, ◌≤◌, true, false, cond, eqb, inl, inr, List, [], ◌∷◌, Option, Some, None, refl, sym, ap, subst, ◌∙◌, arith, ◌≢◌}
 use Rattle.std.specs.Prelude.{codes, decimal, bytes_eq, nat_lt}
 use Rattle.std.specs.List.{AllByRecursion, list_all, join_with_byte, slice_split}
 use Rattle.std.specs.Str.Parse.{AllDigits}
@@ -18,9 +18,9 @@ use Rattle.script_lines.specs.declared.word.Command.{Command}
 use Rattle.script_lines.specs.declared.word.Command.TheVariants.{Invoke as InvokeCommand, Begin as BeginCommand, Feed as FeedCommand, Turn as TurnCommand, Move as MoveCommand, Stop as StopCommand, Show as ShowCommand}
 use Rattle.script_lines.specs.declared.line.Line.{Line}
 use Rattle.script_lines.specs.declared.line.Line.TheVariants.{Invoke, Begin, Feed, Turn, Move, Stop, Show}
-use Rattle.script_lines.specs.Word.{Reads, text_word, IsText, IsWordByte, state_word, handler_word}
+use Rattle.script_lines.specs.Word.{text_word, IsText, IsWordByte, state_word, handler_word}
 use Rattle.script_lines.specs.Line.{words_of, spelled, IsLine}
-use Rattle.script_lines.specs.Reading.{then_read, ◌>>=◌, number_below, text_of, state_of, handler_of, invoke_of, begin_of, feed_of, turn_of, move_of, stop_of, show_of, of_one, of_two, of_three, of_six, command_of, arguments_of, line_of}
+use Rattle.script_lines.specs.Reading.{then_read, number_below, invoke_of, begin_of, feed_of, turn_of, move_of, stop_of, show_of, of_one, of_two, of_three, of_six, command_of, arguments_of, line_of}
 use Rattle.script_lines.proofs.WordLaws.{IsReading, number_reading, text_reading, state_reading, handler_reading, chosen}
 
 -- the words are those of the line

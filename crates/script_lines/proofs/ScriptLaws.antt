@@ -1,14 +1,11 @@
 -- The first line of a script, and the lines behind it.
-use Rattle.std.proofs.Common.{◌≡◌, ℕ, ◌+◌, ◌-◌, ◌<◌, ◌≤◌, Bool, true, false, cond, ltb, eqb, List, [], ◌∷◌, length, take, drop, get_or, Option, Some, None, refl, sym, ap, subst, ◌∙◌, arith}
+use Rattle.std.proofs.Common.{◌≡◌, ℕ, ◌+◌, Bool, true, false, cond, ltb, eqb, List, [], ◌∷◌, length, take, drop, Some, None, refl, subst, arith}
 use Rattle.std.specs.Prelude.{position}
-use Rattle.std.specs.List.{slice_split, position_or_len, All}
+use Rattle.std.specs.List.{slice_split, position_or_len}
 use Rattle.std.proofs.lemmas.Bool.{ltb-true, ltb-false}
 use Rattle.std.proofs.lemmas.Option.{cond_some}
-use Rattle.std.proofs.lemmas.List.{length-drop}
 use Rattle.std.proofs.lemmas.List.Splits.{slice_split_first, slice_split_none}
 use Rattle.std.proofs.lemmas.List.Sums.{fails_before_first}
-use Rattle.script_lines.specs.Script.{is_skipped, numbered_from}
-use Rattle.script_lines.proofs.WordLaws.{chosen}
 
 abbrev is_line_feed : ℕ → Bool
 is_line_feed byte = eqb byte 10

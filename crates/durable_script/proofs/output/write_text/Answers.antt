@@ -1,4 +1,4 @@
-use Rattle.std.proofs.Common.{◌≡◌, refl, subst, sym, ◌∙◌}
+use Rattle.std.proofs.Common.{subst, sym}
 use Rattle.durable_script.proofs.Writing.{HasTaken, took_more, took_none}
 use Rattle.durable_script.proofs.output.write_text.Goals.{in-Ok, in-Err}
 use Rattle.durable_script.proofs.output.write_text.Goals as goal

@@ -1,4 +1,4 @@
-use Rattle.std.proofs.Common.{◌≡◌, ℕ, ◌<◌, length, take, List, [], ◌∷◌, ◌++◌, Option, Some, None, refl, sym, ap, subst, ◌∙◌}
+use Rattle.std.proofs.Common.{◌≡◌, ℕ, ◌<◌, length, take, List, ◌∷◌, subst}
 use Rattle.std.proofs.lemmas.Result.{err_from_is_err_and}
 use Rattle.std.proofs.KnownBytes.{Appends-trans}
 use Rattle.std.specs.Io.KnownBytes.{Appends}
@@ -6,8 +6,8 @@ use Rattle.std.specs.Prelude.{string_bytes}
 use Rattle.script_lines.specs.Script.{numbered_lines}
 use Rattle.script_lines.specs.ScriptLines.{lines_left}
 use Rattle.durable_script.specs.Runner.{DoesNext}
-use Rattle.durable_script.specs.Run.{texts_of, DoesLines}
-use Rattle.durable_script.proofs.Doing.{next_line, one_more, asked_more, stops, breaks, whole}
+use Rattle.durable_script.specs.Run.{texts_of}
+use Rattle.durable_script.proofs.Doing.{next_line, one_more, asked_more, stops, breaks}
 use Rattle.durable_script.proofs.run.do_lines.Goals as goal
 
 pub returns-in_err-text : goal.returns-in_err-text

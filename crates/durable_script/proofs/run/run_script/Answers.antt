@@ -1,5 +1,4 @@
-use Rattle.std.proofs.Common.{◌≡◌, ℕ, List, sym, subst, inr, refl}
-use Rattle.journal_store.specs.Rows.{Rows}
+use Rattle.std.proofs.Common.{ℕ, List, sym, subst, inr}
 use Rattle.script_lines.specs.Script.{numbered_lines}
 use Rattle.durable_script.specs.Run.{DoesLines, FollowsNap}
 use Rattle.durable_script.proofs.Doing.{some_done}

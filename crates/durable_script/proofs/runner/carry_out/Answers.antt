@@ -1,5 +1,4 @@
-use Rattle.std.proofs.Common.{◌≡◌, sym, refl}
-use Rattle.durable_script.specs.Line.{DoesLine}
+use Rattle.std.proofs.Common.{refl}
 use Rattle.durable_script.proofs.Following.{on_err}
 use Rattle.durable_script.proofs.Showing.{shows_some}
 use Rattle.durable_script.proofs.runner.carry_out.Goals as goal

@@ -1,4 +1,4 @@
-use Rattle.std.proofs.Common.{◌∷◌, [], ◌++◌, Result, Ok, Err, OnErr, refl}
+use Rattle.std.proofs.Common.{◌∷◌, [], ◌++◌, refl}
 use Rattle.durable_script.specs.Printed.{printed}
 use Rattle.durable_script.proofs.Following.{on_err}
 use Rattle.durable_script.proofs.runner.do_event.Goals as goal

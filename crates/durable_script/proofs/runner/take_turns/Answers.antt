@@ -1,5 +1,4 @@
-use Rattle.std.proofs.Common.{◌≡◌, ◌≤◌, ◌+◌, ℕ, suc, true, false, refl, sym, subst, ◌∙◌, add-one, arith, not}
-use Rattle.built_in_handlers.specs.declared.handlers.Nap.{Nap}
+use Rattle.std.proofs.Common.{ℕ, refl, sym, subst, ◌∙◌, add-one, arith}
 use Rattle.durable_schedule.specs.declared.event.Event.TheVariants as event
 use Rattle.durable_schedule.specs.declared.event.Reply.{Reply}
 use Rattle.durable_schedule.specs.Schedule.{Applies}

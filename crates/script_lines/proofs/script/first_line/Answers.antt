@@ -1,4 +1,4 @@
-use Rattle.std.proofs.Common.{◌≡◌, ◌+◌, ◌-◌, ◌≤◌, ◌∙◌, sym, ap, refl, length, drop, take, arith}
+use Rattle.std.proofs.Common.{◌+◌, ◌-◌, sym, refl, length, drop, arith}
 use Rattle.std.proofs.lemmas.List.{take_all, length-drop}
 use Rattle.script_lines.proofs.ScriptLaws.{cut_at, not_cut}
 use Rattle.script_lines.proofs.script.first_line.Goals as goal

@@ -1,4 +1,4 @@
-use Rattle.std.proofs.Common.{◌≡◌, ◌∙◌, sym, arith}
+use Rattle.std.proofs.Common.{◌∙◌, sym, arith}
 use Rattle.script_lines.proofs.WordLaws.{no_text, text_is, not_parsed, parsed}
 use Rattle.script_lines.proofs.word.parse_u32.Goals as goal
 

@@ -1,4 +1,4 @@
-use Rattle.std.proofs.Common.{◌≡◌, ℕ, List, [], ◌∷◌, ◌++◌, ◌∙◌, ◌+◌, ◌<◌, sym, ap, rules, arith, take, get_or, length, length-take}
+use Rattle.std.proofs.Common.{ℕ, List, [], ◌∷◌, ◌++◌, ◌∙◌, ◌+◌, ◌<◌, sym, ap, rules, arith, take, length, length-take}
 use Rattle.std.proofs.Output.{has_written_append, has_written_of_eq}
 use Rattle.std.proofs.lemmas.List.{take_more}
 use Rattle.journal_store.specs.declared.row.RecordedRequest.{RecordedRequest}

@@ -1,4 +1,4 @@
-use Rattle.std.proofs.Common.{◌≡◌, arith, rules, false}
+use Rattle.std.proofs.Common.{arith, rules, false}
 use Rattle.std.proofs.Output.{has_written_of_eq}
 use Rattle.std.proofs.lemmas.Fmt.{hex_byte as printed_byte}
 use Rattle.script_lines.proofs.text.HexByteDisplay.fmt.Goals as goal
