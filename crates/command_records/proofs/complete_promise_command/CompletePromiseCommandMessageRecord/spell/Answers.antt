@@ -1,0 +1,10 @@
+use Rattle.std.proofs.Common.{refl, map, List, [], ◌∷◌, ◌++◌}
+use Rattle.std.specs.Prelude.{option_map}
+use Rattle.protocol_wire.specs.Parts.{bool_number, enum_number, optional_number, optional_bytes, packed, payload_of, plain_bytes, plain_number, repeated_bytes}
+use Rattle.protocol_wire.proofs.Puts.{chained, chain_block}
+use Rattle.protocol_wire.specs.declared.table.complete_promise_command.TheConstants.{COMPLETION_FAILURE, COMPLETION_VALUE, KEY, NAME, RESULT_COMPLETION_ID}
+use Rattle.command_records.specs.CompletePromiseCommand.{complete_promise_command_parts, completion_parts}
+use Rattle.command_records.proofs.complete_promise_command.CompletePromiseCommandMessageRecord.spell.Goals as goal
+
+pub returns : goal.returns
+returns c = chained (complete_promise_command_parts c.args.self.now) c.args.out.now.items _ (_, c.in_ok-put_text.ensures, chain_block (completion_parts c.args.self.now.completion) (plain_number RESULT_COMPLETION_ID.number c.args.self.now.result_completion_id ∷ plain_bytes NAME.number c.args.self.now.name ∷ []) _ _ _ c.in_ok-put_completion.ensures (_, c.in_ok-put_u32.ensures, (_, c.in_ok-put_text-2.ensures, refl)))
