@@ -1,9 +1,8 @@
 -- The fields of a get invocation output command.
-use Rattle.std.specs.Prelude.{IsUtf8, IfSome, List, [], map, option_map, ℕ, ◌-◌, ◌<◌, ◌^◌, ◌∷◌, ◌++◌, Option, Some, None}
-use Rattle.std.specs.List.{AllByRecursion}
+use Rattle.std.specs.Prelude.{IsUtf8, List, [], option_map, ℕ, ◌-◌, ◌<◌, ◌^◌, ◌∷◌, ◌++◌, Option, Some, None}
 use Rattle.protocol_wire.specs.Wire.{Field}
-use Rattle.protocol_wire.specs.Selection.{u32, u64, bool, text, numbers, texts, optional_u32, optional_u64, optional_text, optional_record, records, run, first_of}
-use Rattle.protocol_wire.specs.Parts.{Part, bool_number, enum_number, optional_number, optional_bytes, packed, payload_of, plain_bytes, plain_number, repeated_bytes}
+use Rattle.protocol_wire.specs.Selection.{u32, text, optional_text, optional_record, run, first_of}
+use Rattle.protocol_wire.specs.Parts.{Part, optional_bytes, payload_of, plain_bytes, plain_number}
 use Rattle.protocol_wire.specs.declared.table.get_invocation_output_command.TheConstants.{IDEMPOTENT_REQUEST_TARGET, INVOCATION_ID, NAME, RESULT_COMPLETION_ID, TARGET, WORKFLOW_TARGET}
 use Rattle.command_records.specs.IdempotentRequestTarget.{idempotent_request_target_of, idempotent_request_target_parts, IdempotentRequestTargetFits}
 use Rattle.command_records.specs.WorkflowTarget.{workflow_target_of, workflow_target_parts, WorkflowTargetFits}

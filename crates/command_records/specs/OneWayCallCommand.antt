@@ -1,9 +1,9 @@
 -- The fields of an one way call command.
-use Rattle.std.specs.Prelude.{IsUtf8, IfSome, List, [], map, option_map, ℕ, ◌-◌, ◌<◌, ◌^◌, ◌∷◌, ◌++◌, Option, Some, None}
+use Rattle.std.specs.Prelude.{IsUtf8, IfSome, List, [], map, ℕ, ◌-◌, ◌<◌, ◌^◌, ◌∷◌}
 use Rattle.std.specs.List.{AllByRecursion}
 use Rattle.protocol_wire.specs.Wire.{Field}
-use Rattle.protocol_wire.specs.Selection.{u32, u64, bool, text, numbers, texts, optional_u32, optional_u64, optional_text, optional_record, records, run, first_of}
-use Rattle.protocol_wire.specs.Parts.{Part, bool_number, enum_number, optional_number, optional_bytes, packed, payload_of, plain_bytes, plain_number, repeated_bytes}
+use Rattle.protocol_wire.specs.Selection.{u32, u64, text, optional_text, records}
+use Rattle.protocol_wire.specs.Parts.{Part, optional_bytes, payload_of, plain_bytes, plain_number, repeated_bytes}
 use Rattle.protocol_wire.specs.declared.table.one_way_call_command.TheConstants.{HANDLER_NAME, HEADERS, IDEMPOTENCY_KEY, INVOCATION_ID_NOTIFICATION_IDX, INVOKE_TIME, KEY, LIMIT_KEY, NAME, PARAMETER, SCOPE, SERVICE_NAME}
 use Rattle.protocol_records.specs.Header.{header_of, header_parts, HeaderFits}
 use Rattle.command_records.specs.declared.one_way_call_command.OneWayCallCommandMessage.{OneWayCallCommandMessage}

@@ -1,7 +1,13 @@
-use bytes::{Bytes, ByteStr};
+use bytes::{ByteStr, Bytes};
 use protocol_records::Header;
-use protocol_wire::table::call_command::{HANDLER_NAME, HEADERS, IDEMPOTENCY_KEY, INVOCATION_ID_NOTIFICATION_IDX, KEY, LIMIT_KEY, NAME, PARAMETER, RESULT_COMPLETION_ID, SCOPE, SERVICE_NAME};
-use protocol_wire::{Record, RecordType, bytes_at, optional_text_at, put_bytes, put_optional_text, put_records, put_text, put_u32, records_at, text_at, u32_at};
+use protocol_wire::table::call_command::{
+    HANDLER_NAME, HEADERS, IDEMPOTENCY_KEY, INVOCATION_ID_NOTIFICATION_IDX, KEY, LIMIT_KEY, NAME,
+    PARAMETER, RESULT_COMPLETION_ID, SCOPE, SERVICE_NAME,
+};
+use protocol_wire::{
+    Record, RecordType, bytes_at, optional_text_at, put_bytes, put_optional_text, put_records,
+    put_text, put_u32, records_at, text_at, u32_at,
+};
 use sequence::Sequence;
 use std::alloc::{AllocError, Global};
 
@@ -42,7 +48,11 @@ impl Record for CallCommandMessage {
         RecordType::CallCommand
     }
 
-    fn select(alloc: Global, payload: &[u8], levels: u32) -> Result<CallCommandMessage, AllocError> {
+    fn select(
+        alloc: Global,
+        payload: &[u8],
+        levels: u32,
+    ) -> Result<CallCommandMessage, AllocError> {
         Ok(CallCommandMessage {
             service_name: text_at(alloc, payload, SERVICE_NAME)?,
             handler_name: text_at(alloc, payload, HANDLER_NAME)?,
@@ -67,7 +77,11 @@ impl Record for CallCommandMessage {
         put_optional_text(out, IDEMPOTENCY_KEY, &self.idempotency_key)?;
         put_optional_text(out, SCOPE, &self.scope)?;
         put_optional_text(out, LIMIT_KEY, &self.limit_key)?;
-        put_u32(out, INVOCATION_ID_NOTIFICATION_IDX, self.invocation_id_notification_idx)?;
+        put_u32(
+            out,
+            INVOCATION_ID_NOTIFICATION_IDX,
+            self.invocation_id_notification_idx,
+        )?;
         put_u32(out, RESULT_COMPLETION_ID, self.result_completion_id)?;
         put_text(out, NAME, &self.name)?;
         Ok(())

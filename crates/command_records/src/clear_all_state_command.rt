@@ -27,7 +27,11 @@ impl Record for ClearAllStateCommandMessage {
         RecordType::ClearAllStateCommand
     }
 
-    fn select(alloc: Global, payload: &[u8], levels: u32) -> Result<ClearAllStateCommandMessage, AllocError> {
+    fn select(
+        alloc: Global,
+        payload: &[u8],
+        levels: u32,
+    ) -> Result<ClearAllStateCommandMessage, AllocError> {
         Ok(ClearAllStateCommandMessage {
             name: text_at(alloc, payload, NAME)?,
         })

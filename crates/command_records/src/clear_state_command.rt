@@ -1,4 +1,4 @@
-use bytes::{Bytes, ByteStr};
+use bytes::{ByteStr, Bytes};
 use protocol_wire::table::clear_state_command::{KEY, NAME};
 use protocol_wire::{Record, RecordType, bytes_at, put_bytes, put_text, text_at};
 use std::alloc::{AllocError, Global};
@@ -28,7 +28,11 @@ impl Record for ClearStateCommandMessage {
         RecordType::ClearStateCommand
     }
 
-    fn select(alloc: Global, payload: &[u8], levels: u32) -> Result<ClearStateCommandMessage, AllocError> {
+    fn select(
+        alloc: Global,
+        payload: &[u8],
+        levels: u32,
+    ) -> Result<ClearStateCommandMessage, AllocError> {
         Ok(ClearStateCommandMessage {
             key: bytes_at(alloc, payload, KEY)?,
             name: text_at(alloc, payload, NAME)?,

@@ -7,7 +7,9 @@ ghost use Rattle.command_records.specs.CompleteAwakeableCommand.{complete_awakea
 
 use bytes::ByteStr;
 use protocol_records::{Failure, Value};
-use protocol_wire::table::complete_awakeable_command::{AWAKEABLE_ID, FAILURE, NAME, RESULT, VALUE};
+use protocol_wire::table::complete_awakeable_command::{
+    AWAKEABLE_ID, FAILURE, NAME, RESULT, VALUE,
+};
 use protocol_wire::{Record, RecordType, chosen_record_at, put_record, put_text, text_at};
 use std::alloc::{AllocError, Global};
 
@@ -53,7 +55,9 @@ fn put_result(
     match one {
         None => Ok(()),
         Some(CompleteAwakeableCommandResult::Value(value)) => put_record(alloc, out, VALUE, value),
-        Some(CompleteAwakeableCommandResult::Failure(failure)) => put_record(alloc, out, FAILURE, failure),
+        Some(CompleteAwakeableCommandResult::Failure(failure)) => put_record(
+            alloc, out, FAILURE, failure,
+        ),
     }
 }
 
@@ -74,7 +78,11 @@ impl Record for CompleteAwakeableCommandMessage {
         RecordType::CompleteAwakeableCommand
     }
 
-    fn select(alloc: Global, payload: &[u8], levels: u32) -> Result<CompleteAwakeableCommandMessage, AllocError> {
+    fn select(
+        alloc: Global,
+        payload: &[u8],
+        levels: u32,
+    ) -> Result<CompleteAwakeableCommandMessage, AllocError> {
         Ok(CompleteAwakeableCommandMessage {
             awakeable_id: text_at(alloc, payload, AWAKEABLE_ID)?,
             result: result_at(alloc, payload, levels)?,

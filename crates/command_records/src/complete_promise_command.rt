@@ -7,8 +7,12 @@ ghost use Rattle.command_records.specs.CompletePromiseCommand.{complete_promise_
 
 use bytes::ByteStr;
 use protocol_records::{Failure, Value};
-use protocol_wire::table::complete_promise_command::{COMPLETION, COMPLETION_FAILURE, COMPLETION_VALUE, KEY, NAME, RESULT_COMPLETION_ID};
-use protocol_wire::{Record, RecordType, chosen_record_at, put_record, put_text, put_u32, text_at, u32_at};
+use protocol_wire::table::complete_promise_command::{
+    COMPLETION, COMPLETION_FAILURE, COMPLETION_VALUE, KEY, NAME, RESULT_COMPLETION_ID,
+};
+use protocol_wire::{
+    Record, RecordType, chosen_record_at, put_record, put_text, put_u32, text_at, u32_at,
+};
 use std::alloc::{AllocError, Global};
 
 /// What a promise is completed with.
@@ -36,10 +40,22 @@ fn completion_at(
     requires { payload_fault levels complete_promise_command_type payload.now ≡ None }
     ensures { IfOk result (λ r. r ≡ complete_promise_command_completion_of levels (fields payload.now)) }
 {
-    if let Some(completion_value) = chosen_record_at(alloc, payload, &COMPLETION, COMPLETION_VALUE, levels)? {
+    if let Some(completion_value) = chosen_record_at(
+        alloc,
+        payload,
+        &COMPLETION,
+        COMPLETION_VALUE,
+        levels,
+    )? {
         return Ok(Some(CompletePromiseCommandCompletion::CompletionValue(completion_value)));
     }
-    if let Some(completion_failure) = chosen_record_at(alloc, payload, &COMPLETION, COMPLETION_FAILURE, levels)? {
+    if let Some(completion_failure) = chosen_record_at(
+        alloc,
+        payload,
+        &COMPLETION,
+        COMPLETION_FAILURE,
+        levels,
+    )? {
         return Ok(Some(CompletePromiseCommandCompletion::CompletionFailure(completion_failure)));
     }
     Ok(None)
@@ -54,8 +70,18 @@ fn put_completion(
 {
     match one {
         None => Ok(()),
-        Some(CompletePromiseCommandCompletion::CompletionValue(completion_value)) => put_record(alloc, out, COMPLETION_VALUE, completion_value),
-        Some(CompletePromiseCommandCompletion::CompletionFailure(completion_failure)) => put_record(alloc, out, COMPLETION_FAILURE, completion_failure),
+        Some(CompletePromiseCommandCompletion::CompletionValue(completion_value)) => put_record(
+            alloc,
+            out,
+            COMPLETION_VALUE,
+            completion_value,
+        ),
+        Some(CompletePromiseCommandCompletion::CompletionFailure(completion_failure)) => put_record(
+            alloc,
+            out,
+            COMPLETION_FAILURE,
+            completion_failure,
+        ),
     }
 }
 
@@ -76,7 +102,11 @@ impl Record for CompletePromiseCommandMessage {
         RecordType::CompletePromiseCommand
     }
 
-    fn select(alloc: Global, payload: &[u8], levels: u32) -> Result<CompletePromiseCommandMessage, AllocError> {
+    fn select(
+        alloc: Global,
+        payload: &[u8],
+        levels: u32,
+    ) -> Result<CompletePromiseCommandMessage, AllocError> {
         Ok(CompletePromiseCommandMessage {
             key: text_at(alloc, payload, KEY)?,
             completion: completion_at(alloc, payload, levels)?,

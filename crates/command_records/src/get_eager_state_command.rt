@@ -5,10 +5,12 @@ ghost use Rattle.protocol_wire.specs.Parts.{payload_of};
 ghost use Rattle.protocol_wire.specs.declared.table.RecordType.TheVariants.{GetEagerStateCommand as get_eager_state_command_type};
 ghost use Rattle.command_records.specs.GetEagerStateCommand.{get_eager_state_command_result_of, result_parts};
 
-use bytes::{Bytes, ByteStr};
+use bytes::{ByteStr, Bytes};
 use protocol_records::{Value, Void};
 use protocol_wire::table::get_eager_state_command::{KEY, NAME, RESULT, VALUE, VOID};
-use protocol_wire::{Record, RecordType, bytes_at, chosen_record_at, put_bytes, put_record, put_text, text_at};
+use protocol_wire::{
+    Record, RecordType, bytes_at, chosen_record_at, put_bytes, put_record, put_text, text_at,
+};
 use std::alloc::{AllocError, Global};
 
 /// What a key holds, if anything.
@@ -74,7 +76,11 @@ impl Record for GetEagerStateCommandMessage {
         RecordType::GetEagerStateCommand
     }
 
-    fn select(alloc: Global, payload: &[u8], levels: u32) -> Result<GetEagerStateCommandMessage, AllocError> {
+    fn select(
+        alloc: Global,
+        payload: &[u8],
+        levels: u32,
+    ) -> Result<GetEagerStateCommandMessage, AllocError> {
         Ok(GetEagerStateCommandMessage {
             key: bytes_at(alloc, payload, KEY)?,
             name: text_at(alloc, payload, NAME)?,

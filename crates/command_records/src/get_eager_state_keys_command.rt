@@ -1,7 +1,9 @@
 use bytes::ByteStr;
 use protocol_records::StateKeys;
 use protocol_wire::table::get_eager_state_keys_command::{NAME, VALUE};
-use protocol_wire::{Record, RecordType, optional_record_at, put_optional_record, put_text, text_at};
+use protocol_wire::{
+    Record, RecordType, optional_record_at, put_optional_record, put_text, text_at,
+};
 use std::alloc::{AllocError, Global};
 
 /// The command that lists the keys of the object's state, with its answer. The store asks for the keys.
@@ -29,7 +31,11 @@ impl Record for GetEagerStateKeysCommandMessage {
         RecordType::GetEagerStateKeysCommand
     }
 
-    fn select(alloc: Global, payload: &[u8], levels: u32) -> Result<GetEagerStateKeysCommandMessage, AllocError> {
+    fn select(
+        alloc: Global,
+        payload: &[u8],
+        levels: u32,
+    ) -> Result<GetEagerStateKeysCommandMessage, AllocError> {
         Ok(GetEagerStateKeysCommandMessage {
             name: text_at(alloc, payload, NAME)?,
             value: optional_record_at(alloc, payload, VALUE, levels)?,

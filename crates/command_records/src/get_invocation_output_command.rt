@@ -8,8 +8,13 @@ ghost use Rattle.command_records.specs.GetInvocationOutputCommand.{get_invocatio
 use crate::idempotent_request_target::IdempotentRequestTarget;
 use crate::workflow_target::WorkflowTarget;
 use bytes::ByteStr;
-use protocol_wire::table::get_invocation_output_command::{IDEMPOTENT_REQUEST_TARGET, INVOCATION_ID, NAME, RESULT_COMPLETION_ID, TARGET, WORKFLOW_TARGET};
-use protocol_wire::{Record, RecordType, chosen_record_at, chosen_text_at, put_present_text, put_record, put_text, put_u32, text_at, u32_at};
+use protocol_wire::table::get_invocation_output_command::{
+    IDEMPOTENT_REQUEST_TARGET, INVOCATION_ID, NAME, RESULT_COMPLETION_ID, TARGET, WORKFLOW_TARGET,
+};
+use protocol_wire::{
+    Record, RecordType, chosen_record_at, chosen_text_at, put_present_text, put_record, put_text,
+    put_u32, text_at, u32_at,
+};
 use std::alloc::{AllocError, Global};
 
 /// Which invocation is meant.
@@ -40,11 +45,25 @@ fn target_at(
     if let Some(invocation_id) = chosen_text_at(alloc, payload, &TARGET, INVOCATION_ID)? {
         return Ok(Some(GetInvocationOutputCommandTarget::InvocationId(invocation_id)));
     }
-    if let Some(workflow_target) = chosen_record_at(alloc, payload, &TARGET, WORKFLOW_TARGET, levels)? {
+    if let Some(workflow_target) = chosen_record_at(
+        alloc,
+        payload,
+        &TARGET,
+        WORKFLOW_TARGET,
+        levels,
+    )? {
         return Ok(Some(GetInvocationOutputCommandTarget::WorkflowTarget(workflow_target)));
     }
-    if let Some(idempotent_request_target) = chosen_record_at(alloc, payload, &TARGET, IDEMPOTENT_REQUEST_TARGET, levels)? {
-        return Ok(Some(GetInvocationOutputCommandTarget::IdempotentRequestTarget(idempotent_request_target)));
+    if let Some(idempotent_request_target) = chosen_record_at(
+        alloc,
+        payload,
+        &TARGET,
+        IDEMPOTENT_REQUEST_TARGET,
+        levels,
+    )? {
+        return Ok(Some(GetInvocationOutputCommandTarget::IdempotentRequestTarget(
+            idempotent_request_target,
+        )));
     }
     Ok(None)
 }
@@ -58,9 +77,25 @@ fn put_target(
 {
     match one {
         None => Ok(()),
-        Some(GetInvocationOutputCommandTarget::InvocationId(invocation_id)) => put_present_text(out, INVOCATION_ID, invocation_id),
-        Some(GetInvocationOutputCommandTarget::WorkflowTarget(workflow_target)) => put_record(alloc, out, WORKFLOW_TARGET, workflow_target),
-        Some(GetInvocationOutputCommandTarget::IdempotentRequestTarget(idempotent_request_target)) => put_record(alloc, out, IDEMPOTENT_REQUEST_TARGET, idempotent_request_target),
+        Some(GetInvocationOutputCommandTarget::InvocationId(invocation_id)) => put_present_text(
+            out,
+            INVOCATION_ID,
+            invocation_id,
+        ),
+        Some(GetInvocationOutputCommandTarget::WorkflowTarget(workflow_target)) => put_record(
+            alloc,
+            out,
+            WORKFLOW_TARGET,
+            workflow_target,
+        ),
+        Some(
+            GetInvocationOutputCommandTarget::IdempotentRequestTarget(idempotent_request_target),
+        ) => put_record(
+            alloc,
+            out,
+            IDEMPOTENT_REQUEST_TARGET,
+            idempotent_request_target,
+        ),
     }
 }
 
@@ -81,7 +116,11 @@ impl Record for GetInvocationOutputCommandMessage {
         RecordType::GetInvocationOutputCommand
     }
 
-    fn select(alloc: Global, payload: &[u8], levels: u32) -> Result<GetInvocationOutputCommandMessage, AllocError> {
+    fn select(
+        alloc: Global,
+        payload: &[u8],
+        levels: u32,
+    ) -> Result<GetInvocationOutputCommandMessage, AllocError> {
         Ok(GetInvocationOutputCommandMessage {
             target: target_at(alloc, payload, levels)?,
             result_completion_id: u32_at(payload, RESULT_COMPLETION_ID),

@@ -1,4 +1,4 @@
-use bytes::{Bytes, ByteStr};
+use bytes::{ByteStr, Bytes};
 use protocol_wire::table::get_lazy_state_command::{KEY, NAME, RESULT_COMPLETION_ID};
 use protocol_wire::{Record, RecordType, bytes_at, put_bytes, put_text, put_u32, text_at, u32_at};
 use std::alloc::{AllocError, Global};
@@ -30,7 +30,11 @@ impl Record for GetLazyStateCommandMessage {
         RecordType::GetLazyStateCommand
     }
 
-    fn select(alloc: Global, payload: &[u8], levels: u32) -> Result<GetLazyStateCommandMessage, AllocError> {
+    fn select(
+        alloc: Global,
+        payload: &[u8],
+        levels: u32,
+    ) -> Result<GetLazyStateCommandMessage, AllocError> {
         Ok(GetLazyStateCommandMessage {
             key: bytes_at(alloc, payload, KEY)?,
             result_completion_id: u32_at(payload, RESULT_COMPLETION_ID),

@@ -29,7 +29,11 @@ impl Record for GetLazyStateKeysCommandMessage {
         RecordType::GetLazyStateKeysCommand
     }
 
-    fn select(alloc: Global, payload: &[u8], levels: u32) -> Result<GetLazyStateKeysCommandMessage, AllocError> {
+    fn select(
+        alloc: Global,
+        payload: &[u8],
+        levels: u32,
+    ) -> Result<GetLazyStateKeysCommandMessage, AllocError> {
         Ok(GetLazyStateKeysCommandMessage {
             result_completion_id: u32_at(payload, RESULT_COMPLETION_ID),
             name: text_at(alloc, payload, NAME)?,

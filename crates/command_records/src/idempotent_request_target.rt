@@ -1,5 +1,7 @@
 use bytes::ByteStr;
-use protocol_wire::table::idempotent_request_target::{HANDLER_NAME, IDEMPOTENCY_KEY, SCOPE, SERVICE_KEY, SERVICE_NAME};
+use protocol_wire::table::idempotent_request_target::{
+    HANDLER_NAME, IDEMPOTENCY_KEY, SCOPE, SERVICE_KEY, SERVICE_NAME,
+};
 use protocol_wire::{Record, RecordType, optional_text_at, put_optional_text, put_text, text_at};
 use std::alloc::{AllocError, Global};
 
@@ -31,7 +33,11 @@ impl Record for IdempotentRequestTarget {
         RecordType::IdempotentRequestTarget
     }
 
-    fn select(alloc: Global, payload: &[u8], levels: u32) -> Result<IdempotentRequestTarget, AllocError> {
+    fn select(
+        alloc: Global,
+        payload: &[u8],
+        levels: u32,
+    ) -> Result<IdempotentRequestTarget, AllocError> {
         Ok(IdempotentRequestTarget {
             service_name: text_at(alloc, payload, SERVICE_NAME)?,
             service_key: optional_text_at(alloc, payload, SERVICE_KEY)?,

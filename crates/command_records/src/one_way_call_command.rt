@@ -1,7 +1,13 @@
-use bytes::{Bytes, ByteStr};
+use bytes::{ByteStr, Bytes};
 use protocol_records::Header;
-use protocol_wire::table::one_way_call_command::{HANDLER_NAME, HEADERS, IDEMPOTENCY_KEY, INVOCATION_ID_NOTIFICATION_IDX, INVOKE_TIME, KEY, LIMIT_KEY, NAME, PARAMETER, SCOPE, SERVICE_NAME};
-use protocol_wire::{Record, RecordType, bytes_at, optional_text_at, put_bytes, put_optional_text, put_records, put_text, put_u32, put_u64, records_at, text_at, u32_at, u64_at};
+use protocol_wire::table::one_way_call_command::{
+    HANDLER_NAME, HEADERS, IDEMPOTENCY_KEY, INVOCATION_ID_NOTIFICATION_IDX, INVOKE_TIME, KEY,
+    LIMIT_KEY, NAME, PARAMETER, SCOPE, SERVICE_NAME,
+};
+use protocol_wire::{
+    Record, RecordType, bytes_at, optional_text_at, put_bytes, put_optional_text, put_records,
+    put_text, put_u32, put_u64, records_at, text_at, u32_at, u64_at,
+};
 use sequence::Sequence;
 use std::alloc::{AllocError, Global};
 
@@ -42,7 +48,11 @@ impl Record for OneWayCallCommandMessage {
         RecordType::OneWayCallCommand
     }
 
-    fn select(alloc: Global, payload: &[u8], levels: u32) -> Result<OneWayCallCommandMessage, AllocError> {
+    fn select(
+        alloc: Global,
+        payload: &[u8],
+        levels: u32,
+    ) -> Result<OneWayCallCommandMessage, AllocError> {
         Ok(OneWayCallCommandMessage {
             service_name: text_at(alloc, payload, SERVICE_NAME)?,
             handler_name: text_at(alloc, payload, HANDLER_NAME)?,
@@ -68,7 +78,11 @@ impl Record for OneWayCallCommandMessage {
         put_optional_text(out, SCOPE, &self.scope)?;
         put_optional_text(out, LIMIT_KEY, &self.limit_key)?;
         put_u64(out, INVOKE_TIME, self.invoke_time)?;
-        put_u32(out, INVOCATION_ID_NOTIFICATION_IDX, self.invocation_id_notification_idx)?;
+        put_u32(
+            out,
+            INVOCATION_ID_NOTIFICATION_IDX,
+            self.invocation_id_notification_idx,
+        )?;
         put_text(out, NAME, &self.name)?;
         Ok(())
     }

@@ -7,8 +7,13 @@ ghost use Rattle.command_records.specs.SendSignalCommand.{send_signal_command_si
 
 use bytes::ByteStr;
 use protocol_records::{Failure, Value, Void};
-use protocol_wire::table::send_signal_command::{ENTRY_NAME, FAILURE, IDX, NAME, RESULT, SIGNAL_ID, TARGET_INVOCATION_ID, VALUE, VOID};
-use protocol_wire::{Record, RecordType, chosen_record_at, chosen_text_at, chosen_u32_at, put_present_text, put_present_u32, put_record, put_text, text_at};
+use protocol_wire::table::send_signal_command::{
+    ENTRY_NAME, FAILURE, IDX, NAME, RESULT, SIGNAL_ID, TARGET_INVOCATION_ID, VALUE, VOID,
+};
+use protocol_wire::{
+    Record, RecordType, chosen_record_at, chosen_text_at, chosen_u32_at, put_present_text,
+    put_present_u32, put_record, put_text, text_at,
+};
 use std::alloc::{AllocError, Global};
 
 /// Which signal is sent.
@@ -117,7 +122,11 @@ impl Record for SendSignalCommandMessage {
         RecordType::SendSignalCommand
     }
 
-    fn select(alloc: Global, payload: &[u8], levels: u32) -> Result<SendSignalCommandMessage, AllocError> {
+    fn select(
+        alloc: Global,
+        payload: &[u8],
+        levels: u32,
+    ) -> Result<SendSignalCommandMessage, AllocError> {
         Ok(SendSignalCommandMessage {
             target_invocation_id: text_at(alloc, payload, TARGET_INVOCATION_ID)?,
             signal_id: signal_id_at(alloc, payload, levels)?,

@@ -1,7 +1,10 @@
-use bytes::{Bytes, ByteStr};
+use bytes::{ByteStr, Bytes};
 use protocol_records::Value;
 use protocol_wire::table::set_state_command::{KEY, NAME, VALUE};
-use protocol_wire::{Record, RecordType, bytes_at, optional_record_at, put_bytes, put_optional_record, put_text, text_at};
+use protocol_wire::{
+    Record, RecordType, bytes_at, optional_record_at, put_bytes, put_optional_record, put_text,
+    text_at,
+};
 use std::alloc::{AllocError, Global};
 
 /// The command that sets a key of the object's state. The store asks for a value.
@@ -30,7 +33,11 @@ impl Record for SetStateCommandMessage {
         RecordType::SetStateCommand
     }
 
-    fn select(alloc: Global, payload: &[u8], levels: u32) -> Result<SetStateCommandMessage, AllocError> {
+    fn select(
+        alloc: Global,
+        payload: &[u8],
+        levels: u32,
+    ) -> Result<SetStateCommandMessage, AllocError> {
         Ok(SetStateCommandMessage {
             key: bytes_at(alloc, payload, KEY)?,
             value: optional_record_at(alloc, payload, VALUE, levels)?,

@@ -1,7 +1,7 @@
 use Rattle.std.proofs.Common.{refl}
 use Rattle.protocol_wire.specs.declared.table.RecordType.TheVariants as types
 use Rattle.protocol_wire.specs.declared.table.send_signal_command.TheConstants as table
-use Rattle.protocol_wire.proofs.SoundAt.{records_sound, texts_sound}
+use Rattle.protocol_wire.proofs.SoundAt.{texts_sound}
 use Rattle.command_records.proofs.send_signal_command.signal_id_at.Goals as goal
 
 pub chosen_u32_at-requires : goal.chosen_u32_at-requires

@@ -1,8 +1,5 @@
-use Rattle.std.proofs.Common.{refl, map, List, [], ◌∷◌, ◌++◌}
-use Rattle.std.specs.Prelude.{option_map}
-use Rattle.protocol_wire.specs.Parts.{bool_number, enum_number, optional_number, optional_bytes, packed, payload_of, plain_bytes, plain_number, repeated_bytes}
-use Rattle.protocol_wire.proofs.Puts.{chained, chain_block}
-use Rattle.protocol_wire.specs.declared.table.call_command.TheConstants.{HANDLER_NAME, HEADERS, IDEMPOTENCY_KEY, INVOCATION_ID_NOTIFICATION_IDX, KEY, LIMIT_KEY, NAME, PARAMETER, RESULT_COMPLETION_ID, SCOPE, SERVICE_NAME}
+use Rattle.std.proofs.Common.{refl}
+use Rattle.protocol_wire.proofs.Puts.{chained}
 use Rattle.command_records.specs.CallCommand.{call_command_parts}
 use Rattle.command_records.proofs.call_command.CallCommandMessageRecord.spell.Goals as goal
 

@@ -1,8 +1,7 @@
-use Rattle.std.proofs.Common.{refl, map, List, [], ◌∷◌, ◌++◌}
-use Rattle.std.specs.Prelude.{option_map}
-use Rattle.protocol_wire.specs.Parts.{bool_number, enum_number, optional_number, optional_bytes, packed, payload_of, plain_bytes, plain_number, repeated_bytes}
+use Rattle.std.proofs.Common.{refl, [], ◌∷◌}
+use Rattle.protocol_wire.specs.Parts.{plain_bytes}
 use Rattle.protocol_wire.proofs.Puts.{chained, chain_block}
-use Rattle.protocol_wire.specs.declared.table.complete_awakeable_command.TheConstants.{AWAKEABLE_ID, FAILURE, NAME, VALUE}
+use Rattle.protocol_wire.specs.declared.table.complete_awakeable_command.TheConstants.{NAME}
 use Rattle.command_records.specs.CompleteAwakeableCommand.{complete_awakeable_command_parts, result_parts}
 use Rattle.command_records.proofs.complete_awakeable_command.CompleteAwakeableCommandMessageRecord.spell.Goals as goal
 

@@ -1,8 +1,7 @@
-use Rattle.std.proofs.Common.{refl, map, List, [], ◌∷◌, ◌++◌}
-use Rattle.std.specs.Prelude.{option_map}
-use Rattle.protocol_wire.specs.Parts.{bool_number, enum_number, optional_number, optional_bytes, packed, payload_of, plain_bytes, plain_number, repeated_bytes}
+use Rattle.std.proofs.Common.{refl, [], ◌∷◌, ◌++◌}
+use Rattle.protocol_wire.specs.Parts.{plain_bytes}
 use Rattle.protocol_wire.proofs.Puts.{chained, chain_block}
-use Rattle.protocol_wire.specs.declared.table.send_signal_command.TheConstants.{ENTRY_NAME, FAILURE, IDX, NAME, TARGET_INVOCATION_ID, VALUE, VOID}
+use Rattle.protocol_wire.specs.declared.table.send_signal_command.TheConstants.{ENTRY_NAME}
 use Rattle.command_records.specs.SendSignalCommand.{send_signal_command_parts, signal_id_parts, result_parts}
 use Rattle.command_records.proofs.send_signal_command.SendSignalCommandMessageRecord.spell.Goals as goal
 
