@@ -1,9 +1,8 @@
 -- The fields of a complete promise command.
-use Rattle.std.specs.Prelude.{IsUtf8, IfSome, List, [], map, option_map, ℕ, ◌-◌, ◌<◌, ◌^◌, ◌∷◌, ◌++◌, Option, Some, None}
-use Rattle.std.specs.List.{AllByRecursion}
+use Rattle.std.specs.Prelude.{IsUtf8, List, [], option_map, ℕ, ◌-◌, ◌<◌, ◌^◌, ◌∷◌, ◌++◌, Option, Some, None}
 use Rattle.protocol_wire.specs.Wire.{Field}
-use Rattle.protocol_wire.specs.Selection.{u32, u64, bool, text, numbers, texts, optional_u32, optional_u64, optional_text, optional_record, records, run, first_of}
-use Rattle.protocol_wire.specs.Parts.{Part, bool_number, enum_number, optional_number, optional_bytes, packed, payload_of, plain_bytes, plain_number, repeated_bytes}
+use Rattle.protocol_wire.specs.Selection.{u32, text, optional_record, run, first_of}
+use Rattle.protocol_wire.specs.Parts.{Part, optional_bytes, payload_of, plain_bytes, plain_number}
 use Rattle.protocol_wire.specs.declared.table.complete_promise_command.TheConstants.{COMPLETION, COMPLETION_FAILURE, COMPLETION_VALUE, KEY, NAME, RESULT_COMPLETION_ID}
 use Rattle.protocol_records.specs.Failure.{failure_of, failure_parts, FailureFits}
 use Rattle.protocol_records.specs.Value.{value_of, value_parts, ValueFits}

@@ -1,9 +1,8 @@
 -- The fields of a get eager state command.
-use Rattle.std.specs.Prelude.{IsUtf8, IfSome, List, [], map, option_map, ℕ, ◌-◌, ◌<◌, ◌^◌, ◌∷◌, ◌++◌, Option, Some, None}
-use Rattle.std.specs.List.{AllByRecursion}
+use Rattle.std.specs.Prelude.{IsUtf8, List, [], option_map, ℕ, ◌-◌, ◌<◌, ◌∷◌, Option, Some, None}
 use Rattle.protocol_wire.specs.Wire.{Field}
-use Rattle.protocol_wire.specs.Selection.{u32, u64, bool, text, numbers, texts, optional_u32, optional_u64, optional_text, optional_record, records, run, first_of}
-use Rattle.protocol_wire.specs.Parts.{Part, bool_number, enum_number, optional_number, optional_bytes, packed, payload_of, plain_bytes, plain_number, repeated_bytes}
+use Rattle.protocol_wire.specs.Selection.{text, optional_record, run, first_of}
+use Rattle.protocol_wire.specs.Parts.{Part, optional_bytes, payload_of, plain_bytes}
 use Rattle.protocol_wire.specs.declared.table.get_eager_state_command.TheConstants.{KEY, NAME, RESULT, VALUE, VOID}
 use Rattle.protocol_records.specs.Value.{value_of, value_parts, ValueFits}
 use Rattle.protocol_records.specs.Void.{void_of, void_parts, VoidFits}

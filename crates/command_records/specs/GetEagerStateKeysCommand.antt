@@ -1,9 +1,8 @@
 -- The fields of a get eager state keys command.
-use Rattle.std.specs.Prelude.{IsUtf8, IfSome, List, [], map, option_map, ℕ, ◌-◌, ◌<◌, ◌^◌, ◌∷◌, ◌++◌, Option, Some, None}
-use Rattle.std.specs.List.{AllByRecursion}
+use Rattle.std.specs.Prelude.{IsUtf8, IfSome, List, [], option_map, ℕ, ◌-◌, ◌<◌, ◌∷◌}
 use Rattle.protocol_wire.specs.Wire.{Field}
-use Rattle.protocol_wire.specs.Selection.{u32, u64, bool, text, numbers, texts, optional_u32, optional_u64, optional_text, optional_record, records, run, first_of}
-use Rattle.protocol_wire.specs.Parts.{Part, bool_number, enum_number, optional_number, optional_bytes, packed, payload_of, plain_bytes, plain_number, repeated_bytes}
+use Rattle.protocol_wire.specs.Selection.{text, optional_record}
+use Rattle.protocol_wire.specs.Parts.{Part, optional_bytes, payload_of, plain_bytes}
 use Rattle.protocol_wire.specs.declared.table.get_eager_state_keys_command.TheConstants.{NAME, VALUE}
 use Rattle.protocol_records.specs.StateKeys.{state_keys_of, state_keys_parts, StateKeysFits}
 use Rattle.command_records.specs.declared.get_eager_state_keys_command.GetEagerStateKeysCommandMessage.{GetEagerStateKeysCommandMessage}

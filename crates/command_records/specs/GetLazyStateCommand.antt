@@ -1,9 +1,8 @@
 -- The fields of a get lazy state command.
-use Rattle.std.specs.Prelude.{IsUtf8, IfSome, List, [], map, option_map, ℕ, ◌-◌, ◌<◌, ◌^◌, ◌∷◌, ◌++◌, Option, Some, None}
-use Rattle.std.specs.List.{AllByRecursion}
+use Rattle.std.specs.Prelude.{IsUtf8, List, [], ℕ, ◌<◌, ◌^◌, ◌∷◌}
 use Rattle.protocol_wire.specs.Wire.{Field}
-use Rattle.protocol_wire.specs.Selection.{u32, u64, bool, text, numbers, texts, optional_u32, optional_u64, optional_text, optional_record, records, run, first_of}
-use Rattle.protocol_wire.specs.Parts.{Part, bool_number, enum_number, optional_number, optional_bytes, packed, payload_of, plain_bytes, plain_number, repeated_bytes}
+use Rattle.protocol_wire.specs.Selection.{u32, text}
+use Rattle.protocol_wire.specs.Parts.{Part, plain_bytes, plain_number}
 use Rattle.protocol_wire.specs.declared.table.get_lazy_state_command.TheConstants.{KEY, NAME, RESULT_COMPLETION_ID}
 use Rattle.command_records.specs.declared.get_lazy_state_command.GetLazyStateCommandMessage.{GetLazyStateCommandMessage}
 

@@ -1,24 +1,23 @@
 -- The canonical payload of a complete promise command is read again, to the same value.
-use Rattle.std.specs.Prelude.{◌≡◌, ℕ, ◌-◌, ◌<◌, ◌^◌, List, [], ◌∷◌, length, map, Option, Some, None, IfSome, IsUtf8, option_map, refl}
+use Rattle.std.specs.Prelude.{◌≡◌, ℕ, ◌-◌, ◌<◌, ◌^◌, [], ◌∷◌, length, Option, Some, None, IfSome, option_map, refl}
 use Rattle.std.specs.List.{AllByRecursion}
 use Rattle.std.proofs.Common.{sym, ap, ◌∙◌}
-use Rattle.protocol_wire.specs.Wire.{Field}
 use Rattle.protocol_wire.specs.Selection.{last_run, first_of, last_number, last_bytes, texts}
 use Rattle.protocol_wire.specs.Check.{payload_fault}
 use Rattle.protocol_wire.specs.Table.{descriptors_of}
-use Rattle.protocol_wire.specs.Parts.{bytes_if, optional_bytes, optional_number, payload_of}
+use Rattle.protocol_wire.specs.Parts.{bytes_if, optional_bytes, payload_of}
 use Rattle.protocol_wire.specs.Decodes.{IsRead}
 use Rattle.protocol_wire.specs.declared.table.RecordType.TheVariants as types
 use Rattle.protocol_wire.specs.declared.table.complete_promise_command.TheConstants as complete_promise_command
-use Rattle.protocol_wire.proofs.Holds.{LengthFits, u64_holds, u32_holds, enum_holds, bool_holds, bytes_holds, repeated_bytes_hold, text_holds, texts_hold, numbers_hold, optional_u32_holds, optional_u64_holds, optional_bytes_holds, optional_text_holds, optional_record_holds, records_hold, lengths_fit, payload_holds, optional_sound, optional_reads_back, each_sound, each_reads_back}
-use Rattle.protocol_wire.proofs.Back.{u64_back, u32_back, enum_back, bool_back, text_back, texts_back, numbers_back, optional_u32_back, optional_u64_back, optional_text_back, optional_record_back, records_back, held_among, run-fields_of}
+use Rattle.protocol_wire.proofs.Holds.{LengthFits, u32_holds, text_holds, optional_record_holds, lengths_fit, payload_holds}
+use Rattle.protocol_wire.proofs.Back.{u32_back, text_back, optional_record_back, held_among, run-fields_of}
 use Rattle.command_records.specs.declared.complete_promise_command.CompletePromiseCommandMessage.{CompletePromiseCommandMessage}
 use Rattle.command_records.specs.declared.complete_promise_command.CompletePromiseCommandCompletion.{CompletePromiseCommandCompletion}
 use Rattle.command_records.specs.declared.complete_promise_command.CompletePromiseCommandCompletion.TheVariants as completions
-use Rattle.protocol_records.specs.Failure.{failure_of, failure_parts, FailureFits}
+use Rattle.protocol_records.specs.Failure.{failure_of, failure_parts}
 use Rattle.protocol_records.specs.declared.failure.Failure.{Failure}
 use Rattle.protocol_records.specs.ReadBack.{failure_reads}
-use Rattle.protocol_records.specs.Value.{value_of, value_parts, ValueFits}
+use Rattle.protocol_records.specs.Value.{value_of, value_parts}
 use Rattle.protocol_records.specs.declared.value.Value.{Value}
 use Rattle.protocol_records.specs.ReadBack.{value_reads}
 use Rattle.command_records.specs.CompletePromiseCommand.{complete_promise_command_of, complete_promise_command_parts, CompletePromiseCommandFits, completion_in, completion_parts, CompletePromiseCommandCompletionFits, completion_completion_value, completion_completion_failure}

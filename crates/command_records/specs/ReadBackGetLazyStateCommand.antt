@@ -1,17 +1,14 @@
 -- The canonical payload of a get lazy state command is read again, to the same value.
-use Rattle.std.specs.Prelude.{◌≡◌, ℕ, ◌-◌, ◌<◌, ◌^◌, List, [], ◌∷◌, length, map, Option, Some, None, IfSome, IsUtf8, option_map, refl}
-use Rattle.std.specs.List.{AllByRecursion}
+use Rattle.std.specs.Prelude.{ℕ, ◌-◌, ◌<◌, ◌^◌, length, refl}
 use Rattle.std.proofs.Common.{sym, ap, ◌∙◌}
-use Rattle.protocol_wire.specs.Wire.{Field}
-use Rattle.protocol_wire.specs.Selection.{last_run, first_of, last_number, last_bytes, texts}
 use Rattle.protocol_wire.specs.Check.{payload_fault}
 use Rattle.protocol_wire.specs.Table.{descriptors_of}
-use Rattle.protocol_wire.specs.Parts.{bytes_if, optional_bytes, optional_number, payload_of}
+use Rattle.protocol_wire.specs.Parts.{payload_of}
 use Rattle.protocol_wire.specs.Decodes.{IsRead}
 use Rattle.protocol_wire.specs.declared.table.RecordType.TheVariants as types
 use Rattle.protocol_wire.specs.declared.table.get_lazy_state_command.TheConstants as get_lazy_state_command
-use Rattle.protocol_wire.proofs.Holds.{LengthFits, u64_holds, u32_holds, enum_holds, bool_holds, bytes_holds, repeated_bytes_hold, text_holds, texts_hold, numbers_hold, optional_u32_holds, optional_u64_holds, optional_bytes_holds, optional_text_holds, optional_record_holds, records_hold, lengths_fit, payload_holds, optional_sound, optional_reads_back, each_sound, each_reads_back}
-use Rattle.protocol_wire.proofs.Back.{u64_back, u32_back, enum_back, bool_back, text_back, texts_back, numbers_back, optional_u32_back, optional_u64_back, optional_text_back, optional_record_back, records_back, held_among, run-fields_of}
+use Rattle.protocol_wire.proofs.Holds.{u32_holds, bytes_holds, text_holds, payload_holds}
+use Rattle.protocol_wire.proofs.Back.{u32_back, text_back}
 use Rattle.command_records.specs.declared.get_lazy_state_command.GetLazyStateCommandMessage.{GetLazyStateCommandMessage}
 use Rattle.command_records.specs.GetLazyStateCommand.{get_lazy_state_command_of, get_lazy_state_command_parts, GetLazyStateCommandFits}
 

@@ -1,9 +1,8 @@
 -- The fields of a set state command.
-use Rattle.std.specs.Prelude.{IsUtf8, IfSome, List, [], map, option_map, ℕ, ◌-◌, ◌<◌, ◌^◌, ◌∷◌, ◌++◌, Option, Some, None}
-use Rattle.std.specs.List.{AllByRecursion}
+use Rattle.std.specs.Prelude.{IsUtf8, IfSome, List, [], option_map, ℕ, ◌-◌, ◌<◌, ◌∷◌}
 use Rattle.protocol_wire.specs.Wire.{Field}
-use Rattle.protocol_wire.specs.Selection.{u32, u64, bool, text, numbers, texts, optional_u32, optional_u64, optional_text, optional_record, records, run, first_of}
-use Rattle.protocol_wire.specs.Parts.{Part, bool_number, enum_number, optional_number, optional_bytes, packed, payload_of, plain_bytes, plain_number, repeated_bytes}
+use Rattle.protocol_wire.specs.Selection.{text, optional_record}
+use Rattle.protocol_wire.specs.Parts.{Part, optional_bytes, payload_of, plain_bytes}
 use Rattle.protocol_wire.specs.declared.table.set_state_command.TheConstants.{KEY, NAME, VALUE}
 use Rattle.protocol_records.specs.Value.{value_of, value_parts, ValueFits}
 use Rattle.command_records.specs.declared.set_state_command.SetStateCommandMessage.{SetStateCommandMessage}

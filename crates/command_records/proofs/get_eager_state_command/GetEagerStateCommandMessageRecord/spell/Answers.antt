@@ -1,8 +1,5 @@
-use Rattle.std.proofs.Common.{refl, map, List, [], ◌∷◌, ◌++◌}
-use Rattle.std.specs.Prelude.{option_map}
-use Rattle.protocol_wire.specs.Parts.{bool_number, enum_number, optional_number, optional_bytes, packed, payload_of, plain_bytes, plain_number, repeated_bytes}
+use Rattle.std.proofs.Common.{refl, []}
 use Rattle.protocol_wire.proofs.Puts.{chained, chain_block}
-use Rattle.protocol_wire.specs.declared.table.get_eager_state_command.TheConstants.{KEY, NAME, VALUE, VOID}
 use Rattle.command_records.specs.GetEagerStateCommand.{get_eager_state_command_parts, result_parts}
 use Rattle.command_records.proofs.get_eager_state_command.GetEagerStateCommandMessageRecord.spell.Goals as goal
 
