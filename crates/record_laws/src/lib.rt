@@ -8,6 +8,11 @@ ghost use Rattle.protocol_wire.specs.Parts.{payload_of};
 ghost use Rattle.protocol_wire.specs.Decodes.{IsRead};
 ghost use Rattle.protocol_wire.specs.declared.record.TheConstants.{LEVELS};
 
+mod control;
+mod shared;
+mod towards;
+mod within;
+
 use protocol_wire::Record;
 
 /// A record whose payloads join: payloads that stand for one value lead to one value with the same bytes behind them.

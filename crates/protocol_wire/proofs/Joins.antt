@@ -8,7 +8,8 @@ use Rattle.protocol_wire.specs.Sound.{AreSound}
 use Rattle.protocol_wire.specs.Selection.{values, last_number_or, last_number, last_bytes_or, last_bytes, u64, u32, bool, text, low, optional_u64, optional_u32, optional_text, each_bytes, texts, each_number, numbers, concat, joined_bytes, optional_record, records}
 use Rattle.protocol_wire.specs.declared.table.RecordType.{RecordType}
 use Rattle.protocol_wire.proofs.Laws.{values-append, last_number_or-append, same_number, last_bytes_or-append, same_bytes, texts-append, flag}
-use Rattle.protocol_wire.proofs.Joined.{sound_joined}
+use Rattle.protocol_wire.proofs.Joined.{sound_fields, sound_joined}
+use Rattle.protocol_wire.proofs.Extends.{fields-append}
 
 module _ (number : ℕ) (a b c : List Field) where
   -- by a view of the last number
@@ -129,3 +130,11 @@ module _ {R : Type 0} (levels : ℕ) (t : RecordType) (of : List Field → R) (j
       ap read (texts-append number a c)
       ∙ joined (texts number a) (texts number b) (texts number c) (fine_of number a p) (fine_of number b q) h
       ∙ ap read (sym (texts-append number b c))
+
+-- ---- the payload
+
+-- Behind a payload with which nothing is wrong, other fields come behind its own.
+pub fields_behind : (levels : ℕ) (t : RecordType) (a c : List ℕ) → IsFine levels t a → fields (a ++ c) ≡ fields a ++ fields c
+unfolding payload_fault
+fields_behind zero t a c h = absurd cc
+fields_behind (suc levels) t a c h = fields-append a c (sound_fields levels t a h).1

@@ -1,0 +1,4 @@
+pub mod JoinsControl
+pub mod JoinsShared
+pub mod JoinsTowards
+pub mod JoinsWithin
