@@ -18,11 +18,11 @@ use Rattle.protocol_wire.proofs.Joined.{worse_none, bad_unless_none, sound_field
 
 module _ (below : RecordType → List ℕ → Option Fault) (descriptors : List FieldDescriptor) (number : ℕ) where
   -- the values of a known field are of its kind
-  abbrev AreOf : Kind → List Wire → Type 0
+  abbrev pub AreOf : Kind → List Wire → Type 0
   AreOf kind [] = Unit {0}
   AreOf kind (w ∷ ws) = (value_fault below kind w ≡ None) × AreOf kind ws
 
-  are_of : (kind : Kind) (fs : List Field) → kind_in descriptors number ≡ Some kind → fields_fault below descriptors fs ≡ None → AreOf kind (values number fs)
+  pub are_of : (kind : Kind) (fs : List Field) → kind_in descriptors number ≡ Some kind → fields_fault below descriptors fs ≡ None → AreOf kind (values number fs)
   are_of kind [] k e = tt
   are_of kind (f ∷ fs) k e =
       let w = worse_none (field_fault below descriptors f) (fields_fault below descriptors fs) e in
@@ -41,7 +41,7 @@ module _ (below : RecordType → List ℕ → Option Fault) (descriptors : List 
   texts (bytes b ∷ ws) h = (IsUtf8-from_is_utf8 b (bad_unless_none (is_utf8 b) h.0), texts ws h.1)
   texts (fixed ∷ ws) h = let k = h.0 in absurd cc
 
-  records : (r : RecordType) (ws : List Wire) → AreOf (kinds.Record r) ws → AreSound (below r) ws
+  pub records : (r : RecordType) (ws : List Wire) → AreOf (kinds.Record r) ws → AreSound (below r) ws
   records r [] h = tt
   records r (varint n ∷ ws) h = let k = h.0 in absurd cc
   records r (bytes b ∷ ws) h = (h.0, records r ws h.1)
