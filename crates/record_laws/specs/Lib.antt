@@ -1,4 +1,13 @@
+pub mod JoinsAttachInvocationCommand
+pub mod JoinsCompleteAwakeableCommand
+pub mod JoinsCompletePromiseCommand
 pub mod JoinsControl
+pub mod JoinsGetEagerStateCommand
+pub mod JoinsGetInvocationOutputCommand
+pub mod JoinsGetStateEphemeralNotification
+pub mod JoinsNotification
+pub mod JoinsProposeRunCompletion
+pub mod JoinsSendSignalCommand
 pub mod JoinsShared
 pub mod JoinsTowards
 pub mod JoinsWithin

@@ -8,6 +8,7 @@ ghost use Rattle.protocol_wire.specs.Parts.{payload_of};
 ghost use Rattle.protocol_wire.specs.Decodes.{IsRead};
 ghost use Rattle.protocol_wire.specs.declared.record.TheConstants.{LEVELS};
 
+mod choices;
 mod control;
 mod shared;
 mod towards;
