@@ -8,15 +8,13 @@ use Rattle.protocol_wire.specs.declared.table.suspension_v6.TheConstants as susp
 use Rattle.protocol_wire.specs.declared.table.error.TheConstants as error
 use Rattle.protocol_wire.specs.declared.table.propose_run_completion_ack.TheConstants as propose_run_completion_ack
 use Rattle.protocol_wire.specs.declared.table.get_state_ephemeral_command.TheConstants as get_state_ephemeral_command
-use Rattle.protocol_wire.proofs.SoundAt.{records_sound}
-use Rattle.protocol_wire.proofs.Joins.{IsFine, u64_joins, u32_joins, bool_joins, optional_u64_joins, optional_u32_joins, text_joins, optional_text_joins, texts_join, numbers_join, records_join, optional_record_joins, fields_behind}
+use Rattle.protocol_wire.proofs.Joins.{IsFine, u64_joins, u32_joins, bool_joins, optional_u64_joins, optional_u32_joins, text_joins, optional_text_joins, texts_join, numbers_join, records_join, fields_behind}
 use Rattle.protocol_records.specs.declared.start.StartMessage.{StartMessage}
 use Rattle.protocol_records.specs.Start.{start_of}
 use Rattle.protocol_records.specs.declared.suspension_v6.SuspensionMessageV6.{SuspensionMessageV6}
 use Rattle.protocol_records.specs.SuspensionV6.{suspension_v6_of}
 use Rattle.protocol_records.specs.declared.error.ErrorMessage.{ErrorMessage}
 use Rattle.protocol_records.specs.Error.{error_of}
-use Rattle.protocol_records.specs.declared.end.EndMessage.{EndMessage}
 use Rattle.protocol_records.specs.End.{end_of}
 use Rattle.protocol_records.specs.declared.propose_run_completion_ack.ProposeRunCompletionAckMessage.{ProposeRunCompletionAckMessage}
 use Rattle.protocol_records.specs.ProposeRunCompletionAck.{propose_run_completion_ack_of}

@@ -2,11 +2,11 @@
 use Rattle.std.specs.Prelude.{◌≡◌, ℕ, ◌-◌, List, ◌++◌, Option, Some, None, true, option_map, refl}
 use Rattle.std.proofs.Common.{sym, ap, ◌∙◌}
 use Rattle.protocol_wire.specs.Fields.{fields}
-use Rattle.protocol_wire.specs.Selection.{optional_u32, optional_text, optional_record, is_among, among, run, variant_of, first_of}
+use Rattle.protocol_wire.specs.Selection.{optional_text, optional_record, is_among, among, run, variant_of, first_of}
 use Rattle.protocol_wire.specs.declared.table.RecordType.TheVariants as types
 use Rattle.protocol_wire.specs.declared.table.get_invocation_output_command.TheConstants as get_invocation_output_command
-use Rattle.protocol_wire.proofs.Joins.{IsFine, u64_joins, u32_joins, bool_joins, optional_u64_joins, optional_u32_joins, text_joins, optional_text_joins, texts_join, numbers_join, records_join, optional_record_joins, fields_behind}
-use Rattle.protocol_wire.proofs.Standing.{stands, is_there, absent, stands_is, nothing_stands, variant_among, u32_stands, text_stands, bytes_stand, record_stands, run_sound, behind}
+use Rattle.protocol_wire.proofs.Joins.{IsFine, u32_joins, text_joins, optional_text_joins, optional_record_joins, fields_behind}
+use Rattle.protocol_wire.proofs.Standing.{stands, is_there, absent, stands_is, nothing_stands, variant_among, text_stands, record_stands, run_sound, behind}
 use Rattle.call_records.specs.declared.get_invocation_output_command.GetInvocationOutputCommandMessage.{GetInvocationOutputCommandMessage}
 use Rattle.call_records.specs.declared.get_invocation_output_command.GetInvocationOutputCommandTarget.{GetInvocationOutputCommandTarget}
 use Rattle.call_records.specs.declared.get_invocation_output_command.GetInvocationOutputCommandTarget.TheVariants as targets

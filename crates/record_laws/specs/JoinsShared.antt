@@ -9,9 +9,7 @@ use Rattle.protocol_wire.specs.declared.table.failure.TheConstants as failure
 use Rattle.protocol_wire.specs.declared.table.header.TheConstants as header
 use Rattle.protocol_wire.specs.declared.table.state_entry.TheConstants as state_entry
 use Rattle.protocol_wire.specs.declared.table.state_keys.TheConstants as state_keys
-use Rattle.protocol_wire.proofs.SoundAt.{records_sound}
-use Rattle.protocol_wire.proofs.Joins.{IsFine, u64_joins, u32_joins, bool_joins, optional_u64_joins, optional_u32_joins, text_joins, optional_text_joins, texts_join, numbers_join, records_join, optional_record_joins, fields_behind}
-use Rattle.protocol_records.specs.declared.void.Void.{Void}
+use Rattle.protocol_wire.proofs.Joins.{IsFine, u32_joins, text_joins, texts_join, records_join, fields_behind}
 use Rattle.protocol_records.specs.Void.{void_of}
 use Rattle.protocol_records.specs.declared.value.Value.{Value}
 use Rattle.protocol_records.specs.Value.{value_of}

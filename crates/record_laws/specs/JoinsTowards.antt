@@ -1,5 +1,5 @@
 -- Of the commands towards other invocations: payloads that stand for one value lead to one value with the same bytes behind them.
-use Rattle.std.specs.Prelude.{◌≡◌, ℕ, ◌-◌, List, ◌++◌, refl}
+use Rattle.std.specs.Prelude.{◌≡◌, ℕ, ◌-◌, List, ◌++◌}
 use Rattle.std.proofs.Common.{sym, ap, ◌∙◌}
 use Rattle.protocol_wire.specs.Fields.{fields}
 use Rattle.protocol_wire.specs.declared.table.RecordType.TheVariants as types
@@ -7,8 +7,7 @@ use Rattle.protocol_wire.specs.declared.table.call_command.TheConstants as call_
 use Rattle.protocol_wire.specs.declared.table.one_way_call_command.TheConstants as one_way_call_command
 use Rattle.protocol_wire.specs.declared.table.workflow_target.TheConstants as workflow_target
 use Rattle.protocol_wire.specs.declared.table.idempotent_request_target.TheConstants as idempotent_request_target
-use Rattle.protocol_wire.proofs.SoundAt.{records_sound}
-use Rattle.protocol_wire.proofs.Joins.{IsFine, u64_joins, u32_joins, bool_joins, optional_u64_joins, optional_u32_joins, text_joins, optional_text_joins, texts_join, numbers_join, records_join, optional_record_joins, fields_behind}
+use Rattle.protocol_wire.proofs.Joins.{IsFine, u64_joins, u32_joins, text_joins, optional_text_joins, records_join, fields_behind}
 use Rattle.call_records.specs.declared.call_command.CallCommandMessage.{CallCommandMessage}
 use Rattle.call_records.specs.CallCommand.{call_command_of}
 use Rattle.call_records.specs.declared.one_way_call_command.OneWayCallCommandMessage.{OneWayCallCommandMessage}

@@ -15,7 +15,7 @@ use Rattle.protocol_wire.specs.declared.table.run_command.TheConstants as run_co
 use Rattle.protocol_wire.specs.declared.table.input_command.TheConstants as input_command
 use Rattle.protocol_wire.specs.declared.table.sleep_command.TheConstants as sleep_command
 use Rattle.protocol_wire.proofs.SoundAt.{records_sound}
-use Rattle.protocol_wire.proofs.Joins.{IsFine, u64_joins, u32_joins, bool_joins, optional_u64_joins, optional_u32_joins, text_joins, optional_text_joins, texts_join, numbers_join, records_join, optional_record_joins, fields_behind}
+use Rattle.protocol_wire.proofs.Joins.{IsFine, u64_joins, u32_joins, text_joins, records_join, optional_record_joins, fields_behind}
 use Rattle.command_records.specs.declared.get_lazy_state_command.GetLazyStateCommandMessage.{GetLazyStateCommandMessage}
 use Rattle.command_records.specs.GetLazyStateCommand.{get_lazy_state_command_of}
 use Rattle.command_records.specs.declared.set_state_command.SetStateCommandMessage.{SetStateCommandMessage}

@@ -1,3 +1,4 @@
+ghost use Rattle.record_laws.specs.JoinsOutputCommand.{output_command_joins};
 ghost use Rattle.record_laws.specs.JoinsProposeRunCompletion.{propose_run_completion_joins};
 ghost use Rattle.record_laws.specs.JoinsGetStateEphemeralNotification.{get_state_ephemeral_notification_joins};
 ghost use Rattle.record_laws.specs.JoinsGetEagerStateCommand.{get_eager_state_command_joins};
@@ -15,7 +16,9 @@ use call_records::{
 };
 use command_records::{CompletePromiseCommandMessage, GetEagerStateCommandMessage};
 use notification_records::NotificationMessage;
-use protocol_records::{GetStateEphemeralNotificationMessage, ProposeRunCompletionMessage};
+use protocol_records::{
+    GetStateEphemeralNotificationMessage, OutputCommandMessage, ProposeRunCompletionMessage,
+};
 
 impl Joining for ProposeRunCompletionMessage {
     ghost joins = { propose_run_completion_joins };
@@ -51,4 +54,8 @@ impl Joining for CompleteAwakeableCommandMessage {
 
 impl Joining for NotificationMessage {
     ghost joins = { notification_joins };
+}
+
+impl Joining for OutputCommandMessage {
+    ghost joins = { output_command_joins };
 }

@@ -8,6 +8,7 @@ ghost use Rattle.protocol_wire.specs.Parts.{payload_of};
 ghost use Rattle.protocol_wire.specs.Decodes.{IsRead};
 ghost use Rattle.protocol_wire.specs.declared.record.TheConstants.{LEVELS};
 
+mod awaiting;
 mod choices;
 mod control;
 mod shared;
@@ -28,7 +29,10 @@ pub fn payloads_tell_values_apart<R: Record>()
 {}
 
 /// A payload that is followed by another is the other merged into the first: where both are payloads of the record, so are
-/// the two behind each other, and they stand for what the second gives when it is merged into what the first stands for.
+/// the two behind each other, and they stand for the value that `merge` gives of the first's value and the second payload,
+/// and for no other.
 pub fn followed_is_merged<R: Joining>()
-    ensures { (a b : List ℕ) (v w : R) → IsRead LEVELS R.record_type R.of a v → R.fits LEVELS v → length (payload_of (R.parts v)) < 2 ^ 64 → payload_fault LEVELS R.record_type b ≡ None → IsRead LEVELS R.record_type R.of (payload_of (R.parts v) ++ b) w → IsRead LEVELS R.record_type R.of (a ++ b) w }
+    ensures accepted { (a b : List ℕ) → payload_fault LEVELS R.record_type a ≡ None → payload_fault LEVELS R.record_type b ≡ None → payload_fault LEVELS R.record_type (a ++ b) ≡ None }
+    ensures merged { (a b : List ℕ) (v w : R) → IsRead LEVELS R.record_type R.of a v → R.fits LEVELS v → length (payload_of (R.parts v)) < 2 ^ 64 → payload_fault LEVELS R.record_type b ≡ None → IsRead LEVELS R.record_type R.of (payload_of (R.parts v) ++ b) w → IsRead LEVELS R.record_type R.of (a ++ b) w }
+    ensures alone { (a b : List ℕ) (v w : R) → IsRead LEVELS R.record_type R.of a v → R.fits LEVELS v → length (payload_of (R.parts v)) < 2 ^ 64 → payload_fault LEVELS R.record_type b ≡ None → IsRead LEVELS R.record_type R.of (a ++ b) w → IsRead LEVELS R.record_type R.of (payload_of (R.parts v) ++ b) w }
 {}
