@@ -46,4 +46,4 @@ unfolding varint_spelling_within varint_spelling tagged
 awaiting_on_spelled = ap (λ (ps : List Part). payload_of (optional_bytes AWAITING_ON.number (Some (payload_of ps)) ∷ [])) (future_parts_of leaf)
 
 pub leaf_fits : FutureFits 100 (roll-Future leaf)
-leaf_fits = future_fits 99 leaf ((omega arith, tt), (omega arith, tt), tt, tt)
+leaf_fits = future_fits 99 leaf ((omega arith, tt), (omega arith, tt), tt, tt, tt)

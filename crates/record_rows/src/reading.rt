@@ -43,6 +43,17 @@ fn read_as(rt: HostRuntime) -> Result<(), Fail> {
             b"\x40\x09".as_slice(),
             b"\x40\x09".as_slice(),
         ),
+        // another combinator stays as it came
+        (
+            RecordType::Future,
+            b"\x28\x05".as_slice(),
+            b"\x28\x05".as_slice(),
+        ),
+        (
+            RecordType::Future,
+            b"\x28\x80\x80\x80\x80\x08".as_slice(),
+            b"\x28\x80\x80\x80\x80\xf8\xff\xff\xff\xff\x01".as_slice(),
+        ),
         // packed and unpacked numbers
         (
             RecordType::SuspensionV6,
