@@ -3,7 +3,7 @@ use Rattle.std.specs.Prelude.{IsUtf8, List, [], option_map, ℕ, ◌-◌, ◌<�
 use Rattle.protocol_wire.specs.Wire.{Field}
 use Rattle.protocol_wire.specs.Selection.{u32, text, optional_text, optional_record, run, first_of}
 use Rattle.protocol_wire.specs.Parts.{Part, optional_bytes, payload_of, plain_bytes, plain_number}
-use Rattle.protocol_wire.specs.declared.table.attach_invocation_command.TheConstants.{IDEMPOTENT_REQUEST_TARGET, INVOCATION_ID, NAME, RESULT_COMPLETION_ID, TARGET, WORKFLOW_TARGET}
+use Rattle.protocol_table.specs.declared.table.attach_invocation_command.TheConstants.{IDEMPOTENT_REQUEST_TARGET, INVOCATION_ID, NAME, RESULT_COMPLETION_ID, TARGET, WORKFLOW_TARGET}
 use Rattle.call_records.specs.IdempotentRequestTarget.{idempotent_request_target_of, idempotent_request_target_parts, IdempotentRequestTargetFits}
 use Rattle.call_records.specs.WorkflowTarget.{workflow_target_of, workflow_target_parts, WorkflowTargetFits}
 use Rattle.call_records.specs.declared.attach_invocation_command.AttachInvocationCommandMessage.{AttachInvocationCommandMessage}

@@ -3,7 +3,7 @@ use Rattle.std.specs.Prelude.{IsUtf8, IfSome, List, [], ℕ, ◌<◌, ◌∷◌}
 use Rattle.protocol_wire.specs.Wire.{Field}
 use Rattle.protocol_wire.specs.Selection.{text, optional_text}
 use Rattle.protocol_wire.specs.Parts.{Part, optional_bytes, plain_bytes}
-use Rattle.protocol_wire.specs.declared.table.idempotent_request_target.TheConstants.{HANDLER_NAME, IDEMPOTENCY_KEY, SCOPE, SERVICE_KEY, SERVICE_NAME}
+use Rattle.protocol_table.specs.declared.table.idempotent_request_target.TheConstants.{HANDLER_NAME, IDEMPOTENCY_KEY, SCOPE, SERVICE_KEY, SERVICE_NAME}
 use Rattle.call_records.specs.declared.idempotent_request_target.IdempotentRequestTarget.{IdempotentRequestTarget}
 
 abbrev pub idempotent_request_target_of : ℕ → List Field → IdempotentRequestTarget

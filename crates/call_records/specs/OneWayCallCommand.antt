@@ -4,7 +4,7 @@ use Rattle.std.specs.List.{AllByRecursion}
 use Rattle.protocol_wire.specs.Wire.{Field}
 use Rattle.protocol_wire.specs.Selection.{u32, u64, text, optional_text, records}
 use Rattle.protocol_wire.specs.Parts.{Part, optional_bytes, payload_of, plain_bytes, plain_number, repeated_bytes}
-use Rattle.protocol_wire.specs.declared.table.one_way_call_command.TheConstants.{HANDLER_NAME, HEADERS, IDEMPOTENCY_KEY, INVOCATION_ID_NOTIFICATION_IDX, INVOKE_TIME, KEY, LIMIT_KEY, NAME, PARAMETER, SCOPE, SERVICE_NAME}
+use Rattle.protocol_table.specs.declared.table.one_way_call_command.TheConstants.{HANDLER_NAME, HEADERS, IDEMPOTENCY_KEY, INVOCATION_ID_NOTIFICATION_IDX, INVOKE_TIME, KEY, LIMIT_KEY, NAME, PARAMETER, SCOPE, SERVICE_NAME}
 use Rattle.protocol_records.specs.Header.{header_of, header_parts, HeaderFits}
 use Rattle.call_records.specs.declared.one_way_call_command.OneWayCallCommandMessage.{OneWayCallCommandMessage}
 

@@ -4,11 +4,11 @@ use Rattle.std.specs.List.{AllByRecursion}
 use Rattle.std.proofs.Common.{sym, ap, ◌∙◌}
 use Rattle.protocol_wire.specs.Selection.{last_run, first_of, last_number, last_bytes, texts}
 use Rattle.protocol_wire.specs.Check.{payload_fault}
-use Rattle.protocol_wire.specs.Table.{descriptors_of}
+use Rattle.protocol_table.specs.Table.{descriptors_of}
 use Rattle.protocol_wire.specs.Parts.{bytes_if, optional_bytes, payload_of}
 use Rattle.protocol_wire.specs.Decodes.{IsRead}
-use Rattle.protocol_wire.specs.declared.table.RecordType.TheVariants as types
-use Rattle.protocol_wire.specs.declared.table.attach_invocation_command.TheConstants as attach_invocation_command
+use Rattle.protocol_table.specs.declared.table.RecordType.TheVariants as types
+use Rattle.protocol_table.specs.declared.table.attach_invocation_command.TheConstants as attach_invocation_command
 use Rattle.protocol_wire.proofs.Holds.{LengthFits, u32_holds, text_holds, optional_text_holds, optional_record_holds, lengths_fit, payload_holds}
 use Rattle.protocol_wire.proofs.Back.{u32_back, text_back, optional_text_back, optional_record_back, held_among, run-fields_of}
 use Rattle.call_records.specs.declared.attach_invocation_command.AttachInvocationCommandMessage.{AttachInvocationCommandMessage}

@@ -2,11 +2,11 @@
 use Rattle.std.specs.Prelude.{ℕ, ◌-◌, ◌<◌, ◌^◌, length, map, refl}
 use Rattle.std.proofs.Common.{sym, ap, ◌∙◌}
 use Rattle.protocol_wire.specs.Check.{payload_fault}
-use Rattle.protocol_wire.specs.Table.{descriptors_of}
+use Rattle.protocol_table.specs.Table.{descriptors_of}
 use Rattle.protocol_wire.specs.Parts.{payload_of}
 use Rattle.protocol_wire.specs.Decodes.{IsRead}
-use Rattle.protocol_wire.specs.declared.table.RecordType.TheVariants as types
-use Rattle.protocol_wire.specs.declared.table.call_command.TheConstants as call_command
+use Rattle.protocol_table.specs.declared.table.RecordType.TheVariants as types
+use Rattle.protocol_table.specs.declared.table.call_command.TheConstants as call_command
 use Rattle.protocol_wire.proofs.Holds.{u32_holds, bytes_holds, text_holds, optional_text_holds, records_hold, lengths_fit, payload_holds, each_sound, each_reads_back}
 use Rattle.protocol_wire.proofs.Back.{u32_back, text_back, optional_text_back, records_back}
 use Rattle.call_records.specs.declared.call_command.CallCommandMessage.{CallCommandMessage}

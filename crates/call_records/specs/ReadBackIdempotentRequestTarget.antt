@@ -2,11 +2,11 @@
 use Rattle.std.specs.Prelude.{ℕ, ◌-◌, ◌<◌, ◌^◌, length, refl}
 use Rattle.std.proofs.Common.{sym, ap, ◌∙◌}
 use Rattle.protocol_wire.specs.Check.{payload_fault}
-use Rattle.protocol_wire.specs.Table.{descriptors_of}
+use Rattle.protocol_table.specs.Table.{descriptors_of}
 use Rattle.protocol_wire.specs.Parts.{payload_of}
 use Rattle.protocol_wire.specs.Decodes.{IsRead}
-use Rattle.protocol_wire.specs.declared.table.RecordType.TheVariants as types
-use Rattle.protocol_wire.specs.declared.table.idempotent_request_target.TheConstants as idempotent_request_target
+use Rattle.protocol_table.specs.declared.table.RecordType.TheVariants as types
+use Rattle.protocol_table.specs.declared.table.idempotent_request_target.TheConstants as idempotent_request_target
 use Rattle.protocol_wire.proofs.Holds.{text_holds, optional_text_holds, payload_holds}
 use Rattle.protocol_wire.proofs.Back.{text_back, optional_text_back}
 use Rattle.call_records.specs.declared.idempotent_request_target.IdempotentRequestTarget.{IdempotentRequestTarget}

@@ -3,7 +3,7 @@ use Rattle.std.specs.Prelude.{IsUtf8, List, [], option_map, ℕ, ◌-◌, ◌<�
 use Rattle.protocol_wire.specs.Wire.{Field}
 use Rattle.protocol_wire.specs.Selection.{text, optional_u32, optional_text, optional_record, run, first_of}
 use Rattle.protocol_wire.specs.Parts.{Part, optional_number, optional_bytes, payload_of, plain_bytes}
-use Rattle.protocol_wire.specs.declared.table.send_signal_command.TheConstants.{ENTRY_NAME, FAILURE, IDX, NAME, RESULT, SIGNAL_ID, TARGET_INVOCATION_ID, VALUE, VOID}
+use Rattle.protocol_table.specs.declared.table.send_signal_command.TheConstants.{ENTRY_NAME, FAILURE, IDX, NAME, RESULT, SIGNAL_ID, TARGET_INVOCATION_ID, VALUE, VOID}
 use Rattle.protocol_records.specs.Failure.{failure_of, failure_parts, FailureFits}
 use Rattle.protocol_records.specs.Value.{value_of, value_parts, ValueFits}
 use Rattle.protocol_records.specs.Void.{void_of, void_parts, VoidFits}

@@ -3,7 +3,7 @@ use Rattle.std.specs.Prelude.{IsUtf8, IfSome, List, [], ℕ, ◌<◌, ◌∷◌}
 use Rattle.protocol_wire.specs.Wire.{Field}
 use Rattle.protocol_wire.specs.Selection.{text, optional_text}
 use Rattle.protocol_wire.specs.Parts.{Part, optional_bytes, plain_bytes}
-use Rattle.protocol_wire.specs.declared.table.workflow_target.TheConstants.{SCOPE, WORKFLOW_KEY, WORKFLOW_NAME}
+use Rattle.protocol_table.specs.declared.table.workflow_target.TheConstants.{SCOPE, WORKFLOW_KEY, WORKFLOW_NAME}
 use Rattle.call_records.specs.declared.workflow_target.WorkflowTarget.{WorkflowTarget}
 
 abbrev pub workflow_target_of : ℕ → List Field → WorkflowTarget

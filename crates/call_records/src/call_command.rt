@@ -34,7 +34,7 @@ pub struct CallCommandMessage {
 impl Record for CallCommandMessage {
     ghost use Rattle.call_records.specs.CallCommand.{call_command_of, call_command_parts, CallCommandFits};
     ghost use Rattle.call_records.specs.ReadBackCallCommand.{call_command_reads};
-    ghost use Rattle.protocol_wire.specs.declared.table.RecordType.TheVariants.{CallCommand as call_command_type};
+    ghost use Rattle.protocol_table.specs.declared.table.RecordType.TheVariants.{CallCommand as call_command_type};
 
     ghost record_type = { call_command_type };
 

@@ -2,7 +2,7 @@ ghost use Rattle.std.specs.Prelude.{◌≡◌, ◌++◌, None, IfOk, OnOk};
 ghost use Rattle.protocol_wire.specs.Fields.{fields};
 ghost use Rattle.protocol_wire.specs.Check.{payload_fault};
 ghost use Rattle.protocol_wire.specs.Parts.{payload_of};
-ghost use Rattle.protocol_wire.specs.declared.table.RecordType.TheVariants.{CompleteAwakeableCommand as complete_awakeable_command_type};
+ghost use Rattle.protocol_table.specs.declared.table.RecordType.TheVariants.{CompleteAwakeableCommand as complete_awakeable_command_type};
 ghost use Rattle.call_records.specs.CompleteAwakeableCommand.{complete_awakeable_command_result_of, result_parts};
 
 use bytes::ByteStr;

@@ -2,7 +2,7 @@ ghost use Rattle.std.specs.Prelude.{◌≡◌, ◌++◌, None, IfOk, OnOk};
 ghost use Rattle.protocol_wire.specs.Fields.{fields};
 ghost use Rattle.protocol_wire.specs.Check.{payload_fault};
 ghost use Rattle.protocol_wire.specs.Parts.{payload_of};
-ghost use Rattle.protocol_wire.specs.declared.table.RecordType.TheVariants.{GetInvocationOutputCommand as get_invocation_output_command_type};
+ghost use Rattle.protocol_table.specs.declared.table.RecordType.TheVariants.{GetInvocationOutputCommand as get_invocation_output_command_type};
 ghost use Rattle.call_records.specs.GetInvocationOutputCommand.{get_invocation_output_command_target_of, target_parts};
 
 use crate::idempotent_request_target::IdempotentRequestTarget;

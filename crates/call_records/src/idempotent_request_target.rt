@@ -19,7 +19,7 @@ pub struct IdempotentRequestTarget {
 impl Record for IdempotentRequestTarget {
     ghost use Rattle.call_records.specs.IdempotentRequestTarget.{idempotent_request_target_of, idempotent_request_target_parts, IdempotentRequestTargetFits};
     ghost use Rattle.call_records.specs.ReadBackIdempotentRequestTarget.{idempotent_request_target_reads};
-    ghost use Rattle.protocol_wire.specs.declared.table.RecordType.TheVariants.{IdempotentRequestTarget as idempotent_request_target_type};
+    ghost use Rattle.protocol_table.specs.declared.table.RecordType.TheVariants.{IdempotentRequestTarget as idempotent_request_target_type};
 
     ghost record_type = { idempotent_request_target_type };
 

@@ -15,7 +15,7 @@ pub struct WorkflowTarget {
 impl Record for WorkflowTarget {
     ghost use Rattle.call_records.specs.WorkflowTarget.{workflow_target_of, workflow_target_parts, WorkflowTargetFits};
     ghost use Rattle.call_records.specs.ReadBackWorkflowTarget.{workflow_target_reads};
-    ghost use Rattle.protocol_wire.specs.declared.table.RecordType.TheVariants.{WorkflowTarget as workflow_target_type};
+    ghost use Rattle.protocol_table.specs.declared.table.RecordType.TheVariants.{WorkflowTarget as workflow_target_type};
 
     ghost record_type = { workflow_target_type };
 

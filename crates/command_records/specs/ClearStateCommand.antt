@@ -3,7 +3,7 @@ use Rattle.std.specs.Prelude.{IsUtf8, List, [], ℕ, ◌<◌, ◌∷◌}
 use Rattle.protocol_wire.specs.Wire.{Field}
 use Rattle.protocol_wire.specs.Selection.{text}
 use Rattle.protocol_wire.specs.Parts.{Part, plain_bytes}
-use Rattle.protocol_wire.specs.declared.table.clear_state_command.TheConstants.{KEY, NAME}
+use Rattle.protocol_table.specs.declared.table.clear_state_command.TheConstants.{KEY, NAME}
 use Rattle.command_records.specs.declared.clear_state_command.ClearStateCommandMessage.{ClearStateCommandMessage}
 
 abbrev pub clear_state_command_of : ℕ → List Field → ClearStateCommandMessage

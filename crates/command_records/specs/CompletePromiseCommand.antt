@@ -3,7 +3,7 @@ use Rattle.std.specs.Prelude.{IsUtf8, List, [], option_map, ℕ, ◌-◌, ◌<�
 use Rattle.protocol_wire.specs.Wire.{Field}
 use Rattle.protocol_wire.specs.Selection.{u32, text, optional_record, run, first_of}
 use Rattle.protocol_wire.specs.Parts.{Part, optional_bytes, payload_of, plain_bytes, plain_number}
-use Rattle.protocol_wire.specs.declared.table.complete_promise_command.TheConstants.{COMPLETION, COMPLETION_FAILURE, COMPLETION_VALUE, KEY, NAME, RESULT_COMPLETION_ID}
+use Rattle.protocol_table.specs.declared.table.complete_promise_command.TheConstants.{COMPLETION, COMPLETION_FAILURE, COMPLETION_VALUE, KEY, NAME, RESULT_COMPLETION_ID}
 use Rattle.protocol_records.specs.Failure.{failure_of, failure_parts, FailureFits}
 use Rattle.protocol_records.specs.Value.{value_of, value_parts, ValueFits}
 use Rattle.command_records.specs.declared.complete_promise_command.CompletePromiseCommandMessage.{CompletePromiseCommandMessage}

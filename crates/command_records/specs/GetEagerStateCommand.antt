@@ -3,7 +3,7 @@ use Rattle.std.specs.Prelude.{IsUtf8, List, [], option_map, ℕ, ◌-◌, ◌<�
 use Rattle.protocol_wire.specs.Wire.{Field}
 use Rattle.protocol_wire.specs.Selection.{text, optional_record, run, first_of}
 use Rattle.protocol_wire.specs.Parts.{Part, optional_bytes, payload_of, plain_bytes}
-use Rattle.protocol_wire.specs.declared.table.get_eager_state_command.TheConstants.{KEY, NAME, RESULT, VALUE, VOID}
+use Rattle.protocol_table.specs.declared.table.get_eager_state_command.TheConstants.{KEY, NAME, RESULT, VALUE, VOID}
 use Rattle.protocol_records.specs.Value.{value_of, value_parts, ValueFits}
 use Rattle.protocol_records.specs.Void.{void_of, void_parts, VoidFits}
 use Rattle.command_records.specs.declared.get_eager_state_command.GetEagerStateCommandMessage.{GetEagerStateCommandMessage}

@@ -3,7 +3,7 @@ use Rattle.std.specs.Prelude.{IsUtf8, IfSome, List, [], option_map, ℕ, ◌-◌
 use Rattle.protocol_wire.specs.Wire.{Field}
 use Rattle.protocol_wire.specs.Selection.{text, optional_record}
 use Rattle.protocol_wire.specs.Parts.{Part, optional_bytes, payload_of, plain_bytes}
-use Rattle.protocol_wire.specs.declared.table.get_eager_state_keys_command.TheConstants.{NAME, VALUE}
+use Rattle.protocol_table.specs.declared.table.get_eager_state_keys_command.TheConstants.{NAME, VALUE}
 use Rattle.protocol_records.specs.StateKeys.{state_keys_of, state_keys_parts, StateKeysFits}
 use Rattle.command_records.specs.declared.get_eager_state_keys_command.GetEagerStateKeysCommandMessage.{GetEagerStateKeysCommandMessage}
 

@@ -3,7 +3,7 @@ use Rattle.std.specs.Prelude.{IsUtf8, List, [], ℕ, ◌<◌, ◌^◌, ◌∷◌
 use Rattle.protocol_wire.specs.Wire.{Field}
 use Rattle.protocol_wire.specs.Selection.{u32, text}
 use Rattle.protocol_wire.specs.Parts.{Part, plain_bytes, plain_number}
-use Rattle.protocol_wire.specs.declared.table.peek_promise_command.TheConstants.{KEY, NAME, RESULT_COMPLETION_ID}
+use Rattle.protocol_table.specs.declared.table.peek_promise_command.TheConstants.{KEY, NAME, RESULT_COMPLETION_ID}
 use Rattle.command_records.specs.declared.peek_promise_command.PeekPromiseCommandMessage.{PeekPromiseCommandMessage}
 
 abbrev pub peek_promise_command_of : ℕ → List Field → PeekPromiseCommandMessage

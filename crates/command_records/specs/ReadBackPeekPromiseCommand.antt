@@ -2,11 +2,11 @@
 use Rattle.std.specs.Prelude.{ℕ, ◌-◌, ◌<◌, ◌^◌, length, refl}
 use Rattle.std.proofs.Common.{sym, ap, ◌∙◌}
 use Rattle.protocol_wire.specs.Check.{payload_fault}
-use Rattle.protocol_wire.specs.Table.{descriptors_of}
+use Rattle.protocol_table.specs.Table.{descriptors_of}
 use Rattle.protocol_wire.specs.Parts.{payload_of}
 use Rattle.protocol_wire.specs.Decodes.{IsRead}
-use Rattle.protocol_wire.specs.declared.table.RecordType.TheVariants as types
-use Rattle.protocol_wire.specs.declared.table.peek_promise_command.TheConstants as peek_promise_command
+use Rattle.protocol_table.specs.declared.table.RecordType.TheVariants as types
+use Rattle.protocol_table.specs.declared.table.peek_promise_command.TheConstants as peek_promise_command
 use Rattle.protocol_wire.proofs.Holds.{u32_holds, text_holds, payload_holds}
 use Rattle.protocol_wire.proofs.Back.{u32_back, text_back}
 use Rattle.command_records.specs.declared.peek_promise_command.PeekPromiseCommandMessage.{PeekPromiseCommandMessage}

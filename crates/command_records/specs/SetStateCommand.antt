@@ -3,7 +3,7 @@ use Rattle.std.specs.Prelude.{IsUtf8, IfSome, List, [], option_map, ℕ, ◌-◌
 use Rattle.protocol_wire.specs.Wire.{Field}
 use Rattle.protocol_wire.specs.Selection.{text, optional_record}
 use Rattle.protocol_wire.specs.Parts.{Part, optional_bytes, payload_of, plain_bytes}
-use Rattle.protocol_wire.specs.declared.table.set_state_command.TheConstants.{KEY, NAME, VALUE}
+use Rattle.protocol_table.specs.declared.table.set_state_command.TheConstants.{KEY, NAME, VALUE}
 use Rattle.protocol_records.specs.Value.{value_of, value_parts, ValueFits}
 use Rattle.command_records.specs.declared.set_state_command.SetStateCommandMessage.{SetStateCommandMessage}
 

@@ -13,7 +13,7 @@ pub struct ClearAllStateCommandMessage {
 impl Record for ClearAllStateCommandMessage {
     ghost use Rattle.command_records.specs.ClearAllStateCommand.{clear_all_state_command_of, clear_all_state_command_parts, ClearAllStateCommandFits};
     ghost use Rattle.command_records.specs.ReadBackClearAllStateCommand.{clear_all_state_command_reads};
-    ghost use Rattle.protocol_wire.specs.declared.table.RecordType.TheVariants.{ClearAllStateCommand as clear_all_state_command_type};
+    ghost use Rattle.protocol_table.specs.declared.table.RecordType.TheVariants.{ClearAllStateCommand as clear_all_state_command_type};
 
     ghost record_type = { clear_all_state_command_type };
 

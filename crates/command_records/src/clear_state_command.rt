@@ -14,7 +14,7 @@ pub struct ClearStateCommandMessage {
 impl Record for ClearStateCommandMessage {
     ghost use Rattle.command_records.specs.ClearStateCommand.{clear_state_command_of, clear_state_command_parts, ClearStateCommandFits};
     ghost use Rattle.command_records.specs.ReadBackClearStateCommand.{clear_state_command_reads};
-    ghost use Rattle.protocol_wire.specs.declared.table.RecordType.TheVariants.{ClearStateCommand as clear_state_command_type};
+    ghost use Rattle.protocol_table.specs.declared.table.RecordType.TheVariants.{ClearStateCommand as clear_state_command_type};
 
     ghost record_type = { clear_state_command_type };
 

@@ -2,7 +2,7 @@ ghost use Rattle.std.specs.Prelude.{◌≡◌, ◌++◌, None, IfOk, OnOk};
 ghost use Rattle.protocol_wire.specs.Fields.{fields};
 ghost use Rattle.protocol_wire.specs.Check.{payload_fault};
 ghost use Rattle.protocol_wire.specs.Parts.{payload_of};
-ghost use Rattle.protocol_wire.specs.declared.table.RecordType.TheVariants.{CompletePromiseCommand as complete_promise_command_type};
+ghost use Rattle.protocol_table.specs.declared.table.RecordType.TheVariants.{CompletePromiseCommand as complete_promise_command_type};
 ghost use Rattle.command_records.specs.CompletePromiseCommand.{complete_promise_command_completion_of, completion_parts};
 
 use bytes::ByteStr;

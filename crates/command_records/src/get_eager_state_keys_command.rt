@@ -17,7 +17,7 @@ pub struct GetEagerStateKeysCommandMessage {
 impl Record for GetEagerStateKeysCommandMessage {
     ghost use Rattle.command_records.specs.GetEagerStateKeysCommand.{get_eager_state_keys_command_of, get_eager_state_keys_command_parts, GetEagerStateKeysCommandFits};
     ghost use Rattle.command_records.specs.ReadBackGetEagerStateKeysCommand.{get_eager_state_keys_command_reads};
-    ghost use Rattle.protocol_wire.specs.declared.table.RecordType.TheVariants.{GetEagerStateKeysCommand as get_eager_state_keys_command_type};
+    ghost use Rattle.protocol_table.specs.declared.table.RecordType.TheVariants.{GetEagerStateKeysCommand as get_eager_state_keys_command_type};
 
     ghost record_type = { get_eager_state_keys_command_type };
 

@@ -16,7 +16,7 @@ pub struct GetLazyStateCommandMessage {
 impl Record for GetLazyStateCommandMessage {
     ghost use Rattle.command_records.specs.GetLazyStateCommand.{get_lazy_state_command_of, get_lazy_state_command_parts, GetLazyStateCommandFits};
     ghost use Rattle.command_records.specs.ReadBackGetLazyStateCommand.{get_lazy_state_command_reads};
-    ghost use Rattle.protocol_wire.specs.declared.table.RecordType.TheVariants.{GetLazyStateCommand as get_lazy_state_command_type};
+    ghost use Rattle.protocol_table.specs.declared.table.RecordType.TheVariants.{GetLazyStateCommand as get_lazy_state_command_type};
 
     ghost record_type = { get_lazy_state_command_type };
 

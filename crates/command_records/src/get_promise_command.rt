@@ -16,7 +16,7 @@ pub struct GetPromiseCommandMessage {
 impl Record for GetPromiseCommandMessage {
     ghost use Rattle.command_records.specs.GetPromiseCommand.{get_promise_command_of, get_promise_command_parts, GetPromiseCommandFits};
     ghost use Rattle.command_records.specs.ReadBackGetPromiseCommand.{get_promise_command_reads};
-    ghost use Rattle.protocol_wire.specs.declared.table.RecordType.TheVariants.{GetPromiseCommand as get_promise_command_type};
+    ghost use Rattle.protocol_table.specs.declared.table.RecordType.TheVariants.{GetPromiseCommand as get_promise_command_type};
 
     ghost record_type = { get_promise_command_type };
 

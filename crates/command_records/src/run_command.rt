@@ -15,7 +15,7 @@ pub struct RunCommandMessage {
 impl Record for RunCommandMessage {
     ghost use Rattle.command_records.specs.RunCommand.{run_command_of, run_command_parts, RunCommandFits};
     ghost use Rattle.command_records.specs.ReadBackRunCommand.{run_command_reads};
-    ghost use Rattle.protocol_wire.specs.declared.table.RecordType.TheVariants.{RunCommand as run_command_type};
+    ghost use Rattle.protocol_table.specs.declared.table.RecordType.TheVariants.{RunCommand as run_command_type};
 
     ghost record_type = { run_command_type };
 

@@ -19,7 +19,7 @@ pub struct SetStateCommandMessage {
 impl Record for SetStateCommandMessage {
     ghost use Rattle.command_records.specs.SetStateCommand.{set_state_command_of, set_state_command_parts, SetStateCommandFits};
     ghost use Rattle.command_records.specs.ReadBackSetStateCommand.{set_state_command_reads};
-    ghost use Rattle.protocol_wire.specs.declared.table.RecordType.TheVariants.{SetStateCommand as set_state_command_type};
+    ghost use Rattle.protocol_table.specs.declared.table.RecordType.TheVariants.{SetStateCommand as set_state_command_type};
 
     ghost record_type = { set_state_command_type };
 

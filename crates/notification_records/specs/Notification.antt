@@ -3,7 +3,7 @@ use Rattle.std.specs.Prelude.{IsUtf8, List, [], option_map, ℕ, ◌-◌, ◌<�
 use Rattle.protocol_wire.specs.Wire.{Field}
 use Rattle.protocol_wire.specs.Selection.{optional_u32, optional_text, optional_record, run, first_of}
 use Rattle.protocol_wire.specs.Parts.{Part, optional_number, optional_bytes, payload_of}
-use Rattle.protocol_wire.specs.declared.table.notification.TheConstants.{COMPLETION_ID, FAILURE, ID, INVOCATION_ID, RESULT, SIGNAL_ID, SIGNAL_NAME, STATE_KEYS, VALUE, VOID}
+use Rattle.protocol_table.specs.declared.table.notification.TheConstants.{COMPLETION_ID, FAILURE, ID, INVOCATION_ID, RESULT, SIGNAL_ID, SIGNAL_NAME, STATE_KEYS, VALUE, VOID}
 use Rattle.protocol_records.specs.Failure.{failure_of, failure_parts, FailureFits}
 use Rattle.protocol_records.specs.StateKeys.{state_keys_of, state_keys_parts, StateKeysFits}
 use Rattle.protocol_records.specs.Value.{value_of, value_parts, ValueFits}

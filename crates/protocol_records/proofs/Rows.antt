@@ -8,8 +8,8 @@ use Rattle.protocol_wire.specs.Selection.{last_number, last_bytes}
 use Rattle.protocol_wire.specs.Check.{payload_fault}
 use Rattle.protocol_wire.specs.Parts.{Part, optional_bytes, payload_of}
 use Rattle.protocol_wire.specs.declared.record.TheConstants.{LEVELS}
-use Rattle.protocol_wire.specs.declared.table.RecordType.TheVariants as types
-use Rattle.protocol_wire.specs.declared.table.awaiting_on.TheConstants.{AWAITING_ON}
+use Rattle.protocol_table.specs.declared.table.RecordType.TheVariants as types
+use Rattle.protocol_table.specs.declared.table.awaiting_on.TheConstants.{AWAITING_ON}
 use Rattle.protocol_wire.specs.declared.check.Fault.TheVariants.{BadPayload}
 use Rattle.protocol_records.specs.declared.future.Future.{Future, roll-Future}
 use Rattle.protocol_records.specs.declared.future.Future.TheOpen.{Future-F}

@@ -3,7 +3,7 @@ use Rattle.std.specs.Prelude.{IsUtf8, IfSome, List, [], ℕ, ◌<◌, ◌^◌, �
 use Rattle.protocol_wire.specs.Wire.{Field}
 use Rattle.protocol_wire.specs.Selection.{u32, text, optional_u32, optional_u64, optional_text}
 use Rattle.protocol_wire.specs.Parts.{Part, enum_number, optional_number, optional_bytes, plain_bytes, plain_number}
-use Rattle.protocol_wire.specs.declared.table.error.TheConstants.{BEHAVIOR, CODE, MESSAGE, NEXT_RETRY_DELAY, RELATED_COMMAND_INDEX, RELATED_COMMAND_NAME, RELATED_COMMAND_TYPE}
+use Rattle.protocol_table.specs.declared.table.error.TheConstants.{BEHAVIOR, CODE, MESSAGE, NEXT_RETRY_DELAY, RELATED_COMMAND_INDEX, RELATED_COMMAND_NAME, RELATED_COMMAND_TYPE}
 use Rattle.protocol_records.specs.declared.error.ErrorMessage.{ErrorMessage}
 
 abbrev pub error_of : ℕ → List Field → ErrorMessage

@@ -4,7 +4,7 @@ use Rattle.std.specs.List.{AllByRecursion}
 use Rattle.protocol_wire.specs.Wire.{Field}
 use Rattle.protocol_wire.specs.Selection.{u32, numbers, texts, records}
 use Rattle.protocol_wire.specs.Parts.{Part, enum_number, packed, repeated_bytes, plain_number, payload_of}
-use Rattle.protocol_wire.specs.declared.table.future.TheConstants.{WAITING_COMPLETIONS, WAITING_SIGNALS, WAITING_NAMED_SIGNALS, NESTED_FUTURES, COMBINATOR_TYPE}
+use Rattle.protocol_table.specs.declared.table.future.TheConstants.{WAITING_COMPLETIONS, WAITING_SIGNALS, WAITING_NAMED_SIGNALS, NESTED_FUTURES, COMBINATOR_TYPE}
 use Rattle.protocol_records.specs.declared.future.CombinatorType.{CombinatorType}
 use Rattle.protocol_records.specs.declared.future.CombinatorType.TheVariants.{Unknown, FirstCompleted, AllCompleted, FirstSucceededOrAllFailed, AllSucceededOrFirstFailed, Other}
 use Rattle.protocol_records.specs.declared.future.Future.{Future, out-Future, roll-Future, fold-Future}

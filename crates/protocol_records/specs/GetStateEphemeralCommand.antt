@@ -3,7 +3,7 @@ use Rattle.std.specs.Prelude.{List, [], ℕ, ◌<◌, ◌^◌, ◌∷◌}
 use Rattle.protocol_wire.specs.Wire.{Field}
 use Rattle.protocol_wire.specs.Selection.{u32, text}
 use Rattle.protocol_wire.specs.Parts.{Part, plain_bytes, plain_number}
-use Rattle.protocol_wire.specs.declared.table.get_state_ephemeral_command.TheConstants.{EPHEMERAL_COMPLETION_ID, KEY}
+use Rattle.protocol_table.specs.declared.table.get_state_ephemeral_command.TheConstants.{EPHEMERAL_COMPLETION_ID, KEY}
 use Rattle.protocol_records.specs.declared.get_state_ephemeral_command.GetStateEphemeralCommandMessage.{GetStateEphemeralCommandMessage}
 
 abbrev pub get_state_ephemeral_command_of : ℕ → List Field → GetStateEphemeralCommandMessage

@@ -3,7 +3,7 @@ use Rattle.std.specs.Prelude.{List, [], option_map, ℕ, ◌-◌, ◌<◌, ◌^�
 use Rattle.protocol_wire.specs.Wire.{Field}
 use Rattle.protocol_wire.specs.Selection.{u32, optional_text, optional_record, run, first_of}
 use Rattle.protocol_wire.specs.Parts.{Part, optional_bytes, payload_of, plain_number}
-use Rattle.protocol_wire.specs.declared.table.propose_run_completion.TheConstants.{FAILURE, RESULT, RESULT_COMPLETION_ID, VALUE}
+use Rattle.protocol_table.specs.declared.table.propose_run_completion.TheConstants.{FAILURE, RESULT, RESULT_COMPLETION_ID, VALUE}
 use Rattle.protocol_records.specs.Failure.{failure_of, failure_parts, FailureFits}
 use Rattle.protocol_records.specs.declared.propose_run_completion.ProposeRunCompletionMessage.{ProposeRunCompletionMessage}
 use Rattle.protocol_records.specs.declared.propose_run_completion.ProposeRunCompletionResult.{ProposeRunCompletionResult}

@@ -3,7 +3,7 @@ use Rattle.std.specs.Prelude.{List, [], ℕ, ◌<◌, ◌^◌, ◌∷◌}
 use Rattle.protocol_wire.specs.Wire.{Field}
 use Rattle.protocol_wire.specs.Selection.{u32}
 use Rattle.protocol_wire.specs.Parts.{Part, plain_number}
-use Rattle.protocol_wire.specs.declared.table.propose_run_completion_ack.TheConstants.{COMPLETION_ID}
+use Rattle.protocol_table.specs.declared.table.propose_run_completion_ack.TheConstants.{COMPLETION_ID}
 use Rattle.protocol_records.specs.declared.propose_run_completion_ack.ProposeRunCompletionAckMessage.{ProposeRunCompletionAckMessage}
 
 abbrev pub propose_run_completion_ack_of : ℕ → List Field → ProposeRunCompletionAckMessage

@@ -2,11 +2,11 @@
 use Rattle.std.specs.Prelude.{ℕ, ◌-◌, ◌<◌, ◌^◌, length, refl}
 use Rattle.std.proofs.Common.{sym, ap, ◌∙◌}
 use Rattle.protocol_wire.specs.Check.{payload_fault}
-use Rattle.protocol_wire.specs.Table.{descriptors_of}
+use Rattle.protocol_table.specs.Table.{descriptors_of}
 use Rattle.protocol_wire.specs.Parts.{payload_of}
 use Rattle.protocol_wire.specs.Decodes.{IsRead}
-use Rattle.protocol_wire.specs.declared.table.RecordType.TheVariants as types
-use Rattle.protocol_wire.specs.declared.table.error.TheConstants as error
+use Rattle.protocol_table.specs.declared.table.RecordType.TheVariants as types
+use Rattle.protocol_table.specs.declared.table.error.TheConstants as error
 use Rattle.protocol_wire.proofs.Holds.{u32_holds, enum_holds, text_holds, optional_u32_holds, optional_u64_holds, optional_text_holds, payload_holds}
 use Rattle.protocol_wire.proofs.Back.{u32_back, enum_back, text_back, optional_u32_back, optional_u64_back, optional_text_back}
 use Rattle.protocol_records.specs.declared.error.ErrorMessage.{ErrorMessage}

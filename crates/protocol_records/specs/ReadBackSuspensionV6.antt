@@ -2,11 +2,11 @@
 use Rattle.std.specs.Prelude.{ℕ, ◌-◌, ◌<◌, ◌^◌, length, refl}
 use Rattle.std.proofs.Common.{sym, ap, ◌∙◌}
 use Rattle.protocol_wire.specs.Check.{payload_fault}
-use Rattle.protocol_wire.specs.Table.{descriptors_of}
+use Rattle.protocol_table.specs.Table.{descriptors_of}
 use Rattle.protocol_wire.specs.Parts.{payload_of}
 use Rattle.protocol_wire.specs.Decodes.{IsRead}
-use Rattle.protocol_wire.specs.declared.table.RecordType.TheVariants as types
-use Rattle.protocol_wire.specs.declared.table.suspension_v6.TheConstants as suspension_v6
+use Rattle.protocol_table.specs.declared.table.RecordType.TheVariants as types
+use Rattle.protocol_table.specs.declared.table.suspension_v6.TheConstants as suspension_v6
 use Rattle.protocol_wire.proofs.Holds.{texts_hold, numbers_hold, payload_holds}
 use Rattle.protocol_wire.proofs.Back.{texts_back, numbers_back}
 use Rattle.protocol_records.specs.declared.suspension_v6.SuspensionMessageV6.{SuspensionMessageV6}

@@ -1,10 +1,10 @@
 -- The canonical payload of a void is read again, to the same value.
 use Rattle.std.specs.Prelude.{ℕ, ◌-◌, ◌<◌, ◌^◌, length, refl}
 use Rattle.protocol_wire.specs.Check.{payload_fault}
-use Rattle.protocol_wire.specs.Table.{descriptors_of}
+use Rattle.protocol_table.specs.Table.{descriptors_of}
 use Rattle.protocol_wire.specs.Parts.{payload_of}
 use Rattle.protocol_wire.specs.Decodes.{IsRead}
-use Rattle.protocol_wire.specs.declared.table.RecordType.TheVariants as types
+use Rattle.protocol_table.specs.declared.table.RecordType.TheVariants as types
 use Rattle.protocol_wire.proofs.Holds.{payload_holds}
 use Rattle.protocol_records.specs.declared.void.Void.{Void}
 use Rattle.protocol_records.specs.Void.{void_of, void_parts, VoidFits}

@@ -3,7 +3,7 @@ use Rattle.std.specs.Prelude.{List, [], ℕ, ◌<◌, ◌∷◌}
 use Rattle.protocol_wire.specs.Wire.{Field}
 use Rattle.protocol_wire.specs.Selection.{texts}
 use Rattle.protocol_wire.specs.Parts.{Part, repeated_bytes}
-use Rattle.protocol_wire.specs.declared.table.state_keys.TheConstants.{KEYS}
+use Rattle.protocol_table.specs.declared.table.state_keys.TheConstants.{KEYS}
 use Rattle.protocol_records.specs.declared.state_keys.StateKeys.{StateKeys}
 
 abbrev pub state_keys_of : ℕ → List Field → StateKeys

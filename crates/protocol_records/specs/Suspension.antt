@@ -3,7 +3,7 @@ use Rattle.std.specs.Prelude.{IfSome, List, [], option_map, ℕ, ◌-◌, ◌<�
 use Rattle.protocol_wire.specs.Wire.{Field}
 use Rattle.protocol_wire.specs.Selection.{optional_record}
 use Rattle.protocol_wire.specs.Parts.{Part, optional_bytes, payload_of}
-use Rattle.protocol_wire.specs.declared.table.suspension.TheConstants.{AWAITING_ON}
+use Rattle.protocol_table.specs.declared.table.suspension.TheConstants.{AWAITING_ON}
 use Rattle.protocol_records.specs.Future.{future_of, future_parts, FutureFits}
 use Rattle.protocol_records.specs.declared.suspension.SuspensionMessage.{SuspensionMessage}
 

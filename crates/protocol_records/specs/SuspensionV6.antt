@@ -4,7 +4,7 @@ use Rattle.std.specs.List.{AllByRecursion}
 use Rattle.protocol_wire.specs.Wire.{Field}
 use Rattle.protocol_wire.specs.Selection.{numbers, texts}
 use Rattle.protocol_wire.specs.Parts.{Part, packed, repeated_bytes}
-use Rattle.protocol_wire.specs.declared.table.suspension_v6.TheConstants.{WAITING_COMPLETIONS, WAITING_NAMED_SIGNALS, WAITING_SIGNALS}
+use Rattle.protocol_table.specs.declared.table.suspension_v6.TheConstants.{WAITING_COMPLETIONS, WAITING_NAMED_SIGNALS, WAITING_SIGNALS}
 use Rattle.protocol_records.specs.declared.suspension_v6.SuspensionMessageV6.{SuspensionMessageV6}
 
 abbrev pub suspension_v6_of : ℕ → List Field → SuspensionMessageV6

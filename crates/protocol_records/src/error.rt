@@ -29,7 +29,7 @@ pub struct ErrorMessage {
 impl Record for ErrorMessage {
     ghost use Rattle.protocol_records.specs.Error.{error_of, error_parts, ErrorFits};
     ghost use Rattle.protocol_records.specs.ReadBackError.{error_reads};
-    ghost use Rattle.protocol_wire.specs.declared.table.RecordType.TheVariants.{Error as error_type};
+    ghost use Rattle.protocol_table.specs.declared.table.RecordType.TheVariants.{Error as error_type};
 
     ghost record_type = { error_type };
 

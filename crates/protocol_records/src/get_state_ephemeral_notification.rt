@@ -2,7 +2,7 @@ ghost use Rattle.std.specs.Prelude.{◌≡◌, ◌++◌, None, IfOk, OnOk};
 ghost use Rattle.protocol_wire.specs.Fields.{fields};
 ghost use Rattle.protocol_wire.specs.Check.{payload_fault};
 ghost use Rattle.protocol_wire.specs.Parts.{payload_of};
-ghost use Rattle.protocol_wire.specs.declared.table.RecordType.TheVariants.{GetStateEphemeralNotification as get_state_ephemeral_notification_type};
+ghost use Rattle.protocol_table.specs.declared.table.RecordType.TheVariants.{GetStateEphemeralNotification as get_state_ephemeral_notification_type};
 ghost use Rattle.protocol_records.specs.GetStateEphemeralNotification.{get_state_ephemeral_notification_result_of, result_parts};
 
 use crate::value::Value;

@@ -9,13 +9,13 @@ use Rattle.std.proofs.lemmas.List.Concat.{flat_map-cons}
 use Rattle.protocol_wire.specs.Wire.{Wire, varint, bytes, fixed, Field}
 use Rattle.protocol_wire.specs.Fields.{fields, are_fields, are_varints}
 use Rattle.protocol_wire.specs.Spelling.{varint_spelling, tagged, ValueFits, FieldFits}
-use Rattle.protocol_wire.specs.Table.{descriptors_of, kind_in}
+use Rattle.protocol_table.specs.Table.{descriptors_of, kind_in}
 use Rattle.protocol_wire.specs.Check.{worse, bad_unless, fault_by, fields_fault, payload_fault}
 use Rattle.protocol_wire.specs.Parts.{Part, plain_number, bool_number, enum_number, optional_number, nonempty, plain_bytes, bytes_if, optional_bytes, repeated_bytes, packed, part_spelling, payload_of, numbered, fields_of}
-use Rattle.protocol_wire.specs.declared.table.RecordType.{RecordType}
-use Rattle.protocol_wire.specs.declared.table.Kind.{Kind}
-use Rattle.protocol_wire.specs.declared.table.Kind.TheVariants as kinds
-use Rattle.protocol_wire.specs.declared.table.FieldDescriptor.{FieldDescriptor}
+use Rattle.protocol_table.specs.declared.table.RecordType.{RecordType}
+use Rattle.protocol_table.specs.declared.table.Kind.{Kind}
+use Rattle.protocol_table.specs.declared.table.Kind.TheVariants as kinds
+use Rattle.protocol_table.specs.declared.table.FieldDescriptor.{FieldDescriptor}
 use Rattle.protocol_wire.specs.declared.check.Fault.{Fault}
 use Rattle.protocol_wire.proofs.Steps.{field_at_nil, are_fields-none}
 use Rattle.protocol_wire.specs.Decodes.{IsRead}

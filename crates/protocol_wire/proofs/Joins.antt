@@ -6,7 +6,7 @@ use Rattle.protocol_wire.specs.Fields.{fields, varints}
 use Rattle.protocol_wire.specs.Check.{payload_fault}
 use Rattle.protocol_wire.specs.Sound.{AreSound}
 use Rattle.protocol_wire.specs.Selection.{values, last_number_or, last_number, last_bytes_or, last_bytes, u64, u32, bool, text, low, optional_u64, optional_u32, optional_text, texts, each_number, numbers, concat, joined_bytes, optional_record, records}
-use Rattle.protocol_wire.specs.declared.table.RecordType.{RecordType}
+use Rattle.protocol_table.specs.declared.table.RecordType.{RecordType}
 use Rattle.protocol_wire.proofs.Laws.{values-append, last_number_or-append, same_number, last_bytes_or-append, same_bytes, texts-append, flag}
 use Rattle.protocol_wire.proofs.Joined.{sound_fields, sound_joined}
 use Rattle.protocol_wire.proofs.Extends.{fields-append}

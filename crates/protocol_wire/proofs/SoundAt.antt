@@ -5,14 +5,14 @@ use Rattle.std.proofs.lemmas.Str.{IsUtf8-from_is_utf8}
 use Rattle.std.proofs.lemmas.Bool.{eqb-true}
 use Rattle.protocol_wire.specs.Wire.{Wire, varint, bytes, fixed, Field}
 use Rattle.protocol_wire.specs.Fields.{fields}
-use Rattle.protocol_wire.specs.Table.{descriptors_of, kind_in}
+use Rattle.protocol_table.specs.Table.{descriptors_of, kind_in}
 use Rattle.protocol_wire.specs.Check.{value_fault, fault_by, field_fault, fields_fault, payload_fault}
 use Rattle.protocol_wire.specs.Sound.{AreTexts, AreSound}
 use Rattle.protocol_wire.specs.Selection.{values}
-use Rattle.protocol_wire.specs.declared.table.RecordType.{RecordType}
-use Rattle.protocol_wire.specs.declared.table.Kind.{Kind}
-use Rattle.protocol_wire.specs.declared.table.Kind.TheVariants as kinds
-use Rattle.protocol_wire.specs.declared.table.FieldDescriptor.{FieldDescriptor}
+use Rattle.protocol_table.specs.declared.table.RecordType.{RecordType}
+use Rattle.protocol_table.specs.declared.table.Kind.{Kind}
+use Rattle.protocol_table.specs.declared.table.Kind.TheVariants as kinds
+use Rattle.protocol_table.specs.declared.table.FieldDescriptor.{FieldDescriptor}
 use Rattle.protocol_wire.specs.declared.check.Fault.{Fault}
 use Rattle.protocol_wire.proofs.Joined.{worse_none, bad_unless_none, sound_fields}
 

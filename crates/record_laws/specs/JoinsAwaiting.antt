@@ -2,9 +2,9 @@
 use Rattle.std.specs.Prelude.{◌≡◌, ℕ, ◌-◌, List, ◌++◌, refl}
 use Rattle.std.proofs.Common.{sym, ap, ◌∙◌}
 use Rattle.protocol_wire.specs.Fields.{fields}
-use Rattle.protocol_wire.specs.declared.table.RecordType.TheVariants as types
-use Rattle.protocol_wire.specs.declared.table.suspension.TheConstants as suspension
-use Rattle.protocol_wire.specs.declared.table.awaiting_on.TheConstants as awaiting_on
+use Rattle.protocol_table.specs.declared.table.RecordType.TheVariants as types
+use Rattle.protocol_table.specs.declared.table.suspension.TheConstants as suspension
+use Rattle.protocol_table.specs.declared.table.awaiting_on.TheConstants as awaiting_on
 use Rattle.protocol_wire.proofs.SoundAt.{records_sound}
 use Rattle.protocol_wire.proofs.Joins.{IsFine, bool_joins, optional_record_joins, fields_behind}
 use Rattle.protocol_records.specs.declared.suspension.SuspensionMessage.{SuspensionMessage}

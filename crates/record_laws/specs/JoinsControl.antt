@@ -2,12 +2,12 @@
 use Rattle.std.specs.Prelude.{◌≡◌, ℕ, ◌-◌, List, ◌++◌, refl}
 use Rattle.std.proofs.Common.{sym, ap, ◌∙◌}
 use Rattle.protocol_wire.specs.Fields.{fields}
-use Rattle.protocol_wire.specs.declared.table.RecordType.TheVariants as types
-use Rattle.protocol_wire.specs.declared.table.start.TheConstants as start
-use Rattle.protocol_wire.specs.declared.table.suspension_v6.TheConstants as suspension_v6
-use Rattle.protocol_wire.specs.declared.table.error.TheConstants as error
-use Rattle.protocol_wire.specs.declared.table.propose_run_completion_ack.TheConstants as propose_run_completion_ack
-use Rattle.protocol_wire.specs.declared.table.get_state_ephemeral_command.TheConstants as get_state_ephemeral_command
+use Rattle.protocol_table.specs.declared.table.RecordType.TheVariants as types
+use Rattle.protocol_table.specs.declared.table.start.TheConstants as start
+use Rattle.protocol_table.specs.declared.table.suspension_v6.TheConstants as suspension_v6
+use Rattle.protocol_table.specs.declared.table.error.TheConstants as error
+use Rattle.protocol_table.specs.declared.table.propose_run_completion_ack.TheConstants as propose_run_completion_ack
+use Rattle.protocol_table.specs.declared.table.get_state_ephemeral_command.TheConstants as get_state_ephemeral_command
 use Rattle.protocol_wire.proofs.Joins.{IsFine, u64_joins, u32_joins, bool_joins, optional_u64_joins, optional_u32_joins, text_joins, optional_text_joins, texts_join, numbers_join, records_join, fields_behind}
 use Rattle.protocol_records.specs.declared.start.StartMessage.{StartMessage}
 use Rattle.protocol_records.specs.Start.{start_of}

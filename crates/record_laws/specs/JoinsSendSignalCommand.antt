@@ -3,8 +3,8 @@ use Rattle.std.specs.Prelude.{◌≡◌, ℕ, ◌-◌, List, ◌++◌, Option, S
 use Rattle.std.proofs.Common.{sym, ap, ◌∙◌}
 use Rattle.protocol_wire.specs.Fields.{fields}
 use Rattle.protocol_wire.specs.Selection.{optional_u32, optional_text, optional_record, is_among, among, run, variant_of, first_of}
-use Rattle.protocol_wire.specs.declared.table.RecordType.TheVariants as types
-use Rattle.protocol_wire.specs.declared.table.send_signal_command.TheConstants as send_signal_command
+use Rattle.protocol_table.specs.declared.table.RecordType.TheVariants as types
+use Rattle.protocol_table.specs.declared.table.send_signal_command.TheConstants as send_signal_command
 use Rattle.protocol_wire.proofs.Joins.{IsFine, optional_u32_joins, text_joins, optional_text_joins, optional_record_joins, fields_behind}
 use Rattle.protocol_wire.proofs.Standing.{stands, is_there, absent, stands_is, nothing_stands, variant_among, u32_stands, text_stands, record_stands, run_sound, behind}
 use Rattle.call_records.specs.declared.send_signal_command.SendSignalCommandMessage.{SendSignalCommandMessage}

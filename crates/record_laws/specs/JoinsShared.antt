@@ -2,13 +2,13 @@
 use Rattle.std.specs.Prelude.{◌≡◌, ℕ, ◌-◌, List, ◌++◌, refl}
 use Rattle.std.proofs.Common.{sym, ap, ◌∙◌}
 use Rattle.protocol_wire.specs.Fields.{fields}
-use Rattle.protocol_wire.specs.declared.table.RecordType.TheVariants as types
-use Rattle.protocol_wire.specs.declared.table.value.TheConstants as value
-use Rattle.protocol_wire.specs.declared.table.failure_metadata.TheConstants as failure_metadata
-use Rattle.protocol_wire.specs.declared.table.failure.TheConstants as failure
-use Rattle.protocol_wire.specs.declared.table.header.TheConstants as header
-use Rattle.protocol_wire.specs.declared.table.state_entry.TheConstants as state_entry
-use Rattle.protocol_wire.specs.declared.table.state_keys.TheConstants as state_keys
+use Rattle.protocol_table.specs.declared.table.RecordType.TheVariants as types
+use Rattle.protocol_table.specs.declared.table.value.TheConstants as value
+use Rattle.protocol_table.specs.declared.table.failure_metadata.TheConstants as failure_metadata
+use Rattle.protocol_table.specs.declared.table.failure.TheConstants as failure
+use Rattle.protocol_table.specs.declared.table.header.TheConstants as header
+use Rattle.protocol_table.specs.declared.table.state_entry.TheConstants as state_entry
+use Rattle.protocol_table.specs.declared.table.state_keys.TheConstants as state_keys
 use Rattle.protocol_wire.proofs.Joins.{IsFine, u32_joins, text_joins, texts_join, records_join, fields_behind}
 use Rattle.protocol_records.specs.Void.{void_of}
 use Rattle.protocol_records.specs.declared.value.Value.{Value}

@@ -2,11 +2,11 @@
 use Rattle.std.specs.Prelude.{◌≡◌, ℕ, ◌-◌, List, ◌++◌}
 use Rattle.std.proofs.Common.{sym, ap, ◌∙◌}
 use Rattle.protocol_wire.specs.Fields.{fields}
-use Rattle.protocol_wire.specs.declared.table.RecordType.TheVariants as types
-use Rattle.protocol_wire.specs.declared.table.call_command.TheConstants as call_command
-use Rattle.protocol_wire.specs.declared.table.one_way_call_command.TheConstants as one_way_call_command
-use Rattle.protocol_wire.specs.declared.table.workflow_target.TheConstants as workflow_target
-use Rattle.protocol_wire.specs.declared.table.idempotent_request_target.TheConstants as idempotent_request_target
+use Rattle.protocol_table.specs.declared.table.RecordType.TheVariants as types
+use Rattle.protocol_table.specs.declared.table.call_command.TheConstants as call_command
+use Rattle.protocol_table.specs.declared.table.one_way_call_command.TheConstants as one_way_call_command
+use Rattle.protocol_table.specs.declared.table.workflow_target.TheConstants as workflow_target
+use Rattle.protocol_table.specs.declared.table.idempotent_request_target.TheConstants as idempotent_request_target
 use Rattle.protocol_wire.proofs.Joins.{IsFine, u64_joins, u32_joins, text_joins, optional_text_joins, records_join, fields_behind}
 use Rattle.call_records.specs.declared.call_command.CallCommandMessage.{CallCommandMessage}
 use Rattle.call_records.specs.CallCommand.{call_command_of}

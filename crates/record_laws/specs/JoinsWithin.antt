@@ -2,18 +2,18 @@
 use Rattle.std.specs.Prelude.{◌≡◌, ℕ, ◌-◌, List, ◌++◌, refl}
 use Rattle.std.proofs.Common.{sym, ap, ◌∙◌}
 use Rattle.protocol_wire.specs.Fields.{fields}
-use Rattle.protocol_wire.specs.declared.table.RecordType.TheVariants as types
-use Rattle.protocol_wire.specs.declared.table.get_lazy_state_command.TheConstants as get_lazy_state_command
-use Rattle.protocol_wire.specs.declared.table.set_state_command.TheConstants as set_state_command
-use Rattle.protocol_wire.specs.declared.table.clear_state_command.TheConstants as clear_state_command
-use Rattle.protocol_wire.specs.declared.table.clear_all_state_command.TheConstants as clear_all_state_command
-use Rattle.protocol_wire.specs.declared.table.get_lazy_state_keys_command.TheConstants as get_lazy_state_keys_command
-use Rattle.protocol_wire.specs.declared.table.get_eager_state_keys_command.TheConstants as get_eager_state_keys_command
-use Rattle.protocol_wire.specs.declared.table.get_promise_command.TheConstants as get_promise_command
-use Rattle.protocol_wire.specs.declared.table.peek_promise_command.TheConstants as peek_promise_command
-use Rattle.protocol_wire.specs.declared.table.run_command.TheConstants as run_command
-use Rattle.protocol_wire.specs.declared.table.input_command.TheConstants as input_command
-use Rattle.protocol_wire.specs.declared.table.sleep_command.TheConstants as sleep_command
+use Rattle.protocol_table.specs.declared.table.RecordType.TheVariants as types
+use Rattle.protocol_table.specs.declared.table.get_lazy_state_command.TheConstants as get_lazy_state_command
+use Rattle.protocol_table.specs.declared.table.set_state_command.TheConstants as set_state_command
+use Rattle.protocol_table.specs.declared.table.clear_state_command.TheConstants as clear_state_command
+use Rattle.protocol_table.specs.declared.table.clear_all_state_command.TheConstants as clear_all_state_command
+use Rattle.protocol_table.specs.declared.table.get_lazy_state_keys_command.TheConstants as get_lazy_state_keys_command
+use Rattle.protocol_table.specs.declared.table.get_eager_state_keys_command.TheConstants as get_eager_state_keys_command
+use Rattle.protocol_table.specs.declared.table.get_promise_command.TheConstants as get_promise_command
+use Rattle.protocol_table.specs.declared.table.peek_promise_command.TheConstants as peek_promise_command
+use Rattle.protocol_table.specs.declared.table.run_command.TheConstants as run_command
+use Rattle.protocol_table.specs.declared.table.input_command.TheConstants as input_command
+use Rattle.protocol_table.specs.declared.table.sleep_command.TheConstants as sleep_command
 use Rattle.protocol_wire.proofs.SoundAt.{records_sound}
 use Rattle.protocol_wire.proofs.Joins.{IsFine, u64_joins, u32_joins, text_joins, records_join, optional_record_joins, fields_behind}
 use Rattle.command_records.specs.declared.get_lazy_state_command.GetLazyStateCommandMessage.{GetLazyStateCommandMessage}

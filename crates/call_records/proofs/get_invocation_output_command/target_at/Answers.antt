@@ -1,6 +1,6 @@
 use Rattle.std.proofs.Common.{refl}
-use Rattle.protocol_wire.specs.declared.table.RecordType.TheVariants as types
-use Rattle.protocol_wire.specs.declared.table.get_invocation_output_command.TheConstants as table
+use Rattle.protocol_table.specs.declared.table.RecordType.TheVariants as types
+use Rattle.protocol_table.specs.declared.table.get_invocation_output_command.TheConstants as table
 use Rattle.protocol_wire.proofs.SoundAt.{records_sound, texts_sound}
 use Rattle.call_records.proofs.get_invocation_output_command.target_at.Goals as goal
 

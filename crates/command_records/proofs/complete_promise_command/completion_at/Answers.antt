@@ -1,6 +1,6 @@
 use Rattle.std.proofs.Common.{refl}
-use Rattle.protocol_wire.specs.declared.table.RecordType.TheVariants as types
-use Rattle.protocol_wire.specs.declared.table.complete_promise_command.TheConstants as table
+use Rattle.protocol_table.specs.declared.table.RecordType.TheVariants as types
+use Rattle.protocol_table.specs.declared.table.complete_promise_command.TheConstants as table
 use Rattle.protocol_wire.proofs.SoundAt.{records_sound}
 use Rattle.command_records.proofs.complete_promise_command.completion_at.Goals as goal
 

@@ -1,6 +1,6 @@
 use Rattle.std.proofs.Common.{refl}
-use Rattle.protocol_wire.specs.declared.table.RecordType.TheVariants as types
-use Rattle.protocol_wire.specs.declared.table.notification.TheConstants as table
+use Rattle.protocol_table.specs.declared.table.RecordType.TheVariants as types
+use Rattle.protocol_table.specs.declared.table.notification.TheConstants as table
 use Rattle.protocol_wire.proofs.SoundAt.{texts_sound}
 use Rattle.notification_records.proofs.notification.id_at.Goals as goal
 

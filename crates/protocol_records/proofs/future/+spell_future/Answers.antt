@@ -3,7 +3,7 @@ use Rattle.std.proofs.lemmas.List.{take_all}
 use Rattle.protocol_wire.specs.Parts.{part_spelling, repeated_bytes, payload_of}
 use Rattle.protocol_wire.proofs.Puts.{chained}
 use Rattle.protocol_records.specs.declared.future.Future.{Future, out-Future}
-use Rattle.protocol_wire.specs.declared.table.future.TheConstants.{NESTED_FUTURES}
+use Rattle.protocol_table.specs.declared.table.future.TheConstants.{NESTED_FUTURES}
 use Rattle.protocol_records.specs.Future.{future_parts}
 use Rattle.protocol_records.proofs.Futures.{nested_is}
 use Rattle.protocol_records.proofs.future.+spell_future.Goals as goal

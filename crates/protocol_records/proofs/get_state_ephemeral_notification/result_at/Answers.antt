@@ -1,6 +1,6 @@
 use Rattle.std.proofs.Common.{refl}
-use Rattle.protocol_wire.specs.declared.table.RecordType.TheVariants as types
-use Rattle.protocol_wire.specs.declared.table.get_state_ephemeral_notification.TheConstants as table
+use Rattle.protocol_table.specs.declared.table.RecordType.TheVariants as types
+use Rattle.protocol_table.specs.declared.table.get_state_ephemeral_notification.TheConstants as table
 use Rattle.protocol_wire.proofs.SoundAt.{records_sound}
 use Rattle.protocol_records.proofs.get_state_ephemeral_notification.result_at.Goals as goal
 

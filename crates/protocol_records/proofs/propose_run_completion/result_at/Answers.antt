@@ -1,6 +1,6 @@
 use Rattle.std.proofs.Common.{refl}
-use Rattle.protocol_wire.specs.declared.table.RecordType.TheVariants as types
-use Rattle.protocol_wire.specs.declared.table.propose_run_completion.TheConstants as table
+use Rattle.protocol_table.specs.declared.table.RecordType.TheVariants as types
+use Rattle.protocol_table.specs.declared.table.propose_run_completion.TheConstants as table
 use Rattle.protocol_wire.proofs.SoundAt.{records_sound}
 use Rattle.protocol_records.proofs.propose_run_completion.result_at.Goals as goal
 

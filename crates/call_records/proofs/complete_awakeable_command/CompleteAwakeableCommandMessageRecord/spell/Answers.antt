@@ -1,7 +1,7 @@
 use Rattle.std.proofs.Common.{refl, [], ◌∷◌}
 use Rattle.protocol_wire.specs.Parts.{plain_bytes}
 use Rattle.protocol_wire.proofs.Puts.{chained, chain_block}
-use Rattle.protocol_wire.specs.declared.table.complete_awakeable_command.TheConstants.{NAME}
+use Rattle.protocol_table.specs.declared.table.complete_awakeable_command.TheConstants.{NAME}
 use Rattle.call_records.specs.CompleteAwakeableCommand.{complete_awakeable_command_parts, result_parts}
 use Rattle.call_records.proofs.complete_awakeable_command.CompleteAwakeableCommandMessageRecord.spell.Goals as goal
 

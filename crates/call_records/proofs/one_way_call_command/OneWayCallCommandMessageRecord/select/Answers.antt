@@ -1,6 +1,6 @@
 use Rattle.std.proofs.Common.{refl}
-use Rattle.protocol_wire.specs.declared.table.RecordType.TheVariants as types
-use Rattle.protocol_wire.specs.declared.table.one_way_call_command.TheConstants as table
+use Rattle.protocol_table.specs.declared.table.RecordType.TheVariants as types
+use Rattle.protocol_table.specs.declared.table.one_way_call_command.TheConstants as table
 use Rattle.protocol_wire.proofs.SoundAt.{records_sound}
 use Rattle.call_records.proofs.one_way_call_command.OneWayCallCommandMessageRecord.select.Goals as goal
 

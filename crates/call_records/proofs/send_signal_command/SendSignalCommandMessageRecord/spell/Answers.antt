@@ -1,7 +1,7 @@
 use Rattle.std.proofs.Common.{refl, [], ◌∷◌, ◌++◌}
 use Rattle.protocol_wire.specs.Parts.{plain_bytes}
 use Rattle.protocol_wire.proofs.Puts.{chained, chain_block}
-use Rattle.protocol_wire.specs.declared.table.send_signal_command.TheConstants.{ENTRY_NAME}
+use Rattle.protocol_table.specs.declared.table.send_signal_command.TheConstants.{ENTRY_NAME}
 use Rattle.call_records.specs.SendSignalCommand.{send_signal_command_parts, signal_id_parts, result_parts}
 use Rattle.call_records.proofs.send_signal_command.SendSignalCommandMessageRecord.spell.Goals as goal
 

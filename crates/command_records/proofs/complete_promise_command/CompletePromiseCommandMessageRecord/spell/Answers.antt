@@ -1,7 +1,7 @@
 use Rattle.std.proofs.Common.{refl, [], ◌∷◌}
 use Rattle.protocol_wire.specs.Parts.{plain_bytes, plain_number}
 use Rattle.protocol_wire.proofs.Puts.{chained, chain_block}
-use Rattle.protocol_wire.specs.declared.table.complete_promise_command.TheConstants.{NAME, RESULT_COMPLETION_ID}
+use Rattle.protocol_table.specs.declared.table.complete_promise_command.TheConstants.{NAME, RESULT_COMPLETION_ID}
 use Rattle.command_records.specs.CompletePromiseCommand.{complete_promise_command_parts, completion_parts}
 use Rattle.command_records.proofs.complete_promise_command.CompletePromiseCommandMessageRecord.spell.Goals as goal
 

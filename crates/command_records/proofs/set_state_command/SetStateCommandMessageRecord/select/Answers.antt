@@ -1,6 +1,6 @@
 use Rattle.std.proofs.Common.{refl}
-use Rattle.protocol_wire.specs.declared.table.RecordType.TheVariants as types
-use Rattle.protocol_wire.specs.declared.table.set_state_command.TheConstants as table
+use Rattle.protocol_table.specs.declared.table.RecordType.TheVariants as types
+use Rattle.protocol_table.specs.declared.table.set_state_command.TheConstants as table
 use Rattle.protocol_wire.proofs.SoundAt.{records_sound}
 use Rattle.command_records.proofs.set_state_command.SetStateCommandMessageRecord.select.Goals as goal
 

@@ -1,7 +1,7 @@
 //! The one table of the records: each field's number and kind stand here alone. Checking, selecting and spelling read them here.
 
 ghost use Rattle.std.specs.Prelude.{◌≡◌};
-ghost use Rattle.protocol_wire.specs.Table.{descriptors_of, kind_in};
+ghost use Rattle.protocol_table.specs.Table.{descriptors_of, kind_in};
 
 macro_rules! field {
     ($number:literal $kind:expr) => { FieldDescriptor { number: $number, kind: $kind } };
