@@ -5,8 +5,8 @@ use protocol_errors::{
     BadProposeRunCompletionAck, ClosedError, CommandMetadata, CommandMismatchError,
     CommandTypeMismatchError, EMPTY_SCOPE, EphemeralStateGetWithClosedInput, Error, FixedError,
     InvocationErrorCode, MISSING_CONTENT_TYPE, NotificationMetadata, OutOfBoundsDuration,
-    SUSPENDED, UnavailableEntryError, UnexpectedStateError,
-    UnsupportedFeatureForNegotiatedVersion, codes, to_error,
+    SUSPENDED, UnavailableEntryError, UnexpectedStateError, UnsupportedFeatureForNegotiatedVersion,
+    codes, to_error,
 };
 use std::alloc::{AllocError, Global};
 use std::test::Fail;
@@ -18,19 +18,43 @@ const COMMANDS: [(CommandType, &str, &str); 19] = [
     (CommandType::GetStateKeys, "GetStateKeys", "get state keys"),
     (CommandType::SetState, "SetState", "set state"),
     (CommandType::ClearState, "ClearState", "clear state"),
-    (CommandType::ClearAllState, "ClearAllState", "clear all state"),
+    (
+        CommandType::ClearAllState,
+        "ClearAllState",
+        "clear all state",
+    ),
     (CommandType::GetPromise, "GetPromise", "get promise"),
     (CommandType::PeekPromise, "PeekPromise", "peek promise"),
-    (CommandType::CompletePromise, "CompletePromise", "complete promise"),
+    (
+        CommandType::CompletePromise,
+        "CompletePromise",
+        "complete promise",
+    ),
     (CommandType::Sleep, "Sleep", "sleep"),
     (CommandType::Call, "Call", "call"),
     (CommandType::OneWayCall, "OneWayCall", "one way call/send"),
     (CommandType::SendSignal, "SendSignal", "send signal"),
     (CommandType::Run, "Run", "run"),
-    (CommandType::AttachInvocation, "AttachInvocation", "attach invocation"),
-    (CommandType::GetInvocationOutput, "GetInvocationOutput", "get invocation output"),
-    (CommandType::CompleteAwakeable, "CompleteAwakeable", "complete awakeable"),
-    (CommandType::CancelInvocation, "CancelInvocation", "cancel invocation"),
+    (
+        CommandType::AttachInvocation,
+        "AttachInvocation",
+        "attach invocation",
+    ),
+    (
+        CommandType::GetInvocationOutput,
+        "GetInvocationOutput",
+        "get invocation output",
+    ),
+    (
+        CommandType::CompleteAwakeable,
+        "CompleteAwakeable",
+        "complete awakeable",
+    ),
+    (
+        CommandType::CancelInvocation,
+        "CancelInvocation",
+        "cancel invocation",
+    ),
 ];
 
 #[test]
@@ -47,10 +71,16 @@ fn words_of_commands(rt: HostRuntime) -> Result<(), Fail> {
 fn commands_of_types(rt: HostRuntime) -> Result<(), Fail> {
     let wanted = [
         (MessageType::GetEagerStateCommand, Ok(CommandType::GetState)),
-        (MessageType::GetLazyStateKeysCommand, Ok(CommandType::GetStateKeys)),
+        (
+            MessageType::GetLazyStateKeysCommand,
+            Ok(CommandType::GetStateKeys),
+        ),
         (MessageType::SendSignalCommand, Ok(CommandType::SendSignal)),
         (MessageType::End, Err(MessageType::End)),
-        (MessageType::CustomEntry(0x0414), Err(MessageType::CustomEntry(0x0414))),
+        (
+            MessageType::CustomEntry(0x0414),
+            Err(MessageType::CustomEntry(0x0414)),
+        ),
     ];
     for (ty, command) in wanted {
         assert_eq!(rt; CommandType::try_from(ty), command);
@@ -106,8 +136,14 @@ fn versions(rt: HostRuntime) -> Result<(), Fail> {
 // Two headers of which the names differ in case alone.
 fn two_headers(alloc: Global) -> Result<Vec<(ByteStr, ByteStr)>, AllocError> {
     Ok(vec![in alloc;
-        (ByteStr::from_static("Content-Type"), ByteStr::from_static("first")),
-        (ByteStr::from_static("content-type"), ByteStr::from_static("second")),
+        (
+            ByteStr::from_static("Content-Type"),
+            ByteStr::from_static("first")
+        ),
+        (
+            ByteStr::from_static("content-type"),
+            ByteStr::from_static("second")
+        ),
     ]?)
 }
 
@@ -150,7 +186,10 @@ fn fixed_errors(rt: HostRuntime) -> Result<(), Fail> {
     assert!(rt; suspended.is_suspended_error() && !missing.is_suspended_error());
     assert_eq!(rt; EMPTY_SCOPE, FixedError::EmptyScope);
     let shown = format!(in rt.alloc(); "{missing}\n{suspended}")?;
-    assert_eq!(rt; shown.as_str(), "(415) Missing content type when invoking the service deployment\n(599) Suspended invocation");
+    assert_eq!(rt;
+        shown.as_str(),
+        "(415) Missing content type when invoking the service deployment\n(599) Suspended invocation"
+    );
     Ok(())
 }
 
@@ -163,7 +202,10 @@ fn commands_and_notifications_told(rt: HostRuntime) -> Result<(), Fail> {
     let awakeable = NotificationMetadata::Awakeable(ByteStr::from_static("sign_1x"));
     let cancellation = NotificationMetadata::Cancellation;
     let shown = format!(in rt.alloc(); "{named}, {related}, {awakeable}, {cancellation}")?;
-    assert_eq!(rt; shown.as_str(), "RunCommand [r], SleepCommand [3], Awakeable sign_1x, Cancellation");
+    assert_eq!(rt;
+        shown.as_str(),
+        "RunCommand [r], SleepCommand [3], Awakeable sign_1x, Cancellation"
+    );
     let error = Error::internal(ByteStr::from_static("no")).with_related_command_metadata(named);
     let shown = format!(in rt.alloc(); "{error}")?;
     assert_eq!(rt; shown.as_str(), "(500) no\nRelated command: RunCommand [r]");
@@ -175,11 +217,21 @@ fn mismatches(rt: HostRuntime) -> Result<(), Fail> {
     let none = UnavailableEntryError::new(MessageType::RunCommand);
     let none = to_error(rt.alloc(), &none)?;
     assert_eq!(rt; none.code(), 570);
-    let other = CommandTypeMismatchError::new(1, MessageType::RunCommand, MessageType::SleepCommand);
+    let other = CommandTypeMismatchError::new(
+        1,
+        MessageType::RunCommand,
+        MessageType::SleepCommand,
+    );
     let other = to_error(rt.alloc(), &other)?;
     assert_eq!(rt; other.code(), 570);
-    assert_eq!(rt; none.message(), "The execution replay ended unexpectedly. Expecting to read 'RunCommand' from the recorded journal, but the buffered messages were already drained.");
-    assert_eq!(rt; other.message(), "Found a mismatch between the code paths taken during the previous execution and the paths taken during this execution.\nThis typically happens when some parts of the code are non-deterministic.\n - The previous execution ran and recorded the following: 'RunCommand' (index '1')\n - The current execution attempts to perform the following: 'SleepCommand'");
+    assert_eq!(rt;
+        none.message(),
+        "The execution replay ended unexpectedly. Expecting to read 'RunCommand' from the recorded journal, but the buffered messages were already drained."
+    );
+    assert_eq!(rt;
+        other.message(),
+        "Found a mismatch between the code paths taken during the previous execution and the paths taken during this execution.\nThis typically happens when some parts of the code are non-deterministic.\n - The previous execution ran and recorded the following: 'RunCommand' (index '1')\n - The current execution attempts to perform the following: 'SleepCommand'"
+    );
     Ok(())
 }
 
@@ -188,7 +240,11 @@ fn fields_that_differ(rt: HostRuntime) -> Result<(), Fail> {
     let error = CommandMismatchError::new(4, "a", "b");
     let error = to_error(rt.alloc(), &error)?;
     assert_eq!(rt; error.code(), 570);
-    assert!(rt; error.message().ends_with("\n - The mismatch happened at index '4'\n   Actual: a\n   Expected: b"));
+    assert!(rt;
+        error.message().ends_with(
+            "\n - The mismatch happened at index '4'\n   Actual: a\n   Expected: b"
+        )
+    );
     Ok(())
 }
 
@@ -196,10 +252,19 @@ fn fields_that_differ(rt: HostRuntime) -> Result<(), Fail> {
 fn states_and_ends(rt: HostRuntime) -> Result<(), Fail> {
     let unexpected = UnexpectedStateError::new("WaitingStart", ByteStr::from_static("SysSleep"));
     let unexpected = to_error(rt.alloc(), &unexpected)?;
-    let closed = to_error(rt.alloc(), &ClosedError::new(ByteStr::from_static("SysEnd")))?;
+    let closed = to_error(
+        rt.alloc(),
+        &ClosedError::new(ByteStr::from_static("SysEnd")),
+    )?;
     assert_eq!(rt; (unexpected.code(), closed.code()), (571, 598));
-    assert_eq!(rt; unexpected.message(), "Unexpected state 'WaitingStart' when invoking 'SysSleep'");
-    assert_eq!(rt; closed.message(), "State machine was closed when invoking 'SysEnd'");
+    assert_eq!(rt;
+        unexpected.message(),
+        "Unexpected state 'WaitingStart' when invoking 'SysSleep'"
+    );
+    assert_eq!(rt;
+        closed.message(),
+        "State machine was closed when invoking 'SysEnd'"
+    );
     Ok(())
 }
 
@@ -212,7 +277,10 @@ fn features_and_moments(rt: HostRuntime) -> Result<(), Fail> {
     );
     let feature = to_error(rt.alloc(), &feature)?;
     assert_eq!(rt; feature.code(), 573);
-    assert_eq!(rt; feature.message(), "Feature 'terminal error metadata' is not supported by the negotiated protocol version 'application/vnd.restate.invocation.v5', the minimum required version is 'application/vnd.restate.invocation.v6'");
+    assert_eq!(rt;
+        feature.message(),
+        "Feature 'terminal error metadata' is not supported by the negotiated protocol version 'application/vnd.restate.invocation.v5', the minimum required version is 'application/vnd.restate.invocation.v6'"
+    );
     let Err(too_long) = u64::try_from(u128::MAX) else {
         return Ok(());
     };
@@ -227,7 +295,13 @@ fn runs_and_ephemeral_reads(rt: HostRuntime) -> Result<(), Fail> {
     let key = EphemeralStateGetWithClosedInput::new(ByteStr::from_static("k"));
     let closed = to_error(rt.alloc(), &key)?;
     assert_eq!(rt; (unproposed.code(), closed.code()), (571, 500));
-    assert_eq!(rt; unproposed.message(), "Got an acknowledgement for a run proposal that was not sent, completion id 7");
-    assert_eq!(rt; closed.message(), "Cannot get the state of key 'k' ephemerally, the input is closed");
+    assert_eq!(rt;
+        unproposed.message(),
+        "Got an acknowledgement for a run proposal that was not sent, completion id 7"
+    );
+    assert_eq!(rt;
+        closed.message(),
+        "Cannot get the state of key 'k' ephemerally, the input is closed"
+    );
     Ok(())
 }

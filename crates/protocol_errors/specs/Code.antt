@@ -1,6 +1,5 @@
 -- The numbers of errors.
 use Rattle.std.specs.Prelude.{ℕ, ◌^◌, nat_lt, if◌then◌else◌}
-
 use Rattle.protocol_errors.specs.declared.code.InvocationErrorCode.{InvocationErrorCode}
 
 abbrev pub code_numbered : ℕ → InvocationErrorCode

@@ -6,7 +6,7 @@ ghost use Rattle.protocol_errors.specs.declared.error.ErrorBehavior.{ErrorBehavi
 
 use crate::{CommandMetadata, InvocationErrorCode, codes};
 use bytes::ByteStr;
-use journal_protocol::{ContentTypeError, EncodingError};
+use journal_protocol::{ContentTypeError, DecodingError, EncodingError};
 use std::alloc::{AllocError, Global};
 use std::fmt;
 use std::time::Duration;
@@ -170,5 +170,19 @@ impl WithInvocationErrorCode for EncodingError {
 
     fn code(&self) -> InvocationErrorCode {
         codes::INTERNAL
+    }
+}
+
+/// Memory that was refused is internal, anything else the fault of the other side.
+impl WithInvocationErrorCode for DecodingError {
+    ghost use Rattle.protocol_errors.specs.Error.{decoding_code};
+
+    ghost code_of = { decoding_code };
+
+    fn code(&self) -> InvocationErrorCode {
+        match self {
+            DecodingError::UnknownMessageType(_) => codes::PROTOCOL_VIOLATION,
+            DecodingError::OutOfMemory => codes::INTERNAL,
+        }
     }
 }

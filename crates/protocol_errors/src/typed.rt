@@ -36,7 +36,8 @@ pub struct UnexpectedStateError {
 impl UnexpectedStateError {
     /// Of this call in this state.
     pub fn new(state: &'static str, event: ByteStr) -> UnexpectedStateError
-        ensures { result ≡ record { state = state; event = event } }
+        ensures state { result.state.now ≡ state.now }
+        ensures event { result.event ≡ event }
     {
         UnexpectedStateError { state, event }
     }
@@ -63,11 +64,9 @@ impl UnsupportedFeatureForNegotiatedVersion {
         current_version: Version,
         minimum_required_version: Version,
     ) -> UnsupportedFeatureForNegotiatedVersion
-        ensures { result ≡ record {
-            feature = feature;
-            current_version = current_version;
-            minimum_required_version = minimum_required_version;
-        } }
+        ensures feature { result.feature.now ≡ feature.now }
+        ensures current { result.current_version ≡ current_version }
+        ensures minimum { result.minimum_required_version ≡ minimum_required_version }
     {
         UnsupportedFeatureForNegotiatedVersion {
             feature,
