@@ -2,11 +2,11 @@
 use bytes::ByteStr;
 use journal_protocol::{CommandType, ContentTypeError, HeaderMap, MessageType, Version};
 use protocol_errors::{
-    BadProposeRunCompletionAck, ClosedError, CommandMetadata, CommandMismatchError,
+    AwaitedId, BadProposeRunCompletionAck, ClosedError, CommandMetadata, CommandMismatchError,
     CommandTypeMismatchError, EMPTY_SCOPE, EphemeralStateGetWithClosedInput, Error, FixedError,
     InvocationErrorCode, MISSING_CONTENT_TYPE, NotificationMetadata, OutOfBoundsDuration,
-    SUSPENDED, UnavailableEntryError, UnexpectedStateError, UnsupportedFeatureForNegotiatedVersion,
-    codes, to_error,
+    SUSPENDED, UnavailableEntryError, UncompletedDoProgressDuringReplay, UnexpectedStateError,
+    UnsupportedFeatureForNegotiatedVersion, codes, to_error,
 };
 use std::alloc::{AllocError, Global};
 use std::test::Fail;
@@ -302,6 +302,25 @@ fn runs_and_ephemeral_reads(rt: HostRuntime) -> Result<(), Fail> {
     assert_eq!(rt;
         closed.message(),
         "Cannot get the state of key 'k' ephemerally, the input is closed"
+    );
+    Ok(())
+}
+
+// An await of three ids, of which the awakeable is known.
+fn uncompleted(alloc: Global) -> Result<UncompletedDoProgressDuringReplay, AllocError> {
+    let name = AwaitedId::SignalName(ByteStr::from_static("x"));
+    let awaited = vec![in alloc; name, AwaitedId::SignalId(17), AwaitedId::CompletionId(3)]?;
+    let awakeable = NotificationMetadata::Awakeable(ByteStr::from_static("sign_1x"));
+    let known = vec![in alloc; (AwaitedId::SignalId(17), awakeable)]?;
+    Ok(UncompletedDoProgressDuringReplay::new(awaited, known))
+}
+
+#[test]
+fn awaits_in_order(rt: HostRuntime) -> Result<(), Fail> {
+    let error = to_error(rt.alloc(), &uncompleted(rt.alloc())?)?;
+    assert_eq!(rt; error.code(), 570);
+    assert!(rt;
+        error.message().ends_with("\n - completion id 3\n - Awakeable sign_1x\n - signal 'x'")
     );
     Ok(())
 }

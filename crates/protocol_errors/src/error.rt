@@ -24,7 +24,7 @@ pub enum ErrorBehavior {
 
 /// Why an attempt failed, with the command that it is about, the delay until the next attempt where it replaces the
 /// usual one, and what is to become of the invocation.
-#[derive(Clone, Debug, PartialEq, Eq, Drop)]
+#[derive(Clone, Debug, Drop)]
 pub struct Error {
     code: InvocationErrorCode,
     message: ByteStr,

@@ -7,6 +7,7 @@ mod fixed;
 mod metadata;
 mod mismatch;
 mod typed;
+mod uncompleted;
 
 pub use code::{InvocationErrorCode, codes};
 pub use error::{Error, ErrorBehavior, WithInvocationErrorCode, to_error};
@@ -24,3 +25,4 @@ pub use typed::{
     EphemeralStateGetWithClosedInput, ErrorFormatter, OutOfBoundsDuration, UnavailableEntryError,
     UnexpectedStateError, UnsupportedFeatureForNegotiatedVersion,
 };
+pub use uncompleted::{AwaitedId, UncompletedDoProgressDuringReplay};

@@ -6,7 +6,7 @@ use journal_protocol::MessageType;
 use std::fmt;
 
 /// A command of the journal, as an error names it.
-#[derive(Clone, Debug, PartialEq, Eq, Drop)]
+#[derive(Clone, Debug, Drop)]
 pub struct CommandMetadata {
     /// Its place in the journal.
     pub index: u32,
@@ -53,7 +53,7 @@ impl fmt::Display for CommandMetadata {
 }
 
 /// What an id that is waited for stands for.
-#[derive(Clone, Debug, PartialEq, Eq, Drop)]
+#[derive(Debug, Drop)]
 pub enum NotificationMetadata {
     /// The completion of a command.
     RelatedToCommand(CommandMetadata),

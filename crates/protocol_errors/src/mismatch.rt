@@ -99,7 +99,7 @@ impl<M> WithInvocationErrorCode for CommandMismatchError<M> {
 }
 
 // How each text of a mismatch begins.
-fn write_mismatch<W: fmt::Write>(f: &mut fmt::Formatter<W>) -> fmt::Result {
+pub(crate) fn write_mismatch<W: fmt::Write>(f: &mut fmt::Formatter<W>) -> fmt::Result {
     f.write_str(
         "Found a mismatch between the code paths taken during the previous execution and the paths taken during this execution.\nThis typically happens when some parts of the code are non-deterministic.",
     )

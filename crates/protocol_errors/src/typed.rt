@@ -124,7 +124,7 @@ pub trait ErrorFormatter: fmt::Debug {
 }
 
 /// The words that are printed where nobody hands in others.
-#[derive(Clone, Copy, Debug, PartialEq, Eq)]
+#[derive(Clone, Copy, Debug)]
 pub struct DefaultErrorFormatter;
 
 impl ErrorFormatter for DefaultErrorFormatter {
