@@ -1,5 +1,5 @@
 -- Types of commands, to the types of their messages and back.
-use Rattle.std.proofs.Common.{◌≢◌, refl}
+use Rattle.std.proofs.Common.{refl}
 use Rattle.journal_protocol.specs.declared.command_type.CommandType.TheVariants.{CancelInvocation}
 use Rattle.journal_protocol.specs.Laws.{CommandTypesReadBack, CancellationsAreSignals}
 

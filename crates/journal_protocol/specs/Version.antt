@@ -1,5 +1,5 @@
 -- Versions of the protocol, and the content types that name them.
-use Rattle.std.specs.Prelude.{◌≡◌, ℕ, ◌==◌, if◌then◌else◌, Bool, List, [], ◌∷◌, codes, find, bytes_eq, length, take, Option, Some, None, Result, Ok, Err}
+use Rattle.std.specs.Prelude.{ℕ, ◌==◌, if◌then◌else◌, Bool, List, [], ◌∷◌, codes, find, bytes_eq, length, take, Option, Some, None, Result, Ok, Err}
 use Rattle.journal_protocol.specs.declared.version.Version.{Version}
 use Rattle.journal_protocol.specs.declared.version.Version.TheVariants.{V1, V2, V3, V4, V5, V6, V7, V8}
 use Rattle.journal_protocol.specs.declared.version.ContentTypeError.{ContentTypeError}
