@@ -7,10 +7,10 @@ ghost use Rattle.journal_store.specs.Read.{ReadsRow, answer_of};
 ghost use Rattle.script_lines.specs.Text.{request_line};
 
 use crate::reply::reply_line;
+use built_in_handlers::handlers::Nap;
 use bytes::ByteStr;
 use durable_schedule::Scheduler;
 use journal_model::NonEmptyValue;
-use built_in_handlers::handlers::Nap;
 use journal_store::{RecordedRequest, Refusal};
 use script_lines::text::{LineReply, ShownAnswer, ShownOpenness, ShownRequest};
 use std::alloc::AllocError;
