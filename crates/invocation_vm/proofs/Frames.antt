@@ -8,7 +8,7 @@ use Rattle.protocol_wire.specs.Wire.{Field}
 use Rattle.protocol_wire.specs.Check.{payload_fault}
 use Rattle.protocol_wire.specs.Decodes.{IsRead}
 use Rattle.protocol_wire.specs.declared.record.TheConstants.{LEVELS}
-use Rattle.protocol_wire.specs.declared.table.RecordType.{RecordType}
+use Rattle.protocol_table.specs.declared.table.RecordType.{RecordType}
 use Rattle.journal_protocol.specs.declared.message_type.MessageType.{MessageType}
 use Rattle.journal_protocol.specs.declared.message_type.UnknownMessageType.{UnknownMessageType}
 use Rattle.journal_protocol.specs.declared.decoder.RawMessage.{RawMessage}

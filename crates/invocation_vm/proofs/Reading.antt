@@ -11,8 +11,8 @@ use Rattle.protocol_wire.specs.Parts as parts
 use Rattle.protocol_wire.specs.Parts.{Part, payload_of, fields_of, bool_number, nonempty, bytes_if}
 use Rattle.protocol_wire.specs.declared.record.TheConstants.{LEVELS}
 use Rattle.protocol_wire.specs.declared.check.Fault.{Fault}
-use Rattle.protocol_wire.specs.declared.table.RecordType.{RecordType}
-use Rattle.protocol_wire.specs.declared.table.RecordType.TheVariants as types
+use Rattle.protocol_table.specs.declared.table.RecordType.{RecordType}
+use Rattle.protocol_table.specs.declared.table.RecordType.TheVariants as types
 use Rattle.protocol_wire.proofs.Laws.{Fit, fields-payload_alone}
 use Rattle.protocol_wire.proofs.Back.{u64_back, u32_back, text_back, bool_back, optional_text_back, optional_record_back, records_back}
 use Rattle.protocol_wire.proofs.Holds.{LengthFits, PartLengthsFit, PartHolds, WireHolds, is_field_number, lengths_fit, fit}

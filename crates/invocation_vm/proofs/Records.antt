@@ -1,7 +1,7 @@
 -- A message that was taken, read as a record.
 use Rattle.std.proofs.Common.{◌≡◌, refl, ℕ, List, Option, Some, ◌≢◌}
 use Rattle.std.specs.Prelude.{IsSome}
-use Rattle.protocol_wire.specs.declared.table.RecordType.{RecordType}
+use Rattle.protocol_table.specs.declared.table.RecordType.{RecordType}
 use Rattle.journal_protocol.specs.declared.message_type.MessageType.{MessageType}
 use Rattle.journal_protocol.specs.declared.decoder.RawMessage.{RawMessage}
 use Rattle.journal_protocol.specs.Header.{message_type}

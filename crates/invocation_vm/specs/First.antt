@@ -9,7 +9,7 @@ use Rattle.journal_protocol.specs.Records.{start_record}
 use Rattle.journal_protocol.specs.declared.message_type.MessageType.{MessageType}
 use Rattle.protocol_wire.specs.Check.{payload_fault}
 use Rattle.protocol_wire.specs.declared.record.TheConstants.{LEVELS}
-use Rattle.protocol_wire.specs.declared.table.RecordType.TheVariants as types
+use Rattle.protocol_table.specs.declared.table.RecordType.TheVariants as types
 use Rattle.protocol_records.specs.declared.start.StartMessage.{StartMessage}
 use Rattle.invocation_vm.specs.declared.options.VMOptions.{VMOptions}
 use Rattle.invocation_vm.specs.declared.failure.AttemptFailure.{AttemptFailure}

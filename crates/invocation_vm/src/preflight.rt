@@ -1,7 +1,7 @@
 //! What comes before the handler is asked: the start of the attempt, and the input.
 ghost use Rattle.std.specs.Prelude.{◌≡◌, ℕ, List, Some, IfOk, MatchResult};
 ghost use Rattle.journal_model.specs.declared.invocation.NewInvocation.{NewInvocation};
-ghost use Rattle.protocol_wire.specs.declared.table.RecordType.TheVariants.{Start as start_type, InputCommand as input_command_type};
+ghost use Rattle.protocol_table.specs.declared.table.RecordType.TheVariants.{Start as start_type, InputCommand as input_command_type};
 ghost use Rattle.protocol_records.specs.Start.{start_of};
 ghost use Rattle.protocol_records.specs.InputCommand.{input_command_of};
 ghost use Rattle.invocation_vm.specs.First.{FitsFrames, AreToRead};

@@ -23,7 +23,12 @@ use Rattle.journal_protocol.specs.declared.message_type.MessageType.{MessageType
 use Rattle.journal_protocol.specs.declared.message_type.MessageType.TheVariants.{CustomEntry}
 use Rattle.journal_protocol.specs.declared.header.MessageHeader.{MessageHeader}
 use Rattle.journal_protocol.specs.declared.decoder.RawMessage.{RawMessage}
+use Rattle.journal_protocol.specs.declared.command_type.CommandType.{CommandType}
+use Rattle.journal_protocol.specs.declared.command_type.CommandType.TheVariants.{SendSignal, CancelInvocation}
+use Rattle.journal_protocol.specs.declared.version.Version.{Version}
 use Rattle.journal_protocol.specs.MessageType.{number_of, named_types, type_numbered, allows_ack}
+use Rattle.journal_protocol.specs.CommandType.{message_type_of, command_type_of}
+use Rattle.journal_protocol.specs.Version.{version_number, version_content_type, version_at, content_type_read}
 use Rattle.journal_protocol.specs.Header.{message_type, message_length, requested_ack, word_of, header_in}
 use Rattle.journal_protocol.specs.Item.{message, item_at}
 use Rattle.journal_protocol.specs.Decoder.{DecoderCall, Leads, taken_bytes, answered_items}
@@ -45,6 +50,20 @@ NumbersReadBack = (number : ℕ) (ty : MessageType) → type_numbered number ≡
 
 abbrev pub RestIsUnknown : Type 0
 RestIsUnknown = (number : ℕ) → (type_numbered number ≡ Err (record { 0 = number })) ↔ (IsUnlisted number × (bit_and number 0xFC00 ≡ 0))
+
+-- A command type is read back from the type of its message, but for the cancellation,
+abbrev pub CommandTypesReadBack : Type 0
+CommandTypesReadBack = (command : CommandType) → command ≢ CancelInvocation → command_type_of (message_type_of command) ≡ Ok command
+
+-- which is read back as the signal that it sends.
+abbrev pub CancellationsAreSignals : Type 0
+CancellationsAreSignals = command_type_of (message_type_of CancelInvocation) ≡ Ok SendSignal
+
+abbrev pub ContentTypesReadBack : Type 0
+ContentTypesReadBack = (version : Version) → content_type_read (version_content_type version) ≡ Ok version
+
+abbrev pub VersionsReadBack : Type 0
+VersionsReadBack = (version : Version) → version_at (version_number version) ≡ Some version
 
 abbrev pub HeadersReadBack : Type 0
 HeadersReadBack =

@@ -1,3 +1,4 @@
+pub mod CommandType
 pub mod Decoder
 pub mod Frame
 pub mod Header
@@ -5,3 +6,5 @@ pub mod Item
 pub mod Laws
 pub mod MessageType
 pub mod Records
+pub mod RequestHeaders
+pub mod Version

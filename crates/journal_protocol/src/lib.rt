@@ -1,13 +1,17 @@
 //! What stands on the stream between a runtime and an invocation: types, headers and framing.
 #![tactic(auto)]
 
+mod command_type;
 mod conversion;
 mod decoder;
 mod encoder;
 mod header;
 pub mod laws;
 mod message_type;
+mod request_headers;
+mod version;
 
+pub use command_type::CommandType;
 pub use conversion::{
     to_failure, to_failure_record, to_header, to_header_record, to_header_records, to_headers,
     to_non_empty_value, to_output_result, to_terminal_failure,
@@ -16,3 +20,5 @@ pub use decoder::{Decoder, DecodingError, RawMessage};
 pub use encoder::{EncodingError, write_message};
 pub use header::MessageHeader;
 pub use message_type::{MessageType, UnknownMessageType};
+pub use request_headers::HeaderMap;
+pub use version::{ContentTypeError, Version};

@@ -4,7 +4,7 @@ use Rattle.journal_model.specs.declared.value.NonEmptyValue.{NonEmptyValue}
 use Rattle.journal_model.specs.declared.value.NonEmptyValue.TheVariants.{Success, Failure}
 use Rattle.journal_model.specs.declared.value.TerminalFailure.{TerminalFailure}
 use Rattle.protocol_wire.specs.declared.record.TheConstants.{LEVELS}
-use Rattle.protocol_wire.specs.declared.table.RecordType.TheVariants.{OutputCommand}
+use Rattle.protocol_table.specs.declared.table.RecordType.TheVariants.{OutputCommand}
 use Rattle.protocol_wire.specs.declared.check.Fault.{Fault}
 use Rattle.protocol_wire.specs.Check.{payload_fault}
 use Rattle.protocol_wire.specs.Fields.{fields}

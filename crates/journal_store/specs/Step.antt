@@ -1,9 +1,9 @@
 -- Taking the first frame of a live attempt's output.
 use Rattle.std.specs.Prelude.{◌≡◌, ◌⊎◌, ℕ, ◌+◌, ◌^◌, ◌-◌, nat_lt, Bool, true, false, not, ◌||◌, if◌then◌else◌, List, [], ◌∷◌, ◌++◌, length, Option, Some, None, is_some, Result, Ok, Err}
-use Rattle.protocol_wire.specs.declared.table.RecordType.{RecordType}
-use Rattle.protocol_wire.specs.declared.table.RecordType.TheVariants as records
-use Rattle.protocol_wire.specs.declared.table.sleep_command.TheConstants as sleep_command
-use Rattle.protocol_wire.specs.declared.table.output_command.TheConstants as output_command
+use Rattle.protocol_table.specs.declared.table.RecordType.{RecordType}
+use Rattle.protocol_table.specs.declared.table.RecordType.TheVariants as records
+use Rattle.protocol_table.specs.declared.table.sleep_command.TheConstants as sleep_command
+use Rattle.protocol_table.specs.declared.table.output_command.TheConstants as output_command
 use Rattle.protocol_wire.specs.declared.record.TheConstants.{LEVELS}
 use Rattle.protocol_wire.specs.declared.check.Fault.{Fault}
 use Rattle.protocol_wire.specs.declared.check.Fault.TheVariants.{BadPayload, TooDeep}

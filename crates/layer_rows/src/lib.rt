@@ -5,6 +5,8 @@
 #[cfg(test)]
 mod attempts;
 #[cfg(test)]
+mod errors;
+#[cfg(test)]
 mod handlers;
 #[cfg(test)]
 mod records;

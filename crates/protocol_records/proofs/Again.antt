@@ -5,14 +5,14 @@ use Rattle.std.specs.List.{AllByRecursion}
 use Rattle.protocol_wire.specs.Wire.{Field}
 use Rattle.protocol_wire.specs.Selection.{texts, joined_bytes}
 use Rattle.protocol_wire.specs.Parts.{fields_of}
-use Rattle.protocol_wire.specs.declared.table.value.TheConstants as value
-use Rattle.protocol_wire.specs.declared.table.header.TheConstants as header
-use Rattle.protocol_wire.specs.declared.table.failure_metadata.TheConstants as failure_metadata
-use Rattle.protocol_wire.specs.declared.table.failure.TheConstants as failure
-use Rattle.protocol_wire.specs.declared.table.state_entry.TheConstants as state_entry
-use Rattle.protocol_wire.specs.declared.table.start.TheConstants as start
-use Rattle.protocol_wire.specs.declared.table.input_command.TheConstants as input_command
-use Rattle.protocol_wire.specs.declared.table.sleep_command.TheConstants as sleep_command
+use Rattle.protocol_table.specs.declared.table.value.TheConstants as value
+use Rattle.protocol_table.specs.declared.table.header.TheConstants as header
+use Rattle.protocol_table.specs.declared.table.failure_metadata.TheConstants as failure_metadata
+use Rattle.protocol_table.specs.declared.table.failure.TheConstants as failure
+use Rattle.protocol_table.specs.declared.table.state_entry.TheConstants as state_entry
+use Rattle.protocol_table.specs.declared.table.start.TheConstants as start
+use Rattle.protocol_table.specs.declared.table.input_command.TheConstants as input_command
+use Rattle.protocol_table.specs.declared.table.sleep_command.TheConstants as sleep_command
 use Rattle.protocol_wire.proofs.Laws.{Sound, u64_again, u32_again, bool_again, text_again, optional_text_again, optional_record_again, records_again}
 use Rattle.protocol_records.specs.Value.{value_of, value_parts}
 use Rattle.protocol_records.specs.Header.{header_of, header_parts}

@@ -5,7 +5,7 @@ use Rattle.std.proofs.lemmas.Bool.{eqb-true}
 use Rattle.protocol_wire.specs.Wire.{Wire, Field}
 use Rattle.protocol_wire.specs.Fields.{fields}
 use Rattle.protocol_wire.specs.Selection.{values, each_bytes, texts, joined_bytes, optional_record, run, variant_of, among}
-use Rattle.protocol_wire.specs.declared.table.output_command.TheConstants.{VALUE, FAILURE}
+use Rattle.protocol_table.specs.declared.table.output_command.TheConstants.{VALUE, FAILURE}
 use Rattle.protocol_wire.proofs.Runs.{run_values}
 use Rattle.protocol_records.specs.declared.output_command.OutputCommandResult.TheVariants as results
 use Rattle.protocol_records.specs.Value.{value_of}

@@ -8,8 +8,8 @@ use Rattle.protocol_wire.specs.Selection.{last_number, last_bytes}
 use Rattle.protocol_wire.specs.Check.{payload_fault}
 use Rattle.protocol_wire.specs.Parts.{Part, optional_bytes, payload_of}
 use Rattle.protocol_wire.specs.declared.record.TheConstants.{LEVELS}
-use Rattle.protocol_wire.specs.declared.table.RecordType.TheVariants as types
-use Rattle.protocol_wire.specs.declared.table.awaiting_on.TheConstants.{AWAITING_ON}
+use Rattle.protocol_table.specs.declared.table.RecordType.TheVariants as types
+use Rattle.protocol_table.specs.declared.table.awaiting_on.TheConstants.{AWAITING_ON}
 use Rattle.protocol_wire.specs.declared.check.Fault.TheVariants.{BadPayload}
 use Rattle.protocol_records.specs.declared.future.Future.{Future, roll-Future}
 use Rattle.protocol_records.specs.declared.future.Future.TheOpen.{Future-F}
@@ -46,4 +46,4 @@ unfolding varint_spelling_within varint_spelling tagged
 awaiting_on_spelled = ap (λ (ps : List Part). payload_of (optional_bytes AWAITING_ON.number (Some (payload_of ps)) ∷ [])) (future_parts_of leaf)
 
 pub leaf_fits : FutureFits 100 (roll-Future leaf)
-leaf_fits = future_fits 99 leaf ((omega arith, tt), (omega arith, tt), tt, tt)
+leaf_fits = future_fits 99 leaf ((omega arith, tt), (omega arith, tt), tt, tt, tt)

@@ -3,7 +3,7 @@ use Rattle.std.specs.Prelude.{IfSome, List, [], option_map, ℕ, ◌-◌, ◌<�
 use Rattle.protocol_wire.specs.Wire.{Field}
 use Rattle.protocol_wire.specs.Selection.{bool, optional_record}
 use Rattle.protocol_wire.specs.Parts.{Part, bool_number, optional_bytes, payload_of, plain_number}
-use Rattle.protocol_wire.specs.declared.table.awaiting_on.TheConstants.{AWAITING_ON, EXECUTING_SIDE_EFFECTS}
+use Rattle.protocol_table.specs.declared.table.awaiting_on.TheConstants.{AWAITING_ON, EXECUTING_SIDE_EFFECTS}
 use Rattle.protocol_records.specs.Future.{future_of, future_parts, FutureFits}
 use Rattle.protocol_records.specs.declared.awaiting_on.AwaitingOnMessage.{AwaitingOnMessage}
 

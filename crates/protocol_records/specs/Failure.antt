@@ -4,7 +4,7 @@ use Rattle.std.specs.List.{AllByRecursion}
 use Rattle.protocol_wire.specs.Wire.{Field}
 use Rattle.protocol_wire.specs.Selection.{records, text, u32}
 use Rattle.protocol_wire.specs.Parts.{Part, payload_of, plain_bytes, plain_number, repeated_bytes}
-use Rattle.protocol_wire.specs.declared.table.failure.TheConstants.{CODE, MESSAGE, METADATA}
+use Rattle.protocol_table.specs.declared.table.failure.TheConstants.{CODE, MESSAGE, METADATA}
 use Rattle.protocol_records.specs.FailureMetadata.{failure_metadata_of, failure_metadata_parts, FailureMetadataFits}
 use Rattle.protocol_records.specs.declared.failure.Failure.{Failure}
 

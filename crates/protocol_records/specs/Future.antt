@@ -3,27 +3,33 @@ use Rattle.std.specs.Prelude.{◌<◌, ◌^◌, IsUtf8, ℕ, zero, suc, List, []
 use Rattle.std.specs.List.{AllByRecursion}
 use Rattle.protocol_wire.specs.Wire.{Field}
 use Rattle.protocol_wire.specs.Selection.{u32, numbers, texts, records}
-use Rattle.protocol_wire.specs.Parts.{Part, packed, repeated_bytes, plain_number, payload_of}
-use Rattle.protocol_wire.specs.declared.table.future.TheConstants.{WAITING_COMPLETIONS, WAITING_SIGNALS, WAITING_NAMED_SIGNALS, NESTED_FUTURES, COMBINATOR_TYPE}
+use Rattle.protocol_wire.specs.Parts.{Part, enum_number, packed, repeated_bytes, plain_number, payload_of}
+use Rattle.protocol_table.specs.declared.table.future.TheConstants.{WAITING_COMPLETIONS, WAITING_SIGNALS, WAITING_NAMED_SIGNALS, NESTED_FUTURES, COMBINATOR_TYPE}
 use Rattle.protocol_records.specs.declared.future.CombinatorType.{CombinatorType}
-use Rattle.protocol_records.specs.declared.future.CombinatorType.TheVariants.{Unknown, FirstCompleted, AllCompleted, FirstSucceededOrAllFailed, AllSucceededOrFirstFailed}
+use Rattle.protocol_records.specs.declared.future.CombinatorType.TheVariants.{Unknown, FirstCompleted, AllCompleted, FirstSucceededOrAllFailed, AllSucceededOrFirstFailed, Other}
 use Rattle.protocol_records.specs.declared.future.Future.{Future, out-Future, roll-Future, fold-Future}
 use Rattle.protocol_records.specs.declared.future.Future.TheOpen.{Future-F}
 
--- Another number is read as Unknown.
+-- Another number stays as it came.
 abbrev pub combinator_of : ℕ → CombinatorType
 combinator_of n =
+    if n == 0 then Unknown else
     if n == 1 then FirstCompleted else
     if n == 2 then AllCompleted else
     if n == 3 then FirstSucceededOrAllFailed else
-    if n == 4 then AllSucceededOrFirstFailed else Unknown
+    if n == 4 then AllSucceededOrFirstFailed else Other n
+
+-- Its 32 bits.
+abbrev pub combinator_bits : CombinatorType → ℕ
+combinator_bits Unknown = 0
+combinator_bits FirstCompleted = 1
+combinator_bits AllCompleted = 2
+combinator_bits FirstSucceededOrAllFailed = 3
+combinator_bits AllSucceededOrFirstFailed = 4
+combinator_bits (Other n) = n
 
 abbrev pub combinator_number : CombinatorType → ℕ
-combinator_number Unknown = 0
-combinator_number FirstCompleted = 1
-combinator_number AllCompleted = 2
-combinator_number FirstSucceededOrAllFailed = 3
-combinator_number AllSucceededOrFirstFailed = 4
+combinator_number c = enum_number (combinator_bits c)
 
 -- So many levels are left, the future's own among them.
 unfoldable pub future_of : ℕ → List Field → Future
@@ -60,10 +66,19 @@ layer_parts o =
 unfoldable pub future_parts : Future → List Part
 future_parts f = layer_parts (out-Future f)
 
+-- another number than those with a name
+abbrev pub CombinatorFits : CombinatorType → Type 0
+CombinatorFits Unknown = Unit {0}
+CombinatorFits FirstCompleted = Unit {0}
+CombinatorFits AllCompleted = Unit {0}
+CombinatorFits FirstSucceededOrAllFailed = Unit {0}
+CombinatorFits AllSucceededOrFirstFailed = Unit {0}
+CombinatorFits (Other n) = (4 < n) × (n < 2 ^ 32)
+
 -- one layer, where it is known which of the futures in it fit
 abbrev pub LayerFits : (Future → Type 0) → Future-F Future → Type 0
 LayerFits Nested o =
-    AllByRecursion (λ n. n < 2 ^ 32) o.waiting_completions × AllByRecursion (λ n. n < 2 ^ 32) o.waiting_signals × AllByRecursion IsUtf8 o.waiting_named_signals × AllByRecursion Nested o.nested_futures
+    AllByRecursion (λ n. n < 2 ^ 32) o.waiting_completions × AllByRecursion (λ n. n < 2 ^ 32) o.waiting_signals × AllByRecursion IsUtf8 o.waiting_named_signals × AllByRecursion Nested o.nested_futures × CombinatorFits o.combinator_type
 
 -- It takes no more than so many levels, its own among them.
 unfoldable pub FutureFits : ℕ → Future → Type 0

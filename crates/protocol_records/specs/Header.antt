@@ -3,7 +3,7 @@ use Rattle.std.specs.Prelude.{IsUtf8, List, [], ℕ, ◌<◌, ◌∷◌}
 use Rattle.protocol_wire.specs.Wire.{Field}
 use Rattle.protocol_wire.specs.Selection.{text}
 use Rattle.protocol_wire.specs.Parts.{Part, plain_bytes}
-use Rattle.protocol_wire.specs.declared.table.header.TheConstants.{KEY, VALUE}
+use Rattle.protocol_table.specs.declared.table.header.TheConstants.{KEY, VALUE}
 use Rattle.protocol_records.specs.declared.header.Header.{Header}
 
 abbrev pub header_of : ℕ → List Field → Header

@@ -4,7 +4,7 @@ use Rattle.std.specs.List.{AllByRecursion}
 use Rattle.protocol_wire.specs.Wire.{Field}
 use Rattle.protocol_wire.specs.Selection.{optional_record, records, text}
 use Rattle.protocol_wire.specs.Parts.{Part, optional_bytes, payload_of, plain_bytes, repeated_bytes}
-use Rattle.protocol_wire.specs.declared.table.input_command.TheConstants.{HEADERS, NAME, VALUE}
+use Rattle.protocol_table.specs.declared.table.input_command.TheConstants.{HEADERS, NAME, VALUE}
 use Rattle.protocol_records.specs.Header.{header_of, header_parts, HeaderFits}
 use Rattle.protocol_records.specs.Value.{value_of, value_parts, ValueFits}
 use Rattle.protocol_records.specs.declared.input_command.InputCommandMessage.{InputCommandMessage}

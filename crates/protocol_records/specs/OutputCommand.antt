@@ -3,7 +3,7 @@ use Rattle.std.specs.Prelude.{ℕ, ◌-◌, ◌<◌, List, [], ◌∷◌, Option
 use Rattle.protocol_wire.specs.Wire.{Field}
 use Rattle.protocol_wire.specs.Selection.{text, optional_record, run, variant_of}
 use Rattle.protocol_wire.specs.Parts.{Part, plain_bytes, optional_bytes, payload_of}
-use Rattle.protocol_wire.specs.declared.table.output_command.TheConstants.{NAME, VALUE, FAILURE}
+use Rattle.protocol_table.specs.declared.table.output_command.TheConstants.{NAME, VALUE, FAILURE}
 use Rattle.protocol_records.specs.declared.output_command.OutputCommandMessage.{OutputCommandMessage}
 use Rattle.protocol_records.specs.declared.output_command.OutputCommandResult.{OutputCommandResult}
 use Rattle.protocol_records.specs.declared.output_command.OutputCommandResult.TheVariants as results

@@ -2,18 +2,18 @@
 use Rattle.std.specs.Prelude.{ℕ, ◌-◌, ◌<◌, ◌^◌, length, map, option_map, refl}
 use Rattle.std.proofs.Common.{sym, ap, ◌∙◌}
 use Rattle.protocol_wire.specs.Check.{payload_fault}
-use Rattle.protocol_wire.specs.Table.{descriptors_of}
+use Rattle.protocol_table.specs.Table.{descriptors_of}
 use Rattle.protocol_wire.specs.Parts.{payload_of}
 use Rattle.protocol_wire.specs.Decodes.{IsRead}
-use Rattle.protocol_wire.specs.declared.table.RecordType.TheVariants as types
-use Rattle.protocol_wire.specs.declared.table.value.TheConstants as value
-use Rattle.protocol_wire.specs.declared.table.header.TheConstants as header
-use Rattle.protocol_wire.specs.declared.table.failure_metadata.TheConstants as failure_metadata
-use Rattle.protocol_wire.specs.declared.table.failure.TheConstants as failure
-use Rattle.protocol_wire.specs.declared.table.state_entry.TheConstants as state_entry
-use Rattle.protocol_wire.specs.declared.table.start.TheConstants as start
-use Rattle.protocol_wire.specs.declared.table.input_command.TheConstants as input_command
-use Rattle.protocol_wire.specs.declared.table.sleep_command.TheConstants as sleep_command
+use Rattle.protocol_table.specs.declared.table.RecordType.TheVariants as types
+use Rattle.protocol_table.specs.declared.table.value.TheConstants as value
+use Rattle.protocol_table.specs.declared.table.header.TheConstants as header
+use Rattle.protocol_table.specs.declared.table.failure_metadata.TheConstants as failure_metadata
+use Rattle.protocol_table.specs.declared.table.failure.TheConstants as failure
+use Rattle.protocol_table.specs.declared.table.state_entry.TheConstants as state_entry
+use Rattle.protocol_table.specs.declared.table.start.TheConstants as start
+use Rattle.protocol_table.specs.declared.table.input_command.TheConstants as input_command
+use Rattle.protocol_table.specs.declared.table.sleep_command.TheConstants as sleep_command
 use Rattle.protocol_wire.proofs.Holds.{u64_holds, u32_holds, bool_holds, bytes_holds, text_holds, optional_text_holds, optional_record_holds, records_hold, lengths_fit, payload_holds, optional_sound, optional_reads_back, each_sound, each_reads_back}
 use Rattle.protocol_wire.proofs.Back.{u64_back, u32_back, bool_back, text_back, optional_text_back, optional_record_back, records_back}
 use Rattle.protocol_records.specs.declared.value.Value.{Value}

@@ -5,11 +5,11 @@ use Rattle.std.proofs.Common.{sym, ap, ◌∙◌}
 use Rattle.protocol_wire.specs.Wire.{Field}
 use Rattle.protocol_wire.specs.Selection.{last_run, variant_of}
 use Rattle.protocol_wire.specs.Check.{payload_fault}
-use Rattle.protocol_wire.specs.Table.{descriptors_of}
+use Rattle.protocol_table.specs.Table.{descriptors_of}
 use Rattle.protocol_wire.specs.Parts.{bytes_if, optional_bytes, payload_of}
 use Rattle.protocol_wire.specs.Decodes.{IsRead}
-use Rattle.protocol_wire.specs.declared.table.RecordType.TheVariants as types
-use Rattle.protocol_wire.specs.declared.table.output_command.TheConstants.{NAME, VALUE, FAILURE}
+use Rattle.protocol_table.specs.declared.table.RecordType.TheVariants as types
+use Rattle.protocol_table.specs.declared.table.output_command.TheConstants.{NAME, VALUE, FAILURE}
 use Rattle.protocol_wire.proofs.Holds.{LengthFits, text_holds, optional_record_holds, lengths_fit, payload_holds}
 use Rattle.protocol_wire.proofs.Back.{text_back, optional_record_back, held_among, run-fields_of}
 use Rattle.protocol_records.specs.declared.output_command.OutputCommandMessage.{OutputCommandMessage}

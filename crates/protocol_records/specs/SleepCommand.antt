@@ -3,7 +3,7 @@ use Rattle.std.specs.Prelude.{IsUtf8, List, [], ℕ, ◌<◌, ◌^◌, ◌∷◌
 use Rattle.protocol_wire.specs.Wire.{Field}
 use Rattle.protocol_wire.specs.Selection.{text, u32, u64}
 use Rattle.protocol_wire.specs.Parts.{Part, plain_bytes, plain_number}
-use Rattle.protocol_wire.specs.declared.table.sleep_command.TheConstants.{WAKE_UP_TIME, RESULT_COMPLETION_ID, NAME}
+use Rattle.protocol_table.specs.declared.table.sleep_command.TheConstants.{WAKE_UP_TIME, RESULT_COMPLETION_ID, NAME}
 use Rattle.protocol_records.specs.declared.sleep_command.SleepCommandMessage.{SleepCommandMessage}
 
 abbrev pub sleep_command_of : ℕ → List Field → SleepCommandMessage

@@ -4,7 +4,7 @@ use Rattle.std.specs.List.{AllByRecursion}
 use Rattle.protocol_wire.specs.Wire.{Field}
 use Rattle.protocol_wire.specs.Selection.{bool, optional_text, records, text, u32, u64}
 use Rattle.protocol_wire.specs.Parts.{Part, bool_number, optional_bytes, payload_of, plain_bytes, plain_number, repeated_bytes}
-use Rattle.protocol_wire.specs.declared.table.start.TheConstants.{ID, DEBUG_ID, KNOWN_ENTRIES, STATE_MAP, PARTIAL_STATE, KEY, RETRY_COUNT_SINCE_LAST_STORED_ENTRY, DURATION_SINCE_LAST_STORED_ENTRY, RANDOM_SEED, SCOPE, LIMIT_KEY, IDEMPOTENCY_KEY}
+use Rattle.protocol_table.specs.declared.table.start.TheConstants.{ID, DEBUG_ID, KNOWN_ENTRIES, STATE_MAP, PARTIAL_STATE, KEY, RETRY_COUNT_SINCE_LAST_STORED_ENTRY, DURATION_SINCE_LAST_STORED_ENTRY, RANDOM_SEED, SCOPE, LIMIT_KEY, IDEMPOTENCY_KEY}
 use Rattle.protocol_records.specs.StateEntry.{state_entry_of, state_entry_parts, StateEntryFits}
 use Rattle.protocol_records.specs.declared.start.StartMessage.{StartMessage}
 

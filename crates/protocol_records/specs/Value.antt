@@ -3,7 +3,7 @@ use Rattle.std.specs.Prelude.{List, [], ℕ, ◌<◌, ◌∷◌}
 use Rattle.protocol_wire.specs.Wire.{Field}
 use Rattle.protocol_wire.specs.Selection.{text}
 use Rattle.protocol_wire.specs.Parts.{Part, plain_bytes}
-use Rattle.protocol_wire.specs.declared.table.value.TheConstants.{CONTENT}
+use Rattle.protocol_table.specs.declared.table.value.TheConstants.{CONTENT}
 use Rattle.protocol_records.specs.declared.value.Value.{Value}
 
 abbrev pub value_of : ℕ → List Field → Value

@@ -8,7 +8,7 @@ pub struct EndMessage {}
 impl Record for EndMessage {
     ghost use Rattle.protocol_records.specs.End.{end_of, end_parts, EndFits};
     ghost use Rattle.protocol_records.specs.ReadBack.{end_reads};
-    ghost use Rattle.protocol_wire.specs.declared.table.RecordType.TheVariants.{End as end_type};
+    ghost use Rattle.protocol_table.specs.declared.table.RecordType.TheVariants.{End as end_type};
 
     ghost record_type = { end_type };
 

@@ -17,7 +17,7 @@ pub struct FailureMetadata {
 impl Record for FailureMetadata {
     ghost use Rattle.protocol_records.specs.FailureMetadata.{failure_metadata_of, failure_metadata_parts, FailureMetadataFits};
     ghost use Rattle.protocol_records.specs.ReadBack.{failure_metadata_reads};
-    ghost use Rattle.protocol_wire.specs.declared.table.RecordType.TheVariants.{FailureMetadata as failure_metadata_type};
+    ghost use Rattle.protocol_table.specs.declared.table.RecordType.TheVariants.{FailureMetadata as failure_metadata_type};
 
     ghost record_type = { failure_metadata_type };
 
@@ -59,7 +59,7 @@ pub struct Failure {
 impl Record for Failure {
     ghost use Rattle.protocol_records.specs.Failure.{failure_of, failure_parts, FailureFits};
     ghost use Rattle.protocol_records.specs.ReadBack.{failure_reads};
-    ghost use Rattle.protocol_wire.specs.declared.table.RecordType.TheVariants.{Failure as failure_type};
+    ghost use Rattle.protocol_table.specs.declared.table.RecordType.TheVariants.{Failure as failure_type};
 
     ghost record_type = { failure_type };
 

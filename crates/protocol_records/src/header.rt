@@ -14,7 +14,7 @@ pub struct Header {
 impl Record for Header {
     ghost use Rattle.protocol_records.specs.Header.{header_of, header_parts, HeaderFits};
     ghost use Rattle.protocol_records.specs.ReadBack.{header_reads};
-    ghost use Rattle.protocol_wire.specs.declared.table.RecordType.TheVariants.{Header as header_type};
+    ghost use Rattle.protocol_table.specs.declared.table.RecordType.TheVariants.{Header as header_type};
 
     ghost record_type = { header_type };
 

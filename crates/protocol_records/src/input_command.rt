@@ -21,7 +21,7 @@ pub struct InputCommandMessage {
 impl Record for InputCommandMessage {
     ghost use Rattle.protocol_records.specs.InputCommand.{input_command_of, input_command_parts, InputCommandFits};
     ghost use Rattle.protocol_records.specs.ReadBack.{input_command_reads};
-    ghost use Rattle.protocol_wire.specs.declared.table.RecordType.TheVariants.{InputCommand as input_command_type};
+    ghost use Rattle.protocol_table.specs.declared.table.RecordType.TheVariants.{InputCommand as input_command_type};
 
     ghost record_type = { input_command_type };
 

@@ -1,7 +1,7 @@
 ghost use Rattle.std.specs.Prelude.{◌≡◌, None, IfOk};
 ghost use Rattle.protocol_wire.specs.Fields.{fields};
 ghost use Rattle.protocol_wire.specs.Check.{payload_fault};
-ghost use Rattle.protocol_wire.specs.declared.table.RecordType.TheVariants.{OutputCommand as output_command_type};
+ghost use Rattle.protocol_table.specs.declared.table.RecordType.TheVariants.{OutputCommand as output_command_type};
 ghost use Rattle.protocol_records.specs.OutputCommand.{output_command_result_of};
 
 use crate::failure::Failure;

@@ -17,7 +17,7 @@ pub struct SleepCommandMessage {
 impl Record for SleepCommandMessage {
     ghost use Rattle.protocol_records.specs.SleepCommand.{sleep_command_of, sleep_command_parts, SleepCommandFits};
     ghost use Rattle.protocol_records.specs.ReadBack.{sleep_command_reads};
-    ghost use Rattle.protocol_wire.specs.declared.table.RecordType.TheVariants.{SleepCommand as sleep_command_type};
+    ghost use Rattle.protocol_table.specs.declared.table.RecordType.TheVariants.{SleepCommand as sleep_command_type};
 
     ghost record_type = { sleep_command_type };
 

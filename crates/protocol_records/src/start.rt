@@ -18,7 +18,7 @@ pub struct StateEntry {
 impl Record for StateEntry {
     ghost use Rattle.protocol_records.specs.StateEntry.{state_entry_of, state_entry_parts, StateEntryFits};
     ghost use Rattle.protocol_records.specs.ReadBack.{state_entry_reads};
-    ghost use Rattle.protocol_wire.specs.declared.table.RecordType.TheVariants.{StateEntry as state_entry_type};
+    ghost use Rattle.protocol_table.specs.declared.table.RecordType.TheVariants.{StateEntry as state_entry_type};
 
     ghost record_type = { state_entry_type };
 
@@ -75,7 +75,7 @@ pub struct StartMessage {
 impl Record for StartMessage {
     ghost use Rattle.protocol_records.specs.Start.{start_of, start_parts, StartFits};
     ghost use Rattle.protocol_records.specs.ReadBack.{start_reads};
-    ghost use Rattle.protocol_wire.specs.declared.table.RecordType.TheVariants.{Start as start_type};
+    ghost use Rattle.protocol_table.specs.declared.table.RecordType.TheVariants.{Start as start_type};
 
     ghost record_type = { start_type };
 

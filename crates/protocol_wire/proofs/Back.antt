@@ -1,5 +1,5 @@
 -- What was spelled of each kind is read back.
-use Rattle.std.proofs.Common.{◌≡◌, ℕ, ◌^◌, ◌<◌, Bool, true, false, cond, eqb, List, [], ◌∷◌, ◌++◌, map, Option, Some, None, refl, sym, ap, ◌∙◌, arith}
+use Rattle.std.proofs.Common.{◌≡◌, ℕ, ◌+◌, ◌^◌, ◌<◌, Bool, true, false, cond, eqb, ltb, List, [], ◌∷◌, ◌++◌, map, Option, Some, None, refl, sym, ap, ◌∙◌, arith}
 use Rattle.std.specs.Prelude.{option_map, unwrap_or, IfSome}
 use Rattle.std.specs.List.{flat_map, AllByRecursion}
 use Rattle.std.proofs.lemmas.List.{append-nil}
@@ -9,8 +9,8 @@ use Rattle.protocol_wire.specs.Wire.{Wire, varint, bytes, Field, varint_at}
 use Rattle.protocol_wire.specs.Items.{is_end}
 use Rattle.protocol_wire.specs.Fields.{fields, varints, are_varints}
 use Rattle.protocol_wire.specs.Spelling.{varint_spelling}
-use Rattle.protocol_wire.specs.Selection.{last_number_or, last_number, last_bytes_or, last_bytes, u64, u32, bool, text, low, optional_text, each_bytes, texts, each_number, numbers, joined_bytes, optional_record, records, is_among, among, last_run, run}
-use Rattle.protocol_wire.specs.Parts.{Part, plain_number, bool_number, nonempty, plain_bytes, bytes_if, optional_bytes, repeated_bytes, packed, numbered, fields_of}
+use Rattle.protocol_wire.specs.Selection.{last_number_or, last_number, last_bytes_or, last_bytes, u64, u32, bool, text, low, optional_u64, optional_u32, optional_text, each_bytes, texts, each_number, numbers, joined_bytes, optional_record, records, is_among, among, last_run, run}
+use Rattle.protocol_wire.specs.Parts.{Part, plain_number, bool_number, enum_number, number_if, optional_number, nonempty, plain_bytes, bytes_if, optional_bytes, repeated_bytes, packed, numbered, fields_of}
 use Rattle.protocol_wire.proofs.Steps.{varint_at_shrinks, items_read, items_ended, left_read, left_ended, nil_ended}
 use Rattle.protocol_wire.proofs.Spelled.{varint-spelled}
 use Rattle.protocol_wire.proofs.Laws.{held, values-fields_of, flag, flag_again, bytes_if_view}
@@ -28,6 +28,35 @@ u64_back number n ps h =
 
 pub u32_back : (number n : ℕ) (ps : List Part) → held number ps ≡ (plain_number number n).1 ++ [] → n < 2 ^ 32 → u32 number (fields_of ps) ≡ n
 u32_back number n ps h lt = ap low (u64_back number n ps h) ∙ (let small : low n ≡ n = omega arith in small)
+
+-- an enum, by its 32 bits
+enum_low : (n : ℕ) → n < 2 ^ 32 → low (enum_number n) ≡ n
+enum_low n lt = go (ltb n (2 ^ 31))
+  where
+    go : (b : Bool) → low (cond b n (n + 18446744069414584320)) ≡ n
+    go true = omega arith
+    go false = omega arith
+
+pub enum_back : (number n : ℕ) (ps : List Part) → held number ps ≡ (plain_number number (enum_number n)).1 ++ [] → n < 2 ^ 32 → u32 number (fields_of ps) ≡ n
+enum_back number n ps h lt = ap low (u64_back number (enum_number n) ps h) ∙ enum_low n lt
+
+pub optional_u64_back : (number : ℕ) (o : Option ℕ) (ps : List Part) → held number ps ≡ (optional_number number o).1 ++ [] → optional_u64 number (fields_of ps) ≡ o
+unfolding last_number
+optional_u64_back number o ps h = ap (last_number_or None) (values-fields_of number ps ∙ h ∙ append-nil (number_if o)) ∙ go o
+  where
+    go : (o : Option ℕ) → last_number_or None (number_if o) ≡ o
+    go None = refl
+    go (Some n) = refl
+
+pub optional_u32_back : (number : ℕ) (o : Option ℕ) (ps : List Part) → held number ps ≡ (optional_number number o).1 ++ [] → IfSome o (λ n. n < 2 ^ 32) → optional_u32 number (fields_of ps) ≡ o
+optional_u32_back number o ps h small = ap (option_map low) (optional_u64_back number o ps h) ∙ go o small
+  where
+    some : ℕ → Option ℕ
+    some n = Some n
+
+    go : (o : Option ℕ) → IfSome o (λ n. n < 2 ^ 32) → option_map low o ≡ o
+    go None small = refl
+    go (Some n) small = ap some (omega (arith, small))
 
 pub text_back : (number : ℕ) (x : List ℕ) (ps : List Part) → held number ps ≡ (plain_bytes number x).1 ++ [] → text number (fields_of ps) ≡ x
 unfolding last_bytes

@@ -3,10 +3,10 @@ use Rattle.std.proofs.Common.{◌≡◌, ℕ, zero, suc, ◌-◌, ◌<◌, List,
 use Rattle.protocol_wire.specs.Wire.{Field, field_at}
 use Rattle.protocol_wire.specs.Items.{is_end}
 use Rattle.protocol_wire.specs.Fields.{fields, are_fields}
-use Rattle.protocol_wire.specs.Table.{descriptors_of}
+use Rattle.protocol_table.specs.Table.{descriptors_of}
 use Rattle.protocol_wire.specs.Check.{worse, bad_unless, field_fault, fields_fault, payload_fault}
-use Rattle.protocol_wire.specs.declared.table.RecordType.{RecordType}
-use Rattle.protocol_wire.specs.declared.table.FieldDescriptor.{FieldDescriptor}
+use Rattle.protocol_table.specs.declared.table.RecordType.{RecordType}
+use Rattle.protocol_table.specs.declared.table.FieldDescriptor.{FieldDescriptor}
 use Rattle.protocol_wire.specs.declared.check.Fault.{Fault}
 use Rattle.protocol_wire.specs.declared.check.Fault.TheVariants.{BadPayload, TooDeep}
 use Rattle.protocol_wire.proofs.Steps.{fields_read, fields_ended, are_fields-some, are_fields-none}

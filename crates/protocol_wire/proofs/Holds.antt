@@ -9,13 +9,13 @@ use Rattle.std.proofs.lemmas.List.Concat.{flat_map-cons}
 use Rattle.protocol_wire.specs.Wire.{Wire, varint, bytes, fixed, Field}
 use Rattle.protocol_wire.specs.Fields.{fields, are_fields, are_varints}
 use Rattle.protocol_wire.specs.Spelling.{varint_spelling, tagged, ValueFits, FieldFits}
-use Rattle.protocol_wire.specs.Table.{descriptors_of, kind_in}
+use Rattle.protocol_table.specs.Table.{descriptors_of, kind_in}
 use Rattle.protocol_wire.specs.Check.{worse, bad_unless, fault_by, fields_fault, payload_fault}
-use Rattle.protocol_wire.specs.Parts.{Part, plain_number, bool_number, nonempty, plain_bytes, bytes_if, optional_bytes, repeated_bytes, packed, part_spelling, payload_of, numbered, fields_of}
-use Rattle.protocol_wire.specs.declared.table.RecordType.{RecordType}
-use Rattle.protocol_wire.specs.declared.table.Kind.{Kind}
-use Rattle.protocol_wire.specs.declared.table.Kind.TheVariants as kinds
-use Rattle.protocol_wire.specs.declared.table.FieldDescriptor.{FieldDescriptor}
+use Rattle.protocol_wire.specs.Parts.{Part, plain_number, bool_number, enum_number, optional_number, nonempty, plain_bytes, bytes_if, optional_bytes, repeated_bytes, packed, part_spelling, payload_of, numbered, fields_of}
+use Rattle.protocol_table.specs.declared.table.RecordType.{RecordType}
+use Rattle.protocol_table.specs.declared.table.Kind.{Kind}
+use Rattle.protocol_table.specs.declared.table.Kind.TheVariants as kinds
+use Rattle.protocol_table.specs.declared.table.FieldDescriptor.{FieldDescriptor}
 use Rattle.protocol_wire.specs.declared.check.Fault.{Fault}
 use Rattle.protocol_wire.proofs.Steps.{field_at_nil, are_fields-none}
 use Rattle.protocol_wire.specs.Decodes.{IsRead}
@@ -129,6 +129,32 @@ module _ (below : RecordType → List ℕ → Option Fault) (descriptors : List 
   pub bool_holds : (number : ℕ) (b : Bool) → Is number kinds.Number → PartHolds (plain_number number (bool_number b))
   bool_holds number true is = u64_holds number 1 is (omega arith)
   bool_holds number false is = u64_holds number 0 is (omega arith)
+
+  pub enum_holds : (number n : ℕ) → Is number kinds.Number → n < 2 ^ 32 → PartHolds (plain_number number (enum_number n))
+  enum_holds number n is lt = go (ltb n (2 ^ 31))
+    where
+      go : (b : Bool) → PartHolds (plain_number number (cond b n (n + 18446744069414584320)))
+      go true = u64_holds number n is (omega (arith, lt))
+      go false = u64_holds number (n + 18446744069414584320) is (omega (arith, lt))
+
+  pub optional_u64_holds : (number : ℕ) (o : Option ℕ) → Is number kinds.Number → IfSome o (λ n. n < 2 ^ 64) → PartHolds (optional_number number o)
+  optional_u64_holds number None is small = (is.0, tt)
+  optional_u64_holds number (Some n) is small = (is.0, ((small, known number kinds.Number (varint n) is.1 refl), tt))
+
+  pub optional_u32_holds : (number : ℕ) (o : Option ℕ) → Is number kinds.Number → IfSome o (λ n. n < 2 ^ 32) → PartHolds (optional_number number o)
+  optional_u32_holds number None is small = (is.0, tt)
+  optional_u32_holds number (Some n) is small = optional_u64_holds number (Some n) is (omega (arith, small))
+
+  pub optional_bytes_holds : (number : ℕ) (o : Option (List ℕ)) → Is number kinds.Bytes → PartHolds (optional_bytes number o)
+  optional_bytes_holds number None is = (is.0, tt)
+  optional_bytes_holds number (Some b) is = (is.0, ((tt, known number kinds.Bytes (bytes b) is.1 refl), tt))
+
+  pub repeated_bytes_hold : (number : ℕ) (bs : List (List ℕ)) → Is number kinds.Bytes → PartHolds (repeated_bytes number bs)
+  repeated_bytes_hold number bs is = (is.0, go bs)
+    where
+      go : (bs : List (List ℕ)) → AllByRecursion (WireHolds number) (map bytes bs)
+      go [] = tt
+      go (b ∷ bs) = ((tt, known number kinds.Bytes (bytes b) is.1 refl), go bs)
 
   pub bytes_holds : (number : ℕ) (b : List ℕ) → Is number kinds.Bytes → PartHolds (plain_bytes number b)
   bytes_holds number [] is = (is.0, tt)

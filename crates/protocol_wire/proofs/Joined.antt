@@ -2,12 +2,12 @@
 use Rattle.std.proofs.Common.{◌≡◌, ℕ, zero, suc, Bool, true, false, List, [], ◌∷◌, ◌++◌, Option, Some, None, refl, sym, ap, ◌∙◌, append_assoc, eqb, eq-eqb}
 use Rattle.protocol_wire.specs.Wire.{Wire, varint, bytes, fixed, Field}
 use Rattle.protocol_wire.specs.Fields.{fields, are_fields}
-use Rattle.protocol_wire.specs.Table.{descriptors_of}
+use Rattle.protocol_table.specs.Table.{descriptors_of}
 use Rattle.protocol_wire.specs.Check.{worse, bad_unless, field_fault, fields_fault, payload_fault}
 use Rattle.protocol_wire.specs.Sound.{AreSound}
 use Rattle.protocol_wire.specs.Selection.{joined_bytes, concat, each_bytes, values}
-use Rattle.protocol_wire.specs.declared.table.RecordType.{RecordType}
-use Rattle.protocol_wire.specs.declared.table.FieldDescriptor.{FieldDescriptor}
+use Rattle.protocol_table.specs.declared.table.RecordType.{RecordType}
+use Rattle.protocol_table.specs.declared.table.FieldDescriptor.{FieldDescriptor}
 use Rattle.protocol_wire.specs.declared.check.Fault.{Fault}
 use Rattle.protocol_wire.specs.declared.check.Fault.TheVariants.{BadPayload, TooDeep}
 use Rattle.protocol_wire.proofs.Steps.{field_at_nil, fields-none, are_fields-none}

@@ -20,7 +20,7 @@ abbrev pub held : ℕ → List Part → List Wire
 held number [] = []
 held number (p ∷ ps) = cond (eqb p.0 number) p.1 [] ++ held number ps
 
-values-append : (number : ℕ) (a b : List Field) → values number (a ++ b) ≡ values number a ++ values number b
+pub values-append : (number : ℕ) (a b : List Field) → values number (a ++ b) ≡ values number a ++ values number b
 values-append number [] b = refl
 values-append number (f ∷ a) b = go (eqb f.number number) (values-append number a b)
   where
@@ -52,14 +52,14 @@ values_here number ps ws b h =
 
 -- ---- numbers
 
-last_number_or-append : (o : Option ℕ) (u w : List Wire) → last_number_or o (u ++ w) ≡ last_number_or (last_number_or o u) w
+pub last_number_or-append : (o : Option ℕ) (u w : List Wire) → last_number_or o (u ++ w) ≡ last_number_or (last_number_or o u) w
 last_number_or-append o [] w = refl
 last_number_or-append o (varint n ∷ u) w = last_number_or-append (Some n) u w
 last_number_or-append o (bytes b ∷ u) w = last_number_or-append o u w
 last_number_or-append o (fixed ∷ u) w = last_number_or-append o u w
 
 -- what only depends on a view of the number before
-same_number : {A : Type 0} (view : Option ℕ → A) (o p : Option ℕ) (w : List Wire) → view o ≡ view p → view (last_number_or o w) ≡ view (last_number_or p w)
+pub same_number : {A : Type 0} (view : Option ℕ → A) (o p : Option ℕ) (w : List Wire) → view o ≡ view p → view (last_number_or o w) ≡ view (last_number_or p w)
 same_number view o p [] h = h
 same_number view o p (varint n ∷ w) h = refl
 same_number view o p (bytes b ∷ w) h = same_number view o p w h
@@ -105,13 +105,13 @@ bool_again number ps a b h = number_again flag number (bool_number (bool number 
 
 -- ---- bytes and texts
 
-last_bytes_or-append : (o : Option (List ℕ)) (u w : List Wire) → last_bytes_or o (u ++ w) ≡ last_bytes_or (last_bytes_or o u) w
+pub last_bytes_or-append : (o : Option (List ℕ)) (u w : List Wire) → last_bytes_or o (u ++ w) ≡ last_bytes_or (last_bytes_or o u) w
 last_bytes_or-append o [] w = refl
 last_bytes_or-append o (varint n ∷ u) w = last_bytes_or-append o u w
 last_bytes_or-append o (bytes b ∷ u) w = last_bytes_or-append (Some b) u w
 last_bytes_or-append o (fixed ∷ u) w = last_bytes_or-append o u w
 
-same_bytes : {A : Type 0} (view : Option (List ℕ) → A) (o p : Option (List ℕ)) (w : List Wire) → view o ≡ view p → view (last_bytes_or o w) ≡ view (last_bytes_or p w)
+pub same_bytes : {A : Type 0} (view : Option (List ℕ) → A) (o p : Option (List ℕ)) (w : List Wire) → view o ≡ view p → view (last_bytes_or o w) ≡ view (last_bytes_or p w)
 same_bytes view o p [] h = h
 same_bytes view o p (varint n ∷ w) h = same_bytes view o p w h
 same_bytes view o p (bytes b ∷ w) h = refl
@@ -144,7 +144,7 @@ optional_text_again number ps a b h =
 
 -- ---- repeated
 
-each_bytes-append : (u w : List Wire) → each_bytes (u ++ w) ≡ each_bytes u ++ each_bytes w
+pub each_bytes-append : (u w : List Wire) → each_bytes (u ++ w) ≡ each_bytes u ++ each_bytes w
 each_bytes-append [] w = refl
 each_bytes-append (varint n ∷ u) w = each_bytes-append u w
 each_bytes-append (bytes b ∷ u) w = ap (λ (bs : List (List ℕ)). b ∷ bs) (each_bytes-append u w)
@@ -158,7 +158,7 @@ pub texts_of : (number : ℕ) (ps : List Part) (bs : List (List ℕ)) (b : List 
 unfolding texts
 texts_of number ps bs b h = ap each_bytes (values_here number ps (map bytes bs) b h) ∙ each_bytes-map bs (values number b)
 
-texts-append : (number : ℕ) (a b : List Field) → texts number (a ++ b) ≡ texts number a ++ texts number b
+pub texts-append : (number : ℕ) (a b : List Field) → texts number (a ++ b) ≡ texts number a ++ texts number b
 unfolding texts
 texts-append number a b = ap each_bytes (values-append number a b) ∙ each_bytes-append (values number a) (values number b)
 

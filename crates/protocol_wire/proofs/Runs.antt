@@ -19,7 +19,7 @@ abbrev pub Running : List ℕ → Option (ℕ × List ℕ) → List Field → Li
 Running variants None rest whole = last_run (among variants rest) ≡ whole
 Running variants (Some x) rest whole = Run variants x.0 (fields x.1) rest whole
 
-eqb_comm : (m n : ℕ) → eqb m n ≡ eqb n m
+pub eqb_comm : (m n : ℕ) → eqb m n ≡ eqb n m
 eqb_comm m n = go (eqb m n) (eqb n m) refl refl
   where
     go : (a b : Bool) → eqb m n ≡ a → eqb n m ≡ b → a ≡ b
@@ -46,7 +46,7 @@ all_numbered_one : (f : Field) → all_numbered f.number (f ∷ []) ≡ true
 all_numbered_one f = rw (eq-eqb f.number f.number refl) refl
 
 -- fields with another number among them are not all of one
-not_all : (number : ℕ) (a : List Field) (f : Field) (more : List Field) → eqb f.number number ≡ false → all_numbered number (a ++ f ∷ more) ≡ false
+pub not_all : (number : ℕ) (a : List Field) (f : Field) (more : List Field) → eqb f.number number ≡ false → all_numbered number (a ++ f ∷ more) ≡ false
 not_all number [] f more h = rw h refl
 not_all number (c ∷ a) f more h = go (eqb c.number number) (not_all number a f more h)
   where
@@ -54,7 +54,7 @@ not_all number (c ∷ a) f more h = go (eqb c.number number) (not_all number a f
     go true k = k
     go false k = refl
 
-same_number_each : (number : ℕ) (c : Field) (a : List Field) → all_numbered number (c ∷ a) ≡ true → (c.number ≡ number) × (all_numbered number a ≡ true)
+pub same_number_each : (number : ℕ) (c : Field) (a : List Field) → all_numbered number (c ∷ a) ≡ true → (c.number ≡ number) × (all_numbered number a ≡ true)
 same_number_each number c a h = go (eqb c.number number) refl h
   where
     go : (t : Bool) → eqb c.number number ≡ t → cond t (all_numbered number a) false ≡ true → (c.number ≡ number) × (all_numbered number a ≡ true)

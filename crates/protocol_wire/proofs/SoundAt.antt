@@ -5,24 +5,24 @@ use Rattle.std.proofs.lemmas.Str.{IsUtf8-from_is_utf8}
 use Rattle.std.proofs.lemmas.Bool.{eqb-true}
 use Rattle.protocol_wire.specs.Wire.{Wire, varint, bytes, fixed, Field}
 use Rattle.protocol_wire.specs.Fields.{fields}
-use Rattle.protocol_wire.specs.Table.{descriptors_of, kind_in}
+use Rattle.protocol_table.specs.Table.{descriptors_of, kind_in}
 use Rattle.protocol_wire.specs.Check.{value_fault, fault_by, field_fault, fields_fault, payload_fault}
 use Rattle.protocol_wire.specs.Sound.{AreTexts, AreSound}
 use Rattle.protocol_wire.specs.Selection.{values}
-use Rattle.protocol_wire.specs.declared.table.RecordType.{RecordType}
-use Rattle.protocol_wire.specs.declared.table.Kind.{Kind}
-use Rattle.protocol_wire.specs.declared.table.Kind.TheVariants as kinds
-use Rattle.protocol_wire.specs.declared.table.FieldDescriptor.{FieldDescriptor}
+use Rattle.protocol_table.specs.declared.table.RecordType.{RecordType}
+use Rattle.protocol_table.specs.declared.table.Kind.{Kind}
+use Rattle.protocol_table.specs.declared.table.Kind.TheVariants as kinds
+use Rattle.protocol_table.specs.declared.table.FieldDescriptor.{FieldDescriptor}
 use Rattle.protocol_wire.specs.declared.check.Fault.{Fault}
 use Rattle.protocol_wire.proofs.Joined.{worse_none, bad_unless_none, sound_fields}
 
 module _ (below : RecordType → List ℕ → Option Fault) (descriptors : List FieldDescriptor) (number : ℕ) where
   -- the values of a known field are of its kind
-  abbrev AreOf : Kind → List Wire → Type 0
+  abbrev pub AreOf : Kind → List Wire → Type 0
   AreOf kind [] = Unit {0}
   AreOf kind (w ∷ ws) = (value_fault below kind w ≡ None) × AreOf kind ws
 
-  are_of : (kind : Kind) (fs : List Field) → kind_in descriptors number ≡ Some kind → fields_fault below descriptors fs ≡ None → AreOf kind (values number fs)
+  pub are_of : (kind : Kind) (fs : List Field) → kind_in descriptors number ≡ Some kind → fields_fault below descriptors fs ≡ None → AreOf kind (values number fs)
   are_of kind [] k e = tt
   are_of kind (f ∷ fs) k e =
       let w = worse_none (field_fault below descriptors f) (fields_fault below descriptors fs) e in
@@ -41,7 +41,7 @@ module _ (below : RecordType → List ℕ → Option Fault) (descriptors : List 
   texts (bytes b ∷ ws) h = (IsUtf8-from_is_utf8 b (bad_unless_none (is_utf8 b) h.0), texts ws h.1)
   texts (fixed ∷ ws) h = let k = h.0 in absurd cc
 
-  records : (r : RecordType) (ws : List Wire) → AreOf (kinds.Record r) ws → AreSound (below r) ws
+  pub records : (r : RecordType) (ws : List Wire) → AreOf (kinds.Record r) ws → AreSound (below r) ws
   records r [] h = tt
   records r (varint n ∷ ws) h = let k = h.0 in absurd cc
   records r (bytes b ∷ ws) h = (h.0, records r ws h.1)

@@ -3,11 +3,11 @@ use Rattle.std.specs.Prelude.{ℕ, zero, suc, List, [], ◌∷◌, Option, Some,
 use Rattle.std.specs.Str.{is_utf8}
 use Rattle.protocol_wire.specs.Wire.{Wire, varint, bytes, fixed, Field}
 use Rattle.protocol_wire.specs.Fields.{fields, are_fields, are_varints}
-use Rattle.protocol_wire.specs.Table.{descriptors_of, kind_in}
-use Rattle.protocol_wire.specs.declared.table.RecordType.{RecordType}
-use Rattle.protocol_wire.specs.declared.table.Kind.{Kind}
-use Rattle.protocol_wire.specs.declared.table.Kind.TheVariants as kinds
-use Rattle.protocol_wire.specs.declared.table.FieldDescriptor.{FieldDescriptor}
+use Rattle.protocol_table.specs.Table.{descriptors_of, kind_in}
+use Rattle.protocol_table.specs.declared.table.RecordType.{RecordType}
+use Rattle.protocol_table.specs.declared.table.Kind.{Kind}
+use Rattle.protocol_table.specs.declared.table.Kind.TheVariants as kinds
+use Rattle.protocol_table.specs.declared.table.FieldDescriptor.{FieldDescriptor}
 use Rattle.protocol_wire.specs.declared.check.Fault.{Fault}
 use Rattle.protocol_wire.specs.declared.check.Fault.TheVariants.{BadPayload, TooDeep}
 

@@ -3,7 +3,7 @@ use Rattle.std.specs.Prelude.{◌≡◌, ℕ, List, Option, Some, None, Result, 
 use Rattle.protocol_wire.specs.Wire.{Field}
 use Rattle.protocol_wire.specs.Fields.{fields}
 use Rattle.protocol_wire.specs.Check.{payload_fault}
-use Rattle.protocol_wire.specs.declared.table.RecordType.{RecordType}
+use Rattle.protocol_table.specs.declared.table.RecordType.{RecordType}
 use Rattle.protocol_wire.specs.declared.check.Fault.{Fault as Faults}
 use Rattle.protocol_wire.specs.declared.record.DecodeError.{DecodeError}
 use Rattle.protocol_wire.specs.declared.record.DecodeError.TheVariants.{Memory, Fault}

@@ -1,5 +1,5 @@
 -- The canonical spelling of a record: for each of its fields, in ascending order, the values that stand for it.
-use Rattle.std.specs.Prelude.{ℕ, List, [], ◌∷◌, ◌++◌, map, Option, Some, None, Bool, true, false, ◌==◌, if◌then◌else◌}
+use Rattle.std.specs.Prelude.{ℕ, ◌+◌, ◌^◌, nat_lt, List, [], ◌∷◌, ◌++◌, map, Option, Some, None, Bool, true, false, ◌==◌, if◌then◌else◌}
 use Rattle.std.specs.List.{flat_map}
 use Rattle.protocol_wire.specs.Wire.{Wire, varint, bytes, Field}
 use Rattle.protocol_wire.specs.Spelling.{varint_spelling, tagged}
@@ -14,6 +14,10 @@ plain_number number n = (number, (if n == 0 then [] else varint n ∷ []))
 abbrev pub bool_number : Bool → ℕ
 bool_number false = 0
 bool_number true = 1
+
+-- The number of an enum, given by its 32 bits: a negative one has its sign in the 32 bits above them too.
+abbrev pub enum_number : ℕ → ℕ
+enum_number n = if nat_lt n (2 ^ 31) then n else n + 18446744069414584320
 
 abbrev pub nonempty : List ℕ → List Wire
 nonempty [] = []

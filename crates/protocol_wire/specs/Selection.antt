@@ -126,6 +126,11 @@ abbrev pub variant_of : List Field → Option ℕ
 variant_of [] = None
 variant_of (f ∷ fs) = Some f.number
 
+-- The first that is there.
+abbrev pub first_of : {A : Type 0} → Option A → Option A → Option A
+first_of None other = other
+first_of (Some x) other = Some x
+
 -- Whether what was found is a run of this number.
 abbrev pub is_run : Option (ℕ × List ℕ) → ℕ → Bool
 is_run None number = false

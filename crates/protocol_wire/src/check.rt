@@ -7,9 +7,9 @@ ghost use Rattle.protocol_wire.specs.Fields.{are_varints as the_are_varints};
 ghost use Rattle.protocol_wire.specs.Seen.{field as seen};
 
 use crate::field::field_at;
-use crate::table::{FieldDescriptor, Kind, RecordType, fields_of, kind_of};
 use crate::varint::varint_at;
 use crate::{Scanned, ScannedField};
+use protocol_table::table::{FieldDescriptor, Kind, RecordType, fields_of, kind_of};
 use std::str;
 
 /// Why a payload is refused.

@@ -5,24 +5,29 @@
 #![tactic(auto)]
 
 mod check;
+mod chosen;
 mod field;
 mod put;
 mod record;
 mod select;
-pub mod table;
 mod varint;
 
 pub use check::{Fault, fault_of};
+pub use chosen::{chosen_bytes_at, chosen_record_at, chosen_text_at, chosen_u32_at};
 pub use field::{Fields, Scanned, ScannedField};
+pub use protocol_table::table;
+pub use protocol_table::table::{FieldDescriptor, Kind, RecordType};
 pub use put::{
-    put_bool, put_bytes, put_numbers, put_optional_record, put_optional_text, put_record,
-    put_records, put_tagged_bytes, put_text, put_texts, put_u32, put_u64,
+    put_bool, put_bytes, put_enum, put_numbers, put_optional_record, put_optional_text,
+    put_optional_u32, put_optional_u64, put_present_bytes, put_present_text, put_present_u32,
+    put_record, put_records, put_repeated_bytes, put_tagged_bytes, put_text, put_texts, put_u32,
+    put_u64,
 };
 pub use record::{
     DecodeError, LEVELS, Record, decode, decode_of_encoded, encode, merge, optional_record_at,
     records_at,
 };
 pub use select::{
-    bool_at, bytes_at, numbers_at, optional_text_at, run_at, text_at, texts_at, u32_at, u64_at,
+    bool_at, bytes_at, numbers_at, optional_bytes_at, optional_text_at, optional_u32_at,
+    optional_u64_at, repeated_bytes_at, run_at, text_at, texts_at, u32_at, u64_at,
 };
-pub use table::{FieldDescriptor, Kind, RecordType};

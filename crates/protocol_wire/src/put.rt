@@ -6,7 +6,7 @@
 ghost use Rattle.std.specs.Prelude.{◌≡◌, ◌++◌, ◌*◌, ◌+◌, Some, map, OnOk, option_map};
 ghost use Rattle.protocol_wire.specs.Wire.{varint as varint_value, bytes as bytes_value};
 ghost use Rattle.protocol_wire.specs.Spelling.{varint_spelling, varint_spelling_within, tagged};
-ghost use Rattle.protocol_wire.specs.Parts.{part_spelling, plain_number, bool_number, plain_bytes, optional_bytes, repeated_bytes, packed, payload_of};
+ghost use Rattle.protocol_wire.specs.Parts.{part_spelling, plain_number, bool_number, enum_number, plain_bytes, optional_number, optional_bytes, repeated_bytes, packed, payload_of};
 
 use crate::{FieldDescriptor, Record};
 use bytes::{ByteStr, Bytes};
@@ -85,6 +85,57 @@ pub fn put_bool(out: &mut Vec<u8>, field: FieldDescriptor, flag: bool) -> Result
     put_u64(out, field, u64::from(flag))
 }
 
+/// The number of an enum, given by its 32 bits: left out where it is zero, ten bytes where it is negative.
+pub fn put_enum(out: &mut Vec<u8>, field: FieldDescriptor, value: u32) -> Result<(), AllocError>
+    ensures { OnOk result (out.new.items ≡ out.old.items ++ part_spelling (plain_number field.number (enum_number value))) }
+{
+    let number = u64::from(value);
+    if value < 1 << 31 {
+        put_u64(out, field, number)
+    } else {
+        put_u64(out, field, number + 0xffff_ffff_0000_0000)
+    }
+}
+
+/// Written also where it is zero: as a number of a oneof is.
+pub fn put_present_u32(
+    out: &mut Vec<u8>,
+    field: FieldDescriptor,
+    value: u32,
+) -> Result<(), AllocError>
+    ensures { OnOk result (out.new.items ≡ out.old.items ++ part_spelling (optional_number field.number (Some value))) }
+{
+    put_tagged_number(out, field, u64::from(value))
+}
+
+/// Written where it is present, also when zero.
+pub fn put_optional_u32(
+    out: &mut Vec<u8>,
+    field: FieldDescriptor,
+    value: Option<u32>,
+) -> Result<(), AllocError>
+    ensures { OnOk result (out.new.items ≡ out.old.items ++ part_spelling (optional_number field.number value)) }
+{
+    match value {
+        None => Ok(()),
+        Some(value) => put_present_u32(out, field, value),
+    }
+}
+
+/// Written where it is present, also when zero.
+pub fn put_optional_u64(
+    out: &mut Vec<u8>,
+    field: FieldDescriptor,
+    value: Option<u64>,
+) -> Result<(), AllocError>
+    ensures { OnOk result (out.new.items ≡ out.old.items ++ part_spelling (optional_number field.number value)) }
+{
+    match value {
+        None => Ok(()),
+        Some(value) => put_tagged_number(out, field, value),
+    }
+}
+
 fn put_slice(out: &mut Vec<u8>, field: FieldDescriptor, bytes: &[u8]) -> Result<(), AllocError>
     ensures { OnOk result (out.new.items ≡ out.old.items ++ part_spelling (plain_bytes field.number bytes.now)) }
 {
@@ -106,6 +157,28 @@ pub fn put_text(out: &mut Vec<u8>, field: FieldDescriptor, text: &ByteStr) -> Re
     ensures { OnOk result (out.new.items ≡ out.old.items ++ part_spelling (plain_bytes field.number text.now)) }
 {
     put_slice(out, field, text.as_bytes().as_slice())
+}
+
+/// Written also where it is empty: as the bytes of a oneof are.
+pub fn put_present_bytes(
+    out: &mut Vec<u8>,
+    field: FieldDescriptor,
+    bytes: &Bytes,
+) -> Result<(), AllocError>
+    ensures { OnOk result (out.new.items ≡ out.old.items ++ part_spelling (optional_bytes field.number (Some bytes.now))) }
+{
+    put_tagged_bytes(out, field, bytes.as_slice())
+}
+
+/// Written also where it is empty: as the text of a oneof is.
+pub fn put_present_text(
+    out: &mut Vec<u8>,
+    field: FieldDescriptor,
+    text: &ByteStr,
+) -> Result<(), AllocError>
+    ensures { OnOk result (out.new.items ≡ out.old.items ++ part_spelling (optional_bytes field.number (Some text.now))) }
+{
+    put_tagged_bytes(out, field, text.as_bytes().as_slice())
 }
 
 /// Written where it is present, also when empty.
@@ -132,6 +205,20 @@ pub fn put_texts(
 {
     for text in texts.as_slice() {
         put_tagged_bytes(out, field, text.as_bytes().as_slice())?;
+    }
+    Ok(())
+}
+
+/// Each of them a field.
+pub fn put_repeated_bytes(
+    out: &mut Vec<u8>,
+    field: FieldDescriptor,
+    all: &Sequence<Bytes>,
+) -> Result<(), AllocError>
+    ensures { OnOk result (out.new.items ≡ out.old.items ++ part_spelling (repeated_bytes field.number all.now)) }
+{
+    for bytes in all.as_slice() {
+        put_tagged_bytes(out, field, bytes.as_slice())?;
     }
     Ok(())
 }

@@ -8,11 +8,11 @@ ghost use Rattle.protocol_wire.specs.Parts.{Part, payload_of};
 ghost use Rattle.protocol_wire.specs.Sound.{AreSound};
 ghost use Rattle.protocol_wire.specs.Selection.{values, texts, joined_bytes, optional_record, records};
 ghost use Rattle.protocol_wire.specs.Decodes.{Decodes, IsRead, ErrIs};
-ghost use Rattle.protocol_wire.specs.declared.table.RecordType.{RecordType as RecordTypes};
+ghost use Rattle.protocol_table.specs.declared.table.RecordType.{RecordType as RecordTypes};
 
 use crate::check::{Fault, fault_of};
-use crate::table::RecordType;
 use crate::{FieldDescriptor, Fields, Scanned};
+use protocol_table::table::RecordType;
 use sequence::Sequence;
 use std::alloc::{AllocError, Global};
 

@@ -3,7 +3,7 @@
 ghost use Rattle.std.specs.Prelude.{◌≡◌, [], Some, IfNone, ◌++◌, ◌%◌, ◌^◌, ℕ, List, map, OnOk, option_map, IfOk, IfSome, IsUtf8};
 ghost use Rattle.protocol_wire.specs.Fields.{fields, varints};
 ghost use Rattle.protocol_wire.specs.Sound.{AreTexts};
-ghost use Rattle.protocol_wire.specs.Selection.{run, is_run as the_is_run, variant_of, among, last_number as the_last_number, last_bytes as the_last_bytes, values, u64 as the_u64, u32 as the_u32, bool as the_bool, text as the_text, numbers as the_numbers, texts as the_texts, optional_text as the_optional_text};
+ghost use Rattle.protocol_wire.specs.Selection.{run, is_run as the_is_run, variant_of, among, last_number as the_last_number, last_bytes as the_last_bytes, values, u64 as the_u64, u32 as the_u32, bool as the_bool, text as the_text, numbers as the_numbers, texts as the_texts, optional_text as the_optional_text, optional_u32 as the_optional_u32, optional_u64 as the_optional_u64};
 
 use crate::field::field_at;
 use crate::varint::varint_at;
@@ -59,6 +59,21 @@ pub fn u32_at(payload: &[u8], field: FieldDescriptor) -> u32
     (u64_at(payload, field) % (1 << 32)) as u32
 }
 
+/// The last number of this field, if there is one.
+pub fn optional_u64_at(payload: &[u8], field: FieldDescriptor) -> Option<u64>
+    ensures { result ≡ the_optional_u64 field.number (fields payload.now) }
+{
+    last_number(payload, field)
+}
+
+/// The low 32 bits of the last number of this field, if there is one.
+pub fn optional_u32_at(payload: &[u8], field: FieldDescriptor) -> Option<u32>
+    ensures { result ≡ the_optional_u32 field.number (fields payload.now) }
+{
+    let number = last_number(payload, field)?;
+    Some((number % (1 << 32)) as u32)
+}
+
 /// Whether the last number of this field isn't 0; false where there is none.
 pub fn bool_at(payload: &[u8], field: FieldDescriptor) -> bool
     ensures { result ≡ the_bool field.number (fields payload.now) }
@@ -73,6 +88,20 @@ pub fn bytes_at(alloc: Global, payload: &[u8], field: FieldDescriptor) -> Result
     match last_bytes(payload, field) {
         None => Ok(Bytes::new()),
         Some(bytes) => Bytes::copy_from_slice(alloc, bytes),
+    }
+}
+
+/// A copy of the last bytes of this field, if there are any.
+pub fn optional_bytes_at(
+    alloc: Global,
+    payload: &[u8],
+    field: FieldDescriptor,
+) -> Result<Option<Bytes>, AllocError>
+    ensures { IfOk result (λ b. b ≡ the_optional_text field.number (fields payload.now)) }
+{
+    match last_bytes(payload, field) {
+        None => Ok(None),
+        Some(bytes) => Ok(Some(Bytes::copy_from_slice(alloc, bytes)?)),
     }
 }
 
@@ -121,6 +150,26 @@ pub fn texts_at(
         }
     }
     Ok(texts)
+}
+
+/// A copy of the bytes of each field with this number, in their order.
+#[tactic(auto, unfolding(crate::specs::Selection::texts))]
+pub fn repeated_bytes_at(
+    alloc: Global,
+    payload: &[u8],
+    field: FieldDescriptor,
+) -> Result<Sequence<Bytes>, AllocError>
+    ensures { IfOk result (λ b. b ≡ the_texts field.number (fields payload.now)) }
+{
+    let mut all = Sequence::new(alloc);
+    for found in Fields(payload) {
+        if found.number == field.number {
+            if let Scanned::Bytes(bytes) = found.value {
+                all.push(Bytes::copy_from_slice(alloc, bytes)?)?;
+            }
+        }
+    }
+    Ok(all)
 }
 
 fn push_varints(numbers: &mut Sequence<u32>, bytes: &[u8]) -> Result<(), AllocError>

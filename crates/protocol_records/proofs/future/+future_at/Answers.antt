@@ -4,9 +4,9 @@ use Rattle.protocol_wire.specs.Seen.{field}
 use Rattle.protocol_wire.specs.Fields.{fields}
 use Rattle.protocol_wire.specs.Check.{payload_fault}
 use Rattle.protocol_wire.specs.Selection.{texts}
-use Rattle.protocol_wire.specs.declared.table.RecordType.TheVariants.{Future as future_type}
+use Rattle.protocol_table.specs.declared.table.RecordType.TheVariants.{Future as future_type}
 use Rattle.protocol_wire.proofs.SoundAt.{records_sound, texts_sound, level_left, sound_first}
-use Rattle.protocol_wire.specs.declared.table.future.TheConstants.{NESTED_FUTURES, WAITING_NAMED_SIGNALS}
+use Rattle.protocol_table.specs.declared.table.future.TheConstants.{NESTED_FUTURES, WAITING_NAMED_SIGNALS}
 use Rattle.protocol_records.proofs.Futures.{future_of_is}
 use Rattle.protocol_records.proofs.future.+future_at.Goals as goal
 

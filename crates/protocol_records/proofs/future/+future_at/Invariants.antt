@@ -3,8 +3,8 @@ use Rattle.protocol_wire.specs.Fields.{fields}
 use Rattle.protocol_wire.specs.Check.{payload_fault}
 use Rattle.protocol_wire.specs.Sound.{AreSound}
 use Rattle.protocol_wire.specs.Selection.{values, each_bytes, records}
-use Rattle.protocol_wire.specs.declared.table.RecordType.TheVariants.{Future as future_type}
-use Rattle.protocol_wire.specs.declared.table.future.TheConstants.{NESTED_FUTURES}
+use Rattle.protocol_table.specs.declared.table.RecordType.TheVariants.{Future as future_type}
+use Rattle.protocol_table.specs.declared.table.future.TheConstants.{NESTED_FUTURES}
 use Rattle.protocol_records.specs.Future.{future_of}
 use Rattle.protocol_records.proofs.future.+future_at.Given as goal
 

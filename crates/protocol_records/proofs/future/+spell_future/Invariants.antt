@@ -1,6 +1,6 @@
 use Rattle.std.proofs.Common.{◌≡◌, ◌++◌, take, map}
 use Rattle.protocol_wire.specs.Parts.{part_spelling, repeated_bytes, payload_of}
-use Rattle.protocol_wire.specs.declared.table.future.TheConstants.{NESTED_FUTURES}
+use Rattle.protocol_table.specs.declared.table.future.TheConstants.{NESTED_FUTURES}
 use Rattle.protocol_records.specs.Future.{future_parts}
 use Rattle.protocol_records.proofs.future.+spell_future.Given as goal
 

@@ -1,8 +1,8 @@
 use Rattle.std.proofs.Common.{◌-◌, ◌∙◌, sym, ap, refl}
 use Rattle.std.specs.Prelude.{option_map}
 use Rattle.protocol_wire.specs.Check.{payload_fault}
-use Rattle.protocol_wire.specs.declared.table.RecordType.TheVariants.{OutputCommand, Value, Failure}
-use Rattle.protocol_wire.specs.declared.table.output_command.TheConstants as table
+use Rattle.protocol_table.specs.declared.table.RecordType.TheVariants.{OutputCommand, Value, Failure}
+use Rattle.protocol_table.specs.declared.table.output_command.TheConstants as table
 use Rattle.protocol_wire.proofs.SoundAt.{records_sound}
 use Rattle.protocol_wire.proofs.Runs.{run_records_sound}
 use Rattle.protocol_records.specs.declared.output_command.OutputCommandResult.TheVariants as results

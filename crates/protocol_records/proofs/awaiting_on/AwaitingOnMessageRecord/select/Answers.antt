@@ -1,6 +1,6 @@
 use Rattle.std.proofs.Common.{refl}
-use Rattle.protocol_wire.specs.declared.table.RecordType.TheVariants.{AwaitingOn, Future}
-use Rattle.protocol_wire.specs.declared.table.awaiting_on.TheConstants as awaiting_on
+use Rattle.protocol_table.specs.declared.table.RecordType.TheVariants.{AwaitingOn, Future}
+use Rattle.protocol_table.specs.declared.table.awaiting_on.TheConstants as awaiting_on
 use Rattle.protocol_wire.proofs.SoundAt.{records_sound}
 use Rattle.protocol_records.proofs.awaiting_on.AwaitingOnMessageRecord.select.Goals as goal
 

@@ -1,6 +1,6 @@
 use Rattle.std.proofs.Common.{refl}
-use Rattle.protocol_wire.specs.declared.table.RecordType.TheVariants.{Failure, FailureMetadata}
-use Rattle.protocol_wire.specs.declared.table.failure.TheConstants as failure
+use Rattle.protocol_table.specs.declared.table.RecordType.TheVariants.{Failure, FailureMetadata}
+use Rattle.protocol_table.specs.declared.table.failure.TheConstants as failure
 use Rattle.protocol_wire.proofs.SoundAt.{records_sound}
 use Rattle.protocol_records.proofs.failure.FailureRecord.select.Goals as goal
 

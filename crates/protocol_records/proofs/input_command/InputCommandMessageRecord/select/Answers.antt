@@ -1,6 +1,6 @@
 use Rattle.std.proofs.Common.{refl}
-use Rattle.protocol_wire.specs.declared.table.RecordType.TheVariants.{Header, InputCommand, Value}
-use Rattle.protocol_wire.specs.declared.table.input_command.TheConstants as input_command
+use Rattle.protocol_table.specs.declared.table.RecordType.TheVariants.{Header, InputCommand, Value}
+use Rattle.protocol_table.specs.declared.table.input_command.TheConstants as input_command
 use Rattle.protocol_wire.proofs.SoundAt.{records_sound}
 use Rattle.protocol_records.proofs.input_command.InputCommandMessageRecord.select.Goals as goal
 

@@ -1,6 +1,6 @@
 use Rattle.std.proofs.Common.{refl}
-use Rattle.protocol_wire.specs.declared.table.RecordType.TheVariants.{Start, StateEntry}
-use Rattle.protocol_wire.specs.declared.table.start.TheConstants as start
+use Rattle.protocol_table.specs.declared.table.RecordType.TheVariants.{Start, StateEntry}
+use Rattle.protocol_table.specs.declared.table.start.TheConstants as start
 use Rattle.protocol_wire.proofs.SoundAt.{records_sound}
 use Rattle.protocol_records.proofs.start.StartMessageRecord.select.Goals as goal
 

@@ -1,0 +1,16 @@
+pub mod AttachInvocationCommand
+pub mod CallCommand
+pub mod CompleteAwakeableCommand
+pub mod GetInvocationOutputCommand
+pub mod IdempotentRequestTarget
+pub mod OneWayCallCommand
+pub mod ReadBackAttachInvocationCommand
+pub mod ReadBackCallCommand
+pub mod ReadBackCompleteAwakeableCommand
+pub mod ReadBackGetInvocationOutputCommand
+pub mod ReadBackIdempotentRequestTarget
+pub mod ReadBackOneWayCallCommand
+pub mod ReadBackSendSignalCommand
+pub mod ReadBackWorkflowTarget
+pub mod SendSignalCommand
+pub mod WorkflowTarget

@@ -1,0 +1,91 @@
+use bytes::{ByteStr, Bytes};
+use protocol_records::Header;
+use protocol_wire::table::call_command::{
+    HANDLER_NAME, HEADERS, IDEMPOTENCY_KEY, INVOCATION_ID_NOTIFICATION_IDX, KEY, LIMIT_KEY, NAME,
+    PARAMETER, RESULT_COMPLETION_ID, SCOPE, SERVICE_NAME,
+};
+use protocol_wire::{
+    Record, RecordType, bytes_at, optional_text_at, put_bytes, put_optional_text, put_records,
+    put_text, put_u32, records_at, text_at, u32_at,
+};
+use sequence::Sequence;
+use std::alloc::{AllocError, Global};
+
+/// The command that calls a handler and waits for its answer.
+#[derive(Debug, Drop)]
+pub struct CallCommandMessage {
+    pub service_name: ByteStr,
+    pub handler_name: ByteStr,
+    pub parameter: Bytes,
+    pub headers: Sequence<Header>,
+    /// The key of the object; empty where the service has none.
+    pub key: ByteStr,
+    pub idempotency_key: Option<ByteStr>,
+    pub scope: Option<ByteStr>,
+    pub limit_key: Option<ByteStr>,
+    /// The completion id of the notification that tells the invocation's id.
+    pub invocation_id_notification_idx: u32,
+    /// The completion id of the notification that brings the answer.
+    pub result_completion_id: u32,
+    pub name: ByteStr,
+}
+
+#[tactic(auto, using(protocol_wire::proofs::SoundAt::texts_sound))]
+impl Record for CallCommandMessage {
+    ghost use Rattle.call_records.specs.CallCommand.{call_command_of, call_command_parts, CallCommandFits};
+    ghost use Rattle.call_records.specs.ReadBackCallCommand.{call_command_reads};
+    ghost use Rattle.protocol_table.specs.declared.table.RecordType.TheVariants.{CallCommand as call_command_type};
+
+    ghost record_type = { call_command_type };
+
+    ghost of = { call_command_of };
+
+    ghost parts = { call_command_parts };
+
+    ghost fits = { CallCommandFits };
+
+    fn record_type() -> RecordType {
+        RecordType::CallCommand
+    }
+
+    fn select(
+        alloc: Global,
+        payload: &[u8],
+        levels: u32,
+    ) -> Result<CallCommandMessage, AllocError> {
+        Ok(CallCommandMessage {
+            service_name: text_at(alloc, payload, SERVICE_NAME)?,
+            handler_name: text_at(alloc, payload, HANDLER_NAME)?,
+            parameter: bytes_at(alloc, payload, PARAMETER)?,
+            headers: records_at(alloc, payload, HEADERS, levels)?,
+            key: text_at(alloc, payload, KEY)?,
+            idempotency_key: optional_text_at(alloc, payload, IDEMPOTENCY_KEY)?,
+            scope: optional_text_at(alloc, payload, SCOPE)?,
+            limit_key: optional_text_at(alloc, payload, LIMIT_KEY)?,
+            invocation_id_notification_idx: u32_at(payload, INVOCATION_ID_NOTIFICATION_IDX),
+            result_completion_id: u32_at(payload, RESULT_COMPLETION_ID),
+            name: text_at(alloc, payload, NAME)?,
+        })
+    }
+
+    fn spell(&self, alloc: Global, out: &mut Vec<u8>) -> Result<(), AllocError> {
+        put_text(out, SERVICE_NAME, &self.service_name)?;
+        put_text(out, HANDLER_NAME, &self.handler_name)?;
+        put_bytes(out, PARAMETER, &self.parameter)?;
+        put_records(alloc, out, HEADERS, &self.headers)?;
+        put_text(out, KEY, &self.key)?;
+        put_optional_text(out, IDEMPOTENCY_KEY, &self.idempotency_key)?;
+        put_optional_text(out, SCOPE, &self.scope)?;
+        put_optional_text(out, LIMIT_KEY, &self.limit_key)?;
+        put_u32(
+            out,
+            INVOCATION_ID_NOTIFICATION_IDX,
+            self.invocation_id_notification_idx,
+        )?;
+        put_u32(out, RESULT_COMPLETION_ID, self.result_completion_id)?;
+        put_text(out, NAME, &self.name)?;
+        Ok(())
+    }
+
+    ghost reads = { call_command_reads };
+}

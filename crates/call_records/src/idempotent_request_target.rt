@@ -1,0 +1,60 @@
+use bytes::ByteStr;
+use protocol_wire::table::idempotent_request_target::{
+    HANDLER_NAME, IDEMPOTENCY_KEY, SCOPE, SERVICE_KEY, SERVICE_NAME,
+};
+use protocol_wire::{Record, RecordType, optional_text_at, put_optional_text, put_text, text_at};
+use std::alloc::{AllocError, Global};
+
+/// The invocation of a call with an idempotency key.
+#[derive(Debug, Drop)]
+pub struct IdempotentRequestTarget {
+    pub service_name: ByteStr,
+    pub service_key: Option<ByteStr>,
+    pub handler_name: ByteStr,
+    pub idempotency_key: ByteStr,
+    pub scope: Option<ByteStr>,
+}
+
+#[tactic(auto, using(protocol_wire::proofs::SoundAt::texts_sound))]
+impl Record for IdempotentRequestTarget {
+    ghost use Rattle.call_records.specs.IdempotentRequestTarget.{idempotent_request_target_of, idempotent_request_target_parts, IdempotentRequestTargetFits};
+    ghost use Rattle.call_records.specs.ReadBackIdempotentRequestTarget.{idempotent_request_target_reads};
+    ghost use Rattle.protocol_table.specs.declared.table.RecordType.TheVariants.{IdempotentRequestTarget as idempotent_request_target_type};
+
+    ghost record_type = { idempotent_request_target_type };
+
+    ghost of = { idempotent_request_target_of };
+
+    ghost parts = { idempotent_request_target_parts };
+
+    ghost fits = { IdempotentRequestTargetFits };
+
+    fn record_type() -> RecordType {
+        RecordType::IdempotentRequestTarget
+    }
+
+    fn select(
+        alloc: Global,
+        payload: &[u8],
+        levels: u32,
+    ) -> Result<IdempotentRequestTarget, AllocError> {
+        Ok(IdempotentRequestTarget {
+            service_name: text_at(alloc, payload, SERVICE_NAME)?,
+            service_key: optional_text_at(alloc, payload, SERVICE_KEY)?,
+            handler_name: text_at(alloc, payload, HANDLER_NAME)?,
+            idempotency_key: text_at(alloc, payload, IDEMPOTENCY_KEY)?,
+            scope: optional_text_at(alloc, payload, SCOPE)?,
+        })
+    }
+
+    fn spell(&self, alloc: Global, out: &mut Vec<u8>) -> Result<(), AllocError> {
+        put_text(out, SERVICE_NAME, &self.service_name)?;
+        put_optional_text(out, SERVICE_KEY, &self.service_key)?;
+        put_text(out, HANDLER_NAME, &self.handler_name)?;
+        put_text(out, IDEMPOTENCY_KEY, &self.idempotency_key)?;
+        put_optional_text(out, SCOPE, &self.scope)?;
+        Ok(())
+    }
+
+    ghost reads = { idempotent_request_target_reads };
+}

@@ -1,0 +1,147 @@
+ghost use Rattle.std.specs.Prelude.{◌≡◌, ◌++◌, None, IfOk, OnOk};
+ghost use Rattle.protocol_wire.specs.Fields.{fields};
+ghost use Rattle.protocol_wire.specs.Check.{payload_fault};
+ghost use Rattle.protocol_wire.specs.Parts.{payload_of};
+ghost use Rattle.protocol_table.specs.declared.table.RecordType.TheVariants.{SendSignalCommand as send_signal_command_type};
+ghost use Rattle.call_records.specs.SendSignalCommand.{send_signal_command_signal_id_of, signal_id_parts, send_signal_command_result_of, result_parts};
+
+use bytes::ByteStr;
+use protocol_records::{Failure, Value, Void};
+use protocol_wire::table::send_signal_command::{
+    ENTRY_NAME, FAILURE, IDX, NAME, RESULT, SIGNAL_ID, TARGET_INVOCATION_ID, VALUE, VOID,
+};
+use protocol_wire::{
+    Record, RecordType, chosen_record_at, chosen_text_at, chosen_u32_at, put_present_text,
+    put_present_u32, put_record, put_text, text_at,
+};
+use std::alloc::{AllocError, Global};
+
+/// Which signal is sent.
+#[derive(Debug, Drop)]
+pub enum SendSignalCommandSignalId {
+    Idx(u32),
+    Name(ByteStr),
+}
+
+/// What a signal brings.
+#[derive(Debug, Drop)]
+pub enum SendSignalCommandResult {
+    Void(Void),
+    Value(Value),
+    Failure(Failure),
+}
+
+/// The command that sends a signal to an invocation. The store asks for a signal and a result.
+#[derive(Debug, Drop)]
+pub struct SendSignalCommandMessage {
+    pub target_invocation_id: ByteStr,
+    pub signal_id: Option<SendSignalCommandSignalId>,
+    pub result: Option<SendSignalCommandResult>,
+    pub entry_name: ByteStr,
+}
+
+fn signal_id_at(
+    alloc: Global,
+    payload: &[u8],
+    levels: u32,
+) -> Result<Option<SendSignalCommandSignalId>, AllocError>
+    requires { payload_fault levels send_signal_command_type payload.now ≡ None }
+    ensures { IfOk result (λ r. r ≡ send_signal_command_signal_id_of levels (fields payload.now)) }
+{
+    if let Some(idx) = chosen_u32_at(payload, &SIGNAL_ID, IDX) {
+        return Ok(Some(SendSignalCommandSignalId::Idx(idx)));
+    }
+    if let Some(name) = chosen_text_at(alloc, payload, &SIGNAL_ID, NAME)? {
+        return Ok(Some(SendSignalCommandSignalId::Name(name)));
+    }
+    Ok(None)
+}
+
+fn put_signal_id(
+    out: &mut Vec<u8>,
+    one: &Option<SendSignalCommandSignalId>,
+) -> Result<(), AllocError>
+    ensures { OnOk result (out.new.items ≡ out.old.items ++ payload_of (signal_id_parts one.now)) }
+{
+    match one {
+        None => Ok(()),
+        Some(SendSignalCommandSignalId::Idx(idx)) => put_present_u32(out, IDX, *idx),
+        Some(SendSignalCommandSignalId::Name(name)) => put_present_text(out, NAME, name),
+    }
+}
+
+fn result_at(
+    alloc: Global,
+    payload: &[u8],
+    levels: u32,
+) -> Result<Option<SendSignalCommandResult>, AllocError>
+    requires { payload_fault levels send_signal_command_type payload.now ≡ None }
+    ensures { IfOk result (λ r. r ≡ send_signal_command_result_of levels (fields payload.now)) }
+{
+    if let Some(void) = chosen_record_at(alloc, payload, &RESULT, VOID, levels)? {
+        return Ok(Some(SendSignalCommandResult::Void(void)));
+    }
+    if let Some(value) = chosen_record_at(alloc, payload, &RESULT, VALUE, levels)? {
+        return Ok(Some(SendSignalCommandResult::Value(value)));
+    }
+    if let Some(failure) = chosen_record_at(alloc, payload, &RESULT, FAILURE, levels)? {
+        return Ok(Some(SendSignalCommandResult::Failure(failure)));
+    }
+    Ok(None)
+}
+
+fn put_result(
+    alloc: Global,
+    out: &mut Vec<u8>,
+    one: &Option<SendSignalCommandResult>,
+) -> Result<(), AllocError>
+    ensures { OnOk result (out.new.items ≡ out.old.items ++ payload_of (result_parts one.now)) }
+{
+    match one {
+        None => Ok(()),
+        Some(SendSignalCommandResult::Void(void)) => put_record(alloc, out, VOID, void),
+        Some(SendSignalCommandResult::Value(value)) => put_record(alloc, out, VALUE, value),
+        Some(SendSignalCommandResult::Failure(failure)) => put_record(alloc, out, FAILURE, failure),
+    }
+}
+
+#[tactic(auto, using(protocol_wire::proofs::SoundAt::texts_sound))]
+impl Record for SendSignalCommandMessage {
+    ghost use Rattle.call_records.specs.SendSignalCommand.{send_signal_command_of, send_signal_command_parts, SendSignalCommandFits};
+    ghost use Rattle.call_records.specs.ReadBackSendSignalCommand.{send_signal_command_reads};
+
+    ghost record_type = { send_signal_command_type };
+
+    ghost of = { send_signal_command_of };
+
+    ghost parts = { send_signal_command_parts };
+
+    ghost fits = { SendSignalCommandFits };
+
+    fn record_type() -> RecordType {
+        RecordType::SendSignalCommand
+    }
+
+    fn select(
+        alloc: Global,
+        payload: &[u8],
+        levels: u32,
+    ) -> Result<SendSignalCommandMessage, AllocError> {
+        Ok(SendSignalCommandMessage {
+            target_invocation_id: text_at(alloc, payload, TARGET_INVOCATION_ID)?,
+            signal_id: signal_id_at(alloc, payload, levels)?,
+            result: result_at(alloc, payload, levels)?,
+            entry_name: text_at(alloc, payload, ENTRY_NAME)?,
+        })
+    }
+
+    fn spell(&self, alloc: Global, out: &mut Vec<u8>) -> Result<(), AllocError> {
+        put_text(out, TARGET_INVOCATION_ID, &self.target_invocation_id)?;
+        put_signal_id(out, &self.signal_id)?;
+        put_result(alloc, out, &self.result)?;
+        put_text(out, ENTRY_NAME, &self.entry_name)?;
+        Ok(())
+    }
+
+    ghost reads = { send_signal_command_reads };
+}

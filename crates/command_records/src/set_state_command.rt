@@ -1,0 +1,56 @@
+use bytes::{ByteStr, Bytes};
+use protocol_records::Value;
+use protocol_wire::table::set_state_command::{KEY, NAME, VALUE};
+use protocol_wire::{
+    Record, RecordType, bytes_at, optional_record_at, put_bytes, put_optional_record, put_text,
+    text_at,
+};
+use std::alloc::{AllocError, Global};
+
+/// The command that sets a key of the object's state. The store asks for a value.
+#[derive(Debug, Drop)]
+pub struct SetStateCommandMessage {
+    pub key: Bytes,
+    pub value: Option<Value>,
+    pub name: ByteStr,
+}
+
+#[tactic(auto, using(protocol_wire::proofs::SoundAt::texts_sound))]
+impl Record for SetStateCommandMessage {
+    ghost use Rattle.command_records.specs.SetStateCommand.{set_state_command_of, set_state_command_parts, SetStateCommandFits};
+    ghost use Rattle.command_records.specs.ReadBackSetStateCommand.{set_state_command_reads};
+    ghost use Rattle.protocol_table.specs.declared.table.RecordType.TheVariants.{SetStateCommand as set_state_command_type};
+
+    ghost record_type = { set_state_command_type };
+
+    ghost of = { set_state_command_of };
+
+    ghost parts = { set_state_command_parts };
+
+    ghost fits = { SetStateCommandFits };
+
+    fn record_type() -> RecordType {
+        RecordType::SetStateCommand
+    }
+
+    fn select(
+        alloc: Global,
+        payload: &[u8],
+        levels: u32,
+    ) -> Result<SetStateCommandMessage, AllocError> {
+        Ok(SetStateCommandMessage {
+            key: bytes_at(alloc, payload, KEY)?,
+            value: optional_record_at(alloc, payload, VALUE, levels)?,
+            name: text_at(alloc, payload, NAME)?,
+        })
+    }
+
+    fn spell(&self, alloc: Global, out: &mut Vec<u8>) -> Result<(), AllocError> {
+        put_bytes(out, KEY, &self.key)?;
+        put_optional_record(alloc, out, VALUE, &self.value)?;
+        put_text(out, NAME, &self.name)?;
+        Ok(())
+    }
+
+    ghost reads = { set_state_command_reads };
+}

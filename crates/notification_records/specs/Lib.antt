@@ -1,0 +1,2 @@
+pub mod Notification
+pub mod ReadBackNotification

@@ -1,0 +1,4 @@
+pub mod Awaited
+pub mod Code
+pub mod Error
+pub mod Fixed

@@ -1,0 +1,58 @@
+use bytes::ByteStr;
+use protocol_wire::table::suspension_v6::{
+    WAITING_COMPLETIONS, WAITING_NAMED_SIGNALS, WAITING_SIGNALS,
+};
+use protocol_wire::{Record, RecordType, numbers_at, put_numbers, put_texts, texts_at};
+use sequence::Sequence;
+use std::alloc::{AllocError, Global};
+
+/// The end of an attempt that waits, before version 7: what it waits for, as three lists.
+#[derive(Debug, Drop)]
+pub struct SuspensionMessageV6 {
+    /// Completion ids.
+    pub waiting_completions: Sequence<u32>,
+    /// Signal ids.
+    pub waiting_signals: Sequence<u32>,
+    /// Signal names.
+    pub waiting_named_signals: Sequence<ByteStr>,
+}
+
+#[tactic(auto, using(protocol_wire::proofs::SoundAt::texts_sound))]
+impl Record for SuspensionMessageV6 {
+    ghost use Rattle.protocol_records.specs.SuspensionV6.{suspension_v6_of, suspension_v6_parts, SuspensionV6Fits};
+    ghost use Rattle.protocol_records.specs.ReadBackSuspensionV6.{suspension_v6_reads};
+    ghost use Rattle.protocol_table.specs.declared.table.RecordType.TheVariants.{SuspensionV6 as suspension_v6_type};
+
+    ghost record_type = { suspension_v6_type };
+
+    ghost of = { suspension_v6_of };
+
+    ghost parts = { suspension_v6_parts };
+
+    ghost fits = { SuspensionV6Fits };
+
+    fn record_type() -> RecordType {
+        RecordType::SuspensionV6
+    }
+
+    fn select(
+        alloc: Global,
+        payload: &[u8],
+        levels: u32,
+    ) -> Result<SuspensionMessageV6, AllocError> {
+        Ok(SuspensionMessageV6 {
+            waiting_completions: numbers_at(alloc, payload, WAITING_COMPLETIONS)?,
+            waiting_signals: numbers_at(alloc, payload, WAITING_SIGNALS)?,
+            waiting_named_signals: texts_at(alloc, payload, WAITING_NAMED_SIGNALS)?,
+        })
+    }
+
+    fn spell(&self, alloc: Global, out: &mut Vec<u8>) -> Result<(), AllocError> {
+        put_numbers(alloc, out, WAITING_COMPLETIONS, &self.waiting_completions)?;
+        put_numbers(alloc, out, WAITING_SIGNALS, &self.waiting_signals)?;
+        put_texts(out, WAITING_NAMED_SIGNALS, &self.waiting_named_signals)?;
+        Ok(())
+    }
+
+    ghost reads = { suspension_v6_reads };
+}

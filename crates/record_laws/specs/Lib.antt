@@ -1,0 +1,16 @@
+pub mod JoinsAttachInvocationCommand
+pub mod JoinsAwaiting
+pub mod JoinsCompleteAwakeableCommand
+pub mod JoinsCompletePromiseCommand
+pub mod JoinsControl
+pub mod JoinsFuture
+pub mod JoinsGetEagerStateCommand
+pub mod JoinsGetInvocationOutputCommand
+pub mod JoinsGetStateEphemeralNotification
+pub mod JoinsNotification
+pub mod JoinsOutputCommand
+pub mod JoinsProposeRunCompletion
+pub mod JoinsSendSignalCommand
+pub mod JoinsShared
+pub mod JoinsTowards
+pub mod JoinsWithin
