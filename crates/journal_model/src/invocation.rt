@@ -13,7 +13,7 @@ pub enum StateMode {
 }
 
 /// A new invocation of an object.
-#[derive(Debug, Clone, PartialEq, Eq, Drop)]
+#[derive(Debug, PartialEq, Eq, Drop)]
 pub struct NewInvocation {
     /// Names the invocation. No other has had it, and it is not empty.
     pub id: ByteStr,
