@@ -87,12 +87,12 @@ impl<H: Handler> Attempt<H> {
             &self.options,
             &mut self.decoder,
             &start,
-        )?;
-        self.start = Some(start);
-        match read {
+        );
+        drop(self.start.replace(start));
+        match read? {
             None => Ok(Turn::Waiting),
             Some(input) => {
-                self.input = Some(input);
+                drop(self.input.replace(input));
                 Ok(Turn::Answered)
             }
         }

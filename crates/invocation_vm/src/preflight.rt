@@ -1,5 +1,6 @@
 //! What comes before the handler is asked: the start of the attempt, and the input.
-ghost use Rattle.std.specs.Prelude.{◌≡◌, ℕ, List, Some, IfOk, MatchResult};
+ghost use Rattle.std.specs.Prelude.{◌≡◌, ℕ, List, Some, None, map, IfOk, MatchResult};
+ghost use Rattle.journal_protocol.specs.Records.{header_told};
 ghost use Rattle.journal_model.specs.declared.invocation.NewInvocation.{NewInvocation};
 ghost use Rattle.protocol_table.specs.declared.table.RecordType.TheVariants.{Start as start_type, InputCommand as input_command_type};
 ghost use Rattle.protocol_records.specs.Start.{start_of};
@@ -11,10 +12,11 @@ ghost use Rattle.invocation_vm.specs.Reads.{HasStart, HasInput};
 use crate::failure::AttemptFailure;
 use crate::options::VMOptions;
 use bytes::{ByteStr, Bytes};
-use journal_model::Input;
+use journal_model::{Header, Input};
 use journal_protocol::{Decoder, DecodingError, MessageType, RawMessage, to_headers};
 use protocol_records::{InputCommandMessage, StartMessage, Value};
 use protocol_wire::{DecodeError, Record, decode};
+use sequence::Sequence;
 use std::alloc::{AllocError, Global};
 
 /// The first version of the protocol whose start has a seed.
@@ -97,6 +99,27 @@ fn check_start(start: &StartMessage) -> Result<(), AttemptFailure>
     }
 }
 
+// Takes the next message, which is to be a start that is served.
+fn next_served(
+    alloc: Global,
+    decoder: &mut Decoder,
+) -> Result<Option<StartMessage>, AttemptFailure>
+    ensures { (new : NewInvocation) (known retry_count duration : ℕ) (left more : List ℕ) → FitsFrames new known retry_count duration
+        → AreToRead new known retry_count duration left more None decoder.old
+        → HasStart new known retry_count duration left more result decoder.new }
+{
+    let Some(start) = next_start(alloc, decoder)? else {
+        return Ok(None);
+    };
+    match check_start(&start) {
+        Ok(()) => Ok(Some(start)),
+        Err(failure) => {
+            drop(start);
+            Err(failure)
+        }
+    }
+}
+
 /// The start: the one that was read before, or else the next message.
 pub(crate) fn have_start(
     alloc: Global,
@@ -110,11 +133,8 @@ pub(crate) fn have_start(
     if start.is_some() {
         return Ok(start);
     }
-    let Some(start) = next_start(alloc, decoder)? else {
-        return Ok(None);
-    };
-    check_start(&start)?;
-    Ok(Some(start))
+    drop(start);
+    next_served(alloc, decoder)
 }
 
 fn content_of(value: Option<Value>) -> Bytes
@@ -147,6 +167,45 @@ fn random_seed(version: u32, fallback: u64, seed: u64) -> u64
     seed
 }
 
+// The headers of an input, and its value.
+fn taken(
+    alloc: Global,
+    message: InputCommandMessage,
+) -> Result<(Sequence<Header>, Bytes), AllocError>
+    ensures { IfOk result (λ taken. (taken.0 ≡ map header_told message.headers) × (taken.1 ≡ content_of message.value)) }
+{
+    let InputCommandMessage {
+        headers,
+        name,
+        value,
+    } = message;
+    drop(name);
+    let input = content_of(value);
+    Ok((to_headers(alloc, headers)?, input))
+}
+
+// The names of an invocation and of its object.
+fn names(start: &StartMessage) -> Result<(ByteStr, ByteStr), AllocError>
+    ensures { IfOk result (λ names. (names.0 ≡ start.now.debug_id) × (names.1 ≡ start.now.key)) }
+{
+    let id = start.debug_id.clone()?;
+    Ok((id, start.key.clone()?))
+}
+
+// The scope, the limit key and the idempotency key, which are there from version 7 on.
+fn keys(
+    version: u32,
+    start: &StartMessage,
+) -> Result<(Option<ByteStr>, Option<ByteStr>, Option<ByteStr>), AllocError>
+    ensures { IfOk result (λ keys. (keys.0 ≡ from_version_7 version start.now.scope)
+        × (keys.1 ≡ from_version_7 version start.now.limit_key)
+        × (keys.2 ≡ from_version_7 version start.now.idempotency_key)) }
+{
+    let scope = from_version_7(version, &start.scope)?;
+    let limit_key = from_version_7(version, &start.limit_key)?;
+    Ok((scope, limit_key, from_version_7(version, &start.idempotency_key)?))
+}
+
 // What a handler is given: the invocation's part from the start, the rest from the input's own message.
 fn input_of(
     alloc: Global,
@@ -157,15 +216,18 @@ fn input_of(
 ) -> Result<Input, AllocError>
     ensures { IfOk result (λ input. input ≡ input_given version fallback_random_seed start.now message) }
 {
+    let (headers, input) = taken(alloc, message)?;
+    let (invocation_id, key) = names(start)?;
+    let (scope, limit_key, idempotency_key) = keys(version, start)?;
     Ok(Input {
-        invocation_id: start.debug_id.clone()?,
-        key: start.key.clone()?,
+        invocation_id,
+        key,
         random_seed: random_seed(version, fallback_random_seed, start.random_seed),
-        headers: to_headers(alloc, message.headers)?,
-        input: content_of(message.value),
-        scope: from_version_7(version, &start.scope)?,
-        limit_key: from_version_7(version, &start.limit_key)?,
-        idempotency_key: from_version_7(version, &start.idempotency_key)?,
+        headers,
+        input,
+        scope,
+        limit_key,
+        idempotency_key,
     })
 }
 

@@ -168,9 +168,10 @@ fn single_handle(awaited: &AwaitedFuture) -> Option<NotificationHandle>
 }
 
 // Lets go of a call that is not carried out yet.
-fn not_carried_out(_call: Call) -> AttemptFailure
+fn not_carried_out(call: Call) -> AttemptFailure
     ensures { result ≡ AttemptFailure.CallNotCarriedOut }
 {
+    drop(call);
     AttemptFailure::CallNotCarriedOut
 }
 

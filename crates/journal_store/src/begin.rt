@@ -61,7 +61,9 @@ fn spelled_input(alloc: Global, new: &NewInvocation) -> Result<Vec<u8>, AllocErr
     ensures { IfOk result (λ payload. payload.items ≡ payload_of_input new.now.headers new.now.input) }
 {
     let input = input_record_of(alloc, new)?;
-    let payload = encode(alloc, &input)?;
+    let spelled = encode(alloc, &input);
+    drop(input);
+    let payload = spelled?;
     Ok(payload)
 }
 
@@ -162,7 +164,9 @@ fn start_payload(alloc: Global, row: &StoredInvocation, now: u64) -> Result<Vec<
     ensures fits { IfOk result (λ _. StartFits row.now now) }
 {
     let start = row.start_record(alloc, now)?;
-    let payload = encode(alloc, &start)?;
+    let spelled = encode(alloc, &start);
+    drop(start);
+    let payload = spelled?;
     Ok(payload)
 }
 
@@ -230,11 +234,12 @@ pub(crate) fn begin(
     let version = row.version();
     row.first_moment = row.first_moment_with(now);
     row.attempts = number;
-    row.live = Some(LiveAttempt {
+    let live = LiveAttempt {
         number,
         input,
         output: AttemptOutput::new(alloc),
-    });
+    };
+    drop(row.live.replace(live));
     Ok(BegunAttempt {
         number,
         version,

@@ -7,12 +7,4 @@ mod attempts;
 #[cfg(test)]
 mod errors;
 #[cfg(test)]
-mod handlers;
-#[cfg(test)]
-mod records;
-#[cfg(test)]
-mod sequences;
-#[cfg(test)]
 mod store;
-#[cfg(test)]
-mod stream;

@@ -4,6 +4,7 @@ use journal_model::{NewInvocation, NonEmptyValue, StateMode};
 use journal_store::{BegunAttempt, FrameReply, RecordedRequest, Refusal, Store};
 use sequence::Sequence;
 use std::alloc::Global;
+use std::process::Abort;
 use std::test::Fail;
 
 /// The name of the invocation `i1`.
@@ -184,9 +185,8 @@ fn versions_are_refused(rt: HostRuntime) -> Result<(), Fail> {
     Ok(())
 }
 
-#[test]
-fn frames_are_recorded(rt: HostRuntime) -> Result<(), Fail> {
-    let mut asked = begun(rt.alloc())?;
+/// Feeds a sleep and what is awaited, in two pieces, and takes them.
+fn record(rt: &impl Abort, asked: &mut Asked) -> Result<(), Fail> {
     asked.feed(1, b"\x04\x0c\0\0\0\0\0\x04\x08\x0a\x58")?;
     assert_eq!(rt; asked.step()?, None);
     asked.feed(
@@ -206,23 +206,50 @@ fn frames_are_recorded(rt: HostRuntime) -> Result<(), Fail> {
 }
 
 #[test]
-fn invocations_end(rt: HostRuntime) -> Result<(), Fail> {
+fn frames_are_recorded(rt: HostRuntime) -> Result<(), Fail> {
     let mut asked = begun(rt.alloc())?;
+    let recorded = record(&rt, &mut asked);
+    drop(asked);
+    recorded
+}
+
+/// Feeds an output and an end, and takes them.
+fn end(rt: &impl Abort, asked: &mut Asked) -> Result<(), Fail> {
     asked.feed(
         1,
         b"\x04\x01\0\0\0\0\0\x06\x72\x04\x0a\x02ok\0\x03\0\0\0\0\0\0",
     )?;
     assert_eq!(rt; asked.step()?, Some(FrameReply::Recorded(1)));
     assert_eq!(rt; asked.is_open()?, true);
-    assert_eq!(rt; asked.answer()?, None);
+    assert!(rt; is_none(asked.answer()?));
     assert_eq!(rt; asked.step()?, Some(FrameReply::Ended));
     assert_eq!(rt; asked.is_open()?, false);
-    assert_eq!(rt;
-        asked.answer()?,
-        Some(NonEmptyValue::Success(Bytes::from_static(b"ok")))
-    );
+    assert!(rt; is_ok(asked.answer()?));
     assert_eq!(rt; asked.step(), Err(Refusal::InvocationClosed));
     Ok(())
+}
+
+/// Whether there is no answer.
+fn is_none(answer: Option<NonEmptyValue>) -> bool {
+    let is_none = answer.is_none();
+    drop(answer);
+    is_none
+}
+
+/// Whether the answer is `ok`.
+fn is_ok(answer: Option<NonEmptyValue>) -> bool {
+    let wanted = Some(NonEmptyValue::Success(Bytes::from_static(b"ok")));
+    let is_ok = answer == wanted;
+    drop((answer, wanted));
+    is_ok
+}
+
+#[test]
+fn invocations_end(rt: HostRuntime) -> Result<(), Fail> {
+    let mut asked = begun(rt.alloc())?;
+    let ended = end(&rt, &mut asked);
+    drop(asked);
+    ended
 }
 
 #[test]

@@ -62,18 +62,41 @@ fn taken(value: Value) -> Answer {
     Answer::Taken(Some(value))
 }
 
+/// The call behind these answers.
+fn call_behind<H: Handler>(
+    alloc: Global,
+    handler: &H,
+    answers: &[Answer],
+) -> Result<Call, AllocError> {
+    let input = input(alloc);
+    let call = handler.next(&input, answers);
+    drop(input);
+    call
+}
+
+/// Its kind. A value of a large type is let go by `drop`: where a body lets it fall, its proof takes minutes.
+fn kind_behind<H: Handler>(
+    alloc: Global,
+    handler: &H,
+    answers: &[Answer],
+) -> Result<&'static str, AllocError> {
+    let call = call_behind(alloc, handler, answers)?;
+    let kind = kind(&call);
+    drop(call);
+    Ok(kind)
+}
+
 /// The kinds of the calls before the first answer, behind it, and so on.
 fn kinds<H: Handler>(
     alloc: Global,
     handler: &H,
     answers: &[Answer],
 ) -> Result<Vec<&'static str>, AllocError> {
-    let input = input(alloc);
     let mut kinds = Vec::new(alloc);
-    kinds.push(kind(&handler.next(&input, &[])?))?;
+    kinds.push(kind_behind(alloc, handler, &[])?)?;
     for (index, _answer) in answers.iter().enumerate() {
         let (before, _) = answers.split_at(index + 1);
-        kinds.push(kind(&handler.next(&input, before)?))?;
+        kinds.push(kind_behind(alloc, handler, before)?)?;
     }
     Ok(kinds)
 }
@@ -89,16 +112,40 @@ fn calls_are<H: Handler>(
     Ok(kinds.as_slice() == wanted)
 }
 
+/// What a call puts out.
+fn output(call: &Call) -> Result<Option<NonEmptyValue>, AllocError> {
+    match call {
+        Call::Output { value, .. } => Ok(Some(value.clone()?)),
+        _other => Ok(None),
+    }
+}
+
 /// What a handler puts out behind these answers.
 fn output_behind<H: Handler>(
     alloc: Global,
     handler: &H,
     answers: &[Answer],
 ) -> Result<Option<NonEmptyValue>, AllocError> {
-    match handler.next(&input(alloc), answers)? {
-        Call::Output { value, .. } => Ok(Some(value)),
-        _other => Ok(None),
-    }
+    let call = call_behind(alloc, handler, answers)?;
+    let output = output(&call);
+    drop(call);
+    output
+}
+
+/// Whether an output is the success with this text.
+fn is_success(output: Option<NonEmptyValue>, text: &'static [u8]) -> bool {
+    let wanted = Some(NonEmptyValue::Success(Bytes::from_static(text)));
+    let is_success = output == wanted;
+    drop((output, wanted));
+    is_success
+}
+
+/// Whether a copy is equal to what it is a copy of.
+fn is_copied<T: Clone + PartialEq + Drop>(one: T) -> Result<bool, AllocError> {
+    let copy = one.clone()?;
+    let is_equal = copy == one;
+    drop((copy, one));
+    Ok(is_equal)
 }
 
 /// The answers to a call, to the await and the take of its result, and to the output.
@@ -123,16 +170,20 @@ fn calls_of_nap(rt: HostRuntime) -> Result<(), Fail> {
     Ok(())
 }
 
+/// Whether a call is a sleep without a name until that moment.
+fn is_sleep(call: &Call, until: Duration) -> bool {
+    match call {
+        Call::Sleep { name, wake_up, .. } => name.is_empty() && wake_up.duration() == until,
+        _other => false,
+    }
+}
+
 #[test]
 fn sleep_of_nap(rt: HostRuntime) -> Result<(), Fail> {
-    let alloc = rt.alloc();
-    match nap_until(alloc, 10).next(&input(alloc), &[])? {
-        Call::Sleep { name, wake_up, .. } => {
-            assert_eq!(rt; name.len(), 0);
-            assert_eq!(rt; wake_up.duration(), Duration::from_millis(10));
-        }
-        _other => panic!(rt; "no sleep"),
-    }
+    let call = call_behind(rt.alloc(), &nap_until(rt.alloc(), 10), &[])?;
+    let sleeps = is_sleep(&call, Duration::from_millis(10));
+    drop(call);
+    assert!(rt; sleeps);
     Ok(())
 }
 
@@ -157,11 +208,10 @@ fn calls_of_race(rt: HostRuntime) -> Result<(), Fail> {
 #[test]
 fn output_of_race(rt: HostRuntime) -> Result<(), Fail> {
     let alloc = rt.alloc();
-    let output = output_behind(alloc, &Race { alloc }, &answers_of_race()[..4])?;
-    assert_eq!(rt;
-        output,
-        Some(NonEmptyValue::Success(Bytes::from_static(b"2")))
-    );
+    let answers = answers_of_race();
+    let output = output_behind(alloc, &Race { alloc }, &answers[..4]);
+    drop(answers);
+    assert!(rt; is_success(output?, b"2"));
     Ok(())
 }
 
@@ -267,11 +317,9 @@ fn calls_of_keys(rt: HostRuntime) -> Result<(), Fail> {
 fn output_of_keys(rt: HostRuntime) -> Result<(), Fail> {
     let alloc = rt.alloc();
     let answers = answers_of_keys(keys_a_and_b(alloc)?);
-    let output = output_behind(alloc, &Keys { alloc }, &answers)?;
-    assert_eq!(rt;
-        output,
-        Some(NonEmptyValue::Success(Bytes::from_static(b"a,b")))
-    );
+    let output = output_behind(alloc, &Keys { alloc }, &answers);
+    drop(answers);
+    assert!(rt; is_success(output?, b"a,b"));
     Ok(())
 }
 
@@ -284,20 +332,24 @@ fn calls_behind_a_cancelled_await(rt: HostRuntime) -> Result<(), Fail> {
     Ok(())
 }
 
+/// Whether an output is the failure of a cancelled await.
+fn is_cancelled(output: Option<NonEmptyValue>) -> bool {
+    let is_cancelled = match &output {
+        Some(NonEmptyValue::Failure(failure)) => {
+            failure.code == 409 && failure.message.as_bytes().as_slice() == b"cancelled".as_slice()
+        }
+        _other => false,
+    };
+    drop(output);
+    is_cancelled
+}
+
 #[test]
 fn output_behind_a_cancelled_await(rt: HostRuntime) -> Result<(), Fail> {
-    let alloc = rt.alloc();
     let answers = [handle(17), Answer::Cancelled];
-    match output_behind(alloc, &nap_until(alloc, 99), &answers)? {
-        Some(NonEmptyValue::Failure(failure)) => {
-            assert_eq!(rt; failure.code, 409);
-            assert_eq!(rt;
-                failure.message.as_bytes().as_slice(),
-                b"cancelled".as_slice()
-            );
-        }
-        _other => panic!(rt; "no failure"),
-    }
+    let output = output_behind(rt.alloc(), &nap_until(rt.alloc(), 99), &answers);
+    drop(answers);
+    assert!(rt; is_cancelled(output?));
     Ok(())
 }
 
@@ -312,16 +364,24 @@ fn copy_of_a_future(rt: HostRuntime) -> Result<(), Fail> {
     let handles = (NotificationHandle::new(17), NotificationHandle::new(18));
     let two = UnresolvedFuture::two(rt.alloc(), handles.0, handles.1)?;
     let future = UnresolvedFuture::AllCompleted(two);
-    assert!(rt; future.clone()? == future);
+    assert!(rt; is_copied(future)?);
     Ok(())
+}
+
+/// Whether a future is that of one notification.
+fn is_single(awaited: AwaitedFuture, handle: NotificationHandle) -> bool {
+    let future = awaited.into_future();
+    let is_single = future == UnresolvedFuture::from(handle);
+    drop(future);
+    is_single
 }
 
 #[test]
 fn copy_of_an_awaited_future(rt: HostRuntime) -> Result<(), Fail> {
     let first = NotificationHandle::new(17);
-    let awaited = AwaitedFuture::new(UnresolvedFuture::from(first));
-    assert!(rt; awaited.clone()?.into_future() == UnresolvedFuture::from(first));
-    assert!(rt; AwaitedFuture::single(first).future() == &UnresolvedFuture::from(first));
+    let copy = AwaitedFuture::new(UnresolvedFuture::from(first)).clone()?;
+    assert!(rt; is_single(copy, first));
+    assert!(rt; is_single(AwaitedFuture::single(first), first));
     Ok(())
 }
 
@@ -331,7 +391,7 @@ fn copy_of_an_answer(rt: HostRuntime) -> Result<(), Fail> {
         id: ByteStr::from_static("sign_1aW52MQAAABE"),
         handle: NotificationHandle::new(17),
     };
-    assert!(rt; answer.clone()? == answer);
+    assert!(rt; is_copied(answer)?);
     Ok(())
 }
 
@@ -343,25 +403,6 @@ fn options_and_moments(rt: HostRuntime) {
         Moment::new(Duration::from_secs(2)).duration(),
         Duration::from_secs(2)
     );
-}
-
-#[test]
-fn copy_of_a_new_invocation(rt: HostRuntime) -> Result<(), Fail> {
-    let header = Header {
-        key: ByteStr::from_static("k"),
-        value: ByteStr::from_static("v"),
-    };
-    let new = NewInvocation {
-        id: ByteStr::from_static("i1"),
-        object: ByteStr::from_static("o"),
-        input: Bytes::new(),
-        headers: Sequence::from_vec(vec![in rt.alloc(); header]?),
-        version: 7,
-        seed: 1,
-        state: StateMode::Whole,
-    };
-    assert!(rt; new.clone()? == new);
-    Ok(())
 }
 
 #[test]
