@@ -10,7 +10,9 @@ use protocol_records::{Failure, Value};
 use protocol_wire::table::complete_awakeable_command::{
     AWAKEABLE_ID, FAILURE, NAME, RESULT, VALUE,
 };
-use protocol_wire::{Record, RecordType, chosen_record_at, put_record, put_text, text_at};
+use protocol_wire::{
+    Record, RecordType, all_three, chosen_record_at, put_record, put_text, text_at,
+};
 use std::alloc::{AllocError, Global};
 
 /// What an awakeable is completed with.
@@ -61,7 +63,6 @@ fn put_result(
     }
 }
 
-#[tactic(auto, using(protocol_wire::proofs::SoundAt::texts_sound))]
 impl Record for CompleteAwakeableCommandMessage {
     ghost use Rattle.call_records.specs.CompleteAwakeableCommand.{complete_awakeable_command_of, complete_awakeable_command_parts, CompleteAwakeableCommandFits};
     ghost use Rattle.call_records.specs.ReadBackCompleteAwakeableCommand.{complete_awakeable_command_reads};
@@ -83,10 +84,15 @@ impl Record for CompleteAwakeableCommandMessage {
         payload: &[u8],
         levels: u32,
     ) -> Result<CompleteAwakeableCommandMessage, AllocError> {
+        let (awakeable_id, result, name) = all_three(
+            text_at(alloc, payload, AWAKEABLE_ID),
+            result_at(alloc, payload, levels),
+            text_at(alloc, payload, NAME),
+        )?;
         Ok(CompleteAwakeableCommandMessage {
-            awakeable_id: text_at(alloc, payload, AWAKEABLE_ID)?,
-            result: result_at(alloc, payload, levels)?,
-            name: text_at(alloc, payload, NAME)?,
+            awakeable_id,
+            result,
+            name,
         })
     }
 

@@ -12,8 +12,8 @@ use protocol_wire::table::get_invocation_output_command::{
     IDEMPOTENT_REQUEST_TARGET, INVOCATION_ID, NAME, RESULT_COMPLETION_ID, TARGET, WORKFLOW_TARGET,
 };
 use protocol_wire::{
-    Record, RecordType, chosen_record_at, chosen_text_at, put_present_text, put_record, put_text,
-    put_u32, text_at, u32_at,
+    Record, RecordType, both, chosen_record_at, chosen_text_at, put_present_text, put_record,
+    put_text, put_u32, text_at, u32_at,
 };
 use std::alloc::{AllocError, Global};
 
@@ -99,7 +99,6 @@ fn put_target(
     }
 }
 
-#[tactic(auto, using(protocol_wire::proofs::SoundAt::texts_sound))]
 impl Record for GetInvocationOutputCommandMessage {
     ghost use Rattle.call_records.specs.GetInvocationOutputCommand.{get_invocation_output_command_of, get_invocation_output_command_parts, GetInvocationOutputCommandFits};
     ghost use Rattle.call_records.specs.ReadBackGetInvocationOutputCommand.{get_invocation_output_command_reads};
@@ -121,10 +120,14 @@ impl Record for GetInvocationOutputCommandMessage {
         payload: &[u8],
         levels: u32,
     ) -> Result<GetInvocationOutputCommandMessage, AllocError> {
+        let (target, name) = both(
+            target_at(alloc, payload, levels),
+            text_at(alloc, payload, NAME),
+        )?;
         Ok(GetInvocationOutputCommandMessage {
-            target: target_at(alloc, payload, levels)?,
+            target,
             result_completion_id: u32_at(payload, RESULT_COMPLETION_ID),
-            name: text_at(alloc, payload, NAME)?,
+            name,
         })
     }
 

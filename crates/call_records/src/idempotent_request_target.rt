@@ -2,7 +2,9 @@ use bytes::ByteStr;
 use protocol_wire::table::idempotent_request_target::{
     HANDLER_NAME, IDEMPOTENCY_KEY, SCOPE, SERVICE_KEY, SERVICE_NAME,
 };
-use protocol_wire::{Record, RecordType, optional_text_at, put_optional_text, put_text, text_at};
+use protocol_wire::{
+    Record, RecordType, all_three, both, optional_text_at, put_optional_text, put_text, text_at,
+};
 use std::alloc::{AllocError, Global};
 
 /// The invocation of a call with an idempotency key.
@@ -15,7 +17,6 @@ pub struct IdempotentRequestTarget {
     pub scope: Option<ByteStr>,
 }
 
-#[tactic(auto, using(protocol_wire::proofs::SoundAt::texts_sound))]
 impl Record for IdempotentRequestTarget {
     ghost use Rattle.call_records.specs.IdempotentRequestTarget.{idempotent_request_target_of, idempotent_request_target_parts, IdempotentRequestTargetFits};
     ghost use Rattle.call_records.specs.ReadBackIdempotentRequestTarget.{idempotent_request_target_reads};
@@ -38,12 +39,24 @@ impl Record for IdempotentRequestTarget {
         payload: &[u8],
         levels: u32,
     ) -> Result<IdempotentRequestTarget, AllocError> {
+        let names = all_three(
+            text_at(alloc, payload, SERVICE_NAME),
+            text_at(alloc, payload, HANDLER_NAME),
+            text_at(alloc, payload, IDEMPOTENCY_KEY),
+        );
+        let options = both(
+            optional_text_at(alloc, payload, SERVICE_KEY),
+            optional_text_at(alloc, payload, SCOPE),
+        );
+        let ((service_name, handler_name, idempotency_key), (service_key, scope)) = both(
+            names, options,
+        )?;
         Ok(IdempotentRequestTarget {
-            service_name: text_at(alloc, payload, SERVICE_NAME)?,
-            service_key: optional_text_at(alloc, payload, SERVICE_KEY)?,
-            handler_name: text_at(alloc, payload, HANDLER_NAME)?,
-            idempotency_key: text_at(alloc, payload, IDEMPOTENCY_KEY)?,
-            scope: optional_text_at(alloc, payload, SCOPE)?,
+            service_name,
+            service_key,
+            handler_name,
+            idempotency_key,
+            scope,
         })
     }
 

@@ -11,8 +11,8 @@ use protocol_wire::table::send_signal_command::{
     ENTRY_NAME, FAILURE, IDX, NAME, RESULT, SIGNAL_ID, TARGET_INVOCATION_ID, VALUE, VOID,
 };
 use protocol_wire::{
-    Record, RecordType, chosen_record_at, chosen_text_at, chosen_u32_at, put_present_text,
-    put_present_u32, put_record, put_text, text_at,
+    Record, RecordType, all_three, both, chosen_record_at, chosen_text_at, chosen_u32_at,
+    put_present_text, put_present_u32, put_record, put_text, text_at,
 };
 use std::alloc::{AllocError, Global};
 
@@ -105,7 +105,6 @@ fn put_result(
     }
 }
 
-#[tactic(auto, using(protocol_wire::proofs::SoundAt::texts_sound))]
 impl Record for SendSignalCommandMessage {
     ghost use Rattle.call_records.specs.SendSignalCommand.{send_signal_command_of, send_signal_command_parts, SendSignalCommandFits};
     ghost use Rattle.call_records.specs.ReadBackSendSignalCommand.{send_signal_command_reads};
@@ -127,11 +126,20 @@ impl Record for SendSignalCommandMessage {
         payload: &[u8],
         levels: u32,
     ) -> Result<SendSignalCommandMessage, AllocError> {
+        let names = both(
+            text_at(alloc, payload, TARGET_INVOCATION_ID),
+            text_at(alloc, payload, ENTRY_NAME),
+        );
+        let signal_id = signal_id_at(alloc, payload, levels);
+        let result = result_at(alloc, payload, levels);
+        let ((target_invocation_id, entry_name), signal_id, result) = all_three(
+            names, signal_id, result,
+        )?;
         Ok(SendSignalCommandMessage {
-            target_invocation_id: text_at(alloc, payload, TARGET_INVOCATION_ID)?,
-            signal_id: signal_id_at(alloc, payload, levels)?,
-            result: result_at(alloc, payload, levels)?,
-            entry_name: text_at(alloc, payload, ENTRY_NAME)?,
+            target_invocation_id,
+            signal_id,
+            result,
+            entry_name,
         })
     }
 

@@ -9,7 +9,6 @@ pub struct ClearAllStateCommandMessage {
     pub name: ByteStr,
 }
 
-#[tactic(auto, using(protocol_wire::proofs::SoundAt::texts_sound))]
 impl Record for ClearAllStateCommandMessage {
     ghost use Rattle.command_records.specs.ClearAllStateCommand.{clear_all_state_command_of, clear_all_state_command_parts, ClearAllStateCommandFits};
     ghost use Rattle.command_records.specs.ReadBackClearAllStateCommand.{clear_all_state_command_reads};

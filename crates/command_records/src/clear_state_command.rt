@@ -10,7 +10,6 @@ pub struct ClearStateCommandMessage {
     pub name: ByteStr,
 }
 
-#[tactic(auto, using(protocol_wire::proofs::SoundAt::texts_sound))]
 impl Record for ClearStateCommandMessage {
     ghost use Rattle.command_records.specs.ClearStateCommand.{clear_state_command_of, clear_state_command_parts, ClearStateCommandFits};
     ghost use Rattle.command_records.specs.ReadBackClearStateCommand.{clear_state_command_reads};

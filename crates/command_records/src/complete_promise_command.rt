@@ -11,7 +11,7 @@ use protocol_wire::table::complete_promise_command::{
     COMPLETION, COMPLETION_FAILURE, COMPLETION_VALUE, KEY, NAME, RESULT_COMPLETION_ID,
 };
 use protocol_wire::{
-    Record, RecordType, chosen_record_at, put_record, put_text, put_u32, text_at, u32_at,
+    Record, RecordType, all_three, chosen_record_at, put_record, put_text, put_u32, text_at, u32_at,
 };
 use std::alloc::{AllocError, Global};
 
@@ -85,7 +85,6 @@ fn put_completion(
     }
 }
 
-#[tactic(auto, using(protocol_wire::proofs::SoundAt::texts_sound))]
 impl Record for CompletePromiseCommandMessage {
     ghost use Rattle.command_records.specs.CompletePromiseCommand.{complete_promise_command_of, complete_promise_command_parts, CompletePromiseCommandFits};
     ghost use Rattle.command_records.specs.ReadBackCompletePromiseCommand.{complete_promise_command_reads};
@@ -107,11 +106,16 @@ impl Record for CompletePromiseCommandMessage {
         payload: &[u8],
         levels: u32,
     ) -> Result<CompletePromiseCommandMessage, AllocError> {
+        let (key, completion, name) = all_three(
+            text_at(alloc, payload, KEY),
+            completion_at(alloc, payload, levels),
+            text_at(alloc, payload, NAME),
+        )?;
         Ok(CompletePromiseCommandMessage {
-            key: text_at(alloc, payload, KEY)?,
-            completion: completion_at(alloc, payload, levels)?,
+            key,
+            completion,
             result_completion_id: u32_at(payload, RESULT_COMPLETION_ID),
-            name: text_at(alloc, payload, NAME)?,
+            name,
         })
     }
 

@@ -9,7 +9,8 @@ use bytes::{ByteStr, Bytes};
 use protocol_records::{Value, Void};
 use protocol_wire::table::get_eager_state_command::{KEY, NAME, RESULT, VALUE, VOID};
 use protocol_wire::{
-    Record, RecordType, bytes_at, chosen_record_at, put_bytes, put_record, put_text, text_at,
+    Record, RecordType, all_three, bytes_at, chosen_record_at, put_bytes, put_record, put_text,
+    text_at,
 };
 use std::alloc::{AllocError, Global};
 
@@ -59,7 +60,6 @@ fn put_result(
     }
 }
 
-#[tactic(auto, using(protocol_wire::proofs::SoundAt::texts_sound))]
 impl Record for GetEagerStateCommandMessage {
     ghost use Rattle.command_records.specs.GetEagerStateCommand.{get_eager_state_command_of, get_eager_state_command_parts, GetEagerStateCommandFits};
     ghost use Rattle.command_records.specs.ReadBackGetEagerStateCommand.{get_eager_state_command_reads};
@@ -81,11 +81,12 @@ impl Record for GetEagerStateCommandMessage {
         payload: &[u8],
         levels: u32,
     ) -> Result<GetEagerStateCommandMessage, AllocError> {
-        Ok(GetEagerStateCommandMessage {
-            key: bytes_at(alloc, payload, KEY)?,
-            name: text_at(alloc, payload, NAME)?,
-            result: result_at(alloc, payload, levels)?,
-        })
+        let (key, name, result) = all_three(
+            bytes_at(alloc, payload, KEY),
+            text_at(alloc, payload, NAME),
+            result_at(alloc, payload, levels),
+        )?;
+        Ok(GetEagerStateCommandMessage { key, name, result })
     }
 
     fn spell(&self, alloc: Global, out: &mut Vec<u8>) -> Result<(), AllocError> {

@@ -12,7 +12,6 @@ pub struct GetLazyStateCommandMessage {
     pub name: ByteStr,
 }
 
-#[tactic(auto, using(protocol_wire::proofs::SoundAt::texts_sound))]
 impl Record for GetLazyStateCommandMessage {
     ghost use Rattle.command_records.specs.GetLazyStateCommand.{get_lazy_state_command_of, get_lazy_state_command_parts, GetLazyStateCommandFits};
     ghost use Rattle.command_records.specs.ReadBackGetLazyStateCommand.{get_lazy_state_command_reads};

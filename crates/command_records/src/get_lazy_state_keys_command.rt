@@ -11,7 +11,6 @@ pub struct GetLazyStateKeysCommandMessage {
     pub name: ByteStr,
 }
 
-#[tactic(auto, using(protocol_wire::proofs::SoundAt::texts_sound))]
 impl Record for GetLazyStateKeysCommandMessage {
     ghost use Rattle.command_records.specs.GetLazyStateKeysCommand.{get_lazy_state_keys_command_of, get_lazy_state_keys_command_parts, GetLazyStateKeysCommandFits};
     ghost use Rattle.command_records.specs.ReadBackGetLazyStateKeysCommand.{get_lazy_state_keys_command_reads};

@@ -12,7 +12,6 @@ pub struct GetPromiseCommandMessage {
     pub name: ByteStr,
 }
 
-#[tactic(auto, using(protocol_wire::proofs::SoundAt::texts_sound))]
 impl Record for GetPromiseCommandMessage {
     ghost use Rattle.command_records.specs.GetPromiseCommand.{get_promise_command_of, get_promise_command_parts, GetPromiseCommandFits};
     ghost use Rattle.command_records.specs.ReadBackGetPromiseCommand.{get_promise_command_reads};

@@ -12,7 +12,6 @@ pub struct PeekPromiseCommandMessage {
     pub name: ByteStr,
 }
 
-#[tactic(auto, using(protocol_wire::proofs::SoundAt::texts_sound))]
 impl Record for PeekPromiseCommandMessage {
     ghost use Rattle.command_records.specs.PeekPromiseCommand.{peek_promise_command_of, peek_promise_command_parts, PeekPromiseCommandFits};
     ghost use Rattle.command_records.specs.ReadBackPeekPromiseCommand.{peek_promise_command_reads};

@@ -11,7 +11,6 @@ pub struct RunCommandMessage {
     pub name: ByteStr,
 }
 
-#[tactic(auto, using(protocol_wire::proofs::SoundAt::texts_sound))]
 impl Record for RunCommandMessage {
     ghost use Rattle.command_records.specs.RunCommand.{run_command_of, run_command_parts, RunCommandFits};
     ghost use Rattle.command_records.specs.ReadBackRunCommand.{run_command_reads};

@@ -12,7 +12,7 @@ use protocol_wire::table::notification::{
     VOID,
 };
 use protocol_wire::{
-    Record, RecordType, chosen_record_at, chosen_text_at, chosen_u32_at, put_present_text,
+    Record, RecordType, both, chosen_record_at, chosen_text_at, chosen_u32_at, put_present_text,
     put_present_u32, put_record,
 };
 use std::alloc::{AllocError, Global};
@@ -155,10 +155,11 @@ impl Record for NotificationMessage {
         payload: &[u8],
         levels: u32,
     ) -> Result<NotificationMessage, AllocError> {
-        Ok(NotificationMessage {
-            id: id_at(alloc, payload, levels)?,
-            result: result_at(alloc, payload, levels)?,
-        })
+        let (id, result) = both(
+            id_at(alloc, payload, levels),
+            result_at(alloc, payload, levels),
+        )?;
+        Ok(NotificationMessage { id, result })
     }
 
     fn spell(&self, alloc: Global, out: &mut Vec<u8>) -> Result<(), AllocError> {

@@ -4,7 +4,7 @@ use protocol_wire::table::error::{
     RELATED_COMMAND_TYPE,
 };
 use protocol_wire::{
-    Record, RecordType, optional_text_at, optional_u32_at, optional_u64_at, put_enum,
+    Record, RecordType, both, optional_text_at, optional_u32_at, optional_u64_at, put_enum,
     put_optional_text, put_optional_u32, put_optional_u64, put_text, put_u32, text_at, u32_at,
 };
 use std::alloc::{AllocError, Global};
@@ -25,7 +25,6 @@ pub struct ErrorMessage {
     pub behavior: u32,
 }
 
-#[tactic(auto, using(protocol_wire::proofs::SoundAt::texts_sound))]
 impl Record for ErrorMessage {
     ghost use Rattle.protocol_records.specs.Error.{error_of, error_parts, ErrorFits};
     ghost use Rattle.protocol_records.specs.ReadBackError.{error_reads};
@@ -44,11 +43,15 @@ impl Record for ErrorMessage {
     }
 
     fn select(alloc: Global, payload: &[u8], levels: u32) -> Result<ErrorMessage, AllocError> {
+        let (message, related_command_name) = both(
+            text_at(alloc, payload, MESSAGE),
+            optional_text_at(alloc, payload, RELATED_COMMAND_NAME),
+        )?;
         Ok(ErrorMessage {
             code: u32_at(payload, CODE),
-            message: text_at(alloc, payload, MESSAGE)?,
+            message,
             related_command_index: optional_u32_at(payload, RELATED_COMMAND_INDEX),
-            related_command_name: optional_text_at(alloc, payload, RELATED_COMMAND_NAME)?,
+            related_command_name,
             related_command_type: optional_u32_at(payload, RELATED_COMMAND_TYPE),
             next_retry_delay: optional_u64_at(payload, NEXT_RETRY_DELAY),
             behavior: u32_at(payload, BEHAVIOR),

@@ -10,7 +10,6 @@ pub struct Header {
     pub value: ByteStr,
 }
 
-#[tactic(auto, using(protocol_wire::proofs::SoundAt::texts_sound))]
 impl Record for Header {
     ghost use Rattle.protocol_records.specs.Header.{header_of, header_parts, HeaderFits};
     ghost use Rattle.protocol_records.specs.ReadBack.{header_reads};

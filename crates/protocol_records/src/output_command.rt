@@ -9,7 +9,7 @@ use crate::value::Value;
 use bytes::ByteStr;
 use protocol_wire::table::output_command::{FAILURE, NAME, VALUE};
 use protocol_wire::{
-    Record, RecordType, optional_record_at, put_record, put_text, run_at, text_at,
+    Record, RecordType, both, optional_record_at, put_record, put_text, run_at, text_at,
 };
 use std::alloc::{AllocError, Global};
 
@@ -55,7 +55,6 @@ fn result_at(
     }
 }
 
-#[tactic(auto, using(protocol_wire::proofs::SoundAt::texts_sound))]
 impl Record for OutputCommandMessage {
     ghost use Rattle.protocol_records.specs.OutputCommand.{output_command_of, output_command_parts, OutputCommandFits};
     ghost use Rattle.protocol_records.specs.ReadBackOutput.{output_command_reads};
@@ -77,10 +76,11 @@ impl Record for OutputCommandMessage {
         payload: &[u8],
         levels: u32,
     ) -> Result<OutputCommandMessage, AllocError> {
-        Ok(OutputCommandMessage {
-            name: text_at(alloc, payload, NAME)?,
-            result: result_at(alloc, payload, levels)?,
-        })
+        let (name, result) = both(
+            text_at(alloc, payload, NAME),
+            result_at(alloc, payload, levels),
+        )?;
+        Ok(OutputCommandMessage { name, result })
     }
 
     fn spell(&self, alloc: Global, out: &mut Vec<u8>) -> Result<(), AllocError> {

@@ -13,7 +13,6 @@ pub struct SleepCommandMessage {
     pub name: ByteStr,
 }
 
-#[tactic(auto, using(protocol_wire::proofs::SoundAt::texts_sound))]
 impl Record for SleepCommandMessage {
     ghost use Rattle.protocol_records.specs.SleepCommand.{sleep_command_of, sleep_command_parts, SleepCommandFits};
     ghost use Rattle.protocol_records.specs.ReadBack.{sleep_command_reads};

@@ -1,7 +1,7 @@
 use bytes::{ByteStr, Bytes};
 use protocol_wire::table::{start, state_entry};
 use protocol_wire::{
-    Record, RecordType, bool_at, bytes_at, optional_text_at, put_bool, put_bytes,
+    Record, RecordType, all_three, bool_at, bytes_at, optional_text_at, put_bool, put_bytes,
     put_optional_text, put_records, put_text, put_u32, put_u64, records_at, text_at, u32_at,
     u64_at,
 };
@@ -71,7 +71,6 @@ pub struct StartMessage {
     pub idempotency_key: Option<ByteStr>,
 }
 
-#[tactic(auto, using(protocol_wire::proofs::SoundAt::texts_sound))]
 impl Record for StartMessage {
     ghost use Rattle.protocol_records.specs.Start.{start_of, start_parts, StartFits};
     ghost use Rattle.protocol_records.specs.ReadBack.{start_reads};
@@ -90,13 +89,27 @@ impl Record for StartMessage {
     }
 
     fn select(alloc: Global, payload: &[u8], levels: u32) -> Result<StartMessage, AllocError> {
+        let names = all_three(
+            bytes_at(alloc, payload, start::ID),
+            text_at(alloc, payload, start::DEBUG_ID),
+            text_at(alloc, payload, start::KEY),
+        );
+        let options = all_three(
+            optional_text_at(alloc, payload, start::SCOPE),
+            optional_text_at(alloc, payload, start::LIMIT_KEY),
+            optional_text_at(alloc, payload, start::IDEMPOTENCY_KEY),
+        );
+        let state_map = records_at(alloc, payload, start::STATE_MAP, levels);
+        let ((id, debug_id, key), (scope, limit_key, idempotency_key), state_map) = all_three(
+            names, options, state_map,
+        )?;
         Ok(StartMessage {
-            id: bytes_at(alloc, payload, start::ID)?,
-            debug_id: text_at(alloc, payload, start::DEBUG_ID)?,
+            id,
+            debug_id,
             known_entries: u32_at(payload, start::KNOWN_ENTRIES),
-            state_map: records_at(alloc, payload, start::STATE_MAP, levels)?,
+            state_map,
             partial_state: bool_at(payload, start::PARTIAL_STATE),
-            key: text_at(alloc, payload, start::KEY)?,
+            key,
             retry_count_since_last_stored_entry: u32_at(
                 payload,
                 start::RETRY_COUNT_SINCE_LAST_STORED_ENTRY,
@@ -106,9 +119,9 @@ impl Record for StartMessage {
                 start::DURATION_SINCE_LAST_STORED_ENTRY,
             ),
             random_seed: u64_at(payload, start::RANDOM_SEED),
-            scope: optional_text_at(alloc, payload, start::SCOPE)?,
-            limit_key: optional_text_at(alloc, payload, start::LIMIT_KEY)?,
-            idempotency_key: optional_text_at(alloc, payload, start::IDEMPOTENCY_KEY)?,
+            scope,
+            limit_key,
+            idempotency_key,
         })
     }
 

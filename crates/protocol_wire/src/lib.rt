@@ -7,6 +7,7 @@
 mod check;
 mod chosen;
 mod field;
+mod gather;
 mod put;
 mod record;
 mod select;
@@ -15,6 +16,7 @@ mod varint;
 pub use check::{Fault, fault_of};
 pub use chosen::{chosen_bytes_at, chosen_record_at, chosen_text_at, chosen_u32_at};
 pub use field::{Fields, Scanned, ScannedField};
+pub use gather::{all_three, both};
 pub use protocol_table::table;
 pub use protocol_table::table::{FieldDescriptor, Kind, RecordType};
 pub use put::{
