@@ -5,8 +5,9 @@ use protocol_wire::table::call_command::{
     PARAMETER, RESULT_COMPLETION_ID, SCOPE, SERVICE_NAME,
 };
 use protocol_wire::{
-    Record, RecordType, all_three, bytes_at, optional_text_at, put_bytes, put_optional_text,
-    put_records, put_text, put_u32, records_at, text_at, u32_at,
+    Record, RecordType, all_three, bytes_at, len_bytes, len_optional_text, len_records, len_text,
+    len_u32, optional_text_at, put_bytes, put_optional_text, put_records, put_text, put_u32,
+    records_at, text_at, u32_at,
 };
 use sequence::Sequence;
 use std::alloc::{AllocError, Global};
@@ -104,6 +105,24 @@ impl Record for CallCommandMessage {
         put_u32(out, RESULT_COMPLETION_ID, self.result_completion_id)?;
         put_text(out, NAME, &self.name)?;
         Ok(())
+    }
+
+    fn payload_len(&self) -> u64 {
+        let len = len_text(0, SERVICE_NAME, &self.service_name);
+        let len = len_text(len, HANDLER_NAME, &self.handler_name);
+        let len = len_bytes(len, PARAMETER, &self.parameter);
+        let len = len_records(len, HEADERS, &self.headers);
+        let len = len_text(len, KEY, &self.key);
+        let len = len_optional_text(len, IDEMPOTENCY_KEY, &self.idempotency_key);
+        let len = len_optional_text(len, SCOPE, &self.scope);
+        let len = len_optional_text(len, LIMIT_KEY, &self.limit_key);
+        let len = len_u32(
+            len,
+            INVOCATION_ID_NOTIFICATION_IDX,
+            self.invocation_id_notification_idx,
+        );
+        let len = len_u32(len, RESULT_COMPLETION_ID, self.result_completion_id);
+        len_text(len, NAME, &self.name)
     }
 
     ghost reads = { call_command_reads };

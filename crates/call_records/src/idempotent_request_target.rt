@@ -3,7 +3,8 @@ use protocol_wire::table::idempotent_request_target::{
     HANDLER_NAME, IDEMPOTENCY_KEY, SCOPE, SERVICE_KEY, SERVICE_NAME,
 };
 use protocol_wire::{
-    Record, RecordType, all_three, both, optional_text_at, put_optional_text, put_text, text_at,
+    Record, RecordType, all_three, both, len_optional_text, len_text, optional_text_at,
+    put_optional_text, put_text, text_at,
 };
 use std::alloc::{AllocError, Global};
 
@@ -67,6 +68,14 @@ impl Record for IdempotentRequestTarget {
         put_text(out, IDEMPOTENCY_KEY, &self.idempotency_key)?;
         put_optional_text(out, SCOPE, &self.scope)?;
         Ok(())
+    }
+
+    fn payload_len(&self) -> u64 {
+        let len = len_text(0, SERVICE_NAME, &self.service_name);
+        let len = len_optional_text(len, SERVICE_KEY, &self.service_key);
+        let len = len_text(len, HANDLER_NAME, &self.handler_name);
+        let len = len_text(len, IDEMPOTENCY_KEY, &self.idempotency_key);
+        len_optional_text(len, SCOPE, &self.scope)
     }
 
     ghost reads = { idempotent_request_target_reads };

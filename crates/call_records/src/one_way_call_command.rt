@@ -5,8 +5,9 @@ use protocol_wire::table::one_way_call_command::{
     LIMIT_KEY, NAME, PARAMETER, SCOPE, SERVICE_NAME,
 };
 use protocol_wire::{
-    Record, RecordType, all_three, bytes_at, optional_text_at, put_bytes, put_optional_text,
-    put_records, put_text, put_u32, put_u64, records_at, text_at, u32_at, u64_at,
+    Record, RecordType, all_three, bytes_at, len_bytes, len_optional_text, len_records, len_text,
+    len_u32, len_u64, optional_text_at, put_bytes, put_optional_text, put_records, put_text,
+    put_u32, put_u64, records_at, text_at, u32_at, u64_at,
 };
 use sequence::Sequence;
 use std::alloc::{AllocError, Global};
@@ -104,6 +105,24 @@ impl Record for OneWayCallCommandMessage {
         )?;
         put_text(out, NAME, &self.name)?;
         Ok(())
+    }
+
+    fn payload_len(&self) -> u64 {
+        let len = len_text(0, SERVICE_NAME, &self.service_name);
+        let len = len_text(len, HANDLER_NAME, &self.handler_name);
+        let len = len_bytes(len, PARAMETER, &self.parameter);
+        let len = len_records(len, HEADERS, &self.headers);
+        let len = len_text(len, KEY, &self.key);
+        let len = len_optional_text(len, IDEMPOTENCY_KEY, &self.idempotency_key);
+        let len = len_optional_text(len, SCOPE, &self.scope);
+        let len = len_optional_text(len, LIMIT_KEY, &self.limit_key);
+        let len = len_u64(len, INVOKE_TIME, self.invoke_time);
+        let len = len_u32(
+            len,
+            INVOCATION_ID_NOTIFICATION_IDX,
+            self.invocation_id_notification_idx,
+        );
+        len_text(len, NAME, &self.name)
     }
 
     ghost reads = { one_way_call_command_reads };

@@ -2,6 +2,7 @@ ghost use Rattle.std.specs.Prelude.{◌≡◌, ◌++◌, None, IfOk, OnOk};
 ghost use Rattle.protocol_wire.specs.Fields.{fields};
 ghost use Rattle.protocol_wire.specs.Check.{payload_fault};
 ghost use Rattle.protocol_wire.specs.Parts.{payload_of};
+ghost use Rattle.protocol_wire.specs.Lengths.{counted};
 ghost use Rattle.protocol_table.specs.declared.table.RecordType.TheVariants.{SendSignalCommand as send_signal_command_type};
 ghost use Rattle.call_records.specs.SendSignalCommand.{send_signal_command_signal_id_of, signal_id_parts, send_signal_command_result_of, result_parts};
 
@@ -12,7 +13,8 @@ use protocol_wire::table::send_signal_command::{
 };
 use protocol_wire::{
     Record, RecordType, all_three, both, chosen_record_at, chosen_text_at, chosen_u32_at,
-    put_present_text, put_present_u32, put_record, put_text, text_at,
+    len_present_text, len_present_u32, len_record, len_text, put_present_text, put_present_u32,
+    put_record, put_text, text_at,
 };
 use std::alloc::{AllocError, Global};
 
@@ -70,6 +72,16 @@ fn put_signal_id(
     }
 }
 
+fn len_signal_id(before: u64, one: &Option<SendSignalCommandSignalId>) -> u64
+    ensures { result ≡ counted before (payload_of (signal_id_parts one.now)) }
+{
+    match one {
+        None => before,
+        Some(SendSignalCommandSignalId::Idx(idx)) => len_present_u32(before, IDX, *idx),
+        Some(SendSignalCommandSignalId::Name(name)) => len_present_text(before, NAME, name),
+    }
+}
+
 fn result_at(
     alloc: Global,
     payload: &[u8],
@@ -102,6 +114,17 @@ fn put_result(
         Some(SendSignalCommandResult::Void(void)) => put_record(alloc, out, VOID, void),
         Some(SendSignalCommandResult::Value(value)) => put_record(alloc, out, VALUE, value),
         Some(SendSignalCommandResult::Failure(failure)) => put_record(alloc, out, FAILURE, failure),
+    }
+}
+
+fn len_result(before: u64, one: &Option<SendSignalCommandResult>) -> u64
+    ensures { result ≡ counted before (payload_of (result_parts one.now)) }
+{
+    match one {
+        None => before,
+        Some(SendSignalCommandResult::Void(void)) => len_record(before, VOID, void),
+        Some(SendSignalCommandResult::Value(value)) => len_record(before, VALUE, value),
+        Some(SendSignalCommandResult::Failure(failure)) => len_record(before, FAILURE, failure),
     }
 }
 
@@ -149,6 +172,13 @@ impl Record for SendSignalCommandMessage {
         put_result(alloc, out, &self.result)?;
         put_text(out, ENTRY_NAME, &self.entry_name)?;
         Ok(())
+    }
+
+    fn payload_len(&self) -> u64 {
+        let len = len_text(0, TARGET_INVOCATION_ID, &self.target_invocation_id);
+        let len = len_signal_id(len, &self.signal_id);
+        let len = len_result(len, &self.result);
+        len_text(len, ENTRY_NAME, &self.entry_name)
     }
 
     ghost reads = { send_signal_command_reads };

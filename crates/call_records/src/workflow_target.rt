@@ -1,7 +1,8 @@
 use bytes::ByteStr;
 use protocol_wire::table::workflow_target::{SCOPE, WORKFLOW_KEY, WORKFLOW_NAME};
 use protocol_wire::{
-    Record, RecordType, all_three, optional_text_at, put_optional_text, put_text, text_at,
+    Record, RecordType, all_three, len_optional_text, len_text, optional_text_at,
+    put_optional_text, put_text, text_at,
 };
 use std::alloc::{AllocError, Global};
 
@@ -48,6 +49,12 @@ impl Record for WorkflowTarget {
         put_text(out, WORKFLOW_KEY, &self.workflow_key)?;
         put_optional_text(out, SCOPE, &self.scope)?;
         Ok(())
+    }
+
+    fn payload_len(&self) -> u64 {
+        let len = len_text(0, WORKFLOW_NAME, &self.workflow_name);
+        let len = len_text(len, WORKFLOW_KEY, &self.workflow_key);
+        len_optional_text(len, SCOPE, &self.scope)
     }
 
     ghost reads = { workflow_target_reads };

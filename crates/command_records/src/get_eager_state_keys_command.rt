@@ -2,7 +2,8 @@ use bytes::ByteStr;
 use protocol_records::StateKeys;
 use protocol_wire::table::get_eager_state_keys_command::{NAME, VALUE};
 use protocol_wire::{
-    Record, RecordType, both, optional_record_at, put_optional_record, put_text, text_at,
+    Record, RecordType, both, len_optional_record, len_text, optional_record_at,
+    put_optional_record, put_text, text_at,
 };
 use std::alloc::{AllocError, Global};
 
@@ -46,6 +47,11 @@ impl Record for GetEagerStateKeysCommandMessage {
         put_text(out, NAME, &self.name)?;
         put_optional_record(alloc, out, VALUE, &self.value)?;
         Ok(())
+    }
+
+    fn payload_len(&self) -> u64 {
+        let len = len_text(0, NAME, &self.name);
+        len_optional_record(len, VALUE, &self.value)
     }
 
     ghost reads = { get_eager_state_keys_command_reads };

@@ -1,6 +1,6 @@
 use bytes::ByteStr;
 use protocol_wire::table::get_lazy_state_keys_command::{NAME, RESULT_COMPLETION_ID};
-use protocol_wire::{Record, RecordType, put_text, put_u32, text_at, u32_at};
+use protocol_wire::{Record, RecordType, len_text, len_u32, put_text, put_u32, text_at, u32_at};
 use std::alloc::{AllocError, Global};
 
 /// The command that lists the keys of the object's state, answered by a notification.
@@ -43,6 +43,11 @@ impl Record for GetLazyStateKeysCommandMessage {
         put_u32(out, RESULT_COMPLETION_ID, self.result_completion_id)?;
         put_text(out, NAME, &self.name)?;
         Ok(())
+    }
+
+    fn payload_len(&self) -> u64 {
+        let len = len_u32(0, RESULT_COMPLETION_ID, self.result_completion_id);
+        len_text(len, NAME, &self.name)
     }
 
     ghost reads = { get_lazy_state_keys_command_reads };

@@ -2,8 +2,8 @@ use bytes::{ByteStr, Bytes};
 use protocol_records::Value;
 use protocol_wire::table::set_state_command::{KEY, NAME, VALUE};
 use protocol_wire::{
-    Record, RecordType, all_three, bytes_at, optional_record_at, put_bytes, put_optional_record,
-    put_text, text_at,
+    Record, RecordType, all_three, bytes_at, len_bytes, len_optional_record, len_text,
+    optional_record_at, put_bytes, put_optional_record, put_text, text_at,
 };
 use std::alloc::{AllocError, Global};
 
@@ -50,6 +50,12 @@ impl Record for SetStateCommandMessage {
         put_optional_record(alloc, out, VALUE, &self.value)?;
         put_text(out, NAME, &self.name)?;
         Ok(())
+    }
+
+    fn payload_len(&self) -> u64 {
+        let len = len_bytes(0, KEY, &self.key);
+        let len = len_optional_record(len, VALUE, &self.value);
+        len_text(len, NAME, &self.name)
     }
 
     ghost reads = { set_state_command_reads };

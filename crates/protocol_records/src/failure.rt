@@ -1,7 +1,8 @@
 use bytes::ByteStr;
 use protocol_wire::table::{failure, failure_metadata};
 use protocol_wire::{
-    Record, RecordType, both, put_records, put_text, put_u32, records_at, text_at, u32_at,
+    Record, RecordType, both, len_records, len_text, len_u32, put_records, put_text, put_u32,
+    records_at, text_at, u32_at,
 };
 use sequence::Sequence;
 use std::alloc::{AllocError, Global};
@@ -41,6 +42,11 @@ impl Record for FailureMetadata {
         put_text(out, failure_metadata::KEY, &self.key)?;
         put_text(out, failure_metadata::VALUE, &self.value)?;
         Ok(())
+    }
+
+    fn payload_len(&self) -> u64 {
+        let len = len_text(0, failure_metadata::KEY, &self.key);
+        len_text(len, failure_metadata::VALUE, &self.value)
     }
 
     ghost reads = { failure_metadata_reads };
@@ -88,6 +94,12 @@ impl Record for Failure {
         put_text(out, failure::MESSAGE, &self.message)?;
         put_records(alloc, out, failure::METADATA, &self.metadata)?;
         Ok(())
+    }
+
+    fn payload_len(&self) -> u64 {
+        let len = len_u32(0, failure::CODE, self.code);
+        let len = len_text(len, failure::MESSAGE, &self.message);
+        len_records(len, failure::METADATA, &self.metadata)
     }
 
     ghost reads = { failure_reads };

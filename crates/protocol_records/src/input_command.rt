@@ -3,8 +3,8 @@ use crate::value::Value;
 use bytes::ByteStr;
 use protocol_wire::table::input_command::{HEADERS, NAME, VALUE};
 use protocol_wire::{
-    Record, RecordType, all_three, optional_record_at, put_optional_record, put_records, put_text,
-    records_at, text_at,
+    Record, RecordType, all_three, len_optional_record, len_records, len_text, optional_record_at,
+    put_optional_record, put_records, put_text, records_at, text_at,
 };
 use sequence::Sequence;
 use std::alloc::{AllocError, Global};
@@ -56,6 +56,12 @@ impl Record for InputCommandMessage {
         put_text(out, NAME, &self.name)?;
         put_optional_record(alloc, out, VALUE, &self.value)?;
         Ok(())
+    }
+
+    fn payload_len(&self) -> u64 {
+        let len = len_records(0, HEADERS, &self.headers);
+        let len = len_text(len, NAME, &self.name);
+        len_optional_record(len, VALUE, &self.value)
     }
 
     ghost reads = { input_command_reads };

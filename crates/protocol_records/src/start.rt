@@ -1,7 +1,8 @@
 use bytes::{ByteStr, Bytes};
 use protocol_wire::table::{start, state_entry};
 use protocol_wire::{
-    Record, RecordType, all_three, bool_at, bytes_at, optional_text_at, put_bool, put_bytes,
+    Record, RecordType, all_three, bool_at, bytes_at, len_bool, len_bytes, len_optional_text,
+    len_records, len_text, len_u32, len_u64, optional_text_at, put_bool, put_bytes,
     put_optional_text, put_records, put_text, put_u32, put_u64, records_at, text_at, u32_at,
     u64_at,
 };
@@ -43,6 +44,11 @@ impl Record for StateEntry {
         put_bytes(out, state_entry::KEY, &self.key)?;
         put_bytes(out, state_entry::VALUE, &self.value)?;
         Ok(())
+    }
+
+    fn payload_len(&self) -> u64 {
+        let len = len_bytes(0, state_entry::KEY, &self.key);
+        len_bytes(len, state_entry::VALUE, &self.value)
     }
 
     ghost reads = { state_entry_reads };
@@ -147,6 +153,29 @@ impl Record for StartMessage {
         put_optional_text(out, start::LIMIT_KEY, &self.limit_key)?;
         put_optional_text(out, start::IDEMPOTENCY_KEY, &self.idempotency_key)?;
         Ok(())
+    }
+
+    fn payload_len(&self) -> u64 {
+        let len = len_bytes(0, start::ID, &self.id);
+        let len = len_text(len, start::DEBUG_ID, &self.debug_id);
+        let len = len_u32(len, start::KNOWN_ENTRIES, self.known_entries);
+        let len = len_records(len, start::STATE_MAP, &self.state_map);
+        let len = len_bool(len, start::PARTIAL_STATE, self.partial_state);
+        let len = len_text(len, start::KEY, &self.key);
+        let len = len_u32(
+            len,
+            start::RETRY_COUNT_SINCE_LAST_STORED_ENTRY,
+            self.retry_count_since_last_stored_entry,
+        );
+        let len = len_u64(
+            len,
+            start::DURATION_SINCE_LAST_STORED_ENTRY,
+            self.duration_since_last_stored_entry,
+        );
+        let len = len_u64(len, start::RANDOM_SEED, self.random_seed);
+        let len = len_optional_text(len, start::SCOPE, &self.scope);
+        let len = len_optional_text(len, start::LIMIT_KEY, &self.limit_key);
+        len_optional_text(len, start::IDEMPOTENCY_KEY, &self.idempotency_key)
     }
 
     ghost reads = { start_reads };

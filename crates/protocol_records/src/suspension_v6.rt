@@ -2,7 +2,10 @@ use bytes::ByteStr;
 use protocol_wire::table::suspension_v6::{
     WAITING_COMPLETIONS, WAITING_NAMED_SIGNALS, WAITING_SIGNALS,
 };
-use protocol_wire::{Record, RecordType, all_three, numbers_at, put_numbers, put_texts, texts_at};
+use protocol_wire::{
+    Record, RecordType, all_three, len_numbers, len_texts, numbers_at, put_numbers, put_texts,
+    texts_at,
+};
 use sequence::Sequence;
 use std::alloc::{AllocError, Global};
 
@@ -56,6 +59,12 @@ impl Record for SuspensionMessageV6 {
         put_numbers(alloc, out, WAITING_SIGNALS, &self.waiting_signals)?;
         put_texts(out, WAITING_NAMED_SIGNALS, &self.waiting_named_signals)?;
         Ok(())
+    }
+
+    fn payload_len(&self) -> u64 {
+        let len = len_numbers(0, WAITING_COMPLETIONS, &self.waiting_completions);
+        let len = len_numbers(len, WAITING_SIGNALS, &self.waiting_signals);
+        len_texts(len, WAITING_NAMED_SIGNALS, &self.waiting_named_signals)
     }
 
     ghost reads = { suspension_v6_reads };

@@ -10,12 +10,14 @@ use command_records::{
     GetLazyStateKeysCommandMessage, GetPromiseCommandMessage, PeekPromiseCommandMessage,
     RunCommandMessage, SetStateCommandMessage,
 };
+use control_records::{
+    ErrorMessage, GetStateEphemeralCommandMessage, GetStateEphemeralNotificationMessage,
+    ProposeRunCompletionAckMessage, ProposeRunCompletionMessage,
+};
 use notification_records::NotificationMessage;
 use protocol_records::{
-    AwaitingOnMessage, EndMessage, ErrorMessage, Failure, FailureMetadata, Future,
-    GetStateEphemeralCommandMessage, GetStateEphemeralNotificationMessage, Header,
-    InputCommandMessage, OutputCommandMessage, ProposeRunCompletionAckMessage,
-    ProposeRunCompletionMessage, SleepCommandMessage, StartMessage, StateEntry, StateKeys,
+    AwaitingOnMessage, EndMessage, Failure, FailureMetadata, Future, Header, InputCommandMessage,
+    OutputCommandMessage, SleepCommandMessage, StartMessage, StateEntry, StateKeys,
     SuspensionMessage, SuspensionMessageV6, Value, Void,
 };
 use protocol_wire::{Record, RecordType, decode, encode};
