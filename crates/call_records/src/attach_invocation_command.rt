@@ -2,6 +2,7 @@ ghost use Rattle.std.specs.Prelude.{◌≡◌, ◌++◌, None, IfOk, OnOk};
 ghost use Rattle.protocol_wire.specs.Fields.{fields};
 ghost use Rattle.protocol_wire.specs.Check.{payload_fault};
 ghost use Rattle.protocol_wire.specs.Parts.{payload_of};
+ghost use Rattle.protocol_wire.specs.Lengths.{counted};
 ghost use Rattle.protocol_table.specs.declared.table.RecordType.TheVariants.{AttachInvocationCommand as attach_invocation_command_type};
 ghost use Rattle.call_records.specs.AttachInvocationCommand.{attach_invocation_command_target_of, target_parts};
 
@@ -12,8 +13,8 @@ use protocol_wire::table::attach_invocation_command::{
     IDEMPOTENT_REQUEST_TARGET, INVOCATION_ID, NAME, RESULT_COMPLETION_ID, TARGET, WORKFLOW_TARGET,
 };
 use protocol_wire::{
-    Record, RecordType, chosen_record_at, chosen_text_at, put_present_text, put_record, put_text,
-    put_u32, text_at, u32_at,
+    Record, RecordType, both, chosen_record_at, chosen_text_at, len_present_text, len_record,
+    len_text, len_u32, put_present_text, put_record, put_text, put_u32, text_at, u32_at,
 };
 use std::alloc::{AllocError, Global};
 
@@ -98,7 +99,26 @@ fn put_target(
     }
 }
 
-#[tactic(auto, using(protocol_wire::proofs::SoundAt::texts_sound))]
+fn len_target(before: u64, one: &Option<AttachInvocationCommandTarget>) -> u64
+    ensures { result ≡ counted before (payload_of (target_parts one.now)) }
+{
+    match one {
+        None => before,
+        Some(AttachInvocationCommandTarget::InvocationId(invocation_id)) => len_present_text(
+            before,
+            INVOCATION_ID,
+            invocation_id,
+        ),
+        Some(AttachInvocationCommandTarget::WorkflowTarget(workflow_target)) => len_record(
+            before,
+            WORKFLOW_TARGET,
+            workflow_target,
+        ),
+        Some(AttachInvocationCommandTarget::IdempotentRequestTarget(idempotent_request_target)) =>
+            len_record(before, IDEMPOTENT_REQUEST_TARGET, idempotent_request_target),
+    }
+}
+
 impl Record for AttachInvocationCommandMessage {
     ghost use Rattle.call_records.specs.AttachInvocationCommand.{attach_invocation_command_of, attach_invocation_command_parts, AttachInvocationCommandFits};
     ghost use Rattle.call_records.specs.ReadBackAttachInvocationCommand.{attach_invocation_command_reads};
@@ -120,10 +140,14 @@ impl Record for AttachInvocationCommandMessage {
         payload: &[u8],
         levels: u32,
     ) -> Result<AttachInvocationCommandMessage, AllocError> {
+        let (target, name) = both(
+            target_at(alloc, payload, levels),
+            text_at(alloc, payload, NAME),
+        )?;
         Ok(AttachInvocationCommandMessage {
-            target: target_at(alloc, payload, levels)?,
+            target,
             result_completion_id: u32_at(payload, RESULT_COMPLETION_ID),
-            name: text_at(alloc, payload, NAME)?,
+            name,
         })
     }
 
@@ -132,6 +156,12 @@ impl Record for AttachInvocationCommandMessage {
         put_u32(out, RESULT_COMPLETION_ID, self.result_completion_id)?;
         put_text(out, NAME, &self.name)?;
         Ok(())
+    }
+
+    fn payload_len(&self) -> u64 {
+        let len = len_target(0, &self.target);
+        let len = len_u32(len, RESULT_COMPLETION_ID, self.result_completion_id);
+        len_text(len, NAME, &self.name)
     }
 
     ghost reads = { attach_invocation_command_reads };

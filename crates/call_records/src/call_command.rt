@@ -5,8 +5,9 @@ use protocol_wire::table::call_command::{
     PARAMETER, RESULT_COMPLETION_ID, SCOPE, SERVICE_NAME,
 };
 use protocol_wire::{
-    Record, RecordType, bytes_at, optional_text_at, put_bytes, put_optional_text, put_records,
-    put_text, put_u32, records_at, text_at, u32_at,
+    Record, RecordType, all_three, bytes_at, len_bytes, len_optional_text, len_records, len_text,
+    len_u32, optional_text_at, put_bytes, put_optional_text, put_records, put_text, put_u32,
+    records_at, text_at, u32_at,
 };
 use sequence::Sequence;
 use std::alloc::{AllocError, Global};
@@ -30,7 +31,6 @@ pub struct CallCommandMessage {
     pub name: ByteStr,
 }
 
-#[tactic(auto, using(protocol_wire::proofs::SoundAt::texts_sound))]
 impl Record for CallCommandMessage {
     ghost use Rattle.call_records.specs.CallCommand.{call_command_of, call_command_parts, CallCommandFits};
     ghost use Rattle.call_records.specs.ReadBackCallCommand.{call_command_reads};
@@ -53,18 +53,38 @@ impl Record for CallCommandMessage {
         payload: &[u8],
         levels: u32,
     ) -> Result<CallCommandMessage, AllocError> {
+        let names = all_three(
+            text_at(alloc, payload, SERVICE_NAME),
+            text_at(alloc, payload, HANDLER_NAME),
+            text_at(alloc, payload, KEY),
+        );
+        let contents = all_three(
+            bytes_at(alloc, payload, PARAMETER),
+            records_at(alloc, payload, HEADERS, levels),
+            text_at(alloc, payload, NAME),
+        );
+        let options = all_three(
+            optional_text_at(alloc, payload, IDEMPOTENCY_KEY),
+            optional_text_at(alloc, payload, SCOPE),
+            optional_text_at(alloc, payload, LIMIT_KEY),
+        );
+        let (
+            (service_name, handler_name, key),
+            (parameter, headers, name),
+            (idempotency_key, scope, limit_key),
+        ) = all_three(names, contents, options)?;
         Ok(CallCommandMessage {
-            service_name: text_at(alloc, payload, SERVICE_NAME)?,
-            handler_name: text_at(alloc, payload, HANDLER_NAME)?,
-            parameter: bytes_at(alloc, payload, PARAMETER)?,
-            headers: records_at(alloc, payload, HEADERS, levels)?,
-            key: text_at(alloc, payload, KEY)?,
-            idempotency_key: optional_text_at(alloc, payload, IDEMPOTENCY_KEY)?,
-            scope: optional_text_at(alloc, payload, SCOPE)?,
-            limit_key: optional_text_at(alloc, payload, LIMIT_KEY)?,
+            service_name,
+            handler_name,
+            parameter,
+            headers,
+            key,
+            idempotency_key,
+            scope,
+            limit_key,
             invocation_id_notification_idx: u32_at(payload, INVOCATION_ID_NOTIFICATION_IDX),
             result_completion_id: u32_at(payload, RESULT_COMPLETION_ID),
-            name: text_at(alloc, payload, NAME)?,
+            name,
         })
     }
 
@@ -85,6 +105,24 @@ impl Record for CallCommandMessage {
         put_u32(out, RESULT_COMPLETION_ID, self.result_completion_id)?;
         put_text(out, NAME, &self.name)?;
         Ok(())
+    }
+
+    fn payload_len(&self) -> u64 {
+        let len = len_text(0, SERVICE_NAME, &self.service_name);
+        let len = len_text(len, HANDLER_NAME, &self.handler_name);
+        let len = len_bytes(len, PARAMETER, &self.parameter);
+        let len = len_records(len, HEADERS, &self.headers);
+        let len = len_text(len, KEY, &self.key);
+        let len = len_optional_text(len, IDEMPOTENCY_KEY, &self.idempotency_key);
+        let len = len_optional_text(len, SCOPE, &self.scope);
+        let len = len_optional_text(len, LIMIT_KEY, &self.limit_key);
+        let len = len_u32(
+            len,
+            INVOCATION_ID_NOTIFICATION_IDX,
+            self.invocation_id_notification_idx,
+        );
+        let len = len_u32(len, RESULT_COMPLETION_ID, self.result_completion_id);
+        len_text(len, NAME, &self.name)
     }
 
     ghost reads = { call_command_reads };

@@ -2,6 +2,7 @@ ghost use Rattle.std.specs.Prelude.{◌≡◌, ◌++◌, None, IfOk, OnOk};
 ghost use Rattle.protocol_wire.specs.Fields.{fields};
 ghost use Rattle.protocol_wire.specs.Check.{payload_fault};
 ghost use Rattle.protocol_wire.specs.Parts.{payload_of};
+ghost use Rattle.protocol_wire.specs.Lengths.{counted};
 ghost use Rattle.protocol_table.specs.declared.table.RecordType.TheVariants.{CompleteAwakeableCommand as complete_awakeable_command_type};
 ghost use Rattle.call_records.specs.CompleteAwakeableCommand.{complete_awakeable_command_result_of, result_parts};
 
@@ -10,7 +11,10 @@ use protocol_records::{Failure, Value};
 use protocol_wire::table::complete_awakeable_command::{
     AWAKEABLE_ID, FAILURE, NAME, RESULT, VALUE,
 };
-use protocol_wire::{Record, RecordType, chosen_record_at, put_record, put_text, text_at};
+use protocol_wire::{
+    Record, RecordType, all_three, chosen_record_at, len_record, len_text, put_record, put_text,
+    text_at,
+};
 use std::alloc::{AllocError, Global};
 
 /// What an awakeable is completed with.
@@ -61,7 +65,18 @@ fn put_result(
     }
 }
 
-#[tactic(auto, using(protocol_wire::proofs::SoundAt::texts_sound))]
+fn len_result(before: u64, one: &Option<CompleteAwakeableCommandResult>) -> u64
+    ensures { result ≡ counted before (payload_of (result_parts one.now)) }
+{
+    match one {
+        None => before,
+        Some(CompleteAwakeableCommandResult::Value(value)) => len_record(before, VALUE, value),
+        Some(CompleteAwakeableCommandResult::Failure(failure)) => len_record(
+            before, FAILURE, failure,
+        ),
+    }
+}
+
 impl Record for CompleteAwakeableCommandMessage {
     ghost use Rattle.call_records.specs.CompleteAwakeableCommand.{complete_awakeable_command_of, complete_awakeable_command_parts, CompleteAwakeableCommandFits};
     ghost use Rattle.call_records.specs.ReadBackCompleteAwakeableCommand.{complete_awakeable_command_reads};
@@ -83,10 +98,15 @@ impl Record for CompleteAwakeableCommandMessage {
         payload: &[u8],
         levels: u32,
     ) -> Result<CompleteAwakeableCommandMessage, AllocError> {
+        let (awakeable_id, result, name) = all_three(
+            text_at(alloc, payload, AWAKEABLE_ID),
+            result_at(alloc, payload, levels),
+            text_at(alloc, payload, NAME),
+        )?;
         Ok(CompleteAwakeableCommandMessage {
-            awakeable_id: text_at(alloc, payload, AWAKEABLE_ID)?,
-            result: result_at(alloc, payload, levels)?,
-            name: text_at(alloc, payload, NAME)?,
+            awakeable_id,
+            result,
+            name,
         })
     }
 
@@ -95,6 +115,12 @@ impl Record for CompleteAwakeableCommandMessage {
         put_result(alloc, out, &self.result)?;
         put_text(out, NAME, &self.name)?;
         Ok(())
+    }
+
+    fn payload_len(&self) -> u64 {
+        let len = len_text(0, AWAKEABLE_ID, &self.awakeable_id);
+        let len = len_result(len, &self.result);
+        len_text(len, NAME, &self.name)
     }
 
     ghost reads = { complete_awakeable_command_reads };

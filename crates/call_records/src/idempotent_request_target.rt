@@ -2,7 +2,10 @@ use bytes::ByteStr;
 use protocol_wire::table::idempotent_request_target::{
     HANDLER_NAME, IDEMPOTENCY_KEY, SCOPE, SERVICE_KEY, SERVICE_NAME,
 };
-use protocol_wire::{Record, RecordType, optional_text_at, put_optional_text, put_text, text_at};
+use protocol_wire::{
+    Record, RecordType, all_three, both, len_optional_text, len_text, optional_text_at,
+    put_optional_text, put_text, text_at,
+};
 use std::alloc::{AllocError, Global};
 
 /// The invocation of a call with an idempotency key.
@@ -15,7 +18,6 @@ pub struct IdempotentRequestTarget {
     pub scope: Option<ByteStr>,
 }
 
-#[tactic(auto, using(protocol_wire::proofs::SoundAt::texts_sound))]
 impl Record for IdempotentRequestTarget {
     ghost use Rattle.call_records.specs.IdempotentRequestTarget.{idempotent_request_target_of, idempotent_request_target_parts, IdempotentRequestTargetFits};
     ghost use Rattle.call_records.specs.ReadBackIdempotentRequestTarget.{idempotent_request_target_reads};
@@ -38,12 +40,24 @@ impl Record for IdempotentRequestTarget {
         payload: &[u8],
         levels: u32,
     ) -> Result<IdempotentRequestTarget, AllocError> {
+        let names = all_three(
+            text_at(alloc, payload, SERVICE_NAME),
+            text_at(alloc, payload, HANDLER_NAME),
+            text_at(alloc, payload, IDEMPOTENCY_KEY),
+        );
+        let options = both(
+            optional_text_at(alloc, payload, SERVICE_KEY),
+            optional_text_at(alloc, payload, SCOPE),
+        );
+        let ((service_name, handler_name, idempotency_key), (service_key, scope)) = both(
+            names, options,
+        )?;
         Ok(IdempotentRequestTarget {
-            service_name: text_at(alloc, payload, SERVICE_NAME)?,
-            service_key: optional_text_at(alloc, payload, SERVICE_KEY)?,
-            handler_name: text_at(alloc, payload, HANDLER_NAME)?,
-            idempotency_key: text_at(alloc, payload, IDEMPOTENCY_KEY)?,
-            scope: optional_text_at(alloc, payload, SCOPE)?,
+            service_name,
+            service_key,
+            handler_name,
+            idempotency_key,
+            scope,
         })
     }
 
@@ -54,6 +68,14 @@ impl Record for IdempotentRequestTarget {
         put_text(out, IDEMPOTENCY_KEY, &self.idempotency_key)?;
         put_optional_text(out, SCOPE, &self.scope)?;
         Ok(())
+    }
+
+    fn payload_len(&self) -> u64 {
+        let len = len_text(0, SERVICE_NAME, &self.service_name);
+        let len = len_optional_text(len, SERVICE_KEY, &self.service_key);
+        let len = len_text(len, HANDLER_NAME, &self.handler_name);
+        let len = len_text(len, IDEMPOTENCY_KEY, &self.idempotency_key);
+        len_optional_text(len, SCOPE, &self.scope)
     }
 
     ghost reads = { idempotent_request_target_reads };

@@ -2,6 +2,7 @@ ghost use Rattle.std.specs.Prelude.{◌≡◌, ◌++◌, None, IfOk, OnOk};
 ghost use Rattle.protocol_wire.specs.Fields.{fields};
 ghost use Rattle.protocol_wire.specs.Check.{payload_fault};
 ghost use Rattle.protocol_wire.specs.Parts.{payload_of};
+ghost use Rattle.protocol_wire.specs.Lengths.{counted};
 ghost use Rattle.protocol_table.specs.declared.table.RecordType.TheVariants.{SendSignalCommand as send_signal_command_type};
 ghost use Rattle.call_records.specs.SendSignalCommand.{send_signal_command_signal_id_of, signal_id_parts, send_signal_command_result_of, result_parts};
 
@@ -11,8 +12,9 @@ use protocol_wire::table::send_signal_command::{
     ENTRY_NAME, FAILURE, IDX, NAME, RESULT, SIGNAL_ID, TARGET_INVOCATION_ID, VALUE, VOID,
 };
 use protocol_wire::{
-    Record, RecordType, chosen_record_at, chosen_text_at, chosen_u32_at, put_present_text,
-    put_present_u32, put_record, put_text, text_at,
+    Record, RecordType, all_three, both, chosen_record_at, chosen_text_at, chosen_u32_at,
+    len_present_text, len_present_u32, len_record, len_text, put_present_text, put_present_u32,
+    put_record, put_text, text_at,
 };
 use std::alloc::{AllocError, Global};
 
@@ -70,6 +72,16 @@ fn put_signal_id(
     }
 }
 
+fn len_signal_id(before: u64, one: &Option<SendSignalCommandSignalId>) -> u64
+    ensures { result ≡ counted before (payload_of (signal_id_parts one.now)) }
+{
+    match one {
+        None => before,
+        Some(SendSignalCommandSignalId::Idx(idx)) => len_present_u32(before, IDX, *idx),
+        Some(SendSignalCommandSignalId::Name(name)) => len_present_text(before, NAME, name),
+    }
+}
+
 fn result_at(
     alloc: Global,
     payload: &[u8],
@@ -105,7 +117,17 @@ fn put_result(
     }
 }
 
-#[tactic(auto, using(protocol_wire::proofs::SoundAt::texts_sound))]
+fn len_result(before: u64, one: &Option<SendSignalCommandResult>) -> u64
+    ensures { result ≡ counted before (payload_of (result_parts one.now)) }
+{
+    match one {
+        None => before,
+        Some(SendSignalCommandResult::Void(void)) => len_record(before, VOID, void),
+        Some(SendSignalCommandResult::Value(value)) => len_record(before, VALUE, value),
+        Some(SendSignalCommandResult::Failure(failure)) => len_record(before, FAILURE, failure),
+    }
+}
+
 impl Record for SendSignalCommandMessage {
     ghost use Rattle.call_records.specs.SendSignalCommand.{send_signal_command_of, send_signal_command_parts, SendSignalCommandFits};
     ghost use Rattle.call_records.specs.ReadBackSendSignalCommand.{send_signal_command_reads};
@@ -127,11 +149,20 @@ impl Record for SendSignalCommandMessage {
         payload: &[u8],
         levels: u32,
     ) -> Result<SendSignalCommandMessage, AllocError> {
+        let names = both(
+            text_at(alloc, payload, TARGET_INVOCATION_ID),
+            text_at(alloc, payload, ENTRY_NAME),
+        );
+        let signal_id = signal_id_at(alloc, payload, levels);
+        let result = result_at(alloc, payload, levels);
+        let ((target_invocation_id, entry_name), signal_id, result) = all_three(
+            names, signal_id, result,
+        )?;
         Ok(SendSignalCommandMessage {
-            target_invocation_id: text_at(alloc, payload, TARGET_INVOCATION_ID)?,
-            signal_id: signal_id_at(alloc, payload, levels)?,
-            result: result_at(alloc, payload, levels)?,
-            entry_name: text_at(alloc, payload, ENTRY_NAME)?,
+            target_invocation_id,
+            signal_id,
+            result,
+            entry_name,
         })
     }
 
@@ -141,6 +172,13 @@ impl Record for SendSignalCommandMessage {
         put_result(alloc, out, &self.result)?;
         put_text(out, ENTRY_NAME, &self.entry_name)?;
         Ok(())
+    }
+
+    fn payload_len(&self) -> u64 {
+        let len = len_text(0, TARGET_INVOCATION_ID, &self.target_invocation_id);
+        let len = len_signal_id(len, &self.signal_id);
+        let len = len_result(len, &self.result);
+        len_text(len, ENTRY_NAME, &self.entry_name)
     }
 
     ghost reads = { send_signal_command_reads };

@@ -1,6 +1,9 @@
 use bytes::ByteStr;
 use protocol_wire::table::workflow_target::{SCOPE, WORKFLOW_KEY, WORKFLOW_NAME};
-use protocol_wire::{Record, RecordType, optional_text_at, put_optional_text, put_text, text_at};
+use protocol_wire::{
+    Record, RecordType, all_three, len_optional_text, len_text, optional_text_at,
+    put_optional_text, put_text, text_at,
+};
 use std::alloc::{AllocError, Global};
 
 /// The invocation of a workflow.
@@ -11,7 +14,6 @@ pub struct WorkflowTarget {
     pub scope: Option<ByteStr>,
 }
 
-#[tactic(auto, using(protocol_wire::proofs::SoundAt::texts_sound))]
 impl Record for WorkflowTarget {
     ghost use Rattle.call_records.specs.WorkflowTarget.{workflow_target_of, workflow_target_parts, WorkflowTargetFits};
     ghost use Rattle.call_records.specs.ReadBackWorkflowTarget.{workflow_target_reads};
@@ -30,10 +32,15 @@ impl Record for WorkflowTarget {
     }
 
     fn select(alloc: Global, payload: &[u8], levels: u32) -> Result<WorkflowTarget, AllocError> {
+        let (workflow_name, workflow_key, scope) = all_three(
+            text_at(alloc, payload, WORKFLOW_NAME),
+            text_at(alloc, payload, WORKFLOW_KEY),
+            optional_text_at(alloc, payload, SCOPE),
+        )?;
         Ok(WorkflowTarget {
-            workflow_name: text_at(alloc, payload, WORKFLOW_NAME)?,
-            workflow_key: text_at(alloc, payload, WORKFLOW_KEY)?,
-            scope: optional_text_at(alloc, payload, SCOPE)?,
+            workflow_name,
+            workflow_key,
+            scope,
         })
     }
 
@@ -42,6 +49,12 @@ impl Record for WorkflowTarget {
         put_text(out, WORKFLOW_KEY, &self.workflow_key)?;
         put_optional_text(out, SCOPE, &self.scope)?;
         Ok(())
+    }
+
+    fn payload_len(&self) -> u64 {
+        let len = len_text(0, WORKFLOW_NAME, &self.workflow_name);
+        let len = len_text(len, WORKFLOW_KEY, &self.workflow_key);
+        len_optional_text(len, SCOPE, &self.scope)
     }
 
     ghost reads = { workflow_target_reads };

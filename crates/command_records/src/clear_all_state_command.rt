@@ -1,6 +1,6 @@
 use bytes::ByteStr;
 use protocol_wire::table::clear_all_state_command::NAME;
-use protocol_wire::{Record, RecordType, put_text, text_at};
+use protocol_wire::{Record, RecordType, len_text, put_text, text_at};
 use std::alloc::{AllocError, Global};
 
 /// The command that clears the object's state.
@@ -9,7 +9,6 @@ pub struct ClearAllStateCommandMessage {
     pub name: ByteStr,
 }
 
-#[tactic(auto, using(protocol_wire::proofs::SoundAt::texts_sound))]
 impl Record for ClearAllStateCommandMessage {
     ghost use Rattle.command_records.specs.ClearAllStateCommand.{clear_all_state_command_of, clear_all_state_command_parts, ClearAllStateCommandFits};
     ghost use Rattle.command_records.specs.ReadBackClearAllStateCommand.{clear_all_state_command_reads};
@@ -40,6 +39,10 @@ impl Record for ClearAllStateCommandMessage {
     fn spell(&self, alloc: Global, out: &mut Vec<u8>) -> Result<(), AllocError> {
         put_text(out, NAME, &self.name)?;
         Ok(())
+    }
+
+    fn payload_len(&self) -> u64 {
+        len_text(0, NAME, &self.name)
     }
 
     ghost reads = { clear_all_state_command_reads };

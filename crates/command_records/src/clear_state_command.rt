@@ -1,6 +1,8 @@
 use bytes::{ByteStr, Bytes};
 use protocol_wire::table::clear_state_command::{KEY, NAME};
-use protocol_wire::{Record, RecordType, bytes_at, put_bytes, put_text, text_at};
+use protocol_wire::{
+    Record, RecordType, bytes_at, len_bytes, len_text, put_bytes, put_text, text_at,
+};
 use std::alloc::{AllocError, Global};
 
 /// The command that clears a key of the object's state.
@@ -10,7 +12,6 @@ pub struct ClearStateCommandMessage {
     pub name: ByteStr,
 }
 
-#[tactic(auto, using(protocol_wire::proofs::SoundAt::texts_sound))]
 impl Record for ClearStateCommandMessage {
     ghost use Rattle.command_records.specs.ClearStateCommand.{clear_state_command_of, clear_state_command_parts, ClearStateCommandFits};
     ghost use Rattle.command_records.specs.ReadBackClearStateCommand.{clear_state_command_reads};
@@ -43,6 +44,11 @@ impl Record for ClearStateCommandMessage {
         put_bytes(out, KEY, &self.key)?;
         put_text(out, NAME, &self.name)?;
         Ok(())
+    }
+
+    fn payload_len(&self) -> u64 {
+        let len = len_bytes(0, KEY, &self.key);
+        len_text(len, NAME, &self.name)
     }
 
     ghost reads = { clear_state_command_reads };

@@ -2,6 +2,7 @@ ghost use Rattle.std.specs.Prelude.{◌≡◌, ◌++◌, None, IfOk, OnOk};
 ghost use Rattle.protocol_wire.specs.Fields.{fields};
 ghost use Rattle.protocol_wire.specs.Check.{payload_fault};
 ghost use Rattle.protocol_wire.specs.Parts.{payload_of};
+ghost use Rattle.protocol_wire.specs.Lengths.{counted};
 ghost use Rattle.protocol_table.specs.declared.table.RecordType.TheVariants.{CompletePromiseCommand as complete_promise_command_type};
 ghost use Rattle.command_records.specs.CompletePromiseCommand.{complete_promise_command_completion_of, completion_parts};
 
@@ -11,7 +12,8 @@ use protocol_wire::table::complete_promise_command::{
     COMPLETION, COMPLETION_FAILURE, COMPLETION_VALUE, KEY, NAME, RESULT_COMPLETION_ID,
 };
 use protocol_wire::{
-    Record, RecordType, chosen_record_at, put_record, put_text, put_u32, text_at, u32_at,
+    Record, RecordType, all_three, chosen_record_at, len_record, len_text, len_u32, put_record,
+    put_text, put_u32, text_at, u32_at,
 };
 use std::alloc::{AllocError, Global};
 
@@ -85,7 +87,24 @@ fn put_completion(
     }
 }
 
-#[tactic(auto, using(protocol_wire::proofs::SoundAt::texts_sound))]
+fn len_completion(before: u64, one: &Option<CompletePromiseCommandCompletion>) -> u64
+    ensures { result ≡ counted before (payload_of (completion_parts one.now)) }
+{
+    match one {
+        None => before,
+        Some(CompletePromiseCommandCompletion::CompletionValue(completion_value)) => len_record(
+            before,
+            COMPLETION_VALUE,
+            completion_value,
+        ),
+        Some(CompletePromiseCommandCompletion::CompletionFailure(completion_failure)) => len_record(
+            before,
+            COMPLETION_FAILURE,
+            completion_failure,
+        ),
+    }
+}
+
 impl Record for CompletePromiseCommandMessage {
     ghost use Rattle.command_records.specs.CompletePromiseCommand.{complete_promise_command_of, complete_promise_command_parts, CompletePromiseCommandFits};
     ghost use Rattle.command_records.specs.ReadBackCompletePromiseCommand.{complete_promise_command_reads};
@@ -107,11 +126,16 @@ impl Record for CompletePromiseCommandMessage {
         payload: &[u8],
         levels: u32,
     ) -> Result<CompletePromiseCommandMessage, AllocError> {
+        let (key, completion, name) = all_three(
+            text_at(alloc, payload, KEY),
+            completion_at(alloc, payload, levels),
+            text_at(alloc, payload, NAME),
+        )?;
         Ok(CompletePromiseCommandMessage {
-            key: text_at(alloc, payload, KEY)?,
-            completion: completion_at(alloc, payload, levels)?,
+            key,
+            completion,
             result_completion_id: u32_at(payload, RESULT_COMPLETION_ID),
-            name: text_at(alloc, payload, NAME)?,
+            name,
         })
     }
 
@@ -121,6 +145,13 @@ impl Record for CompletePromiseCommandMessage {
         put_u32(out, RESULT_COMPLETION_ID, self.result_completion_id)?;
         put_text(out, NAME, &self.name)?;
         Ok(())
+    }
+
+    fn payload_len(&self) -> u64 {
+        let len = len_text(0, KEY, &self.key);
+        let len = len_completion(len, &self.completion);
+        let len = len_u32(len, RESULT_COMPLETION_ID, self.result_completion_id);
+        len_text(len, NAME, &self.name)
     }
 
     ghost reads = { complete_promise_command_reads };

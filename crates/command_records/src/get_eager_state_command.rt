@@ -2,6 +2,7 @@ ghost use Rattle.std.specs.Prelude.{◌≡◌, ◌++◌, None, IfOk, OnOk};
 ghost use Rattle.protocol_wire.specs.Fields.{fields};
 ghost use Rattle.protocol_wire.specs.Check.{payload_fault};
 ghost use Rattle.protocol_wire.specs.Parts.{payload_of};
+ghost use Rattle.protocol_wire.specs.Lengths.{counted};
 ghost use Rattle.protocol_table.specs.declared.table.RecordType.TheVariants.{GetEagerStateCommand as get_eager_state_command_type};
 ghost use Rattle.command_records.specs.GetEagerStateCommand.{get_eager_state_command_result_of, result_parts};
 
@@ -9,7 +10,8 @@ use bytes::{ByteStr, Bytes};
 use protocol_records::{Value, Void};
 use protocol_wire::table::get_eager_state_command::{KEY, NAME, RESULT, VALUE, VOID};
 use protocol_wire::{
-    Record, RecordType, bytes_at, chosen_record_at, put_bytes, put_record, put_text, text_at,
+    Record, RecordType, all_three, bytes_at, chosen_record_at, len_bytes, len_record, len_text,
+    put_bytes, put_record, put_text, text_at,
 };
 use std::alloc::{AllocError, Global};
 
@@ -59,7 +61,16 @@ fn put_result(
     }
 }
 
-#[tactic(auto, using(protocol_wire::proofs::SoundAt::texts_sound))]
+fn len_result(before: u64, one: &Option<GetEagerStateCommandResult>) -> u64
+    ensures { result ≡ counted before (payload_of (result_parts one.now)) }
+{
+    match one {
+        None => before,
+        Some(GetEagerStateCommandResult::Void(void)) => len_record(before, VOID, void),
+        Some(GetEagerStateCommandResult::Value(value)) => len_record(before, VALUE, value),
+    }
+}
+
 impl Record for GetEagerStateCommandMessage {
     ghost use Rattle.command_records.specs.GetEagerStateCommand.{get_eager_state_command_of, get_eager_state_command_parts, GetEagerStateCommandFits};
     ghost use Rattle.command_records.specs.ReadBackGetEagerStateCommand.{get_eager_state_command_reads};
@@ -81,11 +92,12 @@ impl Record for GetEagerStateCommandMessage {
         payload: &[u8],
         levels: u32,
     ) -> Result<GetEagerStateCommandMessage, AllocError> {
-        Ok(GetEagerStateCommandMessage {
-            key: bytes_at(alloc, payload, KEY)?,
-            name: text_at(alloc, payload, NAME)?,
-            result: result_at(alloc, payload, levels)?,
-        })
+        let (key, name, result) = all_three(
+            bytes_at(alloc, payload, KEY),
+            text_at(alloc, payload, NAME),
+            result_at(alloc, payload, levels),
+        )?;
+        Ok(GetEagerStateCommandMessage { key, name, result })
     }
 
     fn spell(&self, alloc: Global, out: &mut Vec<u8>) -> Result<(), AllocError> {
@@ -93,6 +105,12 @@ impl Record for GetEagerStateCommandMessage {
         put_text(out, NAME, &self.name)?;
         put_result(alloc, out, &self.result)?;
         Ok(())
+    }
+
+    fn payload_len(&self) -> u64 {
+        let len = len_bytes(0, KEY, &self.key);
+        let len = len_text(len, NAME, &self.name);
+        len_result(len, &self.result)
     }
 
     ghost reads = { get_eager_state_command_reads };

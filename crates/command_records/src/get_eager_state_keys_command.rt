@@ -2,7 +2,8 @@ use bytes::ByteStr;
 use protocol_records::StateKeys;
 use protocol_wire::table::get_eager_state_keys_command::{NAME, VALUE};
 use protocol_wire::{
-    Record, RecordType, optional_record_at, put_optional_record, put_text, text_at,
+    Record, RecordType, both, len_optional_record, len_text, optional_record_at,
+    put_optional_record, put_text, text_at,
 };
 use std::alloc::{AllocError, Global};
 
@@ -13,7 +14,6 @@ pub struct GetEagerStateKeysCommandMessage {
     pub value: Option<StateKeys>,
 }
 
-#[tactic(auto, using(protocol_wire::proofs::SoundAt::texts_sound))]
 impl Record for GetEagerStateKeysCommandMessage {
     ghost use Rattle.command_records.specs.GetEagerStateKeysCommand.{get_eager_state_keys_command_of, get_eager_state_keys_command_parts, GetEagerStateKeysCommandFits};
     ghost use Rattle.command_records.specs.ReadBackGetEagerStateKeysCommand.{get_eager_state_keys_command_reads};
@@ -36,16 +36,22 @@ impl Record for GetEagerStateKeysCommandMessage {
         payload: &[u8],
         levels: u32,
     ) -> Result<GetEagerStateKeysCommandMessage, AllocError> {
-        Ok(GetEagerStateKeysCommandMessage {
-            name: text_at(alloc, payload, NAME)?,
-            value: optional_record_at(alloc, payload, VALUE, levels)?,
-        })
+        let (name, value) = both(
+            text_at(alloc, payload, NAME),
+            optional_record_at(alloc, payload, VALUE, levels),
+        )?;
+        Ok(GetEagerStateKeysCommandMessage { name, value })
     }
 
     fn spell(&self, alloc: Global, out: &mut Vec<u8>) -> Result<(), AllocError> {
         put_text(out, NAME, &self.name)?;
         put_optional_record(alloc, out, VALUE, &self.value)?;
         Ok(())
+    }
+
+    fn payload_len(&self) -> u64 {
+        let len = len_text(0, NAME, &self.name);
+        len_optional_record(len, VALUE, &self.value)
     }
 
     ghost reads = { get_eager_state_keys_command_reads };

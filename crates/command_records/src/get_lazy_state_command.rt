@@ -1,6 +1,9 @@
 use bytes::{ByteStr, Bytes};
 use protocol_wire::table::get_lazy_state_command::{KEY, NAME, RESULT_COMPLETION_ID};
-use protocol_wire::{Record, RecordType, bytes_at, put_bytes, put_text, put_u32, text_at, u32_at};
+use protocol_wire::{
+    Record, RecordType, bytes_at, len_bytes, len_text, len_u32, put_bytes, put_text, put_u32,
+    text_at, u32_at,
+};
 use std::alloc::{AllocError, Global};
 
 /// The command that reads a key of the object's state, answered by a notification.
@@ -12,7 +15,6 @@ pub struct GetLazyStateCommandMessage {
     pub name: ByteStr,
 }
 
-#[tactic(auto, using(protocol_wire::proofs::SoundAt::texts_sound))]
 impl Record for GetLazyStateCommandMessage {
     ghost use Rattle.command_records.specs.GetLazyStateCommand.{get_lazy_state_command_of, get_lazy_state_command_parts, GetLazyStateCommandFits};
     ghost use Rattle.command_records.specs.ReadBackGetLazyStateCommand.{get_lazy_state_command_reads};
@@ -47,6 +49,12 @@ impl Record for GetLazyStateCommandMessage {
         put_u32(out, RESULT_COMPLETION_ID, self.result_completion_id)?;
         put_text(out, NAME, &self.name)?;
         Ok(())
+    }
+
+    fn payload_len(&self) -> u64 {
+        let len = len_bytes(0, KEY, &self.key);
+        let len = len_u32(len, RESULT_COMPLETION_ID, self.result_completion_id);
+        len_text(len, NAME, &self.name)
     }
 
     ghost reads = { get_lazy_state_command_reads };

@@ -1,6 +1,6 @@
 use bytes::ByteStr;
 use protocol_wire::table::get_lazy_state_keys_command::{NAME, RESULT_COMPLETION_ID};
-use protocol_wire::{Record, RecordType, put_text, put_u32, text_at, u32_at};
+use protocol_wire::{Record, RecordType, len_text, len_u32, put_text, put_u32, text_at, u32_at};
 use std::alloc::{AllocError, Global};
 
 /// The command that lists the keys of the object's state, answered by a notification.
@@ -11,7 +11,6 @@ pub struct GetLazyStateKeysCommandMessage {
     pub name: ByteStr,
 }
 
-#[tactic(auto, using(protocol_wire::proofs::SoundAt::texts_sound))]
 impl Record for GetLazyStateKeysCommandMessage {
     ghost use Rattle.command_records.specs.GetLazyStateKeysCommand.{get_lazy_state_keys_command_of, get_lazy_state_keys_command_parts, GetLazyStateKeysCommandFits};
     ghost use Rattle.command_records.specs.ReadBackGetLazyStateKeysCommand.{get_lazy_state_keys_command_reads};
@@ -44,6 +43,11 @@ impl Record for GetLazyStateKeysCommandMessage {
         put_u32(out, RESULT_COMPLETION_ID, self.result_completion_id)?;
         put_text(out, NAME, &self.name)?;
         Ok(())
+    }
+
+    fn payload_len(&self) -> u64 {
+        let len = len_u32(0, RESULT_COMPLETION_ID, self.result_completion_id);
+        len_text(len, NAME, &self.name)
     }
 
     ghost reads = { get_lazy_state_keys_command_reads };

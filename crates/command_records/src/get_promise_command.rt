@@ -1,6 +1,6 @@
 use bytes::ByteStr;
 use protocol_wire::table::get_promise_command::{KEY, NAME, RESULT_COMPLETION_ID};
-use protocol_wire::{Record, RecordType, put_text, put_u32, text_at, u32_at};
+use protocol_wire::{Record, RecordType, len_text, len_u32, put_text, put_u32, text_at, u32_at};
 use std::alloc::{AllocError, Global};
 
 /// The command that waits for a promise.
@@ -12,7 +12,6 @@ pub struct GetPromiseCommandMessage {
     pub name: ByteStr,
 }
 
-#[tactic(auto, using(protocol_wire::proofs::SoundAt::texts_sound))]
 impl Record for GetPromiseCommandMessage {
     ghost use Rattle.command_records.specs.GetPromiseCommand.{get_promise_command_of, get_promise_command_parts, GetPromiseCommandFits};
     ghost use Rattle.command_records.specs.ReadBackGetPromiseCommand.{get_promise_command_reads};
@@ -47,6 +46,12 @@ impl Record for GetPromiseCommandMessage {
         put_u32(out, RESULT_COMPLETION_ID, self.result_completion_id)?;
         put_text(out, NAME, &self.name)?;
         Ok(())
+    }
+
+    fn payload_len(&self) -> u64 {
+        let len = len_text(0, KEY, &self.key);
+        let len = len_u32(len, RESULT_COMPLETION_ID, self.result_completion_id);
+        len_text(len, NAME, &self.name)
     }
 
     ghost reads = { get_promise_command_reads };

@@ -1,6 +1,6 @@
 use bytes::ByteStr;
 use protocol_wire::table::run_command::{NAME, RESULT_COMPLETION_ID};
-use protocol_wire::{Record, RecordType, put_text, put_u32, text_at, u32_at};
+use protocol_wire::{Record, RecordType, len_text, len_u32, put_text, put_u32, text_at, u32_at};
 use std::alloc::{AllocError, Global};
 
 /// The command of an effect that the attempt itself carries out.
@@ -11,7 +11,6 @@ pub struct RunCommandMessage {
     pub name: ByteStr,
 }
 
-#[tactic(auto, using(protocol_wire::proofs::SoundAt::texts_sound))]
 impl Record for RunCommandMessage {
     ghost use Rattle.command_records.specs.RunCommand.{run_command_of, run_command_parts, RunCommandFits};
     ghost use Rattle.command_records.specs.ReadBackRunCommand.{run_command_reads};
@@ -40,6 +39,11 @@ impl Record for RunCommandMessage {
         put_u32(out, RESULT_COMPLETION_ID, self.result_completion_id)?;
         put_text(out, NAME, &self.name)?;
         Ok(())
+    }
+
+    fn payload_len(&self) -> u64 {
+        let len = len_u32(0, RESULT_COMPLETION_ID, self.result_completion_id);
+        len_text(len, NAME, &self.name)
     }
 
     ghost reads = { run_command_reads };

@@ -2,8 +2,8 @@ use bytes::{ByteStr, Bytes};
 use protocol_records::Value;
 use protocol_wire::table::set_state_command::{KEY, NAME, VALUE};
 use protocol_wire::{
-    Record, RecordType, bytes_at, optional_record_at, put_bytes, put_optional_record, put_text,
-    text_at,
+    Record, RecordType, all_three, bytes_at, len_bytes, len_optional_record, len_text,
+    optional_record_at, put_bytes, put_optional_record, put_text, text_at,
 };
 use std::alloc::{AllocError, Global};
 
@@ -15,7 +15,6 @@ pub struct SetStateCommandMessage {
     pub name: ByteStr,
 }
 
-#[tactic(auto, using(protocol_wire::proofs::SoundAt::texts_sound))]
 impl Record for SetStateCommandMessage {
     ghost use Rattle.command_records.specs.SetStateCommand.{set_state_command_of, set_state_command_parts, SetStateCommandFits};
     ghost use Rattle.command_records.specs.ReadBackSetStateCommand.{set_state_command_reads};
@@ -38,11 +37,12 @@ impl Record for SetStateCommandMessage {
         payload: &[u8],
         levels: u32,
     ) -> Result<SetStateCommandMessage, AllocError> {
-        Ok(SetStateCommandMessage {
-            key: bytes_at(alloc, payload, KEY)?,
-            value: optional_record_at(alloc, payload, VALUE, levels)?,
-            name: text_at(alloc, payload, NAME)?,
-        })
+        let (key, value, name) = all_three(
+            bytes_at(alloc, payload, KEY),
+            optional_record_at(alloc, payload, VALUE, levels),
+            text_at(alloc, payload, NAME),
+        )?;
+        Ok(SetStateCommandMessage { key, value, name })
     }
 
     fn spell(&self, alloc: Global, out: &mut Vec<u8>) -> Result<(), AllocError> {
@@ -50,6 +50,12 @@ impl Record for SetStateCommandMessage {
         put_optional_record(alloc, out, VALUE, &self.value)?;
         put_text(out, NAME, &self.name)?;
         Ok(())
+    }
+
+    fn payload_len(&self) -> u64 {
+        let len = len_bytes(0, KEY, &self.key);
+        let len = len_optional_record(len, VALUE, &self.value);
+        len_text(len, NAME, &self.name)
     }
 
     ghost reads = { set_state_command_reads };

@@ -2,6 +2,7 @@ ghost use Rattle.std.specs.Prelude.{◌≡◌, ◌++◌, None, IfOk, OnOk};
 ghost use Rattle.protocol_wire.specs.Fields.{fields};
 ghost use Rattle.protocol_wire.specs.Check.{payload_fault};
 ghost use Rattle.protocol_wire.specs.Parts.{payload_of};
+ghost use Rattle.protocol_wire.specs.Lengths.{counted};
 ghost use Rattle.protocol_table.specs.declared.table.RecordType.TheVariants.{Notification as notification_type};
 ghost use Rattle.notification_records.specs.Notification.{notification_id_of, id_parts, notification_result_of, result_parts};
 
@@ -12,8 +13,8 @@ use protocol_wire::table::notification::{
     VOID,
 };
 use protocol_wire::{
-    Record, RecordType, chosen_record_at, chosen_text_at, chosen_u32_at, put_present_text,
-    put_present_u32, put_record,
+    Record, RecordType, both, chosen_record_at, chosen_text_at, chosen_u32_at, len_present_text,
+    len_present_u32, len_record, put_present_text, put_present_u32, put_record,
 };
 use std::alloc::{AllocError, Global};
 
@@ -83,6 +84,27 @@ fn put_id(out: &mut Vec<u8>, one: &Option<NotificationMessageId>) -> Result<(), 
     }
 }
 
+fn len_id(before: u64, one: &Option<NotificationMessageId>) -> u64
+    ensures { result ≡ counted before (payload_of (id_parts one.now)) }
+{
+    match one {
+        None => before,
+        Some(NotificationMessageId::CompletionId(completion_id)) => len_present_u32(
+            before,
+            COMPLETION_ID,
+            *completion_id,
+        ),
+        Some(NotificationMessageId::SignalId(signal_id)) => len_present_u32(
+            before, SIGNAL_ID, *signal_id,
+        ),
+        Some(NotificationMessageId::SignalName(signal_name)) => len_present_text(
+            before,
+            SIGNAL_NAME,
+            signal_name,
+        ),
+    }
+}
+
 fn result_at(
     alloc: Global,
     payload: &[u8],
@@ -134,6 +156,25 @@ fn put_result(
     }
 }
 
+fn len_result(before: u64, one: &Option<NotificationMessageResult>) -> u64
+    ensures { result ≡ counted before (payload_of (result_parts one.now)) }
+{
+    match one {
+        None => before,
+        Some(NotificationMessageResult::Void(void)) => len_record(before, VOID, void),
+        Some(NotificationMessageResult::Value(value)) => len_record(before, VALUE, value),
+        Some(NotificationMessageResult::Failure(failure)) => len_record(before, FAILURE, failure),
+        Some(NotificationMessageResult::InvocationId(invocation_id)) => len_present_text(
+            before,
+            INVOCATION_ID,
+            invocation_id,
+        ),
+        Some(NotificationMessageResult::StateKeys(state_keys)) => len_record(
+            before, STATE_KEYS, state_keys,
+        ),
+    }
+}
+
 impl Record for NotificationMessage {
     ghost use Rattle.notification_records.specs.Notification.{notification_of, notification_parts, NotificationFits};
     ghost use Rattle.notification_records.specs.ReadBackNotification.{notification_reads};
@@ -155,16 +196,22 @@ impl Record for NotificationMessage {
         payload: &[u8],
         levels: u32,
     ) -> Result<NotificationMessage, AllocError> {
-        Ok(NotificationMessage {
-            id: id_at(alloc, payload, levels)?,
-            result: result_at(alloc, payload, levels)?,
-        })
+        let (id, result) = both(
+            id_at(alloc, payload, levels),
+            result_at(alloc, payload, levels),
+        )?;
+        Ok(NotificationMessage { id, result })
     }
 
     fn spell(&self, alloc: Global, out: &mut Vec<u8>) -> Result<(), AllocError> {
         put_id(out, &self.id)?;
         put_result(alloc, out, &self.result)?;
         Ok(())
+    }
+
+    fn payload_len(&self) -> u64 {
+        let len = len_id(0, &self.id);
+        len_result(len, &self.result)
     }
 
     ghost reads = { notification_reads };

@@ -30,5 +30,9 @@ impl Record for EndMessage {
         Ok(())
     }
 
+    fn payload_len(&self) -> u64 {
+        0
+    }
+
     ghost reads = { end_reads };
 }

@@ -1,7 +1,8 @@
 use bytes::ByteStr;
 use protocol_wire::table::{failure, failure_metadata};
 use protocol_wire::{
-    Record, RecordType, put_records, put_text, put_u32, records_at, text_at, u32_at,
+    Record, RecordType, both, len_records, len_text, len_u32, put_records, put_text, put_u32,
+    records_at, text_at, u32_at,
 };
 use sequence::Sequence;
 use std::alloc::{AllocError, Global};
@@ -13,7 +14,6 @@ pub struct FailureMetadata {
     pub value: ByteStr,
 }
 
-#[tactic(auto, using(protocol_wire::proofs::SoundAt::texts_sound))]
 impl Record for FailureMetadata {
     ghost use Rattle.protocol_records.specs.FailureMetadata.{failure_metadata_of, failure_metadata_parts, FailureMetadataFits};
     ghost use Rattle.protocol_records.specs.ReadBack.{failure_metadata_reads};
@@ -44,6 +44,11 @@ impl Record for FailureMetadata {
         Ok(())
     }
 
+    fn payload_len(&self) -> u64 {
+        let len = len_text(0, failure_metadata::KEY, &self.key);
+        len_text(len, failure_metadata::VALUE, &self.value)
+    }
+
     ghost reads = { failure_metadata_reads };
 }
 
@@ -55,7 +60,6 @@ pub struct Failure {
     pub metadata: Sequence<FailureMetadata>,
 }
 
-#[tactic(auto, using(protocol_wire::proofs::SoundAt::texts_sound))]
 impl Record for Failure {
     ghost use Rattle.protocol_records.specs.Failure.{failure_of, failure_parts, FailureFits};
     ghost use Rattle.protocol_records.specs.ReadBack.{failure_reads};
@@ -74,10 +78,14 @@ impl Record for Failure {
     }
 
     fn select(alloc: Global, payload: &[u8], levels: u32) -> Result<Failure, AllocError> {
+        let (message, metadata) = both(
+            text_at(alloc, payload, failure::MESSAGE),
+            records_at(alloc, payload, failure::METADATA, levels),
+        )?;
         Ok(Failure {
             code: u32_at(payload, failure::CODE),
-            message: text_at(alloc, payload, failure::MESSAGE)?,
-            metadata: records_at(alloc, payload, failure::METADATA, levels)?,
+            message,
+            metadata,
         })
     }
 
@@ -86,6 +94,12 @@ impl Record for Failure {
         put_text(out, failure::MESSAGE, &self.message)?;
         put_records(alloc, out, failure::METADATA, &self.metadata)?;
         Ok(())
+    }
+
+    fn payload_len(&self) -> u64 {
+        let len = len_u32(0, failure::CODE, self.code);
+        let len = len_text(len, failure::MESSAGE, &self.message);
+        len_records(len, failure::METADATA, &self.metadata)
     }
 
     ghost reads = { failure_reads };

@@ -1,6 +1,6 @@
 use bytes::ByteStr;
 use protocol_wire::table::header::{KEY, VALUE};
-use protocol_wire::{Record, RecordType, put_text, text_at};
+use protocol_wire::{Record, RecordType, len_text, put_text, text_at};
 use std::alloc::{AllocError, Global};
 
 /// A header of an input or of a call. A key may come more than once.
@@ -10,7 +10,6 @@ pub struct Header {
     pub value: ByteStr,
 }
 
-#[tactic(auto, using(protocol_wire::proofs::SoundAt::texts_sound))]
 impl Record for Header {
     ghost use Rattle.protocol_records.specs.Header.{header_of, header_parts, HeaderFits};
     ghost use Rattle.protocol_records.specs.ReadBack.{header_reads};
@@ -39,6 +38,11 @@ impl Record for Header {
         put_text(out, KEY, &self.key)?;
         put_text(out, VALUE, &self.value)?;
         Ok(())
+    }
+
+    fn payload_len(&self) -> u64 {
+        let len = len_text(0, KEY, &self.key);
+        len_text(len, VALUE, &self.value)
     }
 
     ghost reads = { header_reads };

@@ -3,8 +3,8 @@ use crate::value::Value;
 use bytes::ByteStr;
 use protocol_wire::table::input_command::{HEADERS, NAME, VALUE};
 use protocol_wire::{
-    Record, RecordType, optional_record_at, put_optional_record, put_records, put_text, records_at,
-    text_at,
+    Record, RecordType, all_three, len_optional_record, len_records, len_text, optional_record_at,
+    put_optional_record, put_records, put_text, records_at, text_at,
 };
 use sequence::Sequence;
 use std::alloc::{AllocError, Global};
@@ -17,7 +17,6 @@ pub struct InputCommandMessage {
     pub value: Option<Value>,
 }
 
-#[tactic(auto, using(protocol_wire::proofs::SoundAt::texts_sound))]
 impl Record for InputCommandMessage {
     ghost use Rattle.protocol_records.specs.InputCommand.{input_command_of, input_command_parts, InputCommandFits};
     ghost use Rattle.protocol_records.specs.ReadBack.{input_command_reads};
@@ -40,10 +39,15 @@ impl Record for InputCommandMessage {
         payload: &[u8],
         levels: u32,
     ) -> Result<InputCommandMessage, AllocError> {
+        let (headers, name, value) = all_three(
+            records_at(alloc, payload, HEADERS, levels),
+            text_at(alloc, payload, NAME),
+            optional_record_at(alloc, payload, VALUE, levels),
+        )?;
         Ok(InputCommandMessage {
-            headers: records_at(alloc, payload, HEADERS, levels)?,
-            name: text_at(alloc, payload, NAME)?,
-            value: optional_record_at(alloc, payload, VALUE, levels)?,
+            headers,
+            name,
+            value,
         })
     }
 
@@ -52,6 +56,12 @@ impl Record for InputCommandMessage {
         put_text(out, NAME, &self.name)?;
         put_optional_record(alloc, out, VALUE, &self.value)?;
         Ok(())
+    }
+
+    fn payload_len(&self) -> u64 {
+        let len = len_records(0, HEADERS, &self.headers);
+        let len = len_text(len, NAME, &self.name);
+        len_optional_record(len, VALUE, &self.value)
     }
 
     ghost reads = { input_command_reads };

@@ -1,15 +1,17 @@
-ghost use Rattle.std.specs.Prelude.{◌≡◌, None, IfOk};
+ghost use Rattle.std.specs.Prelude.{◌≡◌, ◌++◌, None, IfOk, OnOk};
 ghost use Rattle.protocol_wire.specs.Fields.{fields};
 ghost use Rattle.protocol_wire.specs.Check.{payload_fault};
+ghost use Rattle.protocol_wire.specs.Parts.{payload_of};
+ghost use Rattle.protocol_wire.specs.Lengths.{counted};
 ghost use Rattle.protocol_table.specs.declared.table.RecordType.TheVariants.{OutputCommand as output_command_type};
-ghost use Rattle.protocol_records.specs.OutputCommand.{output_command_result_of};
+ghost use Rattle.protocol_records.specs.OutputCommand.{output_command_result_of, result_parts};
 
 use crate::failure::Failure;
 use crate::value::Value;
 use bytes::ByteStr;
-use protocol_wire::table::output_command::{FAILURE, NAME, VALUE};
+use protocol_wire::table::output_command::{FAILURE, NAME, RESULT, VALUE};
 use protocol_wire::{
-    Record, RecordType, optional_record_at, put_record, put_text, run_at, text_at,
+    Record, RecordType, both, chosen_record_at, len_record, len_text, put_record, put_text, text_at,
 };
 use std::alloc::{AllocError, Global};
 
@@ -35,27 +37,39 @@ fn result_at(
     requires { payload_fault levels output_command_type payload.now ≡ None }
     ensures { IfOk result (λ r. r ≡ output_command_result_of levels (fields payload.now)) }
 {
-    match run_at(payload, &[VALUE.number, FAILURE.number]) {
-        None => Ok(None),
-        Some((number, rest)) => {
-            if number == VALUE.number {
-                let value = optional_record_at(alloc, rest, VALUE, levels)?;
-                match value {
-                    None => Ok(None),
-                    Some(value) => Ok(Some(OutputCommandResult::Value(value))),
-                }
-            } else {
-                let failure = optional_record_at(alloc, rest, FAILURE, levels)?;
-                match failure {
-                    None => Ok(None),
-                    Some(failure) => Ok(Some(OutputCommandResult::Failure(failure))),
-                }
-            }
-        }
+    if let Some(value) = chosen_record_at(alloc, payload, &RESULT, VALUE, levels)? {
+        return Ok(Some(OutputCommandResult::Value(value)));
+    }
+    if let Some(failure) = chosen_record_at(alloc, payload, &RESULT, FAILURE, levels)? {
+        return Ok(Some(OutputCommandResult::Failure(failure)));
+    }
+    Ok(None)
+}
+
+fn put_result(
+    alloc: Global,
+    out: &mut Vec<u8>,
+    one: &Option<OutputCommandResult>,
+) -> Result<(), AllocError>
+    ensures { OnOk result (out.new.items ≡ out.old.items ++ payload_of (result_parts one.now)) }
+{
+    match one {
+        None => Ok(()),
+        Some(OutputCommandResult::Value(value)) => put_record(alloc, out, VALUE, value),
+        Some(OutputCommandResult::Failure(failure)) => put_record(alloc, out, FAILURE, failure),
     }
 }
 
-#[tactic(auto, using(protocol_wire::proofs::SoundAt::texts_sound))]
+fn len_result(before: u64, one: &Option<OutputCommandResult>) -> u64
+    ensures { result ≡ counted before (payload_of (result_parts one.now)) }
+{
+    match one {
+        None => before,
+        Some(OutputCommandResult::Value(value)) => len_record(before, VALUE, value),
+        Some(OutputCommandResult::Failure(failure)) => len_record(before, FAILURE, failure),
+    }
+}
+
 impl Record for OutputCommandMessage {
     ghost use Rattle.protocol_records.specs.OutputCommand.{output_command_of, output_command_parts, OutputCommandFits};
     ghost use Rattle.protocol_records.specs.ReadBackOutput.{output_command_reads};
@@ -77,19 +91,22 @@ impl Record for OutputCommandMessage {
         payload: &[u8],
         levels: u32,
     ) -> Result<OutputCommandMessage, AllocError> {
-        Ok(OutputCommandMessage {
-            name: text_at(alloc, payload, NAME)?,
-            result: result_at(alloc, payload, levels)?,
-        })
+        let (name, result) = both(
+            text_at(alloc, payload, NAME),
+            result_at(alloc, payload, levels),
+        )?;
+        Ok(OutputCommandMessage { name, result })
     }
 
     fn spell(&self, alloc: Global, out: &mut Vec<u8>) -> Result<(), AllocError> {
         put_text(out, NAME, &self.name)?;
-        match &self.result {
-            None => Ok(()),
-            Some(OutputCommandResult::Value(value)) => put_record(alloc, out, VALUE, value),
-            Some(OutputCommandResult::Failure(failure)) => put_record(alloc, out, FAILURE, failure),
-        }
+        put_result(alloc, out, &self.result)?;
+        Ok(())
+    }
+
+    fn payload_len(&self) -> u64 {
+        let len = len_text(0, NAME, &self.name);
+        len_result(len, &self.result)
     }
 
     ghost reads = { output_command_reads };

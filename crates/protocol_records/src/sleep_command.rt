@@ -1,6 +1,9 @@
 use bytes::ByteStr;
 use protocol_wire::table::sleep_command::{NAME, RESULT_COMPLETION_ID, WAKE_UP_TIME};
-use protocol_wire::{Record, RecordType, put_text, put_u32, put_u64, text_at, u32_at, u64_at};
+use protocol_wire::{
+    Record, RecordType, len_text, len_u32, len_u64, put_text, put_u32, put_u64, text_at, u32_at,
+    u64_at,
+};
 use std::alloc::{AllocError, Global};
 
 /// The command of a sleep.
@@ -13,7 +16,6 @@ pub struct SleepCommandMessage {
     pub name: ByteStr,
 }
 
-#[tactic(auto, using(protocol_wire::proofs::SoundAt::texts_sound))]
 impl Record for SleepCommandMessage {
     ghost use Rattle.protocol_records.specs.SleepCommand.{sleep_command_of, sleep_command_parts, SleepCommandFits};
     ghost use Rattle.protocol_records.specs.ReadBack.{sleep_command_reads};
@@ -48,6 +50,12 @@ impl Record for SleepCommandMessage {
         put_u32(out, RESULT_COMPLETION_ID, self.result_completion_id)?;
         put_text(out, NAME, &self.name)?;
         Ok(())
+    }
+
+    fn payload_len(&self) -> u64 {
+        let len = len_u64(0, WAKE_UP_TIME, self.wake_up_time);
+        let len = len_u32(len, RESULT_COMPLETION_ID, self.result_completion_id);
+        len_text(len, NAME, &self.name)
     }
 
     ghost reads = { sleep_command_reads };

@@ -1,7 +1,8 @@
 use bytes::{ByteStr, Bytes};
 use protocol_wire::table::{start, state_entry};
 use protocol_wire::{
-    Record, RecordType, bool_at, bytes_at, optional_text_at, put_bool, put_bytes,
+    Record, RecordType, all_three, bool_at, bytes_at, len_bool, len_bytes, len_optional_text,
+    len_records, len_text, len_u32, len_u64, optional_text_at, put_bool, put_bytes,
     put_optional_text, put_records, put_text, put_u32, put_u64, records_at, text_at, u32_at,
     u64_at,
 };
@@ -45,6 +46,11 @@ impl Record for StateEntry {
         Ok(())
     }
 
+    fn payload_len(&self) -> u64 {
+        let len = len_bytes(0, state_entry::KEY, &self.key);
+        len_bytes(len, state_entry::VALUE, &self.value)
+    }
+
     ghost reads = { state_entry_reads };
 }
 
@@ -71,7 +77,6 @@ pub struct StartMessage {
     pub idempotency_key: Option<ByteStr>,
 }
 
-#[tactic(auto, using(protocol_wire::proofs::SoundAt::texts_sound))]
 impl Record for StartMessage {
     ghost use Rattle.protocol_records.specs.Start.{start_of, start_parts, StartFits};
     ghost use Rattle.protocol_records.specs.ReadBack.{start_reads};
@@ -90,13 +95,27 @@ impl Record for StartMessage {
     }
 
     fn select(alloc: Global, payload: &[u8], levels: u32) -> Result<StartMessage, AllocError> {
+        let names = all_three(
+            bytes_at(alloc, payload, start::ID),
+            text_at(alloc, payload, start::DEBUG_ID),
+            text_at(alloc, payload, start::KEY),
+        );
+        let options = all_three(
+            optional_text_at(alloc, payload, start::SCOPE),
+            optional_text_at(alloc, payload, start::LIMIT_KEY),
+            optional_text_at(alloc, payload, start::IDEMPOTENCY_KEY),
+        );
+        let state_map = records_at(alloc, payload, start::STATE_MAP, levels);
+        let ((id, debug_id, key), (scope, limit_key, idempotency_key), state_map) = all_three(
+            names, options, state_map,
+        )?;
         Ok(StartMessage {
-            id: bytes_at(alloc, payload, start::ID)?,
-            debug_id: text_at(alloc, payload, start::DEBUG_ID)?,
+            id,
+            debug_id,
             known_entries: u32_at(payload, start::KNOWN_ENTRIES),
-            state_map: records_at(alloc, payload, start::STATE_MAP, levels)?,
+            state_map,
             partial_state: bool_at(payload, start::PARTIAL_STATE),
-            key: text_at(alloc, payload, start::KEY)?,
+            key,
             retry_count_since_last_stored_entry: u32_at(
                 payload,
                 start::RETRY_COUNT_SINCE_LAST_STORED_ENTRY,
@@ -106,9 +125,9 @@ impl Record for StartMessage {
                 start::DURATION_SINCE_LAST_STORED_ENTRY,
             ),
             random_seed: u64_at(payload, start::RANDOM_SEED),
-            scope: optional_text_at(alloc, payload, start::SCOPE)?,
-            limit_key: optional_text_at(alloc, payload, start::LIMIT_KEY)?,
-            idempotency_key: optional_text_at(alloc, payload, start::IDEMPOTENCY_KEY)?,
+            scope,
+            limit_key,
+            idempotency_key,
         })
     }
 
@@ -134,6 +153,29 @@ impl Record for StartMessage {
         put_optional_text(out, start::LIMIT_KEY, &self.limit_key)?;
         put_optional_text(out, start::IDEMPOTENCY_KEY, &self.idempotency_key)?;
         Ok(())
+    }
+
+    fn payload_len(&self) -> u64 {
+        let len = len_bytes(0, start::ID, &self.id);
+        let len = len_text(len, start::DEBUG_ID, &self.debug_id);
+        let len = len_u32(len, start::KNOWN_ENTRIES, self.known_entries);
+        let len = len_records(len, start::STATE_MAP, &self.state_map);
+        let len = len_bool(len, start::PARTIAL_STATE, self.partial_state);
+        let len = len_text(len, start::KEY, &self.key);
+        let len = len_u32(
+            len,
+            start::RETRY_COUNT_SINCE_LAST_STORED_ENTRY,
+            self.retry_count_since_last_stored_entry,
+        );
+        let len = len_u64(
+            len,
+            start::DURATION_SINCE_LAST_STORED_ENTRY,
+            self.duration_since_last_stored_entry,
+        );
+        let len = len_u64(len, start::RANDOM_SEED, self.random_seed);
+        let len = len_optional_text(len, start::SCOPE, &self.scope);
+        let len = len_optional_text(len, start::LIMIT_KEY, &self.limit_key);
+        len_optional_text(len, start::IDEMPOTENCY_KEY, &self.idempotency_key)
     }
 
     ghost reads = { start_reads };

@@ -1,6 +1,8 @@
 use bytes::Bytes;
 use protocol_wire::table::state_keys::KEYS;
-use protocol_wire::{Record, RecordType, put_repeated_bytes, repeated_bytes_at};
+use protocol_wire::{
+    Record, RecordType, len_repeated_bytes, put_repeated_bytes, repeated_bytes_at,
+};
 use sequence::Sequence;
 use std::alloc::{AllocError, Global};
 
@@ -36,6 +38,10 @@ impl Record for StateKeys {
     fn spell(&self, alloc: Global, out: &mut Vec<u8>) -> Result<(), AllocError> {
         put_repeated_bytes(out, KEYS, &self.keys)?;
         Ok(())
+    }
+
+    fn payload_len(&self) -> u64 {
+        len_repeated_bytes(0, KEYS, &self.keys)
     }
 
     ghost reads = { state_keys_reads };

@@ -1,6 +1,8 @@
 use crate::future::Future;
 use protocol_wire::table::suspension::AWAITING_ON;
-use protocol_wire::{Record, RecordType, optional_record_at, put_optional_record};
+use protocol_wire::{
+    Record, RecordType, len_optional_record, optional_record_at, put_optional_record,
+};
 use std::alloc::{AllocError, Global};
 
 /// The end of an attempt that waits, from version 7 on. The store asks for the tree.
@@ -36,6 +38,10 @@ impl Record for SuspensionMessage {
     fn spell(&self, alloc: Global, out: &mut Vec<u8>) -> Result<(), AllocError> {
         put_optional_record(alloc, out, AWAITING_ON, &self.awaiting_on)?;
         Ok(())
+    }
+
+    fn payload_len(&self) -> u64 {
+        len_optional_record(0, AWAITING_ON, &self.awaiting_on)
     }
 
     ghost reads = { suspension_reads };

@@ -2,7 +2,10 @@ use bytes::ByteStr;
 use protocol_wire::table::suspension_v6::{
     WAITING_COMPLETIONS, WAITING_NAMED_SIGNALS, WAITING_SIGNALS,
 };
-use protocol_wire::{Record, RecordType, numbers_at, put_numbers, put_texts, texts_at};
+use protocol_wire::{
+    Record, RecordType, all_three, len_numbers, len_texts, numbers_at, put_numbers, put_texts,
+    texts_at,
+};
 use sequence::Sequence;
 use std::alloc::{AllocError, Global};
 
@@ -17,7 +20,6 @@ pub struct SuspensionMessageV6 {
     pub waiting_named_signals: Sequence<ByteStr>,
 }
 
-#[tactic(auto, using(protocol_wire::proofs::SoundAt::texts_sound))]
 impl Record for SuspensionMessageV6 {
     ghost use Rattle.protocol_records.specs.SuspensionV6.{suspension_v6_of, suspension_v6_parts, SuspensionV6Fits};
     ghost use Rattle.protocol_records.specs.ReadBackSuspensionV6.{suspension_v6_reads};
@@ -40,10 +42,15 @@ impl Record for SuspensionMessageV6 {
         payload: &[u8],
         levels: u32,
     ) -> Result<SuspensionMessageV6, AllocError> {
+        let (waiting_completions, waiting_signals, waiting_named_signals) = all_three(
+            numbers_at(alloc, payload, WAITING_COMPLETIONS),
+            numbers_at(alloc, payload, WAITING_SIGNALS),
+            texts_at(alloc, payload, WAITING_NAMED_SIGNALS),
+        )?;
         Ok(SuspensionMessageV6 {
-            waiting_completions: numbers_at(alloc, payload, WAITING_COMPLETIONS)?,
-            waiting_signals: numbers_at(alloc, payload, WAITING_SIGNALS)?,
-            waiting_named_signals: texts_at(alloc, payload, WAITING_NAMED_SIGNALS)?,
+            waiting_completions,
+            waiting_signals,
+            waiting_named_signals,
         })
     }
 
@@ -52,6 +59,12 @@ impl Record for SuspensionMessageV6 {
         put_numbers(alloc, out, WAITING_SIGNALS, &self.waiting_signals)?;
         put_texts(out, WAITING_NAMED_SIGNALS, &self.waiting_named_signals)?;
         Ok(())
+    }
+
+    fn payload_len(&self) -> u64 {
+        let len = len_numbers(0, WAITING_COMPLETIONS, &self.waiting_completions);
+        let len = len_numbers(len, WAITING_SIGNALS, &self.waiting_signals);
+        len_texts(len, WAITING_NAMED_SIGNALS, &self.waiting_named_signals)
     }
 
     ghost reads = { suspension_v6_reads };

@@ -30,5 +30,9 @@ impl Record for Void {
         Ok(())
     }
 
+    fn payload_len(&self) -> u64 {
+        0
+    }
+
     ghost reads = { void_reads };
 }

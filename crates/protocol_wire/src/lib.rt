@@ -7,6 +7,8 @@
 mod check;
 mod chosen;
 mod field;
+mod gather;
+mod len;
 mod put;
 mod record;
 mod select;
@@ -15,6 +17,13 @@ mod varint;
 pub use check::{Fault, fault_of};
 pub use chosen::{chosen_bytes_at, chosen_record_at, chosen_text_at, chosen_u32_at};
 pub use field::{Fields, Scanned, ScannedField};
+pub use gather::{all_three, both};
+pub use len::{
+    len_bool, len_bytes, len_enum, len_numbers, len_optional_record, len_optional_text,
+    len_optional_u32, len_optional_u64, len_present_bytes, len_present_text, len_present_u32,
+    len_record, len_records, len_repeated_bytes, len_tagged_bytes, len_text, len_texts, len_u32,
+    len_u64,
+};
 pub use protocol_table::table;
 pub use protocol_table::table::{FieldDescriptor, Kind, RecordType};
 pub use put::{
@@ -24,8 +33,8 @@ pub use put::{
     put_u64,
 };
 pub use record::{
-    DecodeError, LEVELS, Record, decode, decode_of_encoded, encode, merge, optional_record_at,
-    records_at,
+    DecodeError, LEVELS, Record, decode, decode_of_encoded, encode, encoded_len, merge,
+    optional_record_at, records_at,
 };
 pub use select::{
     bool_at, bytes_at, numbers_at, optional_bytes_at, optional_text_at, optional_u32_at,

@@ -5,6 +5,7 @@ ghost use Rattle.protocol_wire.specs.Wire.{Field};
 ghost use Rattle.protocol_wire.specs.Fields.{fields};
 ghost use Rattle.protocol_wire.specs.Check.{payload_fault};
 ghost use Rattle.protocol_wire.specs.Parts.{Part, payload_of};
+ghost use Rattle.protocol_wire.specs.Lengths.{counted, fitting};
 ghost use Rattle.protocol_wire.specs.Sound.{AreSound};
 ghost use Rattle.protocol_wire.specs.Selection.{values, texts, joined_bytes, optional_record, records};
 ghost use Rattle.protocol_wire.specs.Decodes.{Decodes, IsRead, ErrIs};
@@ -44,6 +45,10 @@ pub trait Record: Drop + Sized {
     /// Puts the canonical spelling behind what is written already. After an `Err` a part of it may stand there.
     fn spell(&self, alloc: Global, out: &mut Vec<u8>) -> Result<(), AllocError>
         ensures { OnOk result (out.new.items ≡ out.old.items ++ payload_of (parts self.now)) };
+
+    /// How long the canonical spelling is; a length that 64 bits don't hold is given as their last. It takes no memory.
+    fn payload_len(&self) -> u64
+        ensures { result ≡ counted 0 (payload_of (parts self.now)) };
 
     // The canonical payload is read again, to the same value.
     ghost reads: { (levels : ℕ) (r : Self) → fits levels r → length (payload_of (parts r)) < 2 ^ 64 → IsRead levels record_type of (payload_of (parts r)) r };
@@ -148,6 +153,19 @@ pub fn encode<R: Record>(alloc: Global, one: &R) -> Result<Vec<u8>, AllocError>
     let mut out = Vec::new(alloc);
     one.spell(alloc, &mut out)?;
     Ok(out)
+}
+
+/// The length of the canonical payload, where it fits 32 bits. It takes no memory.
+#[tactic(auto, using(crate::proofs::Lengths::fitting_counted))]
+pub fn encoded_len<R: Record>(one: &R) -> Option<u32>
+    ensures { result ≡ fitting (length (payload_of (R.parts one.now))) }
+{
+    let len = one.payload_len();
+    if len < 1 << 32 {
+        Some(len as u32)
+    } else {
+        None
+    }
 }
 
 /// Merges a payload into a record. An `Err` changes nothing.

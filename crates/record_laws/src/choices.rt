@@ -15,10 +15,9 @@ use call_records::{
     GetInvocationOutputCommandMessage, SendSignalCommandMessage,
 };
 use command_records::{CompletePromiseCommandMessage, GetEagerStateCommandMessage};
+use control_records::{GetStateEphemeralNotificationMessage, ProposeRunCompletionMessage};
 use notification_records::NotificationMessage;
-use protocol_records::{
-    GetStateEphemeralNotificationMessage, OutputCommandMessage, ProposeRunCompletionMessage,
-};
+use protocol_records::OutputCommandMessage;
 
 impl Joining for ProposeRunCompletionMessage {
     ghost joins = { propose_run_completion_joins };

@@ -1,10 +1,10 @@
 ghost use Rattle.record_laws.specs.JoinsControl.{start_joins, suspension_v6_joins, error_joins, end_joins, propose_run_completion_ack_joins, get_state_ephemeral_command_joins};
 
 use crate::Joining;
-use protocol_records::{
-    EndMessage, ErrorMessage, GetStateEphemeralCommandMessage, ProposeRunCompletionAckMessage,
-    StartMessage, SuspensionMessageV6,
+use control_records::{
+    ErrorMessage, GetStateEphemeralCommandMessage, ProposeRunCompletionAckMessage,
 };
+use protocol_records::{EndMessage, StartMessage, SuspensionMessageV6};
 
 impl Joining for StartMessage {
     ghost joins = { start_joins };

@@ -10,15 +10,17 @@ use command_records::{
     GetLazyStateKeysCommandMessage, GetPromiseCommandMessage, PeekPromiseCommandMessage,
     RunCommandMessage, SetStateCommandMessage,
 };
+use control_records::{
+    ErrorMessage, GetStateEphemeralCommandMessage, GetStateEphemeralNotificationMessage,
+    ProposeRunCompletionAckMessage, ProposeRunCompletionMessage,
+};
 use notification_records::NotificationMessage;
 use protocol_records::{
-    AwaitingOnMessage, EndMessage, ErrorMessage, Failure, FailureMetadata, Future,
-    GetStateEphemeralCommandMessage, GetStateEphemeralNotificationMessage, Header,
-    InputCommandMessage, OutputCommandMessage, ProposeRunCompletionAckMessage,
-    ProposeRunCompletionMessage, SleepCommandMessage, StartMessage, StateEntry, StateKeys,
+    AwaitingOnMessage, EndMessage, Failure, FailureMetadata, Future, Header, InputCommandMessage,
+    OutputCommandMessage, SleepCommandMessage, StartMessage, StateEntry, StateKeys,
     SuspensionMessage, SuspensionMessageV6, Value, Void,
 };
-use protocol_wire::{Record, RecordType, decode, encode};
+use protocol_wire::{Record, RecordType, decode, encode, encoded_len};
 use std::alloc::Global;
 
 /// Every record type.
@@ -68,10 +70,15 @@ pub const EVERY_TYPE: [RecordType; 41] = [
 
 fn read_and_spelled<R: Record>(alloc: Global, payload: &[u8]) -> Option<Vec<u8>> {
     let record: R = decode(alloc, payload).ok()?;
-    encode(alloc, &record).ok()
+    let spelled = encode(alloc, &record).ok()?;
+    if encoded_len(&record) != u32::try_from(spelled.len()).ok() {
+        return None;
+    }
+    Some(spelled)
 }
 
-/// The canonical payload of the record that a payload is; None where it is refused.
+/// The canonical payload of the record that a payload is; None where it is refused, or where the length that is told isn't its
+/// own.
 pub fn spelled_again(alloc: Global, of: RecordType, payload: &[u8]) -> Option<Vec<u8>> {
     match of {
         RecordType::AttachInvocationCommand => read_and_spelled::<AttachInvocationCommandMessage>(

@@ -1,0 +1,12 @@
+-- A Value that was read fits.
+use Rattle.std.specs.Prelude.{ℕ, List}
+use Rattle.protocol_wire.specs.Fields.{fields}
+use Rattle.protocol_table.specs.declared.table.RecordType.TheVariants as types
+use Rattle.protocol_wire.proofs.SoundAt.{level_left}
+use Rattle.protocol_wire.proofs.Joins.{IsFine}
+use Rattle.protocol_records.specs.Value.{value_of, ValueFits}
+
+pub value_fits : (levels : ℕ) (a : List ℕ) → IsFine levels types.Value a → ValueFits levels (value_of levels (fields a))
+value_fits levels a fine = record {
+  level = level_left levels types.Value a fine;
+}
