@@ -100,10 +100,7 @@ fn check_start(start: &StartMessage) -> Result<(), AttemptFailure>
 }
 
 // Takes the next message, which is to be a start that is served.
-fn next_served(
-    alloc: Global,
-    decoder: &mut Decoder,
-) -> Result<Option<StartMessage>, AttemptFailure>
+fn next_served(alloc: Global, decoder: &mut Decoder) -> Result<Option<StartMessage>, AttemptFailure>
     ensures { (new : NewInvocation) (known retry_count duration : ℕ) (left more : List ℕ) → FitsFrames new known retry_count duration
         → AreToRead new known retry_count duration left more None decoder.old
         → HasStart new known retry_count duration left more result decoder.new }
@@ -203,7 +200,11 @@ fn keys(
 {
     let scope = from_version_7(version, &start.scope)?;
     let limit_key = from_version_7(version, &start.limit_key)?;
-    Ok((scope, limit_key, from_version_7(version, &start.idempotency_key)?))
+    Ok((
+        scope,
+        limit_key,
+        from_version_7(version, &start.idempotency_key)?,
+    ))
 }
 
 // What a handler is given: the invocation's part from the start, the rest from the input's own message.

@@ -3,9 +3,8 @@ use bytes::{ByteStr, Bytes, BytesMut};
 use journal_model::{Header, NonEmptyValue, TerminalFailure};
 use journal_protocol::{
     Decoder, DecodingError, EncodingError, MessageHeader, MessageType, RawMessage,
-    UnknownMessageType,
-    to_failure, to_failure_record, to_header_records, to_headers, to_non_empty_value,
-    to_output_result, to_terminal_failure, write_message,
+    UnknownMessageType, to_failure, to_failure_record, to_header_records, to_headers,
+    to_non_empty_value, to_output_result, to_terminal_failure, write_message,
 };
 use protocol_records::Failure as FailureRecord;
 use sequence::Sequence;
@@ -147,10 +146,7 @@ fn success() -> NonEmptyValue {
 }
 
 /// Whether two values are equal.
-fn is_equal<T: PartialEq + Drop>(
-    one: T,
-    other: Result<T, AllocError>,
-) -> Result<bool, AllocError> {
+fn is_equal<T: PartialEq + Drop>(one: T, other: Result<T, AllocError>) -> Result<bool, AllocError> {
     match other {
         Ok(other) => {
             let is_equal = one == other;
