@@ -1,5 +1,5 @@
 -- The message that a record is written as, and what an encoder answers.
-use Rattle.std.specs.Prelude.{◌≡◌, ◌<◌, ◌≤◌, ◌^◌, ℕ, nat_lt, if◌then◌else◌, not, Bool, List, length, Option, Some, None, Result, Ok, Err}
+use Rattle.std.specs.Prelude.{◌≡◌, ◌<◌, ◌≤◌, ◌^◌, ℕ, nat_lt, not, Bool, true, false, List, length, Option, Some, None, Result, Ok, Err}
 use Rattle.protocol_table.specs.declared.table.RecordType.{RecordType}
 use Rattle.protocol_wire.specs.Parts.{Part, payload_of}
 use Rattle.protocol_records.specs.Suspension.{suspension_parts}
@@ -37,10 +37,14 @@ type_or_end (Some ty) = ty
 abbrev pub plain_message : RecordType → Version → List Part → RawMessage
 plain_message t version parts = record_message (type_or_end (type_of_record t)) version parts
 
--- before version 7 a suspension is three lists, and no tree
+-- three lists, or a tree
+abbrev pub suspension_parts_as : Bool → SuspensionMessage → List Part
+suspension_parts_as true one = suspension_v6_parts (three_lists one)
+suspension_parts_as false one = suspension_parts one
+
+-- before version 7 a suspension is three lists
 abbrev pub suspension_message : Version → SuspensionMessage → RawMessage
-suspension_message version one =
-    record_message messages.Suspension version (if is_before_7 version then suspension_v6_parts (three_lists one) else suspension_parts one)
+suspension_message version one = record_message messages.Suspension version (suspension_parts_as (is_before_7 version) one)
 
 -- The frame, or that its length does not fit the 32 bits that the header has for it, unless memory was refused.
 abbrev pub EncodesTo : RawMessage → Result (List ℕ) EncodingError → Type 0

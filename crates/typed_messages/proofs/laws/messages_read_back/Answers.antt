@@ -8,7 +8,9 @@ use Rattle.typed_messages.proofs.Frames.{wire_type, is_frame}
 use Rattle.typed_messages.proofs.laws.messages_read_back.Goals as goal
 
 pub returns : goal.returns
-returns g c = λ one ty version index rest fits e small. (
-  item_at-spelled (record_message ty version (g.M.Record.parts one)) rest (is_frame ty version (payload_of (g.M.Record.parts one)) (wire_type g.M.Record.record_type ty e) small),
-  (e, g.met.M.Record.reads LEVELS one fits (omega (arith, small))),
-)
+returns g c = λ one ty version index rest fits e small.
+    let frame = is_frame ty version (payload_of (g.M.Record.parts one)) (wire_type g.M.Record.record_type ty e) small in (
+      frame,
+      item_at-spelled (record_message ty version (g.M.Record.parts one)) rest frame,
+      (e, g.met.M.Record.reads LEVELS one fits (omega (arith, small))),
+    )
