@@ -1,5 +1,5 @@
 -- A suspension that fits is read back, as lists or as a tree.
-use Rattle.std.proofs.Common.{◌≡◌, ℕ, ℤ, zero, suc, ◌<◌, ◌^◌, ◌++◌, Bool, true, false, List, [], ◌∷◌, length, map, Option, Some, None, IsUtf8, refl, sym, subst, arith}
+use Rattle.std.proofs.Common.{ℕ, ℤ, zero, suc, ◌<◌, ◌^◌, ◌++◌, Bool, true, false, List, [], ◌∷◌, length, map, Option, Some, None, IsUtf8, refl, sym, subst, arith}
 use Rattle.std.specs.Prelude.{IfSome}
 use Rattle.std.specs.List.{AllByRecursion, flat_map}
 use Rattle.protocol_wire.specs.Parts.{payload_of}
