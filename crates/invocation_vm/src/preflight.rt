@@ -35,6 +35,7 @@ fn next_message(decoder: &mut Decoder) -> Result<Option<RawMessage>, AttemptFail
             Err(AttemptFailure::UnknownMessageType(unknown))
         }
         Err(DecodingError::OutOfMemory) => Err(AttemptFailure::OutOfMemory),
+        Err(_) => unreachable!(),
     }
 }
 

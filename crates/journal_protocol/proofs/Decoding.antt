@@ -23,6 +23,7 @@ consumed old more between (Ok None) c = ap (λ (s : List ℕ). items item_at (s 
 consumed old more between (Ok (Some found)) c = first_item old more between (message found) c
 consumed old more between (Err (UnknownMessageType ty)) c = first_item old more between (unknown ty) c
 consumed old more between (Err OutOfMemory) c = ap (λ (s : List ℕ). items item_at (s ++ more)) (sym c)
+consumed old more between (Err _) c = absurd c
 
 led : (calls : List DecoderCall) (old new : List ℕ) → Leads calls old new → items item_at (old ++ taken_bytes calls) ≡ answered_items calls ++ items item_at new
 led [] old new h = ap (items item_at) (append-nil old ∙ sym h)

@@ -103,6 +103,7 @@ TakesFirst first others bytes more (Ok None) new = (length bytes < length (spell
 TakesFirst first others bytes more (Ok (Some found)) new = (found ≡ first) × (new ++ more ≡ stream others)
 TakesFirst first others bytes more (Err (UnknownMessageType ty)) new = ⊥
 TakesFirst first others bytes more (Err OutOfMemory) new = new ≡ bytes
+TakesFirst first others bytes more (Err _) new = ⊥
 
 -- with the item at the front known in both cases
 takes_whole : (first : RawMessage) (others : List RawMessage) (bytes more new back : List ℕ) (answer : Result (Option RawMessage) DecodingError) → item_at bytes ≡ Some (message first, back) → back ++ more ≡ stream others → ConsumesNext bytes answer new → TakesFirst first others bytes more answer new
@@ -112,12 +113,14 @@ takes_whole first others bytes more new back (Ok (Some found)) e b c =
     (same_message found first same.0, ap (λ (s : List ℕ). s ++ more) same.1 ∙ b)
 takes_whole first others bytes more new back (Err (UnknownMessageType ty)) e b c = let same = same_pair (unknown ty) (message first) new back (sym c ∙ e) in let clash = same.0 in cc
 takes_whole first others bytes more new back (Err OutOfMemory) e b c = c
+takes_whole first others bytes more new back (Err _) e b c = absurd c
 
 takes_short : (first : RawMessage) (others : List RawMessage) (bytes more new : List ℕ) (answer : Result (Option RawMessage) DecodingError) → item_at bytes ≡ None → length bytes < length (spelled first) → ConsumesNext bytes answer new → TakesFirst first others bytes more answer new
 takes_short first others bytes more new (Ok None) e lt c = (lt, c.1)
 takes_short first others bytes more new (Ok (Some found)) e lt c = absurd cc
 takes_short first others bytes more new (Err (UnknownMessageType ty)) e lt c = absurd cc
 takes_short first others bytes more new (Err OutOfMemory) e lt c = c
+takes_short first others bytes more new (Err _) e lt c = absurd c
 
 pub takes_first : (first : RawMessage) (others : List RawMessage) (bytes more new : List ℕ) (answer : Result (Option RawMessage) DecodingError) → IsFrame first → bytes ++ more ≡ stream (first ∷ others) → ConsumesNext bytes answer new → TakesFirst first others bytes more answer new
 takes_first first others bytes more new answer is e c = go (ltb (length bytes) (length (spelled first))) refl

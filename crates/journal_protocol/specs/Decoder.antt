@@ -5,12 +5,13 @@ use Rattle.journal_protocol.specs.declared.decoder.DecodingError.{DecodingError}
 use Rattle.journal_protocol.specs.declared.decoder.DecodingError.TheVariants.{UnknownMessageType, OutOfMemory}
 use Rattle.journal_protocol.specs.Item.{Item, item_at, unknown, message}
 
--- The item at the front is taken; without a whole one, or without memory, nothing changes.
+-- The item at the front is taken; without a whole one, or without memory, nothing changes. No payload is read.
 abbrev pub ConsumesNext : List ℕ → Result (Option RawMessage) DecodingError → List ℕ → Type 0
 ConsumesNext old (Ok None) new = (item_at old ≡ None) × (new ≡ old)
 ConsumesNext old (Ok (Some found)) new = item_at old ≡ Some (message found, new)
 ConsumesNext old (Err (UnknownMessageType ty)) new = item_at old ≡ Some (unknown ty, new)
 ConsumesNext old (Err OutOfMemory) new = new ≡ old
+ConsumesNext old (Err _) new = ⊥
 
 -- ---- a decoder over its whole life
 
@@ -39,7 +40,7 @@ abbrev pub items_in : Result (Option RawMessage) DecodingError → List Item
 items_in (Ok None) = []
 items_in (Ok (Some found)) = message found ∷ []
 items_in (Err (UnknownMessageType ty)) = unknown ty ∷ []
-items_in (Err OutOfMemory) = []
+items_in (Err _) = []
 
 abbrev pub answered_items : List DecoderCall → List Item
 answered_items [] = []

@@ -16,7 +16,7 @@ pub use conversion::{
     to_failure, to_failure_record, to_header, to_header_record, to_header_records, to_headers,
     to_non_empty_value, to_output_result, to_terminal_failure,
 };
-pub use decoder::{Decoder, DecodingError, RawMessage};
+pub use decoder::{Decoder, DecodingError, NotificationField, RawMessage};
 pub use encoder::{EncodingError, write_message};
 pub use header::MessageHeader;
 pub use message_type::{MessageType, UnknownMessageType};

@@ -1,0 +1,4 @@
+pub mod Frames
+pub mod Preorder
+pub mod Reading
+pub mod Suspensions

@@ -1,0 +1,106 @@
+// Records as the frames of messages.
+ghost use Rattle.std.specs.Prelude.{◌≡◌, ◌≤◌, ◌++◌, drop, length};
+ghost use Rattle.std.specs.Int.{w64, to_be_bytes};
+ghost use Rattle.journal_protocol.specs.declared.decoder.RawMessage.{RawMessage};
+ghost use Rattle.journal_protocol.specs.declared.version.Version.{Version as Versions};
+ghost use Rattle.journal_protocol.specs.Header.{word_of};
+ghost use Rattle.typed_messages.specs.Encoded.{is_before_7 as is_before, record_message, plain_message, EncodesTo};
+
+use crate::message::PlainMessage;
+use bytes::Bytes;
+use journal_protocol::{EncodingError, MessageHeader, MessageType, Version};
+use protocol_wire::Record;
+use std::alloc::Global;
+
+/// The bytes of a header.
+const HEADER_LEN: usize = 8;
+
+/// Whether run proposals are not to be acknowledged yet, and suspensions are lists and no tree.
+pub(crate) fn is_before_7(version: Version) -> bool
+    ensures { result ≡ is_before version }
+{
+    version.number() < 7
+}
+
+// Overwrites the first bytes with those of a header.
+fn write_header(frame: &mut [u8], header: MessageHeader)
+    requires { 8 ≤ length frame.old }
+    ensures { frame.new ≡ to_be_bytes w64 (word_of header) ++ drop 8 frame.old }
+{
+    frame[..HEADER_LEN].copy_from_slice(&u64::from(header).to_be_bytes());
+}
+
+fn put_header(frame: &mut Vec<u8>, header: MessageHeader)
+    requires { 8 ≤ length frame.old.items }
+    ensures { frame.new.items ≡ to_be_bytes w64 (word_of header) ++ drop 8 frame.old.items }
+{
+    write_header(frame.as_mut_slice(), header);
+}
+
+/// What an encoder writes as a message.
+pub trait RestateEncodableMessage {
+    ghost message_at: { Versions → Self → RawMessage };
+
+    /// The frame in this version: the header, and the one canonical spelling of the payload.
+    fn encode(&self, alloc: Global, version: Version) -> Result<Bytes, EncodingError>
+        ensures { EncodesTo (message_at version self.now) result };
+}
+
+impl<M: PlainMessage> RestateEncodableMessage for M {
+    ghost message_at = { λ version one. plain_message M.record_type version (M.parts one) };
+
+    fn encode(&self, alloc: Global, version: Version) -> Result<Bytes, EncodingError> {
+        encode_record(alloc, M::ty(), self, version)
+    }
+}
+
+/// The frame of a record as a message of this type, which a type that can asks to acknowledge from version 7 on.
+///
+/// For the types that share a record. A record of one type is written by `RestateEncodableMessage`.
+pub fn encode_record<R: Record>(
+    alloc: Global,
+    ty: MessageType,
+    one: &R,
+    version: Version,
+) -> Result<Bytes, EncodingError>
+    ensures { EncodesTo (record_message ty version (R.parts one.now)) result }
+{
+    let mut out = Vec::new(alloc);
+    out.extend_from_slice(&[0; HEADER_LEN])?;
+    one.spell(alloc, &mut out)?;
+    let Ok(length) = u32::try_from(out.len() - HEADER_LEN) else {
+        return Err(EncodingError::PayloadTooLong);
+    };
+    let header = MessageHeader::new_with_requested_ack(ty, !is_before_7(version), length);
+    put_header(&mut out, header);
+    match Bytes::from_vec(out) {
+        Ok(frame) => Ok(frame),
+        Err(_) => Err(EncodingError::OutOfMemory),
+    }
+}
+
+/// Writes messages in one version.
+#[derive(Clone, Copy, Debug)]
+pub struct Encoder {
+    version: Version,
+}
+
+impl Encoder {
+    /// An encoder of this version.
+    pub fn new(version: Version) -> Encoder
+        ensures { result ≡ record { version = version } }
+    {
+        Encoder { version }
+    }
+
+    /// The frame of a message.
+    pub fn encode<M: RestateEncodableMessage>(
+        &self,
+        alloc: Global,
+        message: &M,
+    ) -> Result<Bytes, EncodingError>
+        ensures { EncodesTo (M.message_at self.now.version message.now) result }
+    {
+        message.encode(alloc, self.version)
+    }
+}
