@@ -2,9 +2,9 @@
 use Rattle.std.specs.Prelude.{ℕ, List, None}
 use Rattle.protocol_errors.specs.declared.error.Error.{Error}
 use Rattle.protocol_errors.specs.declared.error.ErrorBehavior.TheVariants.{Retry}
-use Rattle.protocol_errors.specs.Code.{code_numbered, internal, protocol_violation}
+use Rattle.protocol_errors.specs.Code.{code_numbered, internal, journal_mismatch, protocol_violation}
 use Rattle.journal_protocol.specs.declared.decoder.DecodingError.{DecodingError}
-use Rattle.journal_protocol.specs.declared.decoder.DecodingError.TheVariants.{UnknownMessageType, OutOfMemory}
+use Rattle.journal_protocol.specs.declared.decoder.DecodingError.TheVariants.{UnexpectedMessageType, OutOfMemory}
 
 -- an error that tells no command and no delay, and is retried
 abbrev pub plain_error : ℕ → List ℕ → Error
@@ -16,7 +16,8 @@ plain_error number message = record {
   behavior = Retry;
 }
 
--- memory that was refused is internal, anything else the fault of the other side
+-- memory that was refused is internal, another message than was asked for a mismatch, anything else the fault of the other side
 abbrev pub decoding_code : DecodingError → ℕ
-decoding_code (UnknownMessageType unknown) = protocol_violation
+decoding_code (UnexpectedMessageType expected actual index) = journal_mismatch
 decoding_code OutOfMemory = internal
+decoding_code _ = protocol_violation

@@ -173,7 +173,8 @@ impl WithInvocationErrorCode for EncodingError {
     }
 }
 
-/// Memory that was refused is internal, anything else the fault of the other side.
+/// Memory that was refused is internal, another message than was asked for a mismatch of the journal, anything else the fault
+/// of the other side.
 impl WithInvocationErrorCode for DecodingError {
     ghost use Rattle.protocol_errors.specs.Error.{decoding_code};
 
@@ -181,8 +182,9 @@ impl WithInvocationErrorCode for DecodingError {
 
     fn code(&self) -> InvocationErrorCode {
         match self {
-            DecodingError::UnknownMessageType(_) => codes::PROTOCOL_VIOLATION,
+            DecodingError::UnexpectedMessageType { .. } => codes::JOURNAL_MISMATCH,
             DecodingError::OutOfMemory => codes::INTERNAL,
+            _ => codes::PROTOCOL_VIOLATION,
         }
     }
 }
