@@ -1,11 +1,9 @@
 //! The frames that records are written as.
 use bytes::{ByteStr, Bytes};
+use control_records::{ProposeRunCompletionMessage, ProposeRunCompletionResult};
 use journal_protocol::{MessageType, Version};
 use notification_records::{NotificationMessage, NotificationMessageId, NotificationMessageResult};
-use protocol_records::{
-    CombinatorType, Future, ProposeRunCompletionMessage, ProposeRunCompletionResult,
-    SleepCommandMessage, SuspensionMessage, Void,
-};
+use protocol_records::{CombinatorType, Future, SleepCommandMessage, SuspensionMessage, Void};
 use sequence::Sequence;
 use std::alloc::{AllocError, Global};
 use std::test::Fail;
