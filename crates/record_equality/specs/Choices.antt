@@ -1,5 +1,5 @@
 -- When what a command chooses among is the same: it is the same variant, which holds the same.
-use Rattle.std.specs.Prelude.{◌≡◌, ℕ, Bool, true, false, nat_eq, refl}
+use Rattle.std.specs.Prelude.{◌≡◌, Bool, true, false, nat_eq}
 use Rattle.std.proofs.Common.{ap}
 use Rattle.record_equality.specs.Tells.{Tells, whole}
 use Rattle.record_equality.specs.Parts.{same_text, numbers_tell, texts_tell}

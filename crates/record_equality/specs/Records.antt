@@ -1,5 +1,5 @@
 -- When records, and what they hold, are the same: every field is.
-use Rattle.std.specs.Prelude.{◌≡◌, ℕ, Bool, true, false, ◌&&◌, List, Option, nat_eq, refl}
+use Rattle.std.specs.Prelude.{ℕ, Bool, true, ◌&&◌, List, Option, nat_eq, refl}
 use Rattle.std.proofs.Common.{ap}
 use Rattle.std.specs.Cmp.Lexicographic.{pointwise, pointwise_decides, bytes_decides}
 use Rattle.record_equality.specs.Tells.{Tells, whole, in_full, deciding, both_tell, parts_tell}

@@ -1,9 +1,8 @@
 -- Tests that tell whether two values are the same after something in them was erased.
-use Rattle.std.specs.Prelude.{◌≡◌, ℕ, Bool, true, false, ◌&&◌, List, Option, Some, None, nat_eq, refl}
-use Rattle.std.proofs.Common.{ap, subst, sym}
+use Rattle.std.specs.Prelude.{◌≡◌, Bool, true, ◌&&◌, Option, Some, None, nat_eq, refl}
+use Rattle.std.proofs.Common.{ap}
 use Rattle.std.proofs.lemmas.Bool.{and_parts, and_from, eqb-true, eq-eqb}
 use Rattle.std.specs.Option.{option_eq, option_map}
-use Rattle.std.specs.Cmp.Lexicographic.{pointwise, pointwise_decides, bytes_decides}
 
 -- the test is true exactly where both are the same after the erasure
 pub record Tells {A B : Type 0} (test : A → A → Bool) (erased : A → B) : Type 0 where

@@ -1,5 +1,5 @@
-use Rattle.std.proofs.Common.{ℕ, ◌+◌, ◌&&◌, drop, refl, sym, ap, ◌∙◌, rules, arith}
-use Rattle.std.specs.Cmp.Lexicographic.{pointwise, unequal}
+use Rattle.std.proofs.Common.{ℕ, ◌+◌, ◌&&◌, drop, sym, ap, ◌∙◌, arith}
+use Rattle.std.specs.Cmp.Lexicographic.{pointwise}
 use Rattle.record_equality.proofs.Lists.{begun, ended}
 use Rattle.record_equality.proofs.parts.is_same_list.Goals as goal
 
