@@ -19,7 +19,8 @@ same_input_command ignoring x y = true
 pub input_command_tells : (ignoring : Bool) → Tells (same_input_command ignoring) (erased_input_command ignoring)
 input_command_tells ignoring = record { alike = λ x y h. refl; found = λ x y h. refl }
 
-pub input_command_coarser : (x y : InputCommandMessage) → erased_input_command false x ≡ erased_input_command false y → erased_input_command true x ≡ erased_input_command true y
+pub input_command_coarser : (x y : InputCommandMessage) → erased_input_command false x ≡ erased_input_command false y
+    → erased_input_command true x ≡ erased_input_command true y
 input_command_coarser x y h = h
 
 abbrev pub erased_output_command : Bool → OutputCommandMessage → OutputCommandMessage
@@ -39,7 +40,8 @@ output_command_tells ignoring =
 output_command_again : (x : OutputCommandMessage) → erased_output_command true (erased_output_command false x) ≡ erased_output_command true x
 output_command_again x = λ i. record { name = x.name; result = options_erased (erased_output_result true) (erased_output_result false) output_result_erased x.result i }
 
-pub output_command_coarser : (x y : OutputCommandMessage) → erased_output_command false x ≡ erased_output_command false y → erased_output_command true x ≡ erased_output_command true y
+pub output_command_coarser : (x y : OutputCommandMessage) → erased_output_command false x ≡ erased_output_command false y
+    → erased_output_command true x ≡ erased_output_command true y
 output_command_coarser x y h = sym (output_command_again x) ∙ ap (erased_output_command true) h ∙ output_command_again y
 
 abbrev pub erased_sleep_command : Bool → SleepCommandMessage → SleepCommandMessage
@@ -56,5 +58,6 @@ sleep_command_tells ignoring =
     parts_tell sleep_command_parts (erased_sleep_command ignoring) (λ x y h i. record { wake_up_time = 0; result_completion_id = (h i).0; name = (h i).1 }) (λ x y h. ap sleep_command_parts h)
     (both_tell numbers_tell texts_tell)
 
-pub sleep_command_coarser : (x y : SleepCommandMessage) → erased_sleep_command false x ≡ erased_sleep_command false y → erased_sleep_command true x ≡ erased_sleep_command true y
+pub sleep_command_coarser : (x y : SleepCommandMessage) → erased_sleep_command false x ≡ erased_sleep_command false y
+    → erased_sleep_command true x ≡ erased_sleep_command true y
 sleep_command_coarser x y h = h

@@ -25,7 +25,8 @@ get_promise_command_tells ignoring =
     parts_tell get_promise_command_parts (erased_get_promise_command ignoring) (λ x y h i. record { key = (h i).0.0; result_completion_id = (h i).0.1; name = (h i).1 }) (λ x y h. ap get_promise_command_parts h)
     (both_tell (both_tell texts_tell numbers_tell) texts_tell)
 
-pub get_promise_command_coarser : (x y : GetPromiseCommandMessage) → erased_get_promise_command false x ≡ erased_get_promise_command false y → erased_get_promise_command true x ≡ erased_get_promise_command true y
+pub get_promise_command_coarser : (x y : GetPromiseCommandMessage) → erased_get_promise_command false x ≡ erased_get_promise_command false y
+    → erased_get_promise_command true x ≡ erased_get_promise_command true y
 get_promise_command_coarser x y h = h
 
 abbrev pub erased_peek_promise_command : Bool → PeekPromiseCommandMessage → PeekPromiseCommandMessage
@@ -42,14 +43,24 @@ peek_promise_command_tells ignoring =
     parts_tell peek_promise_command_parts (erased_peek_promise_command ignoring) (λ x y h i. record { key = (h i).0.0; result_completion_id = (h i).0.1; name = (h i).1 }) (λ x y h. ap peek_promise_command_parts h)
     (both_tell (both_tell texts_tell numbers_tell) texts_tell)
 
-pub peek_promise_command_coarser : (x y : PeekPromiseCommandMessage) → erased_peek_promise_command false x ≡ erased_peek_promise_command false y → erased_peek_promise_command true x ≡ erased_peek_promise_command true y
+pub peek_promise_command_coarser : (x y : PeekPromiseCommandMessage) → erased_peek_promise_command false x ≡ erased_peek_promise_command false y
+    → erased_peek_promise_command true x ≡ erased_peek_promise_command true y
 peek_promise_command_coarser x y h = h
 
 abbrev pub erased_complete_promise_command : Bool → CompletePromiseCommandMessage → CompletePromiseCommandMessage
-erased_complete_promise_command ignoring x = record { key = x.key; completion = option_map (erased_completion ignoring) x.completion; result_completion_id = x.result_completion_id; name = x.name }
+erased_complete_promise_command ignoring x = record {
+  key = x.key;
+  completion = option_map (erased_completion ignoring) x.completion;
+  result_completion_id = x.result_completion_id;
+  name = x.name;
+}
 
 abbrev pub same_complete_promise_command : Bool → CompletePromiseCommandMessage → CompletePromiseCommandMessage → Bool
-same_complete_promise_command ignoring x y = same_text x.key y.key && option_eq (same_completion ignoring) x.completion y.completion && nat_eq x.result_completion_id y.result_completion_id && same_text x.name y.name
+same_complete_promise_command ignoring x y =
+    same_text x.key y.key
+    && option_eq (same_completion ignoring) x.completion y.completion
+    && nat_eq x.result_completion_id y.result_completion_id
+    && same_text x.name y.name
 
 abbrev complete_promise_command_parts : CompletePromiseCommandMessage → (((List ℕ) × (Option CompletePromiseCommandCompletion)) × ℕ) × (List ℕ)
 complete_promise_command_parts x = (((x.key, x.completion), x.result_completion_id), x.name)
@@ -62,7 +73,8 @@ complete_promise_command_tells ignoring =
 complete_promise_command_again : (x : CompletePromiseCommandMessage) → erased_complete_promise_command true (erased_complete_promise_command false x) ≡ erased_complete_promise_command true x
 complete_promise_command_again x = λ i. record { key = x.key; completion = options_erased (erased_completion true) (erased_completion false) completion_erased x.completion i; result_completion_id = x.result_completion_id; name = x.name }
 
-pub complete_promise_command_coarser : (x y : CompletePromiseCommandMessage) → erased_complete_promise_command false x ≡ erased_complete_promise_command false y → erased_complete_promise_command true x ≡ erased_complete_promise_command true y
+pub complete_promise_command_coarser : (x y : CompletePromiseCommandMessage) → erased_complete_promise_command false x ≡ erased_complete_promise_command false y
+    → erased_complete_promise_command true x ≡ erased_complete_promise_command true y
 complete_promise_command_coarser x y h = sym (complete_promise_command_again x) ∙ ap (erased_complete_promise_command true) h ∙ complete_promise_command_again y
 
 abbrev pub erased_run_command : Bool → RunCommandMessage → RunCommandMessage
@@ -79,5 +91,6 @@ run_command_tells ignoring =
     parts_tell run_command_parts (erased_run_command ignoring) (λ x y h i. record { result_completion_id = (h i).0; name = (h i).1 }) (λ x y h. ap run_command_parts h)
     (both_tell numbers_tell texts_tell)
 
-pub run_command_coarser : (x y : RunCommandMessage) → erased_run_command false x ≡ erased_run_command false y → erased_run_command true x ≡ erased_run_command true y
+pub run_command_coarser : (x y : RunCommandMessage) → erased_run_command false x ≡ erased_run_command false y
+    → erased_run_command true x ≡ erased_run_command true y
 run_command_coarser x y h = h

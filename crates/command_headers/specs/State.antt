@@ -31,7 +31,8 @@ get_lazy_state_command_tells ignoring =
     parts_tell get_lazy_state_command_parts (erased_get_lazy_state_command ignoring) (λ x y h i. record { key = (h i).0.0; result_completion_id = (h i).0.1; name = (h i).1 }) (λ x y h. ap get_lazy_state_command_parts h)
     (both_tell (both_tell texts_tell numbers_tell) texts_tell)
 
-pub get_lazy_state_command_coarser : (x y : GetLazyStateCommandMessage) → erased_get_lazy_state_command false x ≡ erased_get_lazy_state_command false y → erased_get_lazy_state_command true x ≡ erased_get_lazy_state_command true y
+pub get_lazy_state_command_coarser : (x y : GetLazyStateCommandMessage) → erased_get_lazy_state_command false x ≡ erased_get_lazy_state_command false y
+    → erased_get_lazy_state_command true x ≡ erased_get_lazy_state_command true y
 get_lazy_state_command_coarser x y h = h
 
 abbrev pub erased_get_lazy_state_keys_command : Bool → GetLazyStateKeysCommandMessage → GetLazyStateKeysCommandMessage
@@ -48,14 +49,18 @@ get_lazy_state_keys_command_tells ignoring =
     parts_tell get_lazy_state_keys_command_parts (erased_get_lazy_state_keys_command ignoring) (λ x y h i. record { result_completion_id = (h i).0; name = (h i).1 }) (λ x y h. ap get_lazy_state_keys_command_parts h)
     (both_tell numbers_tell texts_tell)
 
-pub get_lazy_state_keys_command_coarser : (x y : GetLazyStateKeysCommandMessage) → erased_get_lazy_state_keys_command false x ≡ erased_get_lazy_state_keys_command false y → erased_get_lazy_state_keys_command true x ≡ erased_get_lazy_state_keys_command true y
+pub get_lazy_state_keys_command_coarser : (x y : GetLazyStateKeysCommandMessage) → erased_get_lazy_state_keys_command false x ≡ erased_get_lazy_state_keys_command false y
+    → erased_get_lazy_state_keys_command true x ≡ erased_get_lazy_state_keys_command true y
 get_lazy_state_keys_command_coarser x y h = h
 
 abbrev pub erased_get_eager_state_command : Bool → GetEagerStateCommandMessage → GetEagerStateCommandMessage
 erased_get_eager_state_command ignoring x = record { key = x.key; name = x.name; result = option_map (erased_state_result ignoring) x.result }
 
 abbrev pub same_get_eager_state_command : Bool → GetEagerStateCommandMessage → GetEagerStateCommandMessage → Bool
-same_get_eager_state_command ignoring x y = same_text x.key y.key && same_text x.name y.name && option_eq (same_state_result ignoring) x.result y.result
+same_get_eager_state_command ignoring x y =
+    same_text x.key y.key
+    && same_text x.name y.name
+    && option_eq (same_state_result ignoring) x.result y.result
 
 abbrev get_eager_state_command_parts : GetEagerStateCommandMessage → ((List ℕ) × (List ℕ)) × (Option GetEagerStateCommandResult)
 get_eager_state_command_parts x = ((x.key, x.name), x.result)
@@ -68,7 +73,8 @@ get_eager_state_command_tells ignoring =
 get_eager_state_command_again : (x : GetEagerStateCommandMessage) → erased_get_eager_state_command true (erased_get_eager_state_command false x) ≡ erased_get_eager_state_command true x
 get_eager_state_command_again x = λ i. record { key = x.key; name = x.name; result = options_erased (erased_state_result true) (erased_state_result false) state_result_erased x.result i }
 
-pub get_eager_state_command_coarser : (x y : GetEagerStateCommandMessage) → erased_get_eager_state_command false x ≡ erased_get_eager_state_command false y → erased_get_eager_state_command true x ≡ erased_get_eager_state_command true y
+pub get_eager_state_command_coarser : (x y : GetEagerStateCommandMessage) → erased_get_eager_state_command false x ≡ erased_get_eager_state_command false y
+    → erased_get_eager_state_command true x ≡ erased_get_eager_state_command true y
 get_eager_state_command_coarser x y h = sym (get_eager_state_command_again x) ∙ ap (erased_get_eager_state_command true) h ∙ get_eager_state_command_again y
 
 abbrev pub erased_get_eager_state_keys_command : Bool → GetEagerStateKeysCommandMessage → GetEagerStateKeysCommandMessage
@@ -85,7 +91,8 @@ get_eager_state_keys_command_tells ignoring =
     parts_tell get_eager_state_keys_command_parts (erased_get_eager_state_keys_command ignoring) (λ x y h i. record { name = (h i).0; value = (h i).1 }) (λ x y h. ap get_eager_state_keys_command_parts h)
     (both_tell texts_tell (in_full (options_decide (deciding state_keys_tells))))
 
-pub get_eager_state_keys_command_coarser : (x y : GetEagerStateKeysCommandMessage) → erased_get_eager_state_keys_command false x ≡ erased_get_eager_state_keys_command false y → erased_get_eager_state_keys_command true x ≡ erased_get_eager_state_keys_command true y
+pub get_eager_state_keys_command_coarser : (x y : GetEagerStateKeysCommandMessage) → erased_get_eager_state_keys_command false x ≡ erased_get_eager_state_keys_command false y
+    → erased_get_eager_state_keys_command true x ≡ erased_get_eager_state_keys_command true y
 get_eager_state_keys_command_coarser x y h = h
 
 abbrev pub erased_set_state_command : Bool → SetStateCommandMessage → SetStateCommandMessage
@@ -105,7 +112,8 @@ set_state_command_tells ignoring =
 set_state_command_again : (x : SetStateCommandMessage) → erased_set_state_command true (erased_set_state_command false x) ≡ erased_set_state_command true x
 set_state_command_again x = λ i. record { key = x.key; value = options_erased (erased_value true) (erased_value false) value_erased x.value i; name = x.name }
 
-pub set_state_command_coarser : (x y : SetStateCommandMessage) → erased_set_state_command false x ≡ erased_set_state_command false y → erased_set_state_command true x ≡ erased_set_state_command true y
+pub set_state_command_coarser : (x y : SetStateCommandMessage) → erased_set_state_command false x ≡ erased_set_state_command false y
+    → erased_set_state_command true x ≡ erased_set_state_command true y
 set_state_command_coarser x y h = sym (set_state_command_again x) ∙ ap (erased_set_state_command true) h ∙ set_state_command_again y
 
 abbrev pub erased_clear_state_command : Bool → ClearStateCommandMessage → ClearStateCommandMessage
@@ -122,7 +130,8 @@ clear_state_command_tells ignoring =
     parts_tell clear_state_command_parts (erased_clear_state_command ignoring) (λ x y h i. record { key = (h i).0; name = (h i).1 }) (λ x y h. ap clear_state_command_parts h)
     (both_tell texts_tell texts_tell)
 
-pub clear_state_command_coarser : (x y : ClearStateCommandMessage) → erased_clear_state_command false x ≡ erased_clear_state_command false y → erased_clear_state_command true x ≡ erased_clear_state_command true y
+pub clear_state_command_coarser : (x y : ClearStateCommandMessage) → erased_clear_state_command false x ≡ erased_clear_state_command false y
+    → erased_clear_state_command true x ≡ erased_clear_state_command true y
 clear_state_command_coarser x y h = h
 
 abbrev pub erased_clear_all_state_command : Bool → ClearAllStateCommandMessage → ClearAllStateCommandMessage
@@ -136,5 +145,6 @@ clear_all_state_command_tells ignoring =
     parts_tell (λ (x : ClearAllStateCommandMessage). x.name) (erased_clear_all_state_command ignoring) (λ x y h i. record { name = (h i) }) (λ x y h. ap (λ (x : ClearAllStateCommandMessage). x.name) h)
     texts_tell
 
-pub clear_all_state_command_coarser : (x y : ClearAllStateCommandMessage) → erased_clear_all_state_command false x ≡ erased_clear_all_state_command false y → erased_clear_all_state_command true x ≡ erased_clear_all_state_command true y
+pub clear_all_state_command_coarser : (x y : ClearAllStateCommandMessage) → erased_clear_all_state_command false x ≡ erased_clear_all_state_command false y
+    → erased_clear_all_state_command true x ≡ erased_clear_all_state_command true y
 clear_all_state_command_coarser x y h = h
