@@ -2,10 +2,10 @@
 use bytes::ByteStr;
 use journal_protocol::{CommandType, ContentTypeError, HeaderMap, MessageType, Version};
 use protocol_errors::{
-    AwaitedId, BadProposeRunCompletionAck, ClosedError, CommandMetadata, CommandMismatchError,
-    CommandTypeMismatchError, EMPTY_SCOPE, EphemeralStateGetWithClosedInput, Error, FixedError,
-    InvocationErrorCode, MISSING_CONTENT_TYPE, NotificationMetadata, OutOfBoundsDuration,
-    SUSPENDED, UnavailableEntryError, UncompletedDoProgressDuringReplay, UnexpectedStateError,
+    AwaitedId, BadProposeRunCompletionAck, ClosedError, CommandMetadata, CommandTypeMismatchError,
+    EMPTY_SCOPE, EphemeralStateGetWithClosedInput, Error, FixedError, InvocationErrorCode,
+    MISSING_CONTENT_TYPE, NotificationMetadata, OutOfBoundsDuration, SUSPENDED,
+    UnavailableEntryError, UncompletedDoProgressDuringReplay, UnexpectedStateError,
     UnsupportedFeatureForNegotiatedVersion, codes, to_error,
 };
 use std::alloc::{AllocError, Global};
@@ -231,19 +231,6 @@ fn mismatches(rt: HostRuntime) -> Result<(), Fail> {
     assert_eq!(rt;
         other.message(),
         "Found a mismatch between the code paths taken during the previous execution and the paths taken during this execution.\nThis typically happens when some parts of the code are non-deterministic.\n - The previous execution ran and recorded the following: 'RunCommand' (index '1')\n - The current execution attempts to perform the following: 'SleepCommand'"
-    );
-    Ok(())
-}
-
-#[test]
-fn fields_that_differ(rt: HostRuntime) -> Result<(), Fail> {
-    let error = CommandMismatchError::new(4, "a", "b");
-    let error = to_error(rt.alloc(), &error)?;
-    assert_eq!(rt; error.code(), 570);
-    assert!(rt;
-        error.message().ends_with(
-            "\n - The mismatch happened at index '4'\n   Actual: a\n   Expected: b"
-        )
     );
     Ok(())
 }

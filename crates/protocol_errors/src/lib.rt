@@ -19,7 +19,7 @@ pub use fixed::{
     MISSING_CONTENT_TYPE, SUSPENDED, UNEXPECTED_ENTRY_MESSAGE, UNEXPECTED_INPUT_MESSAGE,
 };
 pub use metadata::{CommandMetadata, NotificationMetadata};
-pub use mismatch::{CommandMismatchError, CommandTypeMismatchError};
+pub use mismatch::{CommandTypeMismatchError, write_mismatch};
 pub use typed::{
     BadEagerStateKeyError, BadProposeRunCompletionAck, ClosedError, DefaultErrorFormatter,
     EphemeralStateGetWithClosedInput, ErrorFormatter, OutOfBoundsDuration, UnavailableEntryError,

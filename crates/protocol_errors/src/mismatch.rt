@@ -1,4 +1,4 @@
-// Errors of a handler that does not do what the journal says that it did.
+// The error of a handler whose command is of another type than the recorded one.
 ghost use Rattle.std.specs.Prelude.{◌≡◌};
 ghost use Rattle.protocol_errors.specs.Code.{journal_mismatch};
 
@@ -57,49 +57,8 @@ impl WithInvocationErrorCode for CommandTypeMismatchError {
     }
 }
 
-/// A command of the recorded type whose fields differ from the recorded ones.
-#[derive(Debug, Drop)]
-pub struct CommandMismatchError<M> {
-    command_index: i64,
-    actual: M,
-    expected: M,
-}
-
-impl<M> CommandMismatchError<M> {
-    /// At this place of the journal, of the recorded command and the one that the handler asks for.
-    pub fn new(command_index: i64, actual: M, expected: M) -> CommandMismatchError<M>
-        ensures { result
-            ≡ record { command_index = command_index; actual = actual; expected = expected } }
-    {
-        CommandMismatchError {
-            command_index,
-            actual,
-            expected,
-        }
-    }
-}
-
-impl<M: fmt::Display> fmt::Display for CommandMismatchError<M> {
-    fn fmt<W: fmt::Write>(&self, f: &mut fmt::Formatter<W>) -> fmt::Result {
-        write_mismatch(f)?;
-        let (index, actual, expected) = (self.command_index, &self.actual, &self.expected);
-        write!(
-            f,
-            "\n - The mismatch happened at index '{index}'\n   Actual: {actual}\n   Expected: {expected}"
-        )
-    }
-}
-
-impl<M> WithInvocationErrorCode for CommandMismatchError<M> {
-    ghost code_of = { λ _. journal_mismatch };
-
-    fn code(&self) -> InvocationErrorCode {
-        codes::JOURNAL_MISMATCH
-    }
-}
-
-// How each text of a mismatch begins.
-pub(crate) fn write_mismatch<W: fmt::Write>(f: &mut fmt::Formatter<W>) -> fmt::Result {
+/// Writes how each text of a mismatch begins.
+pub fn write_mismatch<W: fmt::Write>(f: &mut fmt::Formatter<W>) -> fmt::Result {
     f.write_str(
         "Found a mismatch between the code paths taken during the previous execution and the paths taken during this execution.\nThis typically happens when some parts of the code are non-deterministic.",
     )

@@ -1,0 +1,6 @@
+pub mod Calls
+pub mod Control
+pub mod Invocations
+pub mod Laws
+pub mod Promises
+pub mod State
