@@ -9,8 +9,8 @@ use Rattle.call_records.specs.declared.complete_awakeable_command.CompleteAwakea
 use Rattle.call_records.specs.declared.complete_awakeable_command.CompleteAwakeableCommandResult.TheVariants as awakeables
 use Rattle.call_records.specs.declared.send_signal_command.SendSignalCommandResult.{SendSignalCommandResult}
 use Rattle.call_records.specs.declared.send_signal_command.SendSignalCommandResult.TheVariants as results
-use Rattle.protocol_records.specs.declared.propose_run_completion.ProposeRunCompletionResult.{ProposeRunCompletionResult}
-use Rattle.protocol_records.specs.declared.propose_run_completion.ProposeRunCompletionResult.TheVariants as proposals
+use Rattle.control_records.specs.declared.propose_run_completion.ProposeRunCompletionResult.{ProposeRunCompletionResult}
+use Rattle.control_records.specs.declared.propose_run_completion.ProposeRunCompletionResult.TheVariants as proposals
 
 abbrev pub widened : NonEmptyValue → Value
 widened (NonEmptyValue.Success bytes) = values.Success bytes

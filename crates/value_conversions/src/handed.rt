@@ -6,9 +6,10 @@ ghost use Rattle.value_conversions.specs.Carried.{completion_record, awakeable_r
 use bytes::Bytes;
 use call_records::{CompleteAwakeableCommandResult, SendSignalCommandResult};
 use command_records::CompletePromiseCommandCompletion;
+use control_records::ProposeRunCompletionResult;
 use journal_model::{NonEmptyValue, Value};
 use journal_protocol::to_failure_record;
-use protocol_records::{ProposeRunCompletionResult, Value as ValueRecord};
+use protocol_records::Value as ValueRecord;
 use std::alloc::{AllocError, Global};
 
 /// The value that a success of these bytes is.
