@@ -10,7 +10,6 @@ use Rattle.protocol_table.specs.declared.table.RecordType.TheVariants as types
 use Rattle.protocol_table.specs.declared.table.future.TheConstants as table
 use Rattle.protocol_wire.proofs.SoundAt.{level_left, records_sound}
 use Rattle.protocol_wire.proofs.Joins.{IsFine}
-use Rattle.protocol_records.specs.declared.future.CombinatorType.{CombinatorType}
 use Rattle.protocol_records.specs.declared.future.CombinatorType.TheVariants.{Unknown, FirstCompleted, AllCompleted, FirstSucceededOrAllFailed, AllSucceededOrFirstFailed, Other}
 use Rattle.protocol_records.specs.Future.{combinator_of, CombinatorFits, future_of, FutureFits}
 use Rattle.protocol_records.proofs.Futures.{future_fits as layer_fits}

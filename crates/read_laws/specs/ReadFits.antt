@@ -1,7 +1,7 @@
 -- What is read of one field fits, where nothing is wrong with the payload.
-use Rattle.std.specs.Prelude.{◌≡◌, ℕ, zero, suc, ◌+◌, ◌-◌, ◌*◌, ◌/◌, ◌%◌, ◌^◌, ◌<◌, ◌≤◌, Bool, true, false, cond, eqb, ltb, nat_le, List, [], ◌∷◌, map, take, drop, length, Option, Some, None, IfSome, IsUtf8, option_map, unwrap_or, refl}
+use Rattle.std.specs.Prelude.{◌≡◌, ℕ, zero, suc, ◌+◌, ◌-◌, ◌*◌, ◌/◌, ◌%◌, ◌^◌, ◌<◌, Bool, true, false, cond, eqb, ltb, nat_le, List, [], ◌∷◌, map, take, drop, length, Option, Some, None, IfSome, IsUtf8, option_map, unwrap_or, refl}
 use Rattle.std.specs.List.{AllByRecursion}
-use Rattle.std.proofs.Common.{arith, ap, sym, subst}
+use Rattle.std.proofs.Common.{arith, sym, subst}
 use Rattle.std.proofs.lemmas.Str.{IsUtf8-nil}
 use Rattle.std.proofs.lemmas.Bool.{ltb-true}
 use Rattle.protocol_wire.specs.Wire.{Wire, varint, bytes, fixed, Field, ◌>>=◌, varint_within, varint_at, bytes_at, value_at, field_at}
