@@ -78,7 +78,7 @@ module _ {Meant : Type 0} where
     looked_node shape leaves children tally h = (
       state_of_node shape tally _ _ h ∙ ap (λ found. Trees.combined_state (combinator_of shape) found) (sym (all_states leaves children)),
       h.ended ∙ ap (λ found. list_any (Trees.ends_at_once (combinator_of shape)) found || list_any (λ tree. Trees.has_ended_node tree states) children) (sym (all_states leaves children))
-      ∙ ap (λ b. list_any (Trees.ends_at_once (combinator_of shape)) (Trees.child_states (forest (map (λ leaf. Trees.Single leaf) leaves ++ children)) states) || b) (sym (all_ended leaves children)),
+          ∙ ap (λ b. list_any (Trees.ends_at_once (combinator_of shape)) (Trees.child_states (forest (map (λ leaf. Trees.Single leaf) leaves ++ children)) states) || b) (sym (all_ended leaves children)),
     )
 
     first_alone : (state : Trees.AwaitState) → Trees.first_completed (state ∷ []) ≡ state
@@ -93,7 +93,7 @@ module _ {Meant : Type 0} where
         let children_are = is.children_are in
         let tree_is = is.tree_is in
         let first : state_meant tally.first_completed ≡ Trees.first_completed (states is.leaf ∷ []) =
-            h.first ∙ ap (λ xs. Trees.first_completed (map states xs ++ map (λ tree. Trees.await_state tree states) children)) leaves_are ∙ ap (λ xs. Trees.first_completed (states is.leaf ∷ map (λ tree. Trees.await_state tree states) xs)) children_are in
+        h.first ∙ ap (λ xs. Trees.first_completed (map states xs ++ map (λ tree. Trees.await_state tree states) children)) leaves_are ∙ ap (λ xs. Trees.first_completed (states is.leaf ∷ map (λ tree. Trees.await_state tree states) xs)) children_are in
         record {
           state = first ∙ first_alone (states is.leaf) ∙ ap (λ (t : Trees.AwaitTree Meant). Trees.await_state t states) (sym tree_is);
           ended = ap (λ (t : Trees.AwaitTree Meant). Trees.has_ended_node t states) (sym tree_is);
@@ -122,7 +122,7 @@ module _ {Meant : Type 0} where
         → result ≡ added shape tally (record { state = state; has_ended = false }) → Tallies shape tally (map states (take i leaves)) false → Tallies shape result (map states (take (i + 1) leaves)) false
     leaf_tallied shape tally result leaves i leaf state there means is h =
         let list : map states (take (i + 1) leaves) ≡ map states (take i leaves) ++ state_meant state ∷ [] =
-            ap (λ xs. map states xs) (one_more leaves i leaf there) ∙ map-append states (take i leaves) (leaf ∷ []) ∙ ap (λ found. map states (take i leaves) ++ found ∷ []) (sym means) in
+        ap (λ xs. map states xs) (one_more leaves i leaf there) ∙ map-append states (take i leaves) (leaf ∷ []) ∙ ap (λ found. map states (take i leaves) ++ found ∷ []) (sym means) in
         rw (is, list) (tallied shape tally (map states (take i leaves)) false (record { state = state; has_ended = false }) h)
 
     -- one tree more
@@ -133,12 +133,12 @@ module _ {Meant : Type 0} where
     child_tallied shape tally result before children i child looked there means is h =
         let more = one_more children i child there in
         let list : before ++ map (λ tree. Trees.await_state tree states) (take (i + 1) children) ≡ (before ++ map (λ tree. Trees.await_state tree states) (take i children)) ++ state_meant looked.state ∷ [] =
-            ap (λ xs. before ++ map (λ tree. Trees.await_state tree states) xs) more
-            ∙ ap (λ xs. before ++ xs) (map-append (λ tree. Trees.await_state tree states) (take i children) (child ∷ []))
-            ∙ ap (λ found. before ++ (map (λ tree. Trees.await_state tree states) (take i children) ++ found ∷ [])) (sym means.state)
-            ∙ sym (append_assoc before (map (λ tree. Trees.await_state tree states) (take i children)) (state_meant looked.state ∷ [])) in
+        ap (λ xs. before ++ map (λ tree. Trees.await_state tree states) xs) more
+        ∙ ap (λ xs. before ++ xs) (map-append (λ tree. Trees.await_state tree states) (take i children) (child ∷ []))
+        ∙ ap (λ found. before ++ (map (λ tree. Trees.await_state tree states) (take i children) ++ found ∷ [])) (sym means.state)
+        ∙ sym (append_assoc before (map (λ tree. Trees.await_state tree states) (take i children)) (state_meant looked.state ∷ [])) in
         let ended : list_any (λ tree. Trees.has_ended_node tree states) (take (i + 1) children) ≡ (list_any (λ tree. Trees.has_ended_node tree states) (take i children) || looked.has_ended) =
-            ap (λ xs. list_any (λ tree. Trees.has_ended_node tree states) xs) more
-            ∙ list_any-append (λ tree. Trees.has_ended_node tree states) (take i children) (child ∷ [])
-            ∙ ap (λ b. list_any (λ tree. Trees.has_ended_node tree states) (take i children) || b) (sym (or_nothing (Trees.has_ended_node child states)) ∙ sym means.ended) in
+        ap (λ xs. list_any (λ tree. Trees.has_ended_node tree states) xs) more
+        ∙ list_any-append (λ tree. Trees.has_ended_node tree states) (take i children) (child ∷ [])
+        ∙ ap (λ b. list_any (λ tree. Trees.has_ended_node tree states) (take i children) || b) (sym (or_nothing (Trees.has_ended_node child states)) ∙ sym means.ended) in
         rw (is, list, ended) (tallied shape tally (before ++ map (λ tree. Trees.await_state tree states) (take i children)) (list_any (λ tree. Trees.has_ended_node tree states) (take i children)) looked h)

@@ -1,2 +1,3 @@
 pub mod Tallying
 pub mod Forests
+pub mod Places

@@ -64,9 +64,9 @@ tallied shape tally found below one h = record {
   all_succeeded = all_more Trees.is_succeeded found (state_meant one.state) tally.are_all_succeeded h.all_succeeded;
   all_failed = all_more Trees.is_failed found (state_meant one.state) tally.are_all_failed h.all_failed;
   ended =
-    ap (λ b. b || (Trees.ends_at_once (combinator_of shape) (state_meant one.state) || one.has_ended)) h.ended
-    ∙ swapped (list_any (Trees.ends_at_once (combinator_of shape)) found) below (Trees.ends_at_once (combinator_of shape) (state_meant one.state)) one.has_ended
-    ∙ ap (λ b. b || (below || one.has_ended)) (any_more (Trees.ends_at_once (combinator_of shape)) found (state_meant one.state) _ refl);
+      ap (λ b. b || (Trees.ends_at_once (combinator_of shape) (state_meant one.state) || one.has_ended)) h.ended
+      ∙ swapped (list_any (Trees.ends_at_once (combinator_of shape)) found) below (Trees.ends_at_once (combinator_of shape) (state_meant one.state)) one.has_ended
+      ∙ ap (λ b. b || (below || one.has_ended)) (any_more (Trees.ends_at_once (combinator_of shape)) found (state_meant one.state) _ refl);
 }
 
 -- ---- the state of a node

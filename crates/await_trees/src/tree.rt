@@ -48,19 +48,24 @@ pub trait AwaitTree: Copy {
 
     ghost is_shaped: { (t : Self) → IsShaped (shape_of t) (leaves_of t) (children_of t) (tree t) };
 
+    /// One leaf, or how it combines its children.
     fn shape(self) -> AwaitTreeShape
         ensures { result ≡ shape_of self };
 
-    fn leaf_count(self) -> usize
+    /// How many leaves it has itself. A node may have several lists of leaves, so the number may pass a `usize`.
+    fn leaf_count(self) -> u128
         ensures { result ≡ length (leaves_of self) };
 
-    fn leaf(self, index: usize) -> Self::Leaf
+    /// The leaf at this place, from 0 on.
+    fn leaf(self, index: u128) -> Self::Leaf
         requires { index < length (leaves_of self) }
         ensures { slice_get (leaves_of self) index ≡ Some (meant result) };
 
+    /// How many trees stand in it, behind its leaves.
     fn child_count(self) -> usize
         ensures { result ≡ length (children_of self) };
 
+    /// The tree at this place, from 0 on.
     fn child(self, index: usize) -> Self
         requires { index < length (children_of self) }
         ensures { slice_get (children_of self) index ≡ Some (tree result) };

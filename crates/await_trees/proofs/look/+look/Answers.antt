@@ -23,8 +23,8 @@ loop-place-preserved g t c = λ states are.
 pub returns : goal.returns
 returns g t c = λ states are.
     let children : take c.loop-place.place (g.T.AwaitTree.children_of c.args.tree) ≡ g.T.AwaitTree.children_of c.args.tree =
-        take_all c.loop-place.place (g.T.AwaitTree.children_of c.args.tree) (omega (arith, c.loop-place-test.false, c.child_count-place-end.ensures)) in
+    take_all c.loop-place.place (g.T.AwaitTree.children_of c.args.tree) (omega (arith, c.loop-place-test.false, c.child_count-place-end.ensures)) in
     let whole = looked_whole states c.shape-shape.result (g.T.AwaitTree.leaves_of c.args.tree) (g.T.AwaitTree.children_of c.args.tree) (g.T.AwaitTree.tree c.args.tree) c.loop-place.tally
-        (subst (λ (shape : AwaitTreeShape). IsShaped shape (g.T.AwaitTree.leaves_of c.args.tree) (g.T.AwaitTree.children_of c.args.tree) (g.T.AwaitTree.tree c.args.tree)) (sym c.shape-shape.ensures) (g.T.AwaitTree.is_shaped c.args.tree))
-        (rw children at (c.loop-place.invariant states are)) in
+    (subst (λ (shape : AwaitTreeShape). IsShaped shape (g.T.AwaitTree.leaves_of c.args.tree) (g.T.AwaitTree.children_of c.args.tree) (g.T.AwaitTree.tree c.args.tree)) (sym c.shape-shape.ensures) (g.T.AwaitTree.is_shaped c.args.tree))
+    (rw children at (c.loop-place.invariant states are)) in
     rw c.looked.ensures whole

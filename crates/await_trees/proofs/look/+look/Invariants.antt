@@ -16,4 +16,4 @@ invariant-loop-index g l = (states : g.T.AwaitTree.Meant → Trees.AwaitState) �
 abbrev pub invariant-loop-place : goal.invariant-loop-place
 invariant-loop-place g l = (states : g.T.AwaitTree.Meant → Trees.AwaitState) → AreStates (λ leaf state. g.F.Fn.post l.leaves (leaf, tt) state) g.T.AwaitTree.meant states
     → Tallies l.shape l.tally (map states (g.T.AwaitTree.leaves_of l.tree) ++ map (λ tree. Trees.await_state tree states) (take l.place (g.T.AwaitTree.children_of l.tree)))
-        (list_any (λ tree. Trees.has_ended_node tree states) (take l.place (g.T.AwaitTree.children_of l.tree)))
+    (list_any (λ tree. Trees.has_ended_node tree states) (take l.place (g.T.AwaitTree.children_of l.tree)))
