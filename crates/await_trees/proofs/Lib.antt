@@ -1,3 +1,0 @@
-pub mod Tallying
-pub mod Forests
-pub mod Places

@@ -1,5 +1,0 @@
-pub mod Shape
-pub mod Tally
-pub mod Look
-pub mod Future
-pub mod FutureShape
