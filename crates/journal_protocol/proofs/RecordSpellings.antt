@@ -37,14 +37,14 @@ use Rattle.journal_protocol.proofs.Spellings.{plain_number-is, plain_bytes-is, o
 
 -- ---- records in records
 
-value_spelling : (bytes : List ℕ) → payload_of (value_parts (value_record bytes)) ≡ model.value_payload bytes
+pub value_spelling : (bytes : List ℕ) → payload_of (value_parts (value_record bytes)) ≡ model.value_payload bytes
 value_spelling bytes = payload_is (value_parts (value_record bytes)) _ (spelled-last _ _ _ refl (plain_bytes-is 1 bytes))
 
 -- a record of two fields of bytes
 pair_of : (first second : List ℕ) → AreSpelled (parts.plain_bytes 1 first ∷ parts.plain_bytes 2 second ∷ []) (model.plain_bytes 1 first ++ model.plain_bytes 2 second)
 pair_of first second = spelled-cons _ _ _ _ (plain_bytes-is 1 first) (spelled-last _ _ _ refl (plain_bytes-is 2 second))
 
-header_spelling : (header : Header) → payload_of (header_parts (header_record header)) ≡ model.header_payload header
+pub header_spelling : (header : Header) → payload_of (header_parts (header_record header)) ≡ model.header_payload header
 header_spelling header = (pair_of header.key header.value).payload
 
 pair_spelling : (pair : List ℕ × List ℕ) → payload_of (failure_metadata_parts (pair_record pair)) ≡ model.pair_payload pair
@@ -58,23 +58,23 @@ all_spelled : {A B : Type 0} (made : A → B) (spell : B → List ℕ) (wanted :
 all_spelled made spell wanted same [] = refl
 all_spelled made spell wanted same (x ∷ xs) = λ i. same x i ∷ all_spelled made spell wanted same xs i
 
-repeated : {A B : Type 0} (field : ℕ) (made : A → B) (spell : B → List ℕ) (wanted : A → List ℕ) → ((x : A) → spell (made x) ≡ wanted x) → (xs : List A) → part_spelling (parts.repeated_bytes field (map spell (map made xs))) ≡ model.repeated_bytes field (map wanted xs)
+pub repeated : {A B : Type 0} (field : ℕ) (made : A → B) (spell : B → List ℕ) (wanted : A → List ℕ) → ((x : A) → spell (made x) ≡ wanted x) → (xs : List A) → part_spelling (parts.repeated_bytes field (map spell (map made xs))) ≡ model.repeated_bytes field (map wanted xs)
 repeated field made spell wanted same xs = repeated_bytes-is field (map spell (map made xs)) ∙ ap (model.repeated_bytes field) (all_spelled made spell wanted same xs)
 
-failure_spelling : (failure : TerminalFailure) → payload_of (failure_parts (failure_record failure)) ≡ model.failure_payload (failure_recorded failure)
+pub failure_spelling : (failure : TerminalFailure) → payload_of (failure_parts (failure_record failure)) ≡ model.failure_payload (failure_recorded failure)
 failure_spelling failure =
     payload_is (failure_parts (failure_record failure)) _
     (spelled-cons _ _ _ _ (plain_number-is 1 failure.code)
     (spelled-cons _ _ _ _ (plain_bytes-is 2 failure.message)
     (spelled-last _ _ _ refl (repeated 3 pair_record (λ r. payload_of (failure_metadata_parts r)) model.pair_payload pair_spelling failure.metadata))))
 
-one_record : (field : ℕ) (payload spelling : List ℕ) → payload ≡ spelling → part_spelling (parts.optional_bytes field (Some payload)) ≡ model.bytes_field field spelling
+pub one_record : (field : ℕ) (payload spelling : List ℕ) → payload ≡ spelling → part_spelling (parts.optional_bytes field (Some payload)) ≡ model.bytes_field field spelling
 one_record field payload spelling e = optional_bytes-is field (Some payload) ∙ ap (model.bytes_field field) e
 
 -- ---- commands, and the start
 
 -- the fields of a completion's number and of a name, which end a command
-asked : (completion : ℕ) (name : List ℕ) → AreSpelled (parts.plain_number 11 completion ∷ parts.plain_bytes 12 name ∷ []) (model.asked_as completion name)
+pub asked : (completion : ℕ) (name : List ℕ) → AreSpelled (parts.plain_number 11 completion ∷ parts.plain_bytes 12 name ∷ []) (model.asked_as completion name)
 asked completion name = spelled-cons _ _ _ _ (plain_number-is 11 completion) (spelled-last _ _ _ refl (plain_bytes-is 12 name))
 
 pub sleeps_spelled : SleepsSpelled
@@ -164,7 +164,7 @@ pub futures_spelled : FuturesSpelled
 futures_spelled tree = sym (future_payload_is (future_record tree)) ∙ future_spelled tree
 
 -- the field of the tree
-tree_spelled : (tree : AwaitTree NotificationId) → part_spelling (parts.optional_bytes 1 (Some (payload_of (future_parts (future_record tree))))) ≡ model.bytes_field 1 (model.future_payload tree)
+pub tree_spelled : (tree : AwaitTree NotificationId) → part_spelling (parts.optional_bytes 1 (Some (payload_of (future_parts (future_record tree))))) ≡ model.bytes_field 1 (model.future_payload tree)
 tree_spelled tree = one_record 1 (payload_of (future_parts (future_record tree))) _ (futures_spelled tree)
 
 pub awaiting_on_spelled : AwaitingOnSpelled

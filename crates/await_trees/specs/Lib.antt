@@ -1,0 +1,5 @@
+pub mod Shape
+pub mod Tally
+pub mod Look
+pub mod Future
+pub mod FutureShape
