@@ -1,5 +1,8 @@
 // The error of a handler whose command is not the recorded one, though of its type.
-ghost use Rattle.std.specs.Prelude.{◌≡◌};
+ghost use Rattle.std.specs.Prelude.{◌≡◌, ◌++◌, Some};
+ghost use Rattle.std.specs.Fmt.{WritesOnOk};
+ghost use Rattle.protocol_errors.specs.Texts.{mismatch_text};
+ghost use Rattle.command_errors.specs.Mismatch.{place_text};
 ghost use Rattle.protocol_errors.specs.Code.{journal_mismatch};
 
 use command_differences::CommandMessageHeaderDiff;
@@ -28,15 +31,24 @@ impl<M> CommandMismatchError<M> {
     }
 }
 
+#[tactic(auto, unfolding(crate::specs::Mismatch::place_text))]
+// Writes the place in the journal.
+fn write_place<W: fmt::Write>(index: i64, f: &mut fmt::Formatter<W>) -> fmt::Result
+    ensures { WritesOnOk W.write_str_gives f.old result (place_text index) f.new }
+{
+    write!(
+        f,
+        "\n - The mismatch happened at index '{index}'\n - The recorded command and the one of this execution differ in:"
+    )
+}
+
 /// Prints the place, and a line for each field that differs, first as it is recorded.
 impl<M: CommandMessageHeaderDiff> fmt::Display for CommandMismatchError<M> {
+    ghost output = { λ error. Some (mismatch_text ++ place_text error.command_index ++ M.difference error.actual error.expected) };
+
     fn fmt<W: fmt::Write>(&self, f: &mut fmt::Formatter<W>) -> fmt::Result {
         write_mismatch(f)?;
-        let index = self.command_index;
-        write!(
-            f,
-            "\n - The mismatch happened at index '{index}'\n - The recorded command and the one of this execution differ in:"
-        )?;
+        write_place(self.command_index, f)?;
         self.actual.write_diff(&self.expected, f)
     }
 }

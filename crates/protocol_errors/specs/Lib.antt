@@ -2,3 +2,4 @@ pub mod Awaited
 pub mod Code
 pub mod Error
 pub mod Fixed
+pub mod Texts

@@ -1,6 +1,8 @@
 // The error of a handler whose command is of another type than the recorded one.
 ghost use Rattle.std.specs.Prelude.{◌≡◌};
+ghost use Rattle.std.specs.Fmt.{WritesOnOk};
 ghost use Rattle.protocol_errors.specs.Code.{journal_mismatch};
+ghost use Rattle.protocol_errors.specs.Texts.{mismatch_text};
 
 use crate::{InvocationErrorCode, WithInvocationErrorCode, codes};
 use journal_protocol::MessageType;
@@ -57,8 +59,11 @@ impl WithInvocationErrorCode for CommandTypeMismatchError {
     }
 }
 
+#[tactic(auto, unfolding(crate::specs::Texts::mismatch_text))]
 /// Writes how each text of a mismatch begins.
-pub fn write_mismatch<W: fmt::Write>(f: &mut fmt::Formatter<W>) -> fmt::Result {
+pub fn write_mismatch<W: fmt::Write>(f: &mut fmt::Formatter<W>) -> fmt::Result
+    ensures { WritesOnOk W.write_str_gives f.old result mismatch_text f.new }
+{
     f.write_str(
         "Found a mismatch between the code paths taken during the previous execution and the paths taken during this execution.\nThis typically happens when some parts of the code are non-deterministic.",
     )

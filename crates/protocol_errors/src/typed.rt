@@ -1,5 +1,6 @@
 // Errors with types of their own.
-ghost use Rattle.std.specs.Prelude.{◌≡◌, Some};
+ghost use Rattle.std.specs.Prelude.{◌≡◌, ℕ, List, Some};
+ghost use Rattle.std.specs.Fmt.{WritesOnOk};
 ghost use Rattle.protocol_errors.specs.Code.{internal, journal_mismatch, protocol_violation, unsupported_feature, closed};
 
 use crate::{InvocationErrorCode, WithInvocationErrorCode, codes};
@@ -115,12 +116,15 @@ pub struct OutOfBoundsDuration(pub &'static str, pub TryFromIntError);
 
 /// Prints what was called behind the end.
 pub trait ErrorFormatter: fmt::Debug {
+    ghost closed_text: { Self → List ℕ → List ℕ };
+
     /// Prints that this call came when the machine was closed.
     fn display_closed_error<W: fmt::Write>(
         &self,
         f: &mut fmt::Formatter<W>,
         event: &str,
-    ) -> fmt::Result;
+    ) -> fmt::Result
+        ensures { WritesOnOk W.write_str_gives f.old result (closed_text self.now event.now) f.new };
 }
 
 /// The words that are printed where nobody hands in others.
@@ -128,6 +132,10 @@ pub trait ErrorFormatter: fmt::Debug {
 pub struct DefaultErrorFormatter;
 
 impl ErrorFormatter for DefaultErrorFormatter {
+    ghost use Rattle.protocol_errors.specs.Texts.{closed_text as closed_words};
+
+    ghost closed_text = { λ _ event. closed_words event };
+
     fn display_closed_error<W: fmt::Write>(
         &self,
         f: &mut fmt::Formatter<W>,
@@ -156,12 +164,18 @@ impl ClosedError {
         &self,
         formatter: &F,
         f: &mut fmt::Formatter<W>,
-    ) -> fmt::Result {
+    ) -> fmt::Result
+        ensures { WritesOnOk W.write_str_gives f.old result (F.closed_text formatter.now self.now.event) f.new }
+    {
         formatter.display_closed_error(f, self.event.as_str())
     }
 }
 
 impl fmt::Display for ClosedError {
+    ghost use Rattle.protocol_errors.specs.Texts.{closed_text};
+
+    ghost output = { λ error. Some (closed_text error.event) };
+
     fn fmt<W: fmt::Write>(&self, f: &mut fmt::Formatter<W>) -> fmt::Result {
         self.display_with(&DefaultErrorFormatter, f)
     }

@@ -1,5 +1,5 @@
 // An await that the journal does not answer.
-ghost use Rattle.std.specs.Prelude.{◌≡◌, IsPermutation, IsSorted};
+ghost use Rattle.std.specs.Prelude.{◌≡◌, IsPermutation, IsSorted, Some};
 ghost use Rattle.protocol_errors.specs.Code.{journal_mismatch};
 ghost use Rattle.protocol_errors.specs.Awaited.{awaited_id};
 
@@ -30,6 +30,10 @@ impl From<NotificationId> for AwaitedId {
 }
 
 impl fmt::Display for AwaitedId {
+    ghost use Rattle.protocol_errors.specs.Texts.{awaited_text};
+
+    ghost output = { λ id. Some (awaited_text id) };
+
     fn fmt<W: fmt::Write>(&self, f: &mut fmt::Formatter<W>) -> fmt::Result {
         match self {
             AwaitedId::CompletionId(number) => write!(f, "completion id {number}"),
