@@ -2,8 +2,8 @@ use Rattle.std.proofs.Common.{ℕ, List, [], ◌∙◌, sym, ap, rules, arith, t
 use Rattle.std.specs.List.{flat_map}
 use Rattle.std.proofs.Output.{has_written_append, has_written_of_eq}
 use Rattle.std.proofs.lemmas.List.{take_more, flat_map_more}
-use Rattle.command_differences.specs.Texts.{escaped_byte}
-use Rattle.command_differences.proofs.parts.show_bytes.Goals as goal
+use Rattle.shown_fields.specs.Texts.{escaped_byte}
+use Rattle.shown_fields.proofs.parts.show_bytes.Goals as goal
 
 pub loop-byte-preserved : goal.loop-byte-preserved
 loop-byte-preserved g c = λ p.

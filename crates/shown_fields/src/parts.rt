@@ -2,7 +2,7 @@
 ghost use Rattle.std.specs.Prelude.{◌≡◌, ◌<◌, ◌∷◌, ◌++◌, [], decimal};
 ghost use Rattle.std.specs.List.{flat_map};
 ghost use Rattle.std.specs.Fmt.{WritesOnOk};
-ghost use Rattle.command_differences.specs.Texts.{quoted, is_plain_byte, numbered_byte, escaped_byte, escaped, optional_text, list_text, later_text};
+ghost use Rattle.shown_fields.specs.Texts.{quoted, is_plain_byte, numbered_byte, escaped_byte, escaped, optional_text, list_text, later_text};
 
 use crate::Shown;
 use bytes::{ByteStr, Bytes};
@@ -117,7 +117,7 @@ impl<T: Shown> Shown for Sequence<T> {
 }
 
 /// A value behind words that say what it is.
-pub(crate) fn show_labelled<T: Shown, W: fmt::Write>(
+pub fn show_labelled<T: Shown, W: fmt::Write>(
     label: &str,
     value: &T,
     f: &mut fmt::Formatter<W>,

@@ -1,8 +1,8 @@
 use Rattle.std.proofs.Common.{take}
 use Rattle.std.specs.List.{flat_map}
 use Rattle.std.specs.Fmt.{HasWritten, IsPlainFormatter}
-use Rattle.command_differences.specs.Texts.{later_text}
-use Rattle.command_differences.proofs.parts.show_later.Given as goal
+use Rattle.shown_fields.specs.Texts.{later_text}
+use Rattle.shown_fields.proofs.parts.show_later.Given as goal
 
 -- the items before this one are written
 abbrev pub invariant-loop-item : goal.invariant-loop-item

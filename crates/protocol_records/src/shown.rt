@@ -1,10 +1,9 @@
-// How records that others hold are printed.
-ghost use Rattle.command_differences.specs.Records.{header_text, failure_metadata_text, failure_text, value_text, void_text, state_keys_text, workflow_target_text, idempotent_request_target_text};
+// How records that others hold are printed, and the result of an output.
+ghost use Rattle.std.specs.Prelude.{Some};
+ghost use Rattle.protocol_records.specs.Texts.{header_text, failure_metadata_text, failure_text, value_text, void_text, state_keys_text, output_result_text};
 
-use crate::Shown;
-use crate::parts::show_labelled;
-use call_records::{IdempotentRequestTarget, WorkflowTarget};
-use protocol_records::{Failure, FailureMetadata, Header, StateKeys, Value, Void};
+use crate::{Failure, FailureMetadata, Header, OutputCommandResult, StateKeys, Value, Void};
+use shown_fields::{Shown, show_labelled};
 use std::fmt;
 use std::fmt::Write;
 
@@ -14,6 +13,14 @@ impl Shown for Header {
     fn show<W: fmt::Write>(&self, f: &mut fmt::Formatter<W>) -> fmt::Result {
         self.key.show(f)?;
         show_labelled(": ", &self.value, f)
+    }
+}
+
+impl fmt::Display for Header {
+    ghost output = { λ header. Some (header_text header) };
+
+    fn fmt<W: fmt::Write>(&self, f: &mut fmt::Formatter<W>) -> fmt::Result {
+        self.show(f)
     }
 }
 
@@ -36,11 +43,27 @@ impl Shown for Failure {
     }
 }
 
+impl fmt::Display for Failure {
+    ghost output = { λ failure. Some (failure_text failure) };
+
+    fn fmt<W: fmt::Write>(&self, f: &mut fmt::Formatter<W>) -> fmt::Result {
+        self.show(f)
+    }
+}
+
 impl Shown for Value {
     ghost text = { value_text };
 
     fn show<W: fmt::Write>(&self, f: &mut fmt::Formatter<W>) -> fmt::Result {
         self.content.show(f)
+    }
+}
+
+impl fmt::Display for Value {
+    ghost output = { λ value. Some (value_text value) };
+
+    fn fmt<W: fmt::Write>(&self, f: &mut fmt::Formatter<W>) -> fmt::Result {
+        self.show(f)
     }
 }
 
@@ -60,24 +83,13 @@ impl Shown for StateKeys {
     }
 }
 
-impl Shown for WorkflowTarget {
-    ghost text = { workflow_target_text };
+impl Shown for OutputCommandResult {
+    ghost text = { output_result_text };
 
     fn show<W: fmt::Write>(&self, f: &mut fmt::Formatter<W>) -> fmt::Result {
-        show_labelled("workflow ", &self.workflow_name, f)?;
-        show_labelled(", key ", &self.workflow_key, f)?;
-        show_labelled(", scope ", &self.scope, f)
-    }
-}
-
-impl Shown for IdempotentRequestTarget {
-    ghost text = { idempotent_request_target_text };
-
-    fn show<W: fmt::Write>(&self, f: &mut fmt::Formatter<W>) -> fmt::Result {
-        show_labelled("service ", &self.service_name, f)?;
-        show_labelled(", key ", &self.service_key, f)?;
-        show_labelled(", handler ", &self.handler_name, f)?;
-        show_labelled(", idempotency key ", &self.idempotency_key, f)?;
-        show_labelled(", scope ", &self.scope, f)
+        match self {
+            OutputCommandResult::Value(one) => one.show(f),
+            OutputCommandResult::Failure(one) => one.show(f),
+        }
     }
 }

@@ -1,18 +1,7 @@
--- How records that others hold, and what commands choose among, are printed.
+-- How targets, and what commands choose among, are printed.
 use Rattle.std.specs.Prelude.{ℕ, List, ◌++◌, decimal, codes}
-use Rattle.command_differences.specs.Texts.{quoted, escaped, optional_text, list_text}
-use Rattle.protocol_records.specs.declared.header.Header.{Header}
-use Rattle.protocol_records.specs.declared.failure.FailureMetadata.{FailureMetadata}
-use Rattle.protocol_records.specs.declared.failure.Failure.{Failure}
-use Rattle.protocol_records.specs.declared.value.Value.{Value}
-use Rattle.protocol_records.specs.declared.void.Void.{Void}
-use Rattle.protocol_records.specs.declared.state_keys.StateKeys.{StateKeys}
-use Rattle.protocol_records.specs.declared.output_command.OutputCommandResult.{OutputCommandResult}
-use Rattle.protocol_records.specs.declared.output_command.OutputCommandResult.TheVariants as outputs
-use Rattle.command_records.specs.declared.get_eager_state_command.GetEagerStateCommandResult.{GetEagerStateCommandResult}
-use Rattle.command_records.specs.declared.get_eager_state_command.GetEagerStateCommandResult.TheVariants as states
-use Rattle.command_records.specs.declared.complete_promise_command.CompletePromiseCommandCompletion.{CompletePromiseCommandCompletion}
-use Rattle.command_records.specs.declared.complete_promise_command.CompletePromiseCommandCompletion.TheVariants as completions
+use Rattle.shown_fields.specs.Texts.{quoted, optional_text}
+use Rattle.protocol_records.specs.Texts.{failure_text, value_text, void_text}
 use Rattle.call_records.specs.declared.complete_awakeable_command.CompleteAwakeableCommandResult.{CompleteAwakeableCommandResult}
 use Rattle.call_records.specs.declared.complete_awakeable_command.CompleteAwakeableCommandResult.TheVariants as awakeables
 use Rattle.call_records.specs.declared.send_signal_command.SendSignalCommandSignalId.{SendSignalCommandSignalId}
@@ -26,24 +15,6 @@ use Rattle.call_records.specs.declared.attach_invocation_command.AttachInvocatio
 use Rattle.call_records.specs.declared.get_invocation_output_command.GetInvocationOutputCommandTarget.{GetInvocationOutputCommandTarget}
 use Rattle.call_records.specs.declared.get_invocation_output_command.GetInvocationOutputCommandTarget.TheVariants as asked
 
-abbrev pub header_text : Header → List ℕ
-header_text header = quoted header.key ++ (codes ": " ++ quoted header.value)
-
-abbrev pub failure_metadata_text : FailureMetadata → List ℕ
-failure_metadata_text pair = quoted pair.key ++ (codes ": " ++ quoted pair.value)
-
-abbrev pub failure_text : Failure → List ℕ
-failure_text failure = (codes "failure " ++ decimal failure.code) ++ (codes " " ++ quoted failure.message) ++ (codes " " ++ list_text failure_metadata_text failure.metadata)
-
-abbrev pub value_text : Value → List ℕ
-value_text value = escaped value.content
-
-abbrev pub void_text : Void → List ℕ
-void_text void = codes "void"
-
-abbrev pub state_keys_text : StateKeys → List ℕ
-state_keys_text held = list_text escaped held.keys
-
 abbrev pub workflow_target_text : WorkflowTarget → List ℕ
 workflow_target_text target = (codes "workflow " ++ quoted target.workflow_name) ++ (codes ", key " ++ quoted target.workflow_key) ++ (codes ", scope " ++ optional_text quoted target.scope)
 
@@ -52,18 +23,6 @@ idempotent_request_target_text target = (codes "service " ++ quoted target.servi
     ++ (codes ", handler " ++ quoted target.handler_name) ++ (codes ", idempotency key " ++ quoted target.idempotency_key) ++ (codes ", scope " ++ optional_text quoted target.scope)
 
 -- ---- what commands choose among
-
-abbrev pub output_result_text : OutputCommandResult → List ℕ
-output_result_text (outputs.Value value) = value_text value
-output_result_text (outputs.Failure failure) = failure_text failure
-
-abbrev pub state_result_text : GetEagerStateCommandResult → List ℕ
-state_result_text (states.Void void) = void_text void
-state_result_text (states.Value value) = value_text value
-
-abbrev pub completion_text : CompletePromiseCommandCompletion → List ℕ
-completion_text (completions.CompletionValue value) = value_text value
-completion_text (completions.CompletionFailure failure) = failure_text failure
 
 abbrev pub awakeable_result_text : CompleteAwakeableCommandResult → List ℕ
 awakeable_result_text (awakeables.Value value) = value_text value

@@ -1,8 +1,8 @@
 use Rattle.std.proofs.Common.{take}
 use Rattle.std.specs.List.{flat_map}
 use Rattle.std.specs.Fmt.{HasWritten, IsPlainFormatter}
-use Rattle.command_differences.specs.Texts.{escaped_byte}
-use Rattle.command_differences.proofs.parts.show_bytes.Given as goal
+use Rattle.shown_fields.specs.Texts.{escaped_byte}
+use Rattle.shown_fields.proofs.parts.show_bytes.Given as goal
 
 -- the bytes before this one are written
 abbrev pub invariant-loop-byte : goal.invariant-loop-byte

@@ -2,8 +2,8 @@ use Rattle.std.proofs.Common.{[], ◌∷◌, ◌++◌, ◌∙◌, sym, ap, rules
 use Rattle.std.specs.List.{flat_map}
 use Rattle.std.proofs.Output.{has_written_append, has_written_of_eq}
 use Rattle.std.proofs.lemmas.List.{take_more, flat_map_more}
-use Rattle.command_differences.specs.Texts.{later_text}
-use Rattle.command_differences.proofs.parts.show_later.Goals as goal
+use Rattle.shown_fields.specs.Texts.{later_text}
+use Rattle.shown_fields.proofs.parts.show_later.Goals as goal
 
 pub loop-item-preserved : goal.loop-item-preserved
 loop-item-preserved g c = λ p.

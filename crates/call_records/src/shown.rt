@@ -1,46 +1,33 @@
-// How what commands choose among is printed.
-ghost use Rattle.command_differences.specs.Records.{output_result_text, state_result_text, completion_text, awakeable_result_text, signal_id_text, signal_result_text, attached_target_text, asked_target_text};
+// How targets, and what commands choose among, are printed.
+ghost use Rattle.call_records.specs.Texts.{workflow_target_text, idempotent_request_target_text, awakeable_result_text, signal_id_text, signal_result_text, attached_target_text, asked_target_text};
 
-use crate::Shown;
-use crate::parts::show_labelled;
-use call_records::{
+use crate::{
     AttachInvocationCommandTarget, CompleteAwakeableCommandResult,
-    GetInvocationOutputCommandTarget, SendSignalCommandResult, SendSignalCommandSignalId,
+    GetInvocationOutputCommandTarget, IdempotentRequestTarget, SendSignalCommandResult,
+    SendSignalCommandSignalId, WorkflowTarget,
 };
-use command_records::{CompletePromiseCommandCompletion, GetEagerStateCommandResult};
-use protocol_records::OutputCommandResult;
+use shown_fields::{Shown, show_labelled};
 use std::fmt;
 
-impl Shown for OutputCommandResult {
-    ghost text = { output_result_text };
+impl Shown for WorkflowTarget {
+    ghost text = { workflow_target_text };
 
     fn show<W: fmt::Write>(&self, f: &mut fmt::Formatter<W>) -> fmt::Result {
-        match self {
-            OutputCommandResult::Value(one) => one.show(f),
-            OutputCommandResult::Failure(one) => one.show(f),
-        }
+        show_labelled("workflow ", &self.workflow_name, f)?;
+        show_labelled(", key ", &self.workflow_key, f)?;
+        show_labelled(", scope ", &self.scope, f)
     }
 }
 
-impl Shown for GetEagerStateCommandResult {
-    ghost text = { state_result_text };
+impl Shown for IdempotentRequestTarget {
+    ghost text = { idempotent_request_target_text };
 
     fn show<W: fmt::Write>(&self, f: &mut fmt::Formatter<W>) -> fmt::Result {
-        match self {
-            GetEagerStateCommandResult::Void(one) => one.show(f),
-            GetEagerStateCommandResult::Value(one) => one.show(f),
-        }
-    }
-}
-
-impl Shown for CompletePromiseCommandCompletion {
-    ghost text = { completion_text };
-
-    fn show<W: fmt::Write>(&self, f: &mut fmt::Formatter<W>) -> fmt::Result {
-        match self {
-            CompletePromiseCommandCompletion::CompletionValue(one) => one.show(f),
-            CompletePromiseCommandCompletion::CompletionFailure(one) => one.show(f),
-        }
+        show_labelled("service ", &self.service_name, f)?;
+        show_labelled(", key ", &self.service_key, f)?;
+        show_labelled(", handler ", &self.handler_name, f)?;
+        show_labelled(", idempotency key ", &self.idempotency_key, f)?;
+        show_labelled(", scope ", &self.scope, f)
     }
 }
 
