@@ -1,97 +1,221 @@
-// Reads the lines that `bench_protocol COUNT` prints, reads and spells the same payloads by Google's protobuf as often, and
-// compares the bytes. Ends with 1 where they differ.
-#include "records.pb.h"
+// protobuf_times COUNT: what bench_protocol does, by Google's protobuf. It prints the same lines.
+#include "frames.h"
+#include "samples.h"
 
 #include <chrono>
+#include <cstdio>
 #include <cstdlib>
-#include <iostream>
-#include <sstream>
 #include <string>
+#include <string_view>
+#include <vector>
 
 namespace {
 
-std::string from_hex(const std::string& hex) {
-    std::string bytes;
-    for (size_t at = 0; at + 1 < hex.size(); at += 2) {
-        bytes.push_back(static_cast<char>(std::stoi(hex.substr(at, 2), nullptr, 16)));
-    }
-    return bytes;
-}
-
 using Clock = std::chrono::steady_clock;
+using frames::Message;
 
-long nanoseconds_each(Clock::time_point start, unsigned count) {
-    auto took = std::chrono::duration_cast<std::chrono::nanoseconds>(Clock::now() - start).count();
-    return took / (count == 0 ? 1 : count);
+constexpr uint16_t first_command = 0x0400;
+
+// How many messages stand between two looks at the clock.
+constexpr size_t block_length = 256;
+
+struct Clocked {
+    Clock::duration reading{0};
+    Clock::duration writing{0};
+};
+
+[[noreturn]] void fail(const char* why) {
+    std::fprintf(stderr, "%s\n", why);
+    std::exit(1);
 }
 
 template <typename M>
-bool time_record(const std::string& name, const std::string& payload, unsigned count) {
-    M kept;
-    if (!kept.ParseFromString(payload)) {
-        std::cout << name << " is refused\n";
-        return false;
+void parse(M& record, std::string_view payload) {
+    if (!record.ParseFromArray(payload.data(), static_cast<int>(payload.size()))) {
+        fail("a payload is refused");
     }
-    unsigned read = 0;
-    auto start = Clock::now();
-    for (unsigned i = 0; i < count; ++i) {
-        M one;
-        read += one.ParseFromString(payload);
-    }
-    long reading = nanoseconds_each(start, count);
-    size_t length = 0;
-    start = Clock::now();
-    for (unsigned i = 0; i < count; ++i) {
-        std::string out;
-        kept.SerializeToString(&out);
-        length += out.size();
-    }
-    long spelling = nanoseconds_each(start, count);
-    std::string spelled;
-    kept.SerializeToString(&spelled);
-    bool same = spelled == payload;
-    std::cout << name << " read " << reading << " spell " << spelling << " done " << read << ' ' << length
-              << (same ? " same bytes\n" : " OTHER BYTES\n");
-    return same;
 }
 
-bool time_named(const std::string& name, const std::string& payload, unsigned count) {
-    if (name == "InputCommand") return time_record<hengomaru::InputCommand>(name, payload, count);
-    if (name == "OutputCommand") return time_record<hengomaru::OutputCommand>(name, payload, count);
-    if (name == "SleepCommand") return time_record<hengomaru::SleepCommand>(name, payload, count);
-    if (name == "GetLazyStateCommand") return time_record<hengomaru::GetLazyStateCommand>(name, payload, count);
-    if (name == "GetLazyStateKeysCommand") return time_record<hengomaru::GetLazyStateKeysCommand>(name, payload, count);
-    if (name == "GetEagerStateCommand") return time_record<hengomaru::GetEagerStateCommand>(name, payload, count);
-    if (name == "GetEagerStateKeysCommand") return time_record<hengomaru::GetEagerStateKeysCommand>(name, payload, count);
-    if (name == "SetStateCommand") return time_record<hengomaru::SetStateCommand>(name, payload, count);
-    if (name == "ClearStateCommand") return time_record<hengomaru::ClearStateCommand>(name, payload, count);
-    if (name == "ClearAllStateCommand") return time_record<hengomaru::ClearAllStateCommand>(name, payload, count);
-    if (name == "GetPromiseCommand") return time_record<hengomaru::GetPromiseCommand>(name, payload, count);
-    if (name == "PeekPromiseCommand") return time_record<hengomaru::PeekPromiseCommand>(name, payload, count);
-    if (name == "CompletePromiseCommand") return time_record<hengomaru::CompletePromiseCommand>(name, payload, count);
-    if (name == "RunCommand") return time_record<hengomaru::RunCommand>(name, payload, count);
-    if (name == "CallCommand") return time_record<hengomaru::CallCommand>(name, payload, count);
-    if (name == "OneWayCallCommand") return time_record<hengomaru::OneWayCallCommand>(name, payload, count);
-    if (name == "SendSignalCommand") return time_record<hengomaru::SendSignalCommand>(name, payload, count);
-    if (name == "AttachInvocationCommand") return time_record<hengomaru::AttachInvocationCommand>(name, payload, count);
-    if (name == "GetInvocationOutputCommand") return time_record<hengomaru::GetInvocationOutputCommand>(name, payload, count);
-    if (name == "CompleteAwakeableCommand") return time_record<hengomaru::CompleteAwakeableCommand>(name, payload, count);
-    std::cout << name << " is unknown\n";
-    return false;
+template <typename M>
+void read_as(std::string_view payload) {
+    M record;
+    parse(record, payload);
+}
+
+template <typename M>
+std::string rewrite_as(uint16_t type, std::string_view payload) {
+    M record;
+    parse(record, payload);
+    return frames::make_frame(type, record);
+}
+
+template <typename M>
+void time_block(uint16_t type, const std::string* payloads, size_t count, Clocked& sum) {
+    auto start = Clock::now();
+    auto* records = new std::vector<M>(count);
+    for (size_t i = 0; i < count; ++i) {
+        parse((*records)[i], payloads[i]);
+    }
+    auto read = Clock::now();
+    for (const M& record : *records) {
+        std::string frame = frames::make_frame(type, record);
+    }
+    auto written = Clock::now();
+    delete records;
+    auto end = Clock::now();
+    sum.reading += (read - start) + (end - written);
+    sum.writing += written - read;
+}
+
+template <typename M>
+Clocked time_messages(uint16_t type, const std::vector<std::string>& payloads) {
+    Clocked sum;
+    for (size_t at = 0; at < payloads.size(); at += block_length) {
+        size_t left = payloads.size() - at;
+        time_block<M>(type, &payloads[at], left < block_length ? left : block_length, sum);
+    }
+    return sum;
+}
+
+struct Command {
+    const char* name;
+    std::string frame;
+    void (*read)(std::string_view);
+    std::string (*rewrite)(uint16_t, std::string_view);
+    Clocked (*time)(uint16_t, const std::vector<std::string>&);
+};
+
+// In the order of their types, which follow one another.
+class Commands {
+public:
+    Commands() {
+        using namespace hengomaru;
+        add("InputCommand", samples::input());
+        add("OutputCommand", samples::output());
+        add("GetLazyStateCommand", samples::keyed(samples::completed<GetLazyStateCommand>(8), "count"));
+        add("SetStateCommand", samples::set_state());
+        add("ClearStateCommand", samples::keyed(samples::named<ClearStateCommand>(), "count"));
+        add("ClearAllStateCommand", samples::named<ClearAllStateCommand>());
+        add("GetLazyStateKeysCommand", samples::completed<GetLazyStateKeysCommand>(9));
+        add("GetEagerStateCommand", samples::get_eager_state());
+        add("GetEagerStateKeysCommand", samples::get_eager_state_keys());
+        add("GetPromiseCommand", samples::keyed(samples::completed<GetPromiseCommand>(10), "done"));
+        add("PeekPromiseCommand", samples::keyed(samples::completed<PeekPromiseCommand>(11), "done"));
+        add("CompletePromiseCommand", samples::complete_promise());
+        add("SleepCommand", samples::sleep());
+        add("CallCommand", samples::call());
+        add("OneWayCallCommand", samples::one_way_call());
+        add("SendSignalCommand", samples::send_signal());
+        add("RunCommand", samples::completed<RunCommand>(13));
+        add("AttachInvocationCommand", samples::attach_invocation());
+        add("GetInvocationOutputCommand", samples::get_invocation_output());
+        add("CompleteAwakeableCommand", samples::complete_awakeable());
+    }
+
+    size_t size() const { return list_.size(); }
+
+    const Command& at(size_t place) const { return list_.at(place); }
+
+    const Command& of(uint16_t type) const { return list_.at(static_cast<size_t>(type - first_command)); }
+
+private:
+    template <typename M>
+    void add(const char* name, const M& sample) {
+        uint16_t type = static_cast<uint16_t>(first_command + list_.size());
+        list_.push_back({name, frames::make_frame(type, sample), read_as<M>, rewrite_as<M>, time_messages<M>});
+    }
+
+    std::vector<Command> list_;
+};
+
+std::string make_journal(const Commands& commands, unsigned long count) {
+    std::string journal;
+    for (unsigned long at = 0; at < count; ++at) {
+        journal += commands.at(at % commands.size()).frame;
+    }
+    return journal;
+}
+
+unsigned long nanoseconds(Clock::duration took) {
+    return static_cast<unsigned long>(std::chrono::duration_cast<std::chrono::nanoseconds>(took).count());
+}
+
+unsigned long each(Clock::duration took, unsigned long count) { return nanoseconds(took) / (count == 0 ? 1 : count); }
+
+unsigned long speed(Clock::duration took, unsigned long bytes) {
+    unsigned long time = nanoseconds(took);
+    return bytes * 1000 / (time == 0 ? 1 : time);
+}
+
+// The FNV-1a hash of bytes, in 64 bits.
+uint64_t checksum(std::string_view bytes) {
+    uint64_t hash = 0xcbf29ce484222325u;
+    for (char byte : bytes) {
+        hash = (hash ^ static_cast<unsigned char>(byte)) * 0x100000001b3u;
+    }
+    return hash;
+}
+
+void print_commands(const Commands& commands, std::string_view journal) {
+    std::vector<std::vector<std::string>> lists(commands.size());
+    frames::Reader reader(journal);
+    Message message;
+    while (reader.next(message)) {
+        lists.at(static_cast<size_t>(message.type - first_command)).emplace_back(message.payload);
+    }
+    for (size_t place = 0; place < lists.size(); ++place) {
+        const std::vector<std::string>& payloads = lists[place];
+        if (payloads.empty()) {
+            continue;
+        }
+        const Command& command = commands.at(place);
+        uint16_t type = static_cast<uint16_t>(first_command + place);
+        Clocked took = command.time(type, payloads);
+        std::printf("%s read %lu write %lu frames %zu ", command.name, each(took.reading, payloads.size()),
+                    each(took.writing, payloads.size()), payloads.size());
+        for (char byte : command.rewrite(type, payloads[0])) {
+            std::printf("%02x", static_cast<unsigned char>(byte));
+        }
+        std::printf("\n");
+    }
+}
+
+void print_passes(const Commands& commands, std::string_view journal) {
+    auto start = Clock::now();
+    Message message;
+    unsigned long count = 0;
+    for (frames::Reader reader(journal); reader.next(message);) {
+        ++count;
+    }
+    auto framed = Clock::now();
+    for (frames::Reader reader(journal); reader.next(message);) {
+        commands.of(message.type).read(message.payload);
+    }
+    auto read = Clock::now();
+    std::string written;
+    written.reserve(journal.size());
+    for (frames::Reader reader(journal); reader.next(message);) {
+        written += commands.of(message.type).rewrite(message.type, message.payload);
+    }
+    auto end = Clock::now();
+    auto reading = read - framed;
+    auto both = end - read;
+    auto writing = both < reading ? Clock::duration{0} : both - reading;
+    std::printf("journal frames %lu bytes %zu framing %lu read %lu write %lu MB/s %lu %lu checksum %016lx %s\n", count,
+                journal.size(), each(framed - start, count), each(reading, count), each(writing, count),
+                speed(reading, journal.size()), speed(writing, journal.size()), checksum(written),
+                written == journal ? "same" : "OTHER");
 }
 
 }  // namespace
 
-int main() {
-    bool same = true;
-    std::string line;
-    while (std::getline(std::cin, line)) {
-        std::istringstream words(line);
-        std::string name, word, hex;
-        unsigned long reading, spelling, read, spelled;
-        if (words >> name >> word >> reading >> word >> spelling >> word >> read >> spelled >> hex) {
-            same = time_named(name, from_hex(hex), static_cast<unsigned>(read)) && same;
-        }
+int main(int count, char** words) {
+    if (count < 2) {
+        return 0;
     }
-    return same ? 0 : 1;
+    Commands commands;
+    std::string journal = make_journal(commands, std::strtoul(words[1], nullptr, 10));
+    print_commands(commands, journal);
+    print_passes(commands, journal);
+    return 0;
 }

@@ -1,69 +1,75 @@
-// Reads and spells one payload many times.
+// What messages of one type take, apart from their framing.
 use anyhow::Result;
-use protocol_wire::{Record, decode, encode};
+use journal_protocol::{RawMessage, Version};
 use std::alloc::Global;
-use std::fmt;
 use std::rt::Clock;
-use std::time::Instant;
+use std::time::{Duration, Instant};
+use typed_messages::{Encoder, PlainMessage, RawMessageExt, RestateMessage};
 
-// Bytes, printed as hexadecimal digits.
+/// How many messages stand between two looks at the clock: so many that a look costs none of them a nanosecond, and so few
+/// that their records stay in the processor's caches.
+const BLOCK: usize = 256;
+
+/// How long messages took.
 #[derive(Clone, Copy)]
-struct Hex<'a>(&'a [u8]);
-
-impl fmt::Display for Hex<'_> {
-    fn fmt<W: fmt::Write>(&self, f: &mut fmt::Formatter<W>) -> fmt::Result {
-        for byte in self.0 {
-            let byte = *byte;
-            write!(f, "{byte:02x}")?;
-        }
-        Ok(())
-    }
+pub struct Clocked {
+    pub reading: Duration,
+    pub writing: Duration,
 }
 
-// How many of so many readings succeed.
-fn read_often<R: Record>(alloc: Global, payload: &[u8], count: u32) -> u32 {
-    let mut done = 0u32;
-    for _ in 0..count {
-        if decode::<R>(alloc, payload).is_ok() {
-            done = done.wrapping_add(1);
-        }
+fn read_block<M: RestateMessage>(alloc: Global, block: &[RawMessage]) -> Result<Vec<M>> {
+    let mut records = Vec::with_capacity(alloc, block.len())?;
+    for message in block {
+        let record: M = message.decode_to(alloc, 0)?;
+        records.push(record)?;
     }
-    done
+    Ok(records)
 }
 
-// How many of so many spellings succeed.
-fn spell_often<R: Record>(alloc: Global, record: &R, count: u32) -> u32 {
-    let mut done = 0u32;
-    for _ in 0..count {
-        if encode(alloc, record).is_ok() {
-            done = done.wrapping_add(1);
-        }
+fn write_block<M: PlainMessage>(alloc: Global, records: &[M]) -> Result<()> {
+    let encoder = Encoder::new(Version::V8);
+    for record in records {
+        let frame = encoder.encode(alloc, record)?;
+        drop(frame);
     }
-    done
-}
-
-/// Prints the nanoseconds that one reading takes, those that one spelling takes, how many of both succeeded, and what is
-/// spelled.
-pub fn time_record<R: Record, T: Clock + Print>(
-    rt: &T,
-    alloc: Global,
-    name: &str,
-    payload: &[u8],
-    count: u32,
-) -> Result<()> {
-    let Ok(record) = decode::<R>(alloc, payload) else {
-        return Ok(());
-    };
-    let Ok(spelled) = encode(alloc, &record) else {
-        return Ok(());
-    };
-    let start = Instant::now(rt)?;
-    let read = read_often::<R>(alloc, payload, count);
-    let reading = start.elapsed(rt)?.as_nanos() / u128::from(count.max(1));
-    let start = Instant::now(rt)?;
-    let written = spell_often(alloc, &record, count);
-    let spelling = start.elapsed(rt)?.as_nanos() / u128::from(count.max(1));
-    let hex = Hex(spelled.as_slice());
-    println!(rt; "{name} read {reading} spell {spelling} done {read} {written} {hex}")?;
     Ok(())
+}
+
+// The time from here until the records of these messages are read, then until they are written, and then let go.
+fn time_block<M: PlainMessage, R: Clock>(
+    rt: &R,
+    alloc: Global,
+    block: &[RawMessage],
+) -> Result<Clocked> {
+    let start = Instant::now(rt)?;
+    let records = read_block::<M>(alloc, block)?;
+    let read = Instant::now(rt);
+    let done = write_block(alloc, records.as_slice());
+    let written = Instant::now(rt);
+    drop(records);
+    let end = Instant::now(rt)?;
+    done?;
+    let read = read?;
+    let written = written?;
+    let reading = read.duration_since(start);
+    Ok(Clocked {
+        reading: reading.saturating_add(end.duration_since(written)),
+        writing: written.duration_since(read),
+    })
+}
+
+/// How long these messages take to be read as this record and let go again, and to be written.
+pub fn time_messages<M: PlainMessage, R: Clock>(
+    rt: &R,
+    alloc: Global,
+    messages: &[RawMessage],
+) -> Result<Clocked> {
+    let mut reading = Duration::ZERO;
+    let mut writing = Duration::ZERO;
+    for block in messages.chunks(BLOCK) {
+        let took = time_block::<M, R>(rt, alloc, block)?;
+        reading = reading.saturating_add(took.reading);
+        writing = writing.saturating_add(took.writing);
+    }
+    Ok(Clocked { reading, writing })
 }
