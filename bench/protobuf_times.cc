@@ -2,31 +2,40 @@
 #include "frames.h"
 #include "samples.h"
 
-#include <chrono>
 #include <cstdio>
 #include <cstdlib>
 #include <string>
 #include <string_view>
+#include <time.h>
 #include <vector>
 
 namespace {
 
-using Clock = std::chrono::steady_clock;
 using frames::Message;
 
 constexpr uint16_t first_command = 0x0400;
 
 // How many messages stand between two looks at the clock.
-constexpr size_t block_length = 256;
+constexpr size_t block_length = 512;
 
+// Processor time in nanoseconds.
 struct Clocked {
-    Clock::duration reading{0};
-    Clock::duration writing{0};
+    uint64_t reading = 0;
+    uint64_t writing = 0;
 };
 
 [[noreturn]] void fail(const char* why) {
     std::fprintf(stderr, "%s\n", why);
     std::exit(1);
+}
+
+// The processor time that this thread used, in nanoseconds.
+uint64_t now() {
+    timespec time;
+    if (clock_gettime(CLOCK_THREAD_CPUTIME_ID, &time) != 0) {
+        fail("no clock");
+    }
+    return static_cast<uint64_t>(time.tv_sec) * 1000000000 + static_cast<uint64_t>(time.tv_nsec);
 }
 
 template <typename M>
@@ -51,18 +60,18 @@ std::string rewrite_as(uint16_t type, std::string_view payload) {
 
 template <typename M>
 void time_block(uint16_t type, const std::string* payloads, size_t count, Clocked& sum) {
-    auto start = Clock::now();
+    auto start = now();
     auto* records = new std::vector<M>(count);
     for (size_t i = 0; i < count; ++i) {
         parse((*records)[i], payloads[i]);
     }
-    auto read = Clock::now();
+    auto read = now();
     for (const M& record : *records) {
         std::string frame = frames::make_frame(type, record);
     }
-    auto written = Clock::now();
+    auto written = now();
     delete records;
-    auto end = Clock::now();
+    auto end = now();
     sum.reading += (read - start) + (end - written);
     sum.writing += written - read;
 }
@@ -136,16 +145,9 @@ std::string make_journal(const Commands& commands, unsigned long count) {
     return journal;
 }
 
-unsigned long nanoseconds(Clock::duration took) {
-    return static_cast<unsigned long>(std::chrono::duration_cast<std::chrono::nanoseconds>(took).count());
-}
+unsigned long each(uint64_t took, unsigned long count) { return took / (count == 0 ? 1 : count); }
 
-unsigned long each(Clock::duration took, unsigned long count) { return nanoseconds(took) / (count == 0 ? 1 : count); }
-
-unsigned long speed(Clock::duration took, unsigned long bytes) {
-    unsigned long time = nanoseconds(took);
-    return bytes * 1000 / (time == 0 ? 1 : time);
-}
+unsigned long speed(uint64_t took, unsigned long bytes) { return bytes * 1000 / (took == 0 ? 1 : took); }
 
 // The FNV-1a hash of bytes, in 64 bits.
 uint64_t checksum(std::string_view bytes) {
@@ -181,26 +183,26 @@ void print_commands(const Commands& commands, std::string_view journal) {
 }
 
 void print_passes(const Commands& commands, std::string_view journal) {
-    auto start = Clock::now();
+    auto start = now();
     Message message;
     unsigned long count = 0;
     for (frames::Reader reader(journal); reader.next(message);) {
         ++count;
     }
-    auto framed = Clock::now();
+    auto framed = now();
     for (frames::Reader reader(journal); reader.next(message);) {
         commands.of(message.type).read(message.payload);
     }
-    auto read = Clock::now();
+    auto read = now();
     std::string written;
     written.reserve(journal.size());
     for (frames::Reader reader(journal); reader.next(message);) {
         written += commands.of(message.type).rewrite(message.type, message.payload);
     }
-    auto end = Clock::now();
+    auto end = now();
     auto reading = read - framed;
     auto both = end - read;
-    auto writing = both < reading ? Clock::duration{0} : both - reading;
+    auto writing = both < reading ? 0 : both - reading;
     std::printf("journal frames %lu bytes %zu framing %lu read %lu write %lu MB/s %lu %lu checksum %016lx %s\n", count,
                 journal.size(), each(framed - start, count), each(reading, count), each(writing, count),
                 speed(reading, journal.size()), speed(writing, journal.size()), checksum(written),

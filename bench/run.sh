@@ -31,30 +31,7 @@ written() {
     awk '$1 == "journal" { print $1, $3, $5, $(NF - 1), $NF; next } { print $1, $7, $NF }' "$1"
 }
 
-awk '
-    $1 == "journal" {
-        whole = $0
-        row("(framing)", $7, "")
-        row("(whole journal)", $9, $11)
-        bytes[FILENAME] = $5; speed[FILENAME] = $13 " read, " $14 " written"; sum[FILENAME] = $16
-        next
-    }
-    { row($1, $3, $5) }
-    function row(name, read, write) {
-        if (FILENAME == ours) { names[++rows] = name; our_read[name] = read; our_write[name] = write; return }
-        their_read[name] = read; their_write[name] = write
-    }
-    END {
-        printf "%-28s %27s %27s\n", "nanoseconds a frame", "read here, by Google", "written here, by Google"
-        for (i = 1; i <= rows; i++) {
-            n = names[i]
-            printf "%-28s %18s %8s %18s %8s\n", n, our_read[n], their_read[n], our_write[n], their_write[n]
-        }
-        for (file in speed) {
-            printf "%s: %s bytes, MB/s %s, checksum %s\n", file == ours ? "here" : "by Google", bytes[file], speed[file], sum[file]
-        }
-    }
-' ours="$built"/ours "$built"/ours "$built"/theirs
+awk -f table.awk ours="$built"/ours "$built"/ours "$built"/theirs
 
 written "$built"/ours > "$built"/our_bytes
 written "$built"/theirs > "$built"/their_bytes

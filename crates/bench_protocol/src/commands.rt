@@ -16,7 +16,7 @@ use command_records::{
 use journal_protocol::{RawMessage, Version};
 use protocol_records::{InputCommandMessage, OutputCommandMessage, SleepCommandMessage};
 use std::alloc::Global;
-use std::rt::Clock;
+use std::time::CpuClock;
 use typed_messages::{Encoder, PlainMessage, RawMessageExt};
 
 // Calls a function at the record of the command at a place.
@@ -72,7 +72,7 @@ pub fn rewrite_command(alloc: Global, message: &RawMessage) -> Result<Bytes> {
 }
 
 /// Times the messages of the command at this place.
-pub fn time_command<R: Clock>(
+pub fn time_command<R: CpuClock>(
     rt: &R,
     alloc: Global,
     place: usize,

@@ -3,8 +3,7 @@ use crate::commands::{read_command, rewrite_command};
 use crate::journal::JournalReader;
 use anyhow::Result;
 use std::alloc::Global;
-use std::rt::Clock;
-use std::time::{Duration, Instant};
+use std::time::{CpuClock, Duration};
 
 // Takes the journal apart, and counts its messages.
 fn count_messages(alloc: Global, journal: &[u8]) -> Result<u32> {
@@ -49,7 +48,7 @@ fn rewrite_journal(alloc: Global, journal: &[u8]) -> Result<Vec<u8>> {
     Ok(written)
 }
 
-/// What the passes over a journal took, and what they left.
+/// The processor time that the passes over a journal took, and what they left.
 #[derive(Drop)]
 pub struct Passes {
     pub count: u32,
@@ -60,21 +59,19 @@ pub struct Passes {
 }
 
 /// Takes a journal apart; then takes it apart and reads it; then takes it apart, reads it and writes it again.
-pub fn time_passes<R: Clock>(rt: &R, alloc: Global, journal: &[u8]) -> Result<Passes> {
-    let start = Instant::now(rt)?;
+pub fn time_passes<R: CpuClock>(rt: &R, alloc: Global, journal: &[u8]) -> Result<Passes> {
+    let start = rt.thread_cpu_time()?;
     let count = count_messages(alloc, journal)?;
-    let framing = start.elapsed(rt)?;
-    let start = Instant::now(rt)?;
+    let framed = rt.thread_cpu_time()?;
     read_journal(alloc, journal)?;
-    let reading = start.elapsed(rt)?;
-    let start = Instant::now(rt)?;
+    let read = rt.thread_cpu_time()?;
     let written = rewrite_journal(alloc, journal)?;
-    let reading_and_writing = start.elapsed(rt)?;
+    let end = rt.thread_cpu_time()?;
     Ok(Passes {
         count,
-        framing,
-        reading,
-        reading_and_writing,
+        framing: framed.saturating_sub(start),
+        reading: read.saturating_sub(framed),
+        reading_and_writing: end.saturating_sub(read),
         written,
     })
 }

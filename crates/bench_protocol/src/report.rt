@@ -6,8 +6,7 @@ use anyhow::Result;
 use journal_protocol::RawMessage;
 use std::alloc::Global;
 use std::fmt;
-use std::rt::Clock;
-use std::time::Duration;
+use std::time::{CpuClock, Duration};
 
 // Bytes, printed as hexadecimal digits.
 #[derive(Clone, Copy)]
@@ -43,7 +42,7 @@ fn speed(took: Duration, bytes: usize) -> u128 {
 }
 
 // Prints the line of the command at this place, unless the journal has none of it.
-fn print_command<R: Clock + Print>(
+fn print_command<R: CpuClock + Print>(
     rt: &R,
     alloc: Global,
     place: usize,
@@ -63,7 +62,7 @@ fn print_command<R: Clock + Print>(
     Ok(())
 }
 
-fn print_commands<R: Clock + Print>(rt: &R, alloc: Global, journal: &[u8]) -> Result<()> {
+fn print_commands<R: CpuClock + Print>(rt: &R, alloc: Global, journal: &[u8]) -> Result<()> {
     let lists = messages_by_command(alloc, journal)?;
     for (place, messages) in lists.as_slice().iter().enumerate() {
         print_command(rt, alloc, place, messages.as_slice())?;
@@ -94,7 +93,7 @@ fn print_passes<R: Print>(rt: &R, journal: &[u8], passes: &Passes) -> Result<()>
 }
 
 /// Makes a journal of so many commands, times it, and prints a line for each command and one for the whole.
-pub fn time_journal<R: Clock + Print + AllocGlobal>(rt: &R, count: u32) -> Result<()> {
+pub fn time_journal<R: CpuClock + Print + AllocGlobal>(rt: &R, count: u32) -> Result<()> {
     let alloc = rt.alloc();
     let journal = make_journal(alloc, count)?;
     print_commands(rt, alloc, journal.as_slice())?;

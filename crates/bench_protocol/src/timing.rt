@@ -2,15 +2,14 @@
 use anyhow::Result;
 use journal_protocol::{RawMessage, Version};
 use std::alloc::Global;
-use std::rt::Clock;
-use std::time::{Duration, Instant};
+use std::time::{CpuClock, Duration};
 use typed_messages::{Encoder, PlainMessage, RawMessageExt, RestateMessage};
 
-/// How many messages stand between two looks at the clock: so many that a look costs none of them a nanosecond, and so few
-/// that their records stay in the processor's caches.
-const BLOCK: usize = 256;
+/// How many messages stand between two looks at the clock: so many that a look costs none of them more than a nanosecond,
+/// and so few that their records stay in the processor's caches.
+const BLOCK: usize = 512;
 
-/// How long messages took.
+/// The processor time that messages took.
 #[derive(Clone, Copy)]
 pub struct Clocked {
     pub reading: Duration,
@@ -35,31 +34,31 @@ fn write_block<M: PlainMessage>(alloc: Global, records: &[M]) -> Result<()> {
     Ok(())
 }
 
-// The time from here until the records of these messages are read, then until they are written, and then let go.
-fn time_block<M: PlainMessage, R: Clock>(
+// Reading is until the records of these messages are there, and while they are let go behind the writing.
+fn time_block<M: PlainMessage, R: CpuClock>(
     rt: &R,
     alloc: Global,
     block: &[RawMessage],
 ) -> Result<Clocked> {
-    let start = Instant::now(rt)?;
+    let start = rt.thread_cpu_time()?;
     let records = read_block::<M>(alloc, block)?;
-    let read = Instant::now(rt);
+    let read = rt.thread_cpu_time();
     let done = write_block(alloc, records.as_slice());
-    let written = Instant::now(rt);
+    let written = rt.thread_cpu_time();
     drop(records);
-    let end = Instant::now(rt)?;
+    let end = rt.thread_cpu_time()?;
     done?;
     let read = read?;
     let written = written?;
-    let reading = read.duration_since(start);
+    let making = read.saturating_sub(start);
     Ok(Clocked {
-        reading: reading.saturating_add(end.duration_since(written)),
-        writing: written.duration_since(read),
+        reading: making.saturating_add(end.saturating_sub(written)),
+        writing: written.saturating_sub(read),
     })
 }
 
 /// How long these messages take to be read as this record and let go again, and to be written.
-pub fn time_messages<M: PlainMessage, R: Clock>(
+pub fn time_messages<M: PlainMessage, R: CpuClock>(
     rt: &R,
     alloc: Global,
     messages: &[RawMessage],
