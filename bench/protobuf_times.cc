@@ -15,7 +15,7 @@ using frames::Message;
 
 constexpr uint16_t first_command = 0x0400;
 
-// How many messages stand between two looks at the clock.
+// How many records are written between two looks at the clock.
 constexpr size_t block_length = 512;
 
 // Processor time in nanoseconds.
@@ -58,32 +58,33 @@ std::string rewrite_as(uint16_t type, std::string_view payload) {
     return frames::make_frame(type, record);
 }
 
+// The time of writing alone.
 template <typename M>
-void time_block(uint16_t type, const std::string* payloads, size_t count, Clocked& sum) {
-    auto start = now();
-    auto* records = new std::vector<M>(count);
+uint64_t time_writing(uint16_t type, const std::string* payloads, size_t count) {
+    std::vector<M> records(count);
     for (size_t i = 0; i < count; ++i) {
-        parse((*records)[i], payloads[i]);
+        parse(records[i], payloads[i]);
     }
-    auto read = now();
-    for (const M& record : *records) {
+    auto start = now();
+    for (const M& record : records) {
         std::string frame = frames::make_frame(type, record);
     }
-    auto written = now();
-    delete records;
-    auto end = now();
-    sum.reading += (read - start) + (end - written);
-    sum.writing += written - read;
+    return now() - start;
 }
 
 template <typename M>
 Clocked time_messages(uint16_t type, const std::vector<std::string>& payloads) {
-    Clocked sum;
+    Clocked took;
+    auto start = now();
+    for (const std::string& payload : payloads) {
+        read_as<M>(payload);
+    }
+    took.reading = now() - start;
     for (size_t at = 0; at < payloads.size(); at += block_length) {
         size_t left = payloads.size() - at;
-        time_block<M>(type, &payloads[at], left < block_length ? left : block_length, sum);
+        took.writing += time_writing<M>(type, &payloads[at], left < block_length ? left : block_length);
     }
-    return sum;
+    return took;
 }
 
 struct Command {
