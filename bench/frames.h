@@ -5,6 +5,7 @@
 #include <cstdint>
 #include <string>
 #include <string_view>
+#include <vector>
 
 namespace frames {
 
@@ -34,26 +35,21 @@ std::string make_frame(uint16_t type, const M& record) {
     return frame;
 }
 
-// Gives the messages of a journal, which comes in pieces. A payload is there until the next message is asked for.
-class Reader {
+// Takes the bytes of a journal in pieces, and gives its messages. A payload stands until the next piece comes.
+class Decoder {
 public:
-    explicit Reader(std::string_view journal) : rest_(journal) {}
-
-    bool next(Message& message) {
-        while (!take(message)) {
-            if (rest_.empty()) {
-                return false;
-            }
-            buffer_.erase(0, taken_);
-            taken_ = 0;
-            buffer_.append(rest_.substr(0, piece_length));
-            rest_.remove_prefix(rest_.size() < piece_length ? rest_.size() : piece_length);
+    // Puts the messages that are whole when this piece came behind those that are there.
+    void take_messages(std::string_view piece, std::vector<Message>& messages) {
+        buffer_.erase(0, taken_);
+        taken_ = 0;
+        buffer_.append(piece);
+        Message message;
+        while (take(message)) {
+            messages.push_back(message);
         }
-        return true;
     }
 
 private:
-    // Takes a message out of the bytes that came, if a whole one is there.
     bool take(Message& message) {
         std::string_view came = std::string_view(buffer_).substr(taken_);
         if (came.size() < header_length) {
@@ -73,7 +69,6 @@ private:
         return true;
     }
 
-    std::string_view rest_;
     std::string buffer_;
     size_t taken_ = 0;
 };

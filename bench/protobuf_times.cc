@@ -18,6 +18,9 @@ constexpr uint16_t first_command = 0x0400;
 // How many records are written between two looks at the clock.
 constexpr size_t block_length = 512;
 
+// About how many messages a piece has.
+constexpr size_t messages_of_a_piece = 1024;
+
 // Processor time in nanoseconds.
 struct Clocked {
     uint64_t reading = 0;
@@ -159,12 +162,18 @@ uint64_t checksum(std::string_view bytes) {
     return hash;
 }
 
+// The next bytes of a journal.
+std::string_view piece_of(std::string_view journal) { return journal.substr(0, frames::piece_length); }
+
 void print_commands(const Commands& commands, std::string_view journal) {
     std::vector<std::vector<std::string>> lists(commands.size());
-    frames::Reader reader(journal);
-    Message message;
-    while (reader.next(message)) {
-        lists.at(static_cast<size_t>(message.type - first_command)).emplace_back(message.payload);
+    frames::Decoder decoder;
+    for (; !journal.empty(); journal.remove_prefix(piece_of(journal).size())) {
+        std::vector<Message> messages;
+        decoder.take_messages(piece_of(journal), messages);
+        for (const Message& message : messages) {
+            lists.at(static_cast<size_t>(message.type - first_command)).emplace_back(message.payload);
+        }
     }
     for (size_t place = 0; place < lists.size(); ++place) {
         const std::vector<std::string>& payloads = lists[place];
@@ -183,31 +192,48 @@ void print_commands(const Commands& commands, std::string_view journal) {
     }
 }
 
-void print_passes(const Commands& commands, std::string_view journal) {
-    auto start = now();
-    Message message;
+// What a whole journal takes, in its order.
+struct Whole {
     unsigned long count = 0;
-    for (frames::Reader reader(journal); reader.next(message);) {
-        ++count;
-    }
+    uint64_t framing = 0;
+    uint64_t reading = 0;
+    uint64_t rewriting = 0;
+    std::string written;
+};
+
+void time_piece(const Commands& commands, frames::Decoder& decoder, std::string_view piece, Whole& whole) {
+    auto start = now();
+    std::vector<Message> messages;
+    messages.reserve(messages_of_a_piece);
+    decoder.take_messages(piece, messages);
     auto framed = now();
-    for (frames::Reader reader(journal); reader.next(message);) {
+    for (const Message& message : messages) {
         commands.of(message.type).read(message.payload);
     }
     auto read = now();
-    std::string written;
-    written.reserve(journal.size());
-    for (frames::Reader reader(journal); reader.next(message);) {
-        written += commands.of(message.type).rewrite(message.type, message.payload);
+    for (const Message& message : messages) {
+        whole.written += commands.of(message.type).rewrite(message.type, message.payload);
     }
-    auto end = now();
-    auto reading = read - framed;
-    auto both = end - read;
-    auto writing = both < reading ? 0 : both - reading;
-    std::printf("journal frames %lu bytes %zu framing %lu read %lu write %lu MB/s %lu %lu checksum %016lx %s\n", count,
-                journal.size(), each(framed - start, count), each(reading, count), each(writing, count),
-                speed(reading, journal.size()), speed(writing, journal.size()), checksum(written),
-                written == journal ? "same" : "OTHER");
+    auto written = now();
+    whole.count += messages.size();
+    whole.framing += framed - start;
+    whole.reading += read - framed;
+    whole.rewriting += written - read;
+}
+
+void print_whole(const Commands& commands, std::string_view journal) {
+    Whole whole;
+    whole.written.reserve(journal.size());
+    frames::Decoder decoder;
+    for (std::string_view rest = journal; !rest.empty(); rest.remove_prefix(piece_of(rest).size())) {
+        time_piece(commands, decoder, piece_of(rest), whole);
+    }
+    uint64_t reading = whole.framing + whole.reading;
+    uint64_t writing = whole.rewriting < whole.reading ? 0 : whole.rewriting - whole.reading;
+    std::printf("journal frames %lu bytes %zu framing %lu read %lu write %lu MB/s %lu %lu checksum %016lx %s\n",
+                whole.count, journal.size(), each(whole.framing, whole.count), each(reading, whole.count),
+                each(writing, whole.count), speed(reading, journal.size()), speed(writing, journal.size()),
+                checksum(whole.written), whole.written == journal ? "same" : "OTHER");
 }
 
 }  // namespace
@@ -219,6 +245,6 @@ int main(int count, char** words) {
     Commands commands;
     std::string journal = make_journal(commands, std::strtoul(words[1], nullptr, 10));
     print_commands(commands, journal);
-    print_passes(commands, journal);
+    print_whole(commands, journal);
     return 0;
 }

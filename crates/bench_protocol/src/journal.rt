@@ -7,7 +7,10 @@ use journal_protocol::{Decoder, RawMessage};
 use std::alloc::Global;
 
 /// How many bytes of a journal come at a time.
-const PIECE: usize = 64 * 1024;
+pub const PIECE: usize = 64 * 1024;
+
+/// About how many messages a piece has.
+const MESSAGES: usize = 1024;
 
 // A frame of each command.
 fn make_frames(alloc: Global) -> Result<Vec<Bytes>> {
@@ -33,35 +36,21 @@ pub fn make_journal(alloc: Global, count: u32) -> Result<Vec<u8>> {
     Ok(journal)
 }
 
-/// Gives the messages of a journal, which comes in pieces.
-#[derive(Drop)]
-pub struct JournalReader<'a> {
-    decoder: Decoder,
-    rest: &'a [u8],
-}
-
-impl<'a> JournalReader<'a> {
-    /// A reader at the front of a journal.
-    pub fn new(alloc: Global, journal: &'a [u8]) -> JournalReader<'a> {
-        JournalReader {
-            decoder: Decoder::new(alloc),
-            rest: journal,
-        }
+/// The messages that are whole when this piece came.
+pub fn take_messages(
+    alloc: Global,
+    decoder: &mut Decoder,
+    piece: &[u8],
+) -> Result<Vec<RawMessage>> {
+    let mut messages = Vec::with_capacity(alloc, MESSAGES)?;
+    decoder.push(piece)?;
+    for _ in 0..u64::MAX {
+        let Some(message) = decoder.consume_next()? else {
+            break;
+        };
+        messages.push(message)?;
     }
-
-    /// The next message, or `None` at the end.
-    pub fn next_message(&mut self) -> Result<Option<RawMessage>> {
-        for _ in 0..u64::MAX {
-            let next = self.decoder.consume_next()?;
-            if next.is_some() || self.rest.is_empty() {
-                return Ok(next);
-            }
-            let (piece, rest) = self.rest.split_at(PIECE.min(self.rest.len()));
-            self.rest = rest;
-            self.decoder.push(piece)?;
-        }
-        Ok(None)
-    }
+    Ok(messages)
 }
 
 fn put_message(lists: &mut Vec<Vec<RawMessage>>, message: RawMessage) -> Result<()> {
@@ -77,12 +66,11 @@ pub fn messages_by_command(alloc: Global, journal: &[u8]) -> Result<Vec<Vec<RawM
     for _ in 0..COMMANDS {
         lists.push(Vec::new(alloc))?;
     }
-    let mut reader = JournalReader::new(alloc, journal);
-    for _ in 0..u64::MAX {
-        let Some(message) = reader.next_message()? else {
-            break;
-        };
-        put_message(&mut lists, message)?;
+    let mut decoder = Decoder::new(alloc);
+    for piece in journal.chunks(PIECE) {
+        for message in take_messages(alloc, &mut decoder, piece)? {
+            put_message(&mut lists, message)?;
+        }
     }
     Ok(lists)
 }

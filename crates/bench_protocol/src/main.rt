@@ -3,10 +3,10 @@
 
 mod commands;
 mod journal;
-mod passes;
 mod report;
 mod samples;
 mod timing;
+mod whole;
 
 use anyhow::Result;
 use report::time_journal;

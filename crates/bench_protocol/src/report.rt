@@ -1,7 +1,7 @@
 // What is printed.
 use crate::commands::{rewrite_command, time_command};
 use crate::journal::{make_journal, messages_by_command};
-use crate::passes::{Passes, time_passes};
+use crate::whole::{Whole, time_whole};
 use anyhow::Result;
 use journal_protocol::RawMessage;
 use std::alloc::Global;
@@ -70,18 +70,19 @@ fn print_commands<R: CpuClock + Print>(rt: &R, alloc: Global, journal: &[u8]) ->
     Ok(())
 }
 
-// Prints the line of the whole journal. Writing is what the pass that writes too takes longer than the one that reads.
-fn print_passes<R: Print>(rt: &R, journal: &[u8], passes: &Passes) -> Result<()> {
-    let frames = passes.count;
+// Prints the line of the whole journal. Writing is what it takes longer to read and write than to read.
+fn print_whole<R: Print>(rt: &R, journal: &[u8], whole: &Whole) -> Result<()> {
+    let frames = whole.count;
     let bytes = journal.len();
-    let writing = passes.reading_and_writing.saturating_sub(passes.reading);
-    let framing = each(passes.framing, frames as usize);
-    let read = each(passes.reading, frames as usize);
-    let write = each(writing, frames as usize);
-    let read_speed = speed(passes.reading, bytes);
+    let reading = whole.framing.saturating_add(whole.reading);
+    let writing = whole.rewriting.saturating_sub(whole.reading);
+    let framing = each(whole.framing, frames);
+    let read = each(reading, frames);
+    let write = each(writing, frames);
+    let read_speed = speed(reading, bytes);
     let write_speed = speed(writing, bytes);
-    let hash = checksum(passes.written.as_slice());
-    let end = if passes.written.as_slice() == journal {
+    let hash = checksum(whole.written.as_slice());
+    let end = if whole.written.as_slice() == journal {
         "same"
     } else {
         "OTHER"
@@ -97,6 +98,6 @@ pub fn time_journal<R: CpuClock + Print + AllocGlobal>(rt: &R, count: u32) -> Re
     let alloc = rt.alloc();
     let journal = make_journal(alloc, count)?;
     print_commands(rt, alloc, journal.as_slice())?;
-    let passes = time_passes(rt, alloc, journal.as_slice())?;
-    print_passes(rt, journal.as_slice(), &passes)
+    let whole = time_whole(rt, alloc, journal.as_slice())?;
+    print_whole(rt, journal.as_slice(), &whole)
 }
