@@ -21,10 +21,10 @@ c++ -std=c++17 -O2 -I. -I"$built" protobuf_times.cc "$built"/records.pb.cc -o "$
 # Builds the program, and runs it with no word: it does nothing then.
 (cd "$crate" && rt run) >&2
 
-uptime
+uptime || true
 "$crate"/out/bench_protocol "$count" > "$built"/ours
 "$built"/protobuf_times "$count" > "$built"/theirs
-uptime
+uptime || true
 
 # Of each line the name and the frame that was written; of the last line what was written of the whole journal.
 written() {

@@ -1,4 +1,4 @@
-// Which record each command is.
+// Which record each command is. Its place is that among the twenty, in the order of their types.
 use crate::samples::place_of;
 use crate::timing::{Clocked, time_messages};
 use anyhow::{Result, bail};
@@ -17,7 +17,7 @@ use journal_protocol::{RawMessage, Version};
 use protocol_records::{InputCommandMessage, OutputCommandMessage, SleepCommandMessage};
 use std::alloc::Global;
 use std::time::CpuClock;
-use typed_messages::{Encoder, PlainMessage, RawMessageExt};
+use typed_messages::{Encoder, PlainMessage, RawMessageExt, RestateMessage};
 
 // Calls a function at the record of the command at a place.
 macro_rules! at_place {
@@ -48,7 +48,8 @@ macro_rules! at_place {
     };
 }
 
-fn read_as<M: PlainMessage>(alloc: Global, message: &RawMessage) -> Result<()> {
+/// Reads a message as this record, and lets it go.
+pub fn read_as<M: RestateMessage>(alloc: Global, message: &RawMessage) -> Result<()> {
     let record: M = message.decode_to(alloc, 0)?;
     drop(record);
     Ok(())

@@ -1,4 +1,5 @@
 // What messages of one type take, apart from their framing.
+use crate::commands::read_as;
 use anyhow::Result;
 use journal_protocol::{RawMessage, Version};
 use std::alloc::Global;
@@ -18,8 +19,7 @@ pub struct Clocked {
 // Lets each record go before the next is read.
 fn read_messages<M: RestateMessage>(alloc: Global, messages: &[RawMessage]) -> Result<()> {
     for message in messages {
-        let record: M = message.decode_to(alloc, 0)?;
-        drop(record);
+        read_as::<M>(alloc, message)?;
     }
     Ok(())
 }
