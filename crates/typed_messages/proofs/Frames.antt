@@ -1,17 +1,12 @@
 -- That what is written is a frame.
-use Rattle.std.proofs.Common.{◌≡◌, ℕ, ◌<◌, ◌≤◌, ◌^◌, ◌++◌, Bool, true, false, List, length, take, drop, Option, Some, None, refl, sym, ap, ◌∙◌, arith, subst, length-append, is_some}
+use Rattle.std.proofs.Common.{◌≡◌, ℕ, ◌<◌, ◌^◌, Bool, true, false, List, length, Option, Some, None, refl, subst, is_some}
 use Rattle.std.specs.Prelude.{if◌then◌else◌, IfSome}
-use Rattle.std.specs.Int.{w64, to_be_bytes}
-use Rattle.std.proofs.lemmas.List.{take_all, length-drop}
-use Rattle.std.proofs.Math.Seq.{drop-append_seam}
 use Rattle.protocol_table.specs.declared.table.RecordType.{RecordType}
 use Rattle.protocol_table.specs.declared.table.RecordType.TheVariants as records
 use Rattle.journal_protocol.specs.declared.message_type.MessageType.{MessageType}
-use Rattle.journal_protocol.specs.declared.header.MessageHeader.{MessageHeader}
 use Rattle.journal_protocol.specs.declared.version.Version.{Version}
 use Rattle.journal_protocol.specs.MessageType.{allows_ack}
-use Rattle.journal_protocol.specs.Header.{word_of}
-use Rattle.journal_protocol.specs.Frame.{spelled, IsWireType, IsFrame}
+use Rattle.journal_protocol.specs.Frame.{IsWireType, IsFrame}
 use Rattle.journal_protocol.proofs.Types.{named_is_wire}
 use Rattle.typed_messages.specs.RecordMessage.{type_of_record}
 use Rattle.typed_messages.specs.Encoded.{payload_message}

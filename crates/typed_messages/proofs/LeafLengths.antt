@@ -1,14 +1,16 @@
 -- The bytes of leaves that are counted one after the other.
-use Rattle.std.proofs.Common.{◌≡◌, ℕ, zero, suc, ◌+◌, ◌-◌, ◌*◌, ◌/◌, ◌%◌, ◌^◌, ◌≤◌, min, Bool, true, false, List, [], ◌∷◌, ◌++◌, length, map, Some, refl, sym, ap, ◌∙◌, arith}
+use Rattle.std.proofs.Common.{◌≡◌, ℕ, zero, suc, ◌+◌, ◌-◌, ◌/◌, ◌%◌, ◌≤◌, Bool, true, false, List, [], ◌∷◌, ◌++◌, length, map, Some, refl, sym, ap, ◌∙◌, arith}
 use Rattle.std.specs.Prelude.{nat_lt, if◌then◌else◌}
 use Rattle.std.specs.List.{flat_map}
 use Rattle.std.proofs.lemmas.List.{append-nil, length-append, map-append}
 use Rattle.std.proofs.lemmas.List.Concat.{flat_map-append}
-use Rattle.protocol_wire.specs.Wire.{Wire, varint, bytes}
+use Rattle.protocol_wire.specs.Wire.{Wire, bytes}
 use Rattle.protocol_wire.specs.Spelling.{varint_spelling_within, varint_spelling, tagged}
 use Rattle.protocol_wire.specs.Parts.{part_spelling, optional_number, repeated_bytes}
 use Rattle.protocol_wire.specs.Lengths.{counted}
 use Rattle.protocol_wire.proofs.Lengths.{counted_more}
+use Rattle.protocol_records.specs.declared.future.Future.{Future}
+use Rattle.typed_messages.specs.Leaves.{own_first}
 
 one_more : (b : Bool) (k n x : ℕ) (rest : List ℕ) → length rest ≤ k → length (if b then n ∷ [] else x ∷ rest) ≤ suc k
 one_more true k n x rest le = omega arith
@@ -37,10 +39,12 @@ pub without_tag : (n field : ℕ) → field ≡ counted 0 (part_spelling (option
 without_tag n field e = omega (arith, e, field_length n, spelled_within n)
 
 -- The bytes of a node's own leaves, and then those of the leaves of the nodes in it.
-pub counted_behind : {Leaf : Type 0} (spell : List Leaf → List ℕ) → ((xs ys : List Leaf) → spell (xs ++ ys) ≡ spell xs ++ spell ys) → (before mid after : ℕ) (own nested all : List Leaf)
-    → mid ≡ counted before (spell own) → after ≡ counted mid (spell nested) → all ≡ own ++ nested → after ≡ counted before (spell all)
-counted_behind {Leaf} spell apart before mid after own nested all m a e =
-    a ∙ ap (λ (n : ℕ). counted n (spell nested)) m ∙ counted_more before (spell own) (spell nested) ∙ ap (counted before) (sym (apart own nested) ∙ ap spell (sym e))
+pub counted_node : {Leaf : Type 0} (spell : List Leaf → List ℕ) → ((xs ys : List Leaf) → spell (xs ++ ys) ≡ spell xs ++ spell ys) → (leaves : Future → List Leaf) (before mid after : ℕ) (own all : List Leaf) (fs nested : List Future)
+    → mid ≡ counted before (spell own) → after ≡ counted mid (spell (flat_map (λ found. found) (map leaves fs))) → fs ≡ nested → all ≡ own_first own (map leaves nested) → after ≡ counted before (spell all)
+counted_node {Leaf} spell apart leaves before mid after own all fs nested m a same e =
+    let behind = flat_map (λ found. found) (map leaves nested) in
+    a ∙ ap (λ (xs : List Future). counted mid (spell (flat_map (λ found. found) (map leaves xs)))) same
+    ∙ ap (λ (n : ℕ). counted n (spell behind)) m ∙ counted_more before (spell own) (spell behind) ∙ ap (counted before) (sym (apart own behind) ∙ ap spell (sym e))
 
 pub numbers_apart : (xs ys : List ℕ) → flat_map varint_spelling (xs ++ ys) ≡ flat_map varint_spelling xs ++ flat_map varint_spelling ys
 numbers_apart xs ys = flat_map-append varint_spelling xs ys

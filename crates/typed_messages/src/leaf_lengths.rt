@@ -47,8 +47,7 @@ fn count_leaves(future: &Future, lengths: &mut LeafLengths)
     ensures signals { lengths.new.signals ≡ counted lengths.old.signals (flat_map varint_spelling (signals_of future.now)) }
     ensures named_signals { lengths.new.named_signals ≡ counted lengths.old.named_signals (part_spelling (repeated_bytes named_signals.number (named_signals_of future.now))) }
 {
-    lengths.completions =
-        count_numbers(lengths.completions, future.waiting_completions.as_slice());
+    lengths.completions = count_numbers(lengths.completions, future.waiting_completions.as_slice());
     lengths.signals = count_numbers(lengths.signals, future.waiting_signals.as_slice());
     lengths.named_signals = len_texts(
         lengths.named_signals,
