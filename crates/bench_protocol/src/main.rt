@@ -1,11 +1,15 @@
-//! `bench_protocol COUNT`: reads and spells the payload of each command so often, and prints what one takes.
+//! `bench_protocol COUNT`: reads and writes a journal of so many commands, the twenty in turn, and prints what a frame takes.
 #![tactic(auto)]
 
+mod commands;
 mod journal;
+mod report;
+mod samples;
 mod timing;
+mod whole;
 
 use anyhow::Result;
-use journal::time_journal;
+use report::time_journal;
 use std::env;
 
 fn main(rt: HostRuntime) -> Result<()> {

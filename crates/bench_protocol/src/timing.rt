@@ -1,69 +1,79 @@
-// Reads and spells one payload many times.
+// What messages of one type take, apart from their framing.
+use crate::commands::read_as;
 use anyhow::Result;
-use protocol_wire::{Record, decode, encode};
+use journal_protocol::{RawMessage, Version};
 use std::alloc::Global;
-use std::fmt;
-use std::rt::Clock;
-use std::time::Instant;
+use std::time::{CpuClock, Duration};
+use typed_messages::{Encoder, PlainMessage, RawMessageExt, RestateMessage};
 
-// Bytes, printed as hexadecimal digits.
+/// How many records are written between two looks at the clock: so many that a look costs none of them a nanosecond.
+const BLOCK: usize = 512;
+
+/// The processor time that messages took.
 #[derive(Clone, Copy)]
-struct Hex<'a>(&'a [u8]);
-
-impl fmt::Display for Hex<'_> {
-    fn fmt<W: fmt::Write>(&self, f: &mut fmt::Formatter<W>) -> fmt::Result {
-        for byte in self.0 {
-            let byte = *byte;
-            write!(f, "{byte:02x}")?;
-        }
-        Ok(())
-    }
+pub struct Clocked {
+    pub reading: Duration,
+    pub writing: Duration,
 }
 
-// How many of so many readings succeed.
-fn read_often<R: Record>(alloc: Global, payload: &[u8], count: u32) -> u32 {
-    let mut done = 0u32;
-    for _ in 0..count {
-        if decode::<R>(alloc, payload).is_ok() {
-            done = done.wrapping_add(1);
-        }
+// Lets each record go before the next is read.
+fn read_messages<M: RestateMessage>(alloc: Global, messages: &[RawMessage]) -> Result<()> {
+    for message in messages {
+        read_as::<M>(alloc, message)?;
     }
-    done
-}
-
-// How many of so many spellings succeed.
-fn spell_often<R: Record>(alloc: Global, record: &R, count: u32) -> u32 {
-    let mut done = 0u32;
-    for _ in 0..count {
-        if encode(alloc, record).is_ok() {
-            done = done.wrapping_add(1);
-        }
-    }
-    done
-}
-
-/// Prints the nanoseconds that one reading takes, those that one spelling takes, how many of both succeeded, and what is
-/// spelled.
-pub fn time_record<R: Record, T: Clock + Print>(
-    rt: &T,
-    alloc: Global,
-    name: &str,
-    payload: &[u8],
-    count: u32,
-) -> Result<()> {
-    let Ok(record) = decode::<R>(alloc, payload) else {
-        return Ok(());
-    };
-    let Ok(spelled) = encode(alloc, &record) else {
-        return Ok(());
-    };
-    let start = Instant::now(rt)?;
-    let read = read_often::<R>(alloc, payload, count);
-    let reading = start.elapsed(rt)?.as_nanos() / u128::from(count.max(1));
-    let start = Instant::now(rt)?;
-    let written = spell_often(alloc, &record, count);
-    let spelling = start.elapsed(rt)?.as_nanos() / u128::from(count.max(1));
-    let hex = Hex(spelled.as_slice());
-    println!(rt; "{name} read {reading} spell {spelling} done {read} {written} {hex}")?;
     Ok(())
+}
+
+fn keep_records<M: RestateMessage>(alloc: Global, messages: &[RawMessage]) -> Result<Vec<M>> {
+    let mut records = Vec::with_capacity(alloc, messages.len())?;
+    for message in messages {
+        let record: M = message.decode_to(alloc, 0)?;
+        records.push(record)?;
+    }
+    Ok(records)
+}
+
+fn write_records<M: PlainMessage>(alloc: Global, records: &[M]) -> Result<()> {
+    let encoder = Encoder::new(Version::V8);
+    for record in records {
+        let frame = encoder.encode(alloc, record)?;
+        drop(frame);
+    }
+    Ok(())
+}
+
+// The time of writing alone.
+fn time_writing<M: PlainMessage, R: CpuClock>(
+    rt: &R,
+    alloc: Global,
+    block: &[RawMessage],
+) -> Result<Duration> {
+    let records = keep_records::<M>(alloc, block)?;
+    let start = rt.thread_cpu_time();
+    let done = write_records(alloc, records.as_slice());
+    let end = rt.thread_cpu_time();
+    drop(records);
+    done?;
+    let start = start?;
+    let end = end?;
+    Ok(end.saturating_sub(start))
+}
+
+/// How long these messages take to be read as this record, with letting it go again, and how long to be written.
+pub fn time_messages<M: PlainMessage, R: CpuClock>(
+    rt: &R,
+    alloc: Global,
+    messages: &[RawMessage],
+) -> Result<Clocked> {
+    let start = rt.thread_cpu_time()?;
+    read_messages::<M>(alloc, messages)?;
+    let end = rt.thread_cpu_time()?;
+    let mut writing = Duration::ZERO;
+    for block in messages.chunks(BLOCK) {
+        writing = writing.saturating_add(time_writing::<M, R>(rt, alloc, block)?);
+    }
+    Ok(Clocked {
+        reading: end.saturating_sub(start),
+        writing,
+    })
 }

@@ -13,4 +13,5 @@ pub mod ReadBackOneWayCallCommand
 pub mod ReadBackSendSignalCommand
 pub mod ReadBackWorkflowTarget
 pub mod SendSignalCommand
+pub mod Texts
 pub mod WorkflowTarget

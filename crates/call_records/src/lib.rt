@@ -8,6 +8,7 @@ mod get_invocation_output_command;
 mod idempotent_request_target;
 mod one_way_call_command;
 mod send_signal_command;
+mod shown;
 mod workflow_target;
 
 pub use attach_invocation_command::{

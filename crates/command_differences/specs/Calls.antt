@@ -5,8 +5,8 @@ use Rattle.record_equality.specs.Parts.{same_text, same_optional_text}
 use Rattle.record_equality.specs.Records.{same_header}
 use Rattle.record_equality.specs.Payloads.{same_payload}
 use Rattle.command_headers.specs.Calls.{erased_call_command, call_command_tells, erased_one_way_call_command, one_way_call_command_tells}
-use Rattle.command_differences.specs.Texts.{quoted, escaped, optional_text, list_text}
-use Rattle.command_differences.specs.Records.{header_text}
+use Rattle.shown_fields.specs.Texts.{quoted, escaped, optional_text, list_text}
+use Rattle.protocol_records.specs.Texts.{header_text}
 use Rattle.command_differences.specs.Lines.{compared_line, line_silent, both_silent, silent_told}
 use Rattle.call_records.specs.declared.call_command.CallCommandMessage.{CallCommandMessage}
 use Rattle.call_records.specs.declared.one_way_call_command.OneWayCallCommandMessage.{OneWayCallCommandMessage}

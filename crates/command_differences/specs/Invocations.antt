@@ -5,8 +5,8 @@ use Rattle.record_equality.specs.Parts.{same_text}
 use Rattle.record_equality.specs.Choices.{same_signal_id, same_signal_result, same_attached_target, same_asked_target}
 use Rattle.record_equality.specs.Payloads.{same_awakeable_result}
 use Rattle.command_headers.specs.Invocations.{erased_send_signal_command, send_signal_command_tells, erased_attach_invocation_command, attach_invocation_command_tells, erased_get_invocation_output_command, get_invocation_output_command_tells, erased_complete_awakeable_command, complete_awakeable_command_tells}
-use Rattle.command_differences.specs.Texts.{quoted, optional_text}
-use Rattle.command_differences.specs.Records.{awakeable_result_text, signal_id_text, signal_result_text, attached_target_text, asked_target_text}
+use Rattle.shown_fields.specs.Texts.{quoted, optional_text}
+use Rattle.call_records.specs.Texts.{awakeable_result_text, signal_id_text, signal_result_text, attached_target_text, asked_target_text}
 use Rattle.command_differences.specs.Lines.{compared_line, line_silent, both_silent, silent_told}
 use Rattle.call_records.specs.declared.send_signal_command.SendSignalCommandMessage.{SendSignalCommandMessage}
 use Rattle.call_records.specs.declared.attach_invocation_command.AttachInvocationCommandMessage.{AttachInvocationCommandMessage}

@@ -4,8 +4,8 @@ use Rattle.std.specs.Option.{option_eq}
 use Rattle.record_equality.specs.Parts.{same_text}
 use Rattle.record_equality.specs.Payloads.{same_completion}
 use Rattle.command_headers.specs.Promises.{erased_get_promise_command, get_promise_command_tells, erased_peek_promise_command, peek_promise_command_tells, erased_complete_promise_command, complete_promise_command_tells, erased_run_command, run_command_tells}
-use Rattle.command_differences.specs.Texts.{quoted, optional_text}
-use Rattle.command_differences.specs.Records.{completion_text}
+use Rattle.shown_fields.specs.Texts.{quoted, optional_text}
+use Rattle.command_records.specs.Texts.{completion_text}
 use Rattle.command_differences.specs.Lines.{compared_line, line_silent, both_silent, silent_told}
 use Rattle.command_records.specs.declared.get_promise_command.GetPromiseCommandMessage.{GetPromiseCommandMessage}
 use Rattle.command_records.specs.declared.peek_promise_command.PeekPromiseCommandMessage.{PeekPromiseCommandMessage}

@@ -5,8 +5,9 @@ use Rattle.record_equality.specs.Parts.{same_text}
 use Rattle.record_equality.specs.Records.{same_state_keys}
 use Rattle.record_equality.specs.Payloads.{same_content, same_state_result}
 use Rattle.command_headers.specs.State.{erased_get_lazy_state_command, get_lazy_state_command_tells, erased_get_lazy_state_keys_command, get_lazy_state_keys_command_tells, erased_get_eager_state_command, get_eager_state_command_tells, erased_get_eager_state_keys_command, get_eager_state_keys_command_tells, erased_set_state_command, set_state_command_tells, erased_clear_state_command, clear_state_command_tells, erased_clear_all_state_command, clear_all_state_command_tells}
-use Rattle.command_differences.specs.Texts.{quoted, escaped, optional_text}
-use Rattle.command_differences.specs.Records.{state_keys_text, value_text, state_result_text}
+use Rattle.shown_fields.specs.Texts.{quoted, escaped, optional_text}
+use Rattle.protocol_records.specs.Texts.{state_keys_text, value_text}
+use Rattle.command_records.specs.Texts.{state_result_text}
 use Rattle.command_differences.specs.Lines.{compared_line, line_silent, both_silent, silent_told}
 use Rattle.command_records.specs.declared.get_lazy_state_command.GetLazyStateCommandMessage.{GetLazyStateCommandMessage}
 use Rattle.command_records.specs.declared.get_lazy_state_keys_command.GetLazyStateKeysCommandMessage.{GetLazyStateKeysCommandMessage}

@@ -5,20 +5,15 @@ ghost use Rattle.std.specs.Prelude.{◌≡◌, ◌↔◌, ℕ, List, [], false};
 ghost use Rattle.std.specs.Fmt.{WritesOnOk};
 
 mod calls;
-mod choices;
 mod control;
 mod invocations;
 mod laws;
 mod lines;
-mod parts;
 mod promises;
-mod records;
-mod shown;
 mod state;
 
 use command_headers::CommandMessageHeaderEq;
 pub use laws::differences_are_shown;
-pub use shown::{Printed, Shown};
 use std::fmt;
 
 /// A command whose difference from the recorded one can be printed.

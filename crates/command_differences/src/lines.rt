@@ -3,9 +3,8 @@ ghost use Rattle.std.specs.Fmt.{WritesOnOk};
 ghost use Rattle.std.specs.Prelude.{false};
 ghost use Rattle.command_differences.specs.Lines.{compared_line};
 
-use crate::Shown;
-use crate::parts::show_labelled;
 use record_equality::{Same, SameBesidesPayload};
+use shown_fields::{Shown, show_labelled};
 use std::fmt;
 use std::fmt::Write;
 

@@ -20,3 +20,4 @@ pub mod ReadBackRunCommand
 pub mod ReadBackSetStateCommand
 pub mod RunCommand
 pub mod SetStateCommand
+pub mod Texts

@@ -12,6 +12,7 @@ mod get_promise_command;
 mod peek_promise_command;
 mod run_command;
 mod set_state_command;
+mod shown;
 
 pub use clear_all_state_command::ClearAllStateCommandMessage;
 pub use clear_state_command::ClearStateCommandMessage;

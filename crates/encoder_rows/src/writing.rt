@@ -7,7 +7,7 @@ use protocol_records::{CombinatorType, Future, SleepCommandMessage, SuspensionMe
 use sequence::Sequence;
 use std::alloc::{AllocError, Global};
 use std::test::Fail;
-use typed_messages::{Encoder, encode_record};
+use typed_messages::{Encoder, RestateMessage, encode_record};
 
 fn numbers(alloc: Global, all: &[u32]) -> Result<Sequence<u32>, AllocError> {
     let mut numbers = Sequence::new(alloc);
@@ -129,14 +129,30 @@ fn proposal_before_version_7(rt: HostRuntime) -> Result<(), Fail> {
     Ok(())
 }
 
-#[test]
-fn sleep_in_version_8(rt: HostRuntime) -> Result<(), Fail> {
-    let sleep = SleepCommandMessage {
+fn sleep() -> SleepCommandMessage {
+    SleepCommandMessage {
         wake_up_time: 10,
         result_completion_id: 1,
         name: ByteStr::new(),
-    };
-    let frame = Encoder::new(Version::V8).encode(rt.alloc(), &sleep)?;
+    }
+}
+
+#[test]
+fn length_of_a_sleep(rt: HostRuntime) -> Result<(), Fail> {
+    assert_eq!(rt; sleep().encoded_len(), Some(4));
+    Ok(())
+}
+
+#[test]
+fn payload_of_a_sleep(rt: HostRuntime) -> Result<(), Fail> {
+    let payload = sleep().encode_to_vec(rt.alloc())?;
+    assert_eq!(rt; payload.as_slice(), b"\x08\x0a\x58\x01".as_slice());
+    Ok(())
+}
+
+#[test]
+fn sleep_in_version_8(rt: HostRuntime) -> Result<(), Fail> {
+    let frame = Encoder::new(Version::V8).encode(rt.alloc(), &sleep())?;
     assert_eq!(rt;
         frame.as_slice(),
         b"\x04\x0c\x00\x00\x00\x00\x00\x04\x08\x0a\x58\x01".as_slice()

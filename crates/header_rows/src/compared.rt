@@ -16,6 +16,7 @@ use protocol_errors::{Error, to_error};
 use protocol_records::{InputCommandMessage, OutputCommandMessage, SleepCommandMessage};
 use protocol_wire::{Record, RecordType, decode};
 use std::alloc::Global;
+use std::fmt;
 
 // whether the two are header-equal with payloads, and without, and what is printed of them
 fn compare<M: Record + CommandMessageHeaderDiff>(
@@ -83,6 +84,17 @@ pub fn has_name<M: Record + NamedCommandMessage>(
 ) -> bool {
     match decode::<M>(alloc, payload) {
         Ok(command) => command.name() == name,
+        Err(_) => false,
+    }
+}
+
+/// Whether the record of this payload is printed as this text.
+pub fn is_printed_as<M: Record + fmt::Display>(alloc: Global, payload: &[u8], text: &str) -> bool {
+    let Ok(record) = decode::<M>(alloc, payload) else {
+        return false;
+    };
+    match format!(in alloc; "{record}") {
+        Ok(printed) => printed.as_str() == text,
         Err(_) => false,
     }
 }

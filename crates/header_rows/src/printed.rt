@@ -1,11 +1,9 @@
 //! What is printed of two commands that differ.
-use crate::compared::{compared, has_name};
-use bytes::{ByteStr, Bytes};
+use crate::compared::{compared, has_name, is_printed_as};
 use call_records::SendSignalCommandMessage;
-use command_differences::Printed;
 use command_errors::CommandRelationship;
 use journal_protocol::CommandType;
-use protocol_records::{Header, InputCommandMessage, SleepCommandMessage, Value};
+use protocol_records::{Failure, Header, InputCommandMessage, SleepCommandMessage, Value};
 use protocol_wire::RecordType;
 use std::test::*;
 
@@ -109,19 +107,12 @@ fn names(rt: HostRuntime) {
 }
 
 #[test]
-fn printed_records(rt: HostRuntime) -> Result<(), Fail> {
-    let value = Value {
-        content: Bytes::from_static(b"\x00a"),
-    };
-    let header = Header {
-        key: ByteStr::from_static("k"),
-        value: ByteStr::from_static("v"),
-    };
-    let printed = Printed(&value);
-    assert_eq!(rt; printed.to_string(rt.alloc())?.as_str(), "'\\x00a'");
-    let printed = Printed(&header);
-    assert_eq!(rt; printed.to_string(rt.alloc())?.as_str(), "'k': 'v'");
-    Ok(())
+fn printed_records(rt: HostRuntime) {
+    assert!(rt; is_printed_as::<Value>(rt.alloc(), b"\x0a\x02\x00a", "'\\x00a'"));
+    assert!(rt; is_printed_as::<Header>(rt.alloc(), b"\x0a\x01k\x12\x01v", "'k': 'v'"));
+    let pairs = b"\x08\x05\x12\x01x\x1a\x06\x0a\x01k\x12\x01v\x1a\x06\x0a\x01l\x12\x01w";
+    assert!(rt; is_printed_as::<Failure>(rt.alloc(), pairs, "failure 5 'x' ['k': 'v', 'l': 'w']"));
+    assert!(rt; is_printed_as::<Failure>(rt.alloc(), b"\x08\x05", "failure 5 '' []"));
 }
 
 #[test]

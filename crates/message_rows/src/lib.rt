@@ -4,4 +4,6 @@
 #[cfg(test)]
 mod frames;
 #[cfg(test)]
+mod methods;
+#[cfg(test)]
 mod reading;

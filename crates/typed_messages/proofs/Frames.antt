@@ -1,35 +1,15 @@
--- A frame whose header is written when its payload stands already.
-use Rattle.std.proofs.Common.{◌≡◌, ℕ, ◌<◌, ◌≤◌, ◌^◌, ◌++◌, Bool, true, false, List, length, take, drop, Option, Some, None, refl, sym, ap, ◌∙◌, arith, subst, length-append, is_some}
+-- That what is written is a frame.
+use Rattle.std.proofs.Common.{◌≡◌, ℕ, ◌<◌, ◌^◌, Bool, true, false, List, length, Option, Some, None, refl, subst, is_some}
 use Rattle.std.specs.Prelude.{if◌then◌else◌, IfSome}
-use Rattle.std.specs.Int.{w64, to_be_bytes}
-use Rattle.std.proofs.lemmas.List.{take_all, length-drop}
-use Rattle.std.proofs.Math.Seq.{drop-append_seam}
 use Rattle.protocol_table.specs.declared.table.RecordType.{RecordType}
 use Rattle.protocol_table.specs.declared.table.RecordType.TheVariants as records
 use Rattle.journal_protocol.specs.declared.message_type.MessageType.{MessageType}
-use Rattle.journal_protocol.specs.declared.header.MessageHeader.{MessageHeader}
 use Rattle.journal_protocol.specs.declared.version.Version.{Version}
 use Rattle.journal_protocol.specs.MessageType.{allows_ack}
-use Rattle.journal_protocol.specs.Header.{word_of}
-use Rattle.journal_protocol.specs.Frame.{spelled, IsWireType, IsFrame}
+use Rattle.journal_protocol.specs.Frame.{IsWireType, IsFrame}
 use Rattle.journal_protocol.proofs.Types.{named_is_wire}
 use Rattle.typed_messages.specs.RecordMessage.{type_of_record}
 use Rattle.typed_messages.specs.Encoded.{payload_message}
-
--- eight bytes written over the first eight of a frame
-pub put_front : (count : ℕ) (given word items : List ℕ) → given ≡ word → length word ≡ 8 → 8 ≤ length items → count ≡ length items → take count (given ++ drop (length given) items) ≡ word ++ drop 8 items
-put_front count given word items e eight le all =
-    ap (λ (w : List ℕ). take count (w ++ drop (length w) items)) e
-    ∙ ap (λ (n : ℕ). take count (word ++ drop n items)) eight
-    ∙ take_all count (word ++ drop 8 items) (omega (arith, length-append word (drop 8 items), length-drop 8 items))
-
--- the frame of a payload that stood behind eight bytes
-pub framed : (ty : MessageType) (version : Version) (payload zeros before frame : List ℕ) (header : MessageHeader) → length zeros ≡ 8 → before ≡ zeros ++ payload
-    → header ≡ (payload_message ty version payload).header → frame ≡ to_be_bytes w64 (word_of header) ++ drop 8 before → frame ≡ spelled (payload_message ty version payload)
-unfolding spelled
-framed ty version payload zeros before frame header eight e h f =
-    f ∙ ap (λ (x : MessageHeader). to_be_bytes w64 (word_of x) ++ drop 8 before) h
-    ∙ ap (λ (s : List ℕ). to_be_bytes w64 (word_of (payload_message ty version payload).header) ++ s) (ap (drop 8) e ∙ ap (λ (n : ℕ). drop n (zeros ++ payload)) (sym eight) ∙ drop-append_seam zeros payload)
 
 -- The type of each record's messages is one that its number stands for.
 wire_types : (t : RecordType) → IfSome (type_of_record t) IsWireType

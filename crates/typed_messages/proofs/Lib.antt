@@ -1,4 +1,5 @@
 pub mod Frames
+pub mod LeafLengths
 pub mod Preorder
 pub mod Reading
 pub mod Suspensions

@@ -1,5 +1,5 @@
 -- The message that a record is written as, and what an encoder answers.
-use Rattle.std.specs.Prelude.{◌≡◌, ◌<◌, ◌≤◌, ◌^◌, ℕ, nat_lt, not, Bool, true, false, List, length, Option, Some, None, Result, Ok, Err}
+use Rattle.std.specs.Prelude.{◌≡◌, ◌↔◌, ◌≤◌, ◌^◌, ℕ, nat_lt, not, Bool, true, false, List, length, Option, Some, None, Result, Err, IfOk}
 use Rattle.protocol_table.specs.declared.table.RecordType.{RecordType}
 use Rattle.protocol_wire.specs.Parts.{Part, payload_of}
 use Rattle.protocol_records.specs.Suspension.{suspension_parts}
@@ -9,7 +9,7 @@ use Rattle.journal_protocol.specs.declared.message_type.MessageType.{MessageType
 use Rattle.journal_protocol.specs.declared.message_type.MessageType.TheVariants as messages
 use Rattle.journal_protocol.specs.declared.decoder.RawMessage.{RawMessage}
 use Rattle.journal_protocol.specs.declared.encoder.EncodingError.{EncodingError}
-use Rattle.journal_protocol.specs.declared.encoder.EncodingError.TheVariants.{PayloadTooLong, OutOfMemory}
+use Rattle.journal_protocol.specs.declared.encoder.EncodingError.TheVariants.{PayloadTooLong}
 use Rattle.journal_protocol.specs.declared.version.Version.{Version}
 use Rattle.journal_protocol.specs.Version.{version_number}
 use Rattle.journal_protocol.specs.Header.{header_of}
@@ -46,8 +46,7 @@ suspension_parts_as false one = suspension_parts one
 abbrev pub suspension_message : Version → SuspensionMessage → RawMessage
 suspension_message version one = record_message messages.Suspension version (suspension_parts_as (is_before_7 version) one)
 
--- The frame, or that its length does not fit the 32 bits that the header has for it, unless memory was refused.
+-- That the length of the payload does not fit the 32 bits that the header has for it is answered exactly where it does not;
+-- otherwise the frame, unless memory was refused.
 abbrev pub EncodesTo : RawMessage → Result (List ℕ) EncodingError → Type 0
-EncodesTo m (Ok frame) = (length m.payload < 2 ^ 32) × (frame ≡ spelled m)
-EncodesTo m (Err PayloadTooLong) = 2 ^ 32 ≤ length m.payload
-EncodesTo m (Err OutOfMemory) = Unit {0}
+EncodesTo m answer = ((answer ≡ Err PayloadTooLong) ↔ (2 ^ 32 ≤ length m.payload)) × IfOk answer (λ frame. frame ≡ spelled m)

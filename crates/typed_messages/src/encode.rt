@@ -1,15 +1,13 @@
 // Records as the frames of messages.
-ghost use Rattle.std.specs.Prelude.{◌≡◌, ◌≤◌, ◌++◌, drop, length};
-ghost use Rattle.std.specs.Int.{w64, to_be_bytes};
+ghost use Rattle.std.specs.Prelude.{◌≡◌};
 ghost use Rattle.journal_protocol.specs.declared.decoder.RawMessage.{RawMessage};
 ghost use Rattle.journal_protocol.specs.declared.version.Version.{Version as Versions};
-ghost use Rattle.journal_protocol.specs.Header.{word_of};
 ghost use Rattle.typed_messages.specs.Encoded.{is_before_7 as is_before, record_message, plain_message, EncodesTo};
 
 use crate::message::PlainMessage;
 use bytes::Bytes;
 use journal_protocol::{EncodingError, MessageHeader, MessageType, Version};
-use protocol_wire::Record;
+use protocol_wire::{Record, encoded_len};
 use std::alloc::Global;
 
 /// The bytes of a header.
@@ -20,21 +18,6 @@ pub(crate) fn is_before_7(version: Version) -> bool
     ensures { result ≡ is_before version }
 {
     version.number() < 7
-}
-
-// Overwrites the first bytes with those of a header.
-fn write_header(frame: &mut [u8], header: MessageHeader)
-    requires { 8 ≤ length frame.old }
-    ensures { frame.new ≡ to_be_bytes w64 (word_of header) ++ drop 8 frame.old }
-{
-    frame[..HEADER_LEN].copy_from_slice(&u64::from(header).to_be_bytes());
-}
-
-fn put_header(frame: &mut Vec<u8>, header: MessageHeader)
-    requires { 8 ≤ length frame.old.items }
-    ensures { frame.new.items ≡ to_be_bytes w64 (word_of header) ++ drop 8 frame.old.items }
-{
-    write_header(frame.as_mut_slice(), header);
 }
 
 /// What an encoder writes as a message.
@@ -57,6 +40,7 @@ impl<M: PlainMessage> RestateEncodableMessage for M {
 /// The frame of a record as a message of this type, which a type that can asks to acknowledge from version 7 on.
 ///
 /// For the types that share a record. A record of one type is written by `RestateEncodableMessage`.
+#[tactic(auto, unfolding(journal_protocol::specs::Frame::spelled))]
 pub fn encode_record<R: Record>(
     alloc: Global,
     ty: MessageType,
@@ -65,14 +49,13 @@ pub fn encode_record<R: Record>(
 ) -> Result<Bytes, EncodingError>
     ensures { EncodesTo (record_message ty version (R.parts one.now)) result }
 {
-    let mut out = Vec::new(alloc);
-    out.extend_from_slice(&[0; HEADER_LEN])?;
-    one.spell(alloc, &mut out)?;
-    let Ok(length) = u32::try_from(out.len() - HEADER_LEN) else {
+    let Some(length) = encoded_len(one) else {
         return Err(EncodingError::PayloadTooLong);
     };
     let header = MessageHeader::new_with_requested_ack(ty, !is_before_7(version), length);
-    put_header(&mut out, header);
+    let mut out = Vec::with_capacity(alloc, HEADER_LEN + length as usize)?;
+    out.extend_from_slice(&u64::from(header).to_be_bytes())?;
+    one.spell(alloc, &mut out)?;
     match Bytes::from_vec(out) {
         Ok(frame) => Ok(frame),
         Err(_) => Err(EncodingError::OutOfMemory),

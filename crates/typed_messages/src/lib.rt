@@ -7,6 +7,7 @@
 mod decode;
 mod encode;
 pub mod laws;
+mod leaf_lengths;
 mod message;
 mod messages;
 mod notification;

@@ -3,6 +3,7 @@ ghost use Rattle.std.specs.Prelude.{◌≡◌, ◌++◌, IfOk, OnOk};
 ghost use Rattle.typed_messages.specs.Leaves.{with_leaves, three_lists};
 
 use crate::encode::{RestateEncodableMessage, encode_record, is_before_7};
+use crate::leaf_lengths::lists_len;
 use bytes::{ByteStr, Bytes};
 use journal_protocol::{EncodingError, MessageType, Version};
 use protocol_records::{Future, SuspensionMessage, SuspensionMessageV6};
@@ -74,6 +75,9 @@ impl RestateEncodableMessage for SuspensionMessage {
 
     fn encode(&self, alloc: Global, version: Version) -> Result<Bytes, EncodingError> {
         if is_before_7(version) {
+            if lists_len(self) >= 1 << 32 {
+                return Err(EncodingError::PayloadTooLong);
+            }
             let lists = to_suspension_v6(alloc, self)?;
             encode_record(alloc, MessageType::Suspension, &lists, version)
         } else {

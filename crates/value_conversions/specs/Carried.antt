@@ -1,7 +1,5 @@
 -- What commands carry of the values that handlers hand out.
 use Rattle.journal_model.specs.declared.value.NonEmptyValue.{NonEmptyValue}
-use Rattle.journal_model.specs.declared.value.Value.{Value}
-use Rattle.journal_model.specs.declared.value.Value.TheVariants as values
 use Rattle.journal_protocol.specs.Records.{value_record, failure_record}
 use Rattle.command_records.specs.declared.complete_promise_command.CompletePromiseCommandCompletion.{CompletePromiseCommandCompletion}
 use Rattle.command_records.specs.declared.complete_promise_command.CompletePromiseCommandCompletion.TheVariants as completions
@@ -11,10 +9,6 @@ use Rattle.call_records.specs.declared.send_signal_command.SendSignalCommandResu
 use Rattle.call_records.specs.declared.send_signal_command.SendSignalCommandResult.TheVariants as results
 use Rattle.control_records.specs.declared.propose_run_completion.ProposeRunCompletionResult.{ProposeRunCompletionResult}
 use Rattle.control_records.specs.declared.propose_run_completion.ProposeRunCompletionResult.TheVariants as proposals
-
-abbrev pub widened : NonEmptyValue → Value
-widened (NonEmptyValue.Success bytes) = values.Success bytes
-widened (NonEmptyValue.Failure failure) = values.Failure failure
 
 abbrev pub completion_record : NonEmptyValue → CompletePromiseCommandCompletion
 completion_record (NonEmptyValue.Success bytes) = completions.CompletionValue (value_record bytes)

@@ -1,33 +1,14 @@
 // What handlers hand out, as commands carry it.
 ghost use Rattle.std.specs.Prelude.{◌≡◌, IfOk};
-ghost use Rattle.journal_model.specs.declared.value.Value.TheVariants as values;
-ghost use Rattle.value_conversions.specs.Carried.{completion_record, awakeable_record, signal_record, proposed_record, widened};
+ghost use Rattle.value_conversions.specs.Carried.{completion_record, awakeable_record, signal_record, proposed_record};
 
-use bytes::Bytes;
 use call_records::{CompleteAwakeableCommandResult, SendSignalCommandResult};
 use command_records::CompletePromiseCommandCompletion;
 use control_records::ProposeRunCompletionResult;
-use journal_model::{NonEmptyValue, Value};
+use journal_model::NonEmptyValue;
 use journal_protocol::to_failure_record;
 use protocol_records::Value as ValueRecord;
 use std::alloc::{AllocError, Global};
-
-/// The value that a success of these bytes is.
-pub fn value_of_bytes(bytes: Bytes) -> Value
-    ensures { result ≡ values.Success bytes }
-{
-    Value::Success(bytes)
-}
-
-/// The same value among those that a handler may take.
-pub fn value_of_non_empty(value: NonEmptyValue) -> Value
-    ensures { result ≡ widened value }
-{
-    match value {
-        NonEmptyValue::Success(bytes) => Value::Success(bytes),
-        NonEmptyValue::Failure(failure) => Value::Failure(failure),
-    }
-}
 
 /// What the command that completes a promise holds of the value.
 pub fn to_promise_completion(

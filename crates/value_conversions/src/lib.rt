@@ -7,6 +7,5 @@ mod taken;
 
 pub use handed::{
     to_awakeable_result, to_promise_completion, to_proposed_result, to_signal_result,
-    value_of_bytes, value_of_non_empty,
 };
 pub use taken::{TakeError, to_taken_failure, to_value};

@@ -1,0 +1,8 @@
+//! How the fields of records are printed: numbers, texts, bytes, and what may be absent or come more than once.
+#![tactic(auto)]
+
+mod parts;
+mod shown;
+
+pub use parts::show_labelled;
+pub use shown::Shown;
