@@ -1,6 +1,7 @@
 // The records that payloads of messages are.
 ghost use Rattle.std.specs.Prelude.{◌≡◌, ◌↔◌, IsTrue};
 ghost use Rattle.protocol_table.specs.declared.table.RecordType.TheVariants.{Notification as notification_type};
+ghost use Rattle.journal_protocol.specs.declared.decoder.RawMessage.{RawMessage as RawMessages};
 ghost use Rattle.notification_records.specs.Notification.{notification_of};
 ghost use Rattle.typed_messages.specs.Decoded.{has_name, IsExpected, ReadsPayload, DecodesTo, DecodesNotification};
 
@@ -14,15 +15,19 @@ use std::alloc::Global;
 
 /// Reading of the payload that a message came with.
 pub trait RawMessageExt {
+    ghost message: { Self → RawMessages };
+
     /// The message as a record. The command index is where it was asked for; an error of another type tells it.
     fn decode_to<M: RestateMessage>(
         &self,
         alloc: Global,
         command_index: i64,
-    ) -> Result<M, DecodingError>;
+    ) -> Result<M, DecodingError>
+        ensures { DecodesTo M.record_type M.of command_index (message self.now) result };
 
     /// What the payload notifies. The header's type says no more than that it is a notification, so it is not looked at.
-    fn decode_as_notification(&self, alloc: Global) -> Result<Notification, DecodingError>;
+    fn decode_as_notification(&self, alloc: Global) -> Result<Notification, DecodingError>
+        ensures { DecodesNotification (message self.now) result };
 }
 
 fn is_named(ty: MessageType) -> bool
@@ -73,20 +78,18 @@ fn read_payload<R: Record>(alloc: Global, message: &RawMessage) -> Result<R, Dec
 }
 
 impl RawMessageExt for RawMessage {
+    ghost message = { λ m. m };
+
     fn decode_to<M: RestateMessage>(
         &self,
         alloc: Global,
         command_index: i64,
-    ) -> Result<M, DecodingError>
-        ensures { DecodesTo M.record_type M.of command_index self.now result }
-    {
+    ) -> Result<M, DecodingError> {
         expect_type(M::ty(), self.ty(), command_index)?;
         read_payload(alloc, self)
     }
 
-    fn decode_as_notification(&self, alloc: Global) -> Result<Notification, DecodingError>
-        ensures { DecodesNotification self.now result }
-    {
+    fn decode_as_notification(&self, alloc: Global) -> Result<Notification, DecodingError> {
         let found: NotificationMessage = read_payload(alloc, self)?;
         to_notification(alloc, found)
     }

@@ -1,0 +1,2 @@
+//! What ends an attempt, with the codes.
+pub use protocol_errors::*;
