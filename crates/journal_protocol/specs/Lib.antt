@@ -7,4 +7,5 @@ pub mod Laws
 pub mod MessageType
 pub mod Records
 pub mod RequestHeaders
+pub mod TypeText
 pub mod Version

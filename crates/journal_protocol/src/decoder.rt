@@ -1,5 +1,5 @@
 // Messages from a stream that comes in any pieces.
-ghost use Rattle.std.specs.Prelude.{◌≡◌, ◌++◌, [], length, OnOk, OnErr};
+ghost use Rattle.std.specs.Prelude.{◌≡◌, ◌++◌, [], length, OnOk, OnErr, Some};
 ghost use Rattle.journal_protocol.specs.Header.{message_type};
 ghost use Rattle.journal_protocol.specs.Decoder.{ConsumesNext};
 
@@ -52,6 +52,10 @@ pub enum NotificationField {
 }
 
 impl fmt::Display for NotificationField {
+    ghost use Rattle.journal_protocol.specs.TypeText.{field_text};
+
+    ghost output = { λ field. Some (field_text field) };
+
     fn fmt<W: fmt::Write>(&self, f: &mut fmt::Formatter<W>) -> fmt::Result {
         match self {
             NotificationField::Id => write!(f, "id"),

@@ -1,5 +1,7 @@
 // The types of messages, and their numbers on the wire.
-ghost use Rattle.std.specs.Prelude.{◌≡◌};
+ghost use Rattle.std.specs.Prelude.{◌≡◌, Some};
+ghost use Rattle.std.specs.Fmt.{WritesOnOk};
+ghost use Rattle.journal_protocol.specs.TypeText.{type_name, number_text, type_text};
 ghost use Rattle.journal_protocol.specs.MessageType.{number_of, named_type, type_numbered, is_command, is_notification, allows_ack};
 
 use std::fmt;
@@ -128,6 +130,15 @@ macro_rules! type_in_table {
     };
 }
 
+macro_rules! name_in_table {
+    ($ty:expr; $($number:literal $name:ident),*) => {
+        match $ty {
+            $(MessageType::$name => stringify!($name),)*
+            MessageType::CustomEntry(_) => "CustomEntry",
+        }
+    };
+}
+
 // The type with a name that has this number.
 #[tactic(auto, unfolding(crate::specs::MessageType::named_type))]
 fn named_type_of(number: u16) -> Option<MessageType>
@@ -179,10 +190,31 @@ impl MessageType {
     {
         matches!(self, MessageType::ProposeRunCompletion)
     }
+
+    // The name of the type.
+    fn name(self) -> &'static str
+        ensures { result.now ≡ type_name self }
+    {
+        with_numbers!(name_in_table self)
+    }
+
+    // Writes the number of a custom entry.
+    fn write_number<W: fmt::Write>(self, f: &mut fmt::Formatter<W>) -> fmt::Result
+        ensures { WritesOnOk W.write_str_gives f.old result (number_text self) f.new }
+    {
+        match self {
+            MessageType::CustomEntry(number) => write!(f, "({number})"),
+            _ => Ok(()),
+        }
+    }
 }
 
+/// Prints the name, and the number of a custom entry, as `Debug` does.
 impl fmt::Display for MessageType {
+    ghost output = { λ ty. Some (type_text ty) };
+
     fn fmt<W: fmt::Write>(&self, f: &mut fmt::Formatter<W>) -> fmt::Result {
-        fmt::Debug::fmt(self, f)
+        f.write_str(self.name())?;
+        self.write_number(f)
     }
 }

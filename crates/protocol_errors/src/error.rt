@@ -123,6 +123,10 @@ impl Error {
 
 /// Prints the code and the text, and the command that the error is about.
 impl fmt::Display for Error {
+    ghost use Rattle.protocol_errors.specs.Texts.{error_text};
+
+    ghost output = { λ error. Some (error_text error) };
+
     fn fmt<W: fmt::Write>(&self, f: &mut fmt::Formatter<W>) -> fmt::Result {
         let (code, message) = (self.code, &self.message);
         match &self.related_command {

@@ -40,6 +40,10 @@ impl CommandMetadata {
 
 /// Prints the type, and the name, or the place where there is none.
 impl fmt::Display for CommandMetadata {
+    ghost use Rattle.protocol_errors.specs.Texts.{command_text};
+
+    ghost output = { λ command. Some (command_text command) };
+
     fn fmt<W: fmt::Write>(&self, f: &mut fmt::Formatter<W>) -> fmt::Result {
         let ty = self.ty;
         match &self.name {
@@ -64,6 +68,10 @@ pub enum NotificationMetadata {
 }
 
 impl fmt::Display for NotificationMetadata {
+    ghost use Rattle.protocol_errors.specs.Texts.{notification_text};
+
+    ghost output = { λ told. Some (notification_text told) };
+
     fn fmt<W: fmt::Write>(&self, f: &mut fmt::Formatter<W>) -> fmt::Result {
         match self {
             NotificationMetadata::RelatedToCommand(command) => write!(f, "{command}"),

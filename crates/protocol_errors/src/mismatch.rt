@@ -1,8 +1,8 @@
 // The error of a handler whose command is of another type than the recorded one.
-ghost use Rattle.std.specs.Prelude.{◌≡◌};
+ghost use Rattle.std.specs.Prelude.{◌≡◌, Some};
 ghost use Rattle.std.specs.Fmt.{WritesOnOk};
 ghost use Rattle.protocol_errors.specs.Code.{journal_mismatch};
-ghost use Rattle.protocol_errors.specs.Texts.{mismatch_text};
+ghost use Rattle.protocol_errors.specs.Texts.{mismatch_text, recorded_text, attempted_text, type_mismatch_text};
 
 use crate::{InvocationErrorCode, WithInvocationErrorCode, codes};
 use journal_protocol::MessageType;
@@ -34,18 +34,39 @@ impl CommandTypeMismatchError {
     }
 }
 
+#[tactic(auto, unfolding(crate::specs::Texts::recorded_text))]
+// Writes what was recorded at this place of the journal.
+fn write_recorded<W: fmt::Write>(
+    actual: MessageType,
+    index: i64,
+    f: &mut fmt::Formatter<W>,
+) -> fmt::Result
+    ensures { WritesOnOk W.write_str_gives f.old result (recorded_text actual index) f.new }
+{
+    write!(
+        f,
+        "\n - The previous execution ran and recorded the following: '{actual}' (index '{index}')"
+    )
+}
+
+#[tactic(auto, unfolding(crate::specs::Texts::attempted_text))]
+// Writes what the handler asks for.
+fn write_attempted<W: fmt::Write>(expected: MessageType, f: &mut fmt::Formatter<W>) -> fmt::Result
+    ensures { WritesOnOk W.write_str_gives f.old result (attempted_text expected) f.new }
+{
+    write!(
+        f,
+        "\n - The current execution attempts to perform the following: '{expected}'"
+    )
+}
+
 impl fmt::Display for CommandTypeMismatchError {
+    ghost output = { λ error. Some (type_mismatch_text error) };
+
     fn fmt<W: fmt::Write>(&self, f: &mut fmt::Formatter<W>) -> fmt::Result {
         write_mismatch(f)?;
-        let (index, actual, expected) = (self.command_index, self.actual, self.expected);
-        write!(
-            f,
-            "\n - The previous execution ran and recorded the following: '{actual}' (index '{index}')"
-        )?;
-        write!(
-            f,
-            "\n - The current execution attempts to perform the following: '{expected}'"
-        )
+        write_recorded(self.actual, self.command_index, f)?;
+        write_attempted(self.expected, f)
     }
 }
 
