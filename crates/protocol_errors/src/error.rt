@@ -1,7 +1,9 @@
 // An error with all that it tells.
 ghost use Rattle.std.specs.Prelude.{◌≡◌, ◌==◌, ℕ, Some, IfOk, IfSome, option_copied};
 ghost use Rattle.protocol_errors.specs.Code.{code_numbered, internal, suspended};
+ghost use Rattle.std.specs.Fmt.{WritesOnOk};
 ghost use Rattle.protocol_errors.specs.Error.{plain_error};
+ghost use Rattle.protocol_errors.specs.Texts.{related_text};
 ghost use Rattle.protocol_errors.specs.declared.error.ErrorBehavior.{ErrorBehavior};
 
 use crate::{CommandMetadata, InvocationErrorCode, codes};
@@ -121,6 +123,19 @@ impl Error {
     }
 }
 
+// Writes the line of the command that an error is about.
+fn write_related<W: fmt::Write>(
+    related: &Option<CommandMetadata>,
+    f: &mut fmt::Formatter<W>,
+) -> fmt::Result
+    ensures { WritesOnOk W.write_str_gives f.old result (related_text related.now) f.new }
+{
+    match related {
+        Some(command) => write!(f, "\nRelated command: {command}"),
+        None => Ok(()),
+    }
+}
+
 /// Prints the code and the text, and the command that the error is about.
 impl fmt::Display for Error {
     ghost use Rattle.protocol_errors.specs.Texts.{error_text};
@@ -129,10 +144,8 @@ impl fmt::Display for Error {
 
     fn fmt<W: fmt::Write>(&self, f: &mut fmt::Formatter<W>) -> fmt::Result {
         let (code, message) = (self.code, &self.message);
-        match &self.related_command {
-            Some(command) => write!(f, "({code}) {message}\nRelated command: {command}"),
-            None => write!(f, "({code}) {message}"),
-        }
+        write!(f, "({code}) {message}")?;
+        write_related(&self.related_command, f)
     }
 }
 
