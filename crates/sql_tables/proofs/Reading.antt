@@ -1,0 +1,69 @@
+-- What a caller knows of rows that were read.
+use Rattle.std.proofs.Common.{◌≡◌, inl, inr, ◌≤◌, ◌<◌, ℕ, Bool, true, false, cond, Option, Some, None, List, [], ◌∷◌, map, filter, drop, length, slice_get, IsTrue, refl, sym, ap, subst, ◌∙◌, arith}
+use Rattle.std.specs.List.{AllByRecursion, find}
+use Rattle.std.specs.List.Sorted.{IsPermutation}
+use Rattle.std.proofs.lemmas.List.Sorted.{IsPermutation-map, length_permutation}
+use Rattle.sqlite_value.specs.Order.{Row}
+use Rattle.sqlite_value.specs.declared.keys.Key.{Key}
+use Rattle.sqlite_trees.proofs.ListLemmas.{all-permutation}
+use Rattle.sqlite_rules.specs.Lists.{Has}
+use Rattle.sqlite_rules.proofs.ListLemmas.{all_has, all_from}
+use Rattle.sqlite_keyed.proofs.ListLemmas.{map-map, map_same, filter-map, filter_same}
+use Rattle.sqlite.specs.declared.types.Value.TheVariants.{Null}
+use Rattle.sqlite.specs.Schema.{Schema}
+use Rattle.sqlite.specs.Term.{Term, eval_all}
+use Rattle.sqlite.specs.Command.TheVariants.{Select}
+use Rattle.sqlite.specs.State.{State}
+use Rattle.std.specs.Option.{option_to_list}
+use Rattle.sqlite.specs.Listing.{understood, reads_listing}
+use Rattle.sqlite.proofs.Callers.{IsPlain, command_of}
+use Rattle.sql_tables.specs.Content.{HasRows}
+use Rattle.sql_tables.specs.Statements.{rows_of, program_of}
+use Rattle.sql_tables.specs.Asking.{IsAnswer}
+use Rattle.sql_tables.proofs.Answers.{passes, rows_read}
+use Rattle.sql_tables.proofs.Queries.{answer_as}
+
+pub permuted : {X : Type 0} (xs ys : List X) → IsPermutation xs ys → (x : X) → Has ys x → Has xs x
+permuted xs ys same x = all_has (Has xs) ys x (all-permutation (Has xs) xs ys same (all_from (Has xs) xs (λ e h. h)))
+
+-- ---- cells tell records apart
+
+module _ {X : Type 0} (cells : X → Row) (back : Row → X) (Fits : X → Type 0) (is : (x : X) → Fits x → back (cells x) ≡ x) where
+  pub all_back : (xs : List X) → AllByRecursion Fits xs → map back (map cells xs) ≡ xs
+  all_back [] fit = refl
+  all_back (x ∷ xs) fit = ap (λ y. y ∷ map back (map cells xs)) (is x fit.0) ∙ ap (λ l. x ∷ l) (all_back xs fit.1)
+
+  pub same_records : (xs ys : List X) → AllByRecursion Fits xs → AllByRecursion Fits ys → IsPermutation (map cells xs) (map cells ys) → IsPermutation xs ys
+  same_records xs ys p q same = subst (λ l. IsPermutation l ys) (all_back xs p) (subst (IsPermutation (map back (map cells xs))) (all_back ys q) (IsPermutation-map back _ _ same))
+
+-- ---- one row at most
+
+no_more : {X : Type 0} (xs : List X) → IsPermutation xs [] → xs ≡ []
+no_more [] same = refl
+no_more (x ∷ xs) same = absurd (omega (arith, length_permutation _ _ same))
+
+only_one : {X : Type 0} (xs : List X) (y : X) → IsPermutation xs (y ∷ []) → xs ≡ y ∷ []
+only_one [] y same = absurd (omega (arith, length_permutation _ _ same))
+only_one (x ∷ []) y same = elim (permuted (x ∷ []) (y ∷ []) same y (inl refl)) [ inl e ↦ ap (λ z. z ∷ []) (sym e) | inr none ↦ absurd none ]
+only_one (x ∷ w ∷ xs) y same = absurd (omega (arith, length_permutation _ _ same))
+
+kept_first : {X : Type 0} (test : X → Bool) (xs : List X) → find test xs ≡ slice_get (filter test xs) 0
+kept_first test [] = refl
+kept_first {X} test (x ∷ xs) = elim (test x) as (λ b. cond b (Some x) (find test xs) ≡ slice_get (cond b (x ∷ filter test xs) (filter test xs)) 0) [ true ↦ refl | false ↦ kept_first test xs ]
+
+-- what was found of rows that are told apart, where one passes at most
+pub found_as : {X : Type 0} (test : X → Bool) (xs : List X) (found : Option X) → IsPermutation (filter test xs) (option_to_list found) → found ≡ find test xs
+found_as test xs None same = sym (kept_first test xs ∙ ap (λ l. slice_get l 0) (no_more _ same))
+found_as test xs (Some x) same = sym (kept_first test xs ∙ ap (λ l. slice_get l 0) (only_one _ x same))
+
+-- the rows of a query over one table that holds the cells of these records
+module _ {X : Type 0} (schema : Schema) (sql : List ℕ) (params : Row) (old : State) (rows : List Row) (tree : ℕ) (tests project : List Term) (order : List (Term × Key)) (names : List (List ℕ)) where
+  pub records_read : old.now.schema ≡ schema → IsPlain (understood schema sql) → reads_listing schema sql ≡ false
+      → command_of (understood schema sql) ≡ Select (program_of (rows_of tree tests project order)) names
+      → (keeps : Row → Bool) (pick : Row → Row) → ((r : Row) → passes params tests r ≡ keeps (drop 1 r)) → ((r : Row) → eval_all project (params ∷ r ∷ []) ≡ pick (drop 1 r))
+      → (cells : X → Row) (test : X → Bool) → ((x : X) → keeps (cells x) ≡ test x) → ((x : X) → pick (cells x) ≡ cells x)
+      → IsAnswer sql params old rows → (held : List X) → HasRows (old.now.trees tree) (map cells held) → IsPermutation (map cells (filter test held)) rows
+  records_read has plain unlisted is keeps pick there shown cells test kept picked answer held h =
+      let read = answer_as sql params old schema has _ is plain unlisted rows answer in
+      let it = rows_read tree tests project order old.now.trees params rows keeps pick there shown read.answer (map cells held) h in
+      subst (λ l. IsPermutation l rows) (ap (map pick) (filter-map keeps cells held ∙ ap (map cells) (filter_same _ _ kept held)) ∙ map-map pick cells _ ∙ map_same _ _ picked _) it

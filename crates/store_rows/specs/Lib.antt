@@ -1,0 +1,5 @@
+pub mod Questions
+pub mod Records
+pub mod Statements
+pub mod Steps
+pub mod Tables

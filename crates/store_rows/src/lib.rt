@@ -1,0 +1,12 @@
+//! The tables of a journal store: what is recorded of invocations, their journals and the state of objects. Nothing above this
+//! crate speaks of SQL, of rows or of columns.
+#![tactic(auto)]
+
+mod create;
+mod layout;
+mod row;
+
+pub use create::create;
+pub use layout::{is_empty_schema, is_store_schema};
+pub use row::{Closing, EntryRow, InvocationRow, LastError, Progress, StateRow, Write};
+pub use sql_tables::read::ReadError;
