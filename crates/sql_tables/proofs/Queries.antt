@@ -1,5 +1,5 @@
 -- A question inside a transaction that is undone.
-use Rattle.std.proofs.Common.{◌≡◌, ◌⊎◌, inl, inr, ℕ, true, false, List, None, Some, Option, Ok, Err, IsTrue, refl, sym, ap, subst, subst₂, ◌∙◌, append-nil, arith}
+use Rattle.std.proofs.Common.{◌≡◌, ◌⊎◌, inl, inr, ℕ, Bool, true, false, List, None, Some, Option, Ok, Err, Result, IsTrue, refl, sym, ap, subst, subst₂, ◌∙◌, append-nil, arith}
 use Rattle.sqlite_value.specs.Order.{Row}
 use Rattle.sqlite_schema.specs.declared.command.Command.{Command}
 use Rattle.sqlite_schema.specs.declared.command.Returning.{Returning}
@@ -9,7 +9,7 @@ use Rattle.sqlite.specs.declared.error.Error.{Error}
 use Rattle.sqlite.specs.Clock.{timed}
 use Rattle.sqlite.specs.Effect.{Database, Reads}
 use Rattle.sqlite.specs.Listing.{understood, reads_listing, IsSourceOf}
-use Rattle.sqlite.specs.State.{State, HasCleanDisk, KeepsCommit, IsUnchanged, IsRolledBack, Fails, IsNotRun, FailsToQuery, FailsToShow, IsTooLate, Shown, ShowsRows}
+use Rattle.sqlite.specs.State.{State, HasCleanDisk, KeepsCommit, IsUnchanged, IsRolledBack, Fails, IsNotRun, FailsToQuery, FailsToShow, ExecutesInside, IsTooLate, Shown, ShowsRows}
 use Rattle.sqlite.proofs.Callers.{IsPlain, command_of}
 use Rattle.sql_tables.specs.Asking.{IsAnswer, IsKept}
 
@@ -56,6 +56,25 @@ shown_open sql params old new rows h = by_form h.0.returning h.2
     by_form : (o : Option Returning) → ShowsRows old new sql h.0 (timed params h.0.formats h.1.now) rows o → IsTrue old.is_open
     by_form None it = it.3.0.was_open
     by_form (Some what) it = it.1.shown.was_open
+
+-- ---- changes
+
+pub went_inside : {A E : Type 0} (b : Bool) (r : Result A E) (x : A) (e : E) (X : Type 0) → r ≡ Ok x → (b ≡ false → (r ≡ Err e) × X) → IsTrue b
+went_inside true r x e X went ended = refl
+went_inside false r x e X went ended = let no : Ok x ≡ Err e = sym went ∙ (ended refl).0 in absurd cc
+
+pub run_keeps : (sql : List ℕ) (params : Row) (old new : State) (count : ℕ) → ExecutesInside 0 sql params old new (Ok count) → KeepsCommit old new
+run_keeps sql params old new count h = record { was_open = λ _. h.1.was_open; committed = λ _. h.1.committed_is }
+
+pub failed_run_keeps : (sql : List ℕ) (params : Row) (old new : State) (e : Error) → ExecutesInside 0 sql params old new (Err e) → KeepsCommit old new
+failed_run_keeps sql params old new e (inl h) = elim h.1 [ inl same ↦ unchanged_keeps old new same | inr undone ↦ rolled_keeps old new undone ]
+failed_run_keeps sql params old new e (inr h) = unchanged_keeps old new h.2
+
+pub keeps_itself : (s : State) → KeepsCommit s s
+keeps_itself s = record { was_open = λ o. o; committed = λ _. refl }
+
+pub keeps_on : (a b c : State) → KeepsCommit a b → KeepsCommit b c → KeepsCommit a c
+keeps_on a b c one two = record { was_open = λ o. one.was_open (two.was_open o); committed = λ o. two.committed o ∙ one.committed (two.was_open o) }
 
 -- the answer inside, as one of the state before
 pub shown_answers : (sql : List ℕ) (params : Row) (old begun new : State) (rows : List Row) → begun.now ≡ old.now → Shown sql params begun new rows → IsAnswer sql params old rows

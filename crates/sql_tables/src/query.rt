@@ -1,15 +1,15 @@
-//! Questions about the tables.
+//! Statements: questions about the tables, and changes inside a transaction.
 
-ghost use Rattle.std.specs.Prelude.{◌≡◌, false, IfErr, IfOk, IsTrue};
+ghost use Rattle.std.specs.Prelude.{◌≡◌, false, IfErr, IfOk, IsTrue, OnOk};
 ghost use Rattle.sqlite.specs.Held.{state};
-ghost use Rattle.sqlite.specs.State.{HasCleanDisk, Survives};
+ghost use Rattle.sqlite.specs.State.{HasCleanDisk, KeepsCommit, Survives};
 ghost use Rattle.sqlite.specs.Values.{bound};
 ghost use Rattle.sqlite.specs.declared.error.Error.{Error as SqlError};
-ghost use Rattle.sql_tables.specs.Asking.{IsAnswer, IsKept};
+ghost use Rattle.sql_tables.specs.Asking.{HasRun, IsAnswer, IsKept};
 
 use crate::read::ReadError;
 use sqlite::types::ValueRef;
-use sqlite::{Alter, Connection, Row};
+use sqlite::{Alter, Connection, Error, Row, Transaction};
 
 /// The rows that a statement asks for. What it may have written is undone.
 pub fn rows_by<S: Alter>(
@@ -32,4 +32,19 @@ pub fn rows_by<S: Alter>(
         Ok(rows) => Ok(rows),
         Err(cause) => Err(ReadError::Refused(cause)),
     }
+}
+
+/// Runs a statement that shows no rows.
+pub fn run<S: Alter>(
+    tx: &mut Transaction<'_, S>,
+    sql: &str,
+    params: &[ValueRef<'_>],
+) -> Result<(), Error>
+    ensures same_reference { tx.new.conn.ghost_name ≡ tx.old.conn.ghost_name }
+    ensures ran { HasCleanDisk (state S.Store tx.new.conn.now) → OnOk result (HasRun sql.now (bound params.now) (state S.Store tx.old.conn.now) (state S.Store tx.new.conn.now)) }
+    ensures kept { HasCleanDisk (state S.Store tx.new.conn.now) → KeepsCommit (state S.Store tx.old.conn.now) (state S.Store tx.new.conn.now) }
+    ensures survives { Survives (state S.Store tx.old.conn.now) (state S.Store tx.new.conn.now) (λ _. ⊥) }
+{
+    tx.execute(sql, params)?;
+    Ok(())
 }

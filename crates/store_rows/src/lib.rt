@@ -2,11 +2,11 @@
 //! crate speaks of SQL, of rows or of columns.
 #![tactic(auto)]
 
-mod create;
 mod layout;
+mod opening;
 mod row;
 
-pub use create::create;
 pub use layout::{is_empty_schema, is_store_schema};
+pub use opening::create;
 pub use row::{Closing, EntryRow, InvocationRow, LastError, Progress, StateRow, Write};
 pub use sql_tables::read::ReadError;

@@ -2,7 +2,7 @@ use Rattle.std.proofs.Common.{arith}
 use Rattle.sqlite.specs.State.{State, HasCleanDisk}
 use Rattle.sqlite.specs.Held.{state}
 use Rattle.store_rows.proofs.Making.{marked}
-use Rattle.store_rows.proofs.create.add_mark.Goals as goal
+use Rattle.store_rows.proofs.opening.add_mark.Goals as goal
 
 pub returns-clause-ok : goal.returns-clause-ok
 returns-clause-ok g c clean =

@@ -3,7 +3,7 @@ use Rattle.sqlite.specs.State.{State, HasCleanDisk}
 use Rattle.sqlite.specs.Held.{state}
 use Rattle.store_rows.proofs.Inside.{went_inside}
 use Rattle.store_rows.proofs.Making.{all_made}
-use Rattle.store_rows.proofs.create.make_tables.Goals as goal
+use Rattle.store_rows.proofs.opening.make_tables.Goals as goal
 
 pub returns-clause-ok : goal.returns-clause-ok
 returns-clause-ok g c clean =
