@@ -1,4 +1,5 @@
 pub mod Answers
+pub mod Cells
 pub mod Making
 pub mod Queries
 pub mod Reading

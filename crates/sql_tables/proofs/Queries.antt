@@ -1,5 +1,5 @@
 -- A question inside a transaction that is undone.
-use Rattle.std.proofs.Common.{◌≡◌, ◌⊎◌, inl, inr, ℕ, Bool, true, false, List, None, Some, Option, Ok, Err, Result, IsTrue, refl, sym, ap, subst, subst₂, ◌∙◌, append-nil, arith}
+use Rattle.std.proofs.Common.{◌≡◌, ◌⊎◌, inl, inr, ℕ, Bool, true, false, List, None, Some, Option, Ok, Err, OnOk, Result, IsTrue, refl, sym, ap, subst, subst₂, ◌∙◌, append-nil, arith}
 use Rattle.sqlite_value.specs.Order.{Row}
 use Rattle.sqlite_schema.specs.declared.command.Command.{Command}
 use Rattle.sqlite_schema.specs.declared.command.Returning.{Returning}
@@ -103,3 +103,9 @@ answer_as sql params s schema has command is plain unlisted rows h =
     let it = rw (bare.1, append-nil params) at (h.2 bare.0) in
     let db : it.0 ≡ s.now = subst (λ b. IsSourceOf b s.now it.0) (ap (λ k. reads_listing k sql) has ∙ unlisted) it.1 in
     subst₂ (λ k d. Reads k d params rows) (ap command_of known ∙ is) db it.2
+
+-- ---- what is said of a call that went well
+
+pub on_ok : {A E : Type 0} {P Q : Type 0} (r : Result A E) → OnOk r P → (P → Q) → OnOk r Q
+on_ok (Ok x) p f = f p
+on_ok (Err e) p f = tt

@@ -17,7 +17,7 @@ pub fn text(text: &ByteStr) -> ValueRef<'_>
 }
 
 pub fn blob(bytes: &Bytes) -> ValueRef<'_>
-    ensures cell { bound_value (owned result) ≡ Blob bytes.now }
+    ensures { bound_value (owned result) ≡ Blob bytes.now }
 {
     ValueRef::Blob(bytes.as_slice())
 }
@@ -38,7 +38,7 @@ pub fn long<'a>(n: u64) -> ValueRef<'a>
 }
 
 pub fn flag<'a>(b: bool) -> ValueRef<'a>
-    ensures cell { bound_value (owned result) ≡ flag_cell b }
+    ensures { bound_value (owned result) ≡ flag_cell b }
 {
     b.to_sql()
 }
@@ -54,7 +54,7 @@ pub fn text_or_null(value: &Option<ByteStr>) -> ValueRef<'_>
 }
 
 pub fn blob_or_null(value: &Option<Bytes>) -> ValueRef<'_>
-    ensures cell { bound_value (owned result) ≡ or_null Blob value.now }
+    ensures { bound_value (owned result) ≡ or_null Blob value.now }
 {
     match value {
         Some(value) => blob(value),

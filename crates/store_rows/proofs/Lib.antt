@@ -1,2 +1,5 @@
-pub mod Inside
+pub mod Entries
+pub mod Invocations
 pub mod Making
+pub mod Moves
+pub mod States

@@ -9,7 +9,8 @@ use Rattle.sqlite.specs.Source.TheVariants.{Values}
 use Rattle.sqlite.specs.Command.TheVariants.{Insert}
 use Rattle.sqlite.specs.Cast.{cast_all}
 use Rattle.sqlite.specs.Effect.{value_rows}
-use Rattle.sqlite.specs.State.{State, Executes}
+use Rattle.sqlite.specs.State.{State}
+use Rattle.sql_tables.specs.Asking.{HasRun}
 use Rattle.sqlite.specs.Listing.{understood}
 use Rattle.sqlite_tied.specs.Compute.{everything}
 use Rattle.sqlite.proofs.Callers.{IsPlain, command_of}
@@ -25,32 +26,32 @@ use Rattle.store_rows.specs.Records.{Holds, mark_cells, no_records}
 use Rattle.store_rows.specs.Steps.{AreBare}
 
 pub none_refers : NoneRefers store_schema
-none_refers = (refl, refl, refl, refl, tt)
+none_refers = (refl, (refl, (refl, (refl, tt))))
 
-makes_meta : IsMaking no_schema meta_text meta
+makes_meta : IsMaking no_schema meta_text (record meta { tree = 0 })
 unfolding understood everything
 makes_meta = record { command = refl; text = refl; plain = (refl, refl); defined = refl; uncounted = refl }
 
-makes_invocation : IsMaking with_meta invocation_text invocation
+makes_invocation : IsMaking with_meta invocation_text (record invocation { tree = 0 })
 unfolding understood everything
 makes_invocation = record { command = refl; text = refl; plain = (refl, refl); defined = refl; uncounted = refl }
 
-makes_entry : IsMaking with_invocation entry_text entry
+makes_entry : IsMaking with_invocation entry_text (record entry { tree = 0 })
 unfolding understood everything
 makes_entry = record { command = refl; text = refl; plain = (refl, refl); defined = refl; uncounted = refl }
 
-makes_state : IsMaking with_entry state_text state_table
+makes_state : IsMaking with_entry state_text (record state_table { tree = 0 })
 unfolding understood everything
 makes_state = record { command = refl; text = refl; plain = (refl, refl); defined = refl; uncounted = refl }
 
 -- the four in turn
-pub all_made : (a b c d e : State) (i j k l : ℕ) → a.now.schema ≡ no_schema → Executes meta_text [] a b (Ok i) → Executes invocation_text [] b c (Ok j) → Executes entry_text [] c d (Ok k) → Executes state_text [] d e (Ok l)
+pub all_made : (a b c d e : State) → a.now.schema ≡ no_schema → HasRun meta_text [] a b → HasRun invocation_text [] b c → HasRun entry_text [] c d → HasRun state_text [] d e
     → (e.now.schema ≡ store_schema) × AreBare e.now.trees
-all_made a b c d e i j k l has p q r s =
-    let first = table_made no_schema meta_text meta makes_meta a b i has p in
-    let second = table_made with_meta invocation_text invocation makes_invocation b c j first.0 q in
-    let third = table_made with_invocation entry_text entry makes_entry c d k second.0 r in
-    let fourth = table_made with_entry state_text state_table makes_state d e l third.0 s in (
+all_made a b c d e has p q r s =
+    let first = table_made no_schema meta_text (record meta { tree = 0 }) makes_meta a b p.count has p.ran in
+    let second = table_made with_meta invocation_text (record invocation { tree = 0 }) makes_invocation b c q.count first.0 q.ran in
+    let third = table_made with_invocation entry_text (record entry { tree = 0 }) makes_entry c d r.count second.0 r.ran in
+    let fourth = table_made with_entry state_text (record state_table { tree = 0 }) makes_state d e s.count third.0 s.ran in (
       fourth.0,
       record {
         meta = fourth.2.0 ∙ third.2.0 ∙ second.2.0 ∙ first.1;
@@ -78,10 +79,10 @@ mark_values = refl
 mark_casts : cast_all meta_columns mark_cells ≡ mark_cells
 mark_casts = rw (cast_int (pos 1)) refl
 
-pub marked : (old new : State) (count : ℕ) → old.now.schema ≡ store_schema → AreBare old.now.trees → Executes mark_text [] old new (Ok count) → (new.now.schema ≡ store_schema) × Holds new.now.trees no_records
-marked old new count has bare ran =
+pub marked : (old new : State) → old.now.schema ≡ store_schema → AreBare old.now.trees → HasRun mark_text [] old new → (new.now.schema ≡ store_schema) × Holds new.now.trees no_records
+marked old new has bare run =
     let change : Changes store_schema 0 (λ rows. rows ++ mark_cells ∷ []) old.now new.now =
-    insert_changes store_schema none_refers mark_text [] old new has mark_plain count ran 0 (codes "meta") meta_columns [] [] 0 refl mark_terms 3 mark_cells mark_is mark_values mark_casts in (
+    insert_changes store_schema none_refers mark_text [] old new has mark_plain run.count run.ran 0 (codes "meta") meta_columns [] [] 0 refl mark_terms 3 mark_cells mark_is mark_values mark_casts in (
       change.schema,
       record {
         mark = change.rows [] (has_none (old.now.trees 0) bare.meta);

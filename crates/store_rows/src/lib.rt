@@ -5,8 +5,10 @@
 mod layout;
 mod opening;
 mod row;
+mod write;
 
 pub use layout::{is_empty_schema, is_store_schema};
 pub use opening::create;
 pub use row::{Closing, EntryRow, InvocationRow, LastError, Progress, StateRow, Write};
 pub use sql_tables::read::ReadError;
+pub use write::commit_all;

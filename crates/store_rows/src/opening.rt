@@ -9,6 +9,7 @@ ghost use Rattle.store_rows.specs.Records.{Holds, no_records};
 ghost use Rattle.store_rows.specs.Steps.{IsMade};
 ghost use Rattle.store_rows.specs.Tables.{store_schema};
 
+use sql_tables::query::run;
 use sqlite::{Alter, Connection, Error, Transaction};
 
 fn make_tables<S: Alter>(tx: &mut Transaction<'_, S>) -> Result<(), Error>
@@ -18,23 +19,26 @@ fn make_tables<S: Alter>(tx: &mut Transaction<'_, S>) -> Result<(), Error>
     ensures kept { HasCleanDisk (state S.Store tx.new.conn.now) → KeepsCommit (state S.Store tx.old.conn.now) (state S.Store tx.new.conn.now) }
     ensures survives { Survives (state S.Store tx.old.conn.now) (state S.Store tx.new.conn.now) (λ _. ⊥) }
 {
-    tx.execute(
+    run(
+        tx,
         "CREATE TABLE meta (name TEXT NOT NULL, version INTEGER NOT NULL) STRICT",
         &[],
     )?;
-    tx.execute(
+    run(
+        tx,
         "CREATE TABLE invocation (id TEXT NOT NULL UNIQUE, object TEXT NOT NULL, version INTEGER NOT NULL, seed INTEGER NOT NULL, mode INTEGER NOT NULL, open_object TEXT UNIQUE, suspension BLOB, handed INTEGER, closing INTEGER, answer BLOB, error_code INTEGER, error_behavior INTEGER, error_delay INTEGER, error_message TEXT, attempts INTEGER NOT NULL, attempts_since_entry INTEGER NOT NULL, first_moment INTEGER NOT NULL, last_completion INTEGER NOT NULL, entries INTEGER NOT NULL) STRICT",
         &[],
     )?;
-    tx.execute(
+    run(
+        tx,
         "CREATE TABLE entry (invocation TEXT NOT NULL, place INTEGER NOT NULL, kind INTEGER NOT NULL, payload BLOB NOT NULL, completion INTEGER, second_completion INTEGER, answered INTEGER, moment INTEGER NOT NULL, UNIQUE (invocation, place), UNIQUE (invocation, completion), UNIQUE (invocation, second_completion), UNIQUE (invocation, answered)) STRICT",
         &[],
     )?;
-    tx.execute(
+    run(
+        tx,
         "CREATE TABLE state (object TEXT NOT NULL, key BLOB NOT NULL, value BLOB NOT NULL, UNIQUE (object, key)) STRICT",
         &[],
-    )?;
-    Ok(())
+    )
 }
 
 /// The row by which a database is a store's.
@@ -45,8 +49,7 @@ fn add_mark<S: Alter>(tx: &mut Transaction<'_, S>) -> Result<(), Error>
     ensures kept { HasCleanDisk (state S.Store tx.new.conn.now) → KeepsCommit (state S.Store tx.old.conn.now) (state S.Store tx.new.conn.now) }
     ensures survives { Survives (state S.Store tx.old.conn.now) (state S.Store tx.new.conn.now) (λ _. ⊥) }
 {
-    tx.execute("INSERT INTO meta VALUES ('journal_store', 1)", &[])?;
-    Ok(())
+    run(tx, "INSERT INTO meta VALUES ('journal_store', 1)", &[])
 }
 
 /// Makes the tables of an empty database, all of them or none.
