@@ -1,9 +1,11 @@
 -- What a caller knows of rows that were read.
-use Rattle.std.proofs.Common.{◌≡◌, inl, inr, ◌≤◌, ◌<◌, ℕ, Bool, true, false, cond, Option, Some, None, List, [], ◌∷◌, map, filter, drop, length, slice_get, IsTrue, refl, sym, ap, subst, ◌∙◌, arith}
+use Rattle.std.proofs.Common.{◌≡◌, inl, inr, ◌≤◌, ◌<◌, ℕ, Bool, true, false, cond, Option, Some, None, List, [], ◌∷◌, map, filter, drop, length, slice_get, slice_index_or, zero, suc, ◌≢◌, Result, Ok, Err, IfErr, IsErrAnd, IsTrue, refl, sym, ap, subst, ◌∙◌, arith}
 use Rattle.std.specs.List.{AllByRecursion, find}
 use Rattle.std.specs.List.Sorted.{IsPermutation}
 use Rattle.std.proofs.lemmas.List.Sorted.{IsPermutation-map, length_permutation}
-use Rattle.sqlite_value.specs.Order.{Row}
+use Rattle.sqlite_value.specs.Order.{Row, column}
+use Rattle.sqlite.specs.declared.types.Value.{Value}
+use Rattle.sql_tables.specs.Reading.{IsCell}
 use Rattle.sqlite_value.specs.declared.keys.Key.{Key}
 use Rattle.sqlite_trees.proofs.ListLemmas.{all-permutation}
 use Rattle.sqlite_rules.specs.Lists.{Has}
@@ -67,3 +69,25 @@ module _ {X : Type 0} (schema : Schema) (sql : List ℕ) (params : Row) (old : S
       let read = answer_as sql params old schema has _ is plain unlisted rows answer in
       let it = rows_read tree tests project order old.now.trees params rows keeps pick there shown read.answer (map cells held) h in
       subst (λ l. IsPermutation l rows) (ap (map pick) (filter-map keeps cells held ∙ ap (map cells) (filter_same _ _ kept held)) ∙ map-map pick cells _ ∙ map_same _ _ picked _) it
+
+-- ---- rows that are no records
+
+record_at : {X : Type 0} (cells : X → Row) (Fits : X → Type 0) (xs : List X) → AllByRecursion Fits xs → (k : ℕ) (d : Row) → k < length (map cells xs) → (x : X) × Fits x × (cells x ≡ slice_index_or (map cells xs) k d)
+record_at cells Fits [] fit k d within = absurd (omega (arith, within))
+record_at cells Fits (x ∷ xs) fit zero d within = (x, fit.0, refl)
+record_at cells Fits (x ∷ xs) fit (suc k) d within = record_at cells Fits xs fit.1 k d (omega (arith, within))
+
+-- rows are not those of records where one of them is no record's
+pub foreign_among : {X : Type 0} (cells : X → Row) (Fits : X → Type 0) (rows : List Row) (k : ℕ) (d : Row) → k < length rows → ((x : X) → Fits x → cells x ≢ slice_index_or rows k d)
+    → (xs : List X) → AllByRecursion Fits xs → map cells xs ≢ rows
+foreign_among cells Fits rows k d within other xs fit same =
+    let it = record_at cells Fits xs fit k d (subst (λ l. k < length l) (sym same) within) in
+    other it.0 it.1 (it.2 ∙ ap (λ l. slice_index_or l k d) same)
+
+pub err_and : {A E : Type 0} {P Q : E → Type 0} (r : Result A E) → IsErrAnd r P → ((e : E) → P e → Q e) → IfErr r Q
+err_and (Ok x) p f = tt
+err_and (Err e) p f = f e p
+
+-- a cell of a row that has these
+pub cell_of : {X : Type 0} (cell : X → Value) (Fits : X → Type 0) (cells row : Row) → cells ≡ row → (at : ℕ) → at < length cells → (x : X) → cell x ≡ column cells at → Fits x → IsCell cell Fits row at x
+cell_of cell Fits cells row same at within x is fits = (subst (λ r. at < length r) same within, is ∙ ap (λ r. column r at) same, fits)

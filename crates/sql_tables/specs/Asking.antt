@@ -22,3 +22,7 @@ pub record HasRun (sql : List ℕ) (params : Row) (old new : State) : Type 0 whe
   pub ran : Executes sql params old new (Ok count)
   pub was_open : IsTrue old.is_open
   pub inside : IsTrue new.in_transaction
+
+-- the text asks for rows that are not as wanted
+abbrev pub IsOther : List ℕ → Row → State → (List Row → Type 0) → Type 0
+IsOther sql params s Wanted = (rows : List Row) × IsAnswer sql params s rows × ¬ Wanted rows

@@ -5,3 +5,4 @@ pub mod cell;
 pub mod layout;
 pub mod query;
 pub mod read;
+pub mod stored;
