@@ -91,3 +91,20 @@ err_and (Err e) p f = f e p
 -- a cell of a row that has these
 pub cell_of : {X : Type 0} (cell : X → Value) (Fits : X → Type 0) (cells row : Row) → cells ≡ row → (at : ℕ) → at < length cells → (x : X) → cell x ≡ column cells at → Fits x → IsCell cell Fits row at x
 cell_of cell Fits cells row same at within x is fits = (subst (λ r. at < length r) same within, is ∙ ap (λ r. column r at) same, fits)
+
+-- ---- a row by its columns
+
+abbrev pub listed : Row → ℕ → ℕ → Row
+listed row at zero = []
+listed row at (suc n) = column row at ∷ listed row (suc at) n
+
+listed_later : (x : Value) (row : Row) (at n : ℕ) → listed (x ∷ row) (suc at) n ≡ listed row at n
+listed_later x row at zero = refl
+listed_later x row at (suc n) = ap (λ l. column row at ∷ l) (listed_later x row (suc at) n)
+
+pub all_listed : (row : Row) → row ≡ listed row 0 (length row)
+all_listed [] = refl
+all_listed (x ∷ row) = ap (λ l. x ∷ l) (all_listed row ∙ sym (listed_later x row 0 (length row)))
+
+pub listed_as : (row : Row) (n : ℕ) → length row ≡ n → row ≡ listed row 0 n
+listed_as row n len = all_listed row ∙ ap (listed row 0) len

@@ -1,3 +1,4 @@
+pub mod Parts
 pub mod Questions
 pub mod Records
 pub mod Statements

@@ -2,6 +2,7 @@
 //! crate speaks of SQL, of rows or of columns.
 #![tactic(auto)]
 
+mod from_row;
 mod layout;
 mod opening;
 mod row;
