@@ -18,7 +18,8 @@ pub struct Wanted {
 }
 
 fn is_column(column: &Column, wanted: &Wanted) -> bool
-    ensures { IsTrue result → column.now ≡ wanted_column wanted.now }
+    ensures exact { IsTrue result → column.now ≡ wanted_column wanted.now }
+    ensures complete { column.now ≡ wanted_column wanted.now → IsTrue result }
 {
     column.name.as_slice() == wanted.name.as_bytes()
         && column.kind == wanted.kind
@@ -29,7 +30,8 @@ fn is_column(column: &Column, wanted: &Wanted) -> bool
 }
 
 fn have_columns(columns: &[Column], wanted: &[Wanted]) -> bool
-    ensures { IsTrue result → columns.now ≡ map wanted_column wanted.now }
+    ensures exact { IsTrue result → columns.now ≡ map wanted_column wanted.now }
+    ensures complete { columns.now ≡ map wanted_column wanted.now → IsTrue result }
 {
     match (columns, wanted) {
         ([], []) => true,
@@ -41,7 +43,8 @@ fn have_columns(columns: &[Column], wanted: &[Wanted]) -> bool
 }
 
 fn is_bare(table: &Table) -> bool
-    ensures { IsTrue result → (table.now.checks ≡ []) × (table.now.references ≡ []) × (table.now.computed ≡ []) × (table.now.stamps ≡ record { places = []; terms = []; formats = [] }) }
+    ensures exact { IsTrue result → (table.now.checks ≡ []) × (table.now.references ≡ []) × (table.now.computed ≡ []) × (table.now.stamps ≡ record { places = []; terms = []; formats = [] }) }
+    ensures complete { (table.now.checks ≡ []) × (table.now.references ≡ []) × (table.now.computed ≡ []) × (table.now.stamps ≡ record { places = []; terms = []; formats = [] }) → IsTrue result }
 {
     table.checks.roots.is_empty()
         && table.references.is_empty()
@@ -52,13 +55,15 @@ fn is_bare(table: &Table) -> bool
 }
 
 fn is_key(one: &Items<usize>, key: &[usize]) -> bool
-    ensures { IsTrue result → one.now ≡ key.now }
+    ensures exact { IsTrue result → one.now ≡ key.now }
+    ensures complete { one.now ≡ key.now → IsTrue result }
 {
     one.as_slice() == key
 }
 
 fn are_keys(uniques: &[Items<usize>], keys: &[&[usize]]) -> bool
-    ensures { IsTrue result → uniques.now ≡ map (λ key. key.now) keys.now }
+    ensures exact { IsTrue result → uniques.now ≡ map (λ key. key.now) keys.now }
+    ensures complete { uniques.now ≡ map (λ key. key.now) keys.now → IsTrue result }
 {
     match (uniques, keys) {
         ([], []) => true,
@@ -68,24 +73,29 @@ fn are_keys(uniques: &[Items<usize>], keys: &[&[usize]]) -> bool
 }
 
 fn are_plain(orders: &[Order], keys: &[&[usize]]) -> bool
-    ensures { IsTrue result → orders.now ≡ plain_orders (map (λ key. key.now) keys.now) }
+    ensures exact { IsTrue result → orders.now ≡ plain_orders (map (λ key. key.now) keys.now) }
+    ensures complete { orders.now ≡ plain_orders (map (λ key. key.now) keys.now) → IsTrue result }
 {
-    match (orders, keys) {
-        ([], []) => true,
-        ([first, rest @ ..], [_, others @ ..]) => first.digits == 0 && are_plain(rest, others),
-        _ => false,
+    match keys {
+        [] => orders.is_empty(),
+        [_, others @ ..] => match orders {
+            [] => false,
+            [first, rest @ ..] => first.digits == 0 && are_plain(rest, others),
+        },
     }
 }
 
 fn has_keys(table: &Table, keys: &[&[usize]]) -> bool
-    ensures { IsTrue result → (table.now.uniques ≡ map (λ key. key.now) keys.now) × (table.now.orders ≡ plain_orders (map (λ key. key.now) keys.now)) }
+    ensures exact { IsTrue result → (table.now.uniques ≡ map (λ key. key.now) keys.now) × (table.now.orders ≡ plain_orders (map (λ key. key.now) keys.now)) }
+    ensures complete { (table.now.uniques ≡ map (λ key. key.now) keys.now) × (table.now.orders ≡ plain_orders (map (λ key. key.now) keys.now)) → IsTrue result }
 {
     are_keys(table.uniques.as_slice(), keys) && are_plain(table.orders.as_slice(), keys)
 }
 
 /// Whether a table has just these columns and keys.
 pub fn is_table(table: &Table, tree: u32, name: &str, wanted: &[Wanted], keys: &[&[usize]]) -> bool
-    ensures { IsTrue result → table.now ≡ table_of tree name.now (map wanted_column wanted.now) (map (λ key. key.now) keys.now) }
+    ensures exact { IsTrue result → table.now ≡ table_of tree name.now (map wanted_column wanted.now) (map (λ key. key.now) keys.now) }
+    ensures complete { table.now ≡ table_of tree name.now (map wanted_column wanted.now) (map (λ key. key.now) keys.now) → IsTrue result }
 {
     table.tree == tree
         && table.name.as_slice() == name.as_bytes()
@@ -99,7 +109,8 @@ pub fn is_table(table: &Table, tree: u32, name: &str, wanted: &[Wanted], keys: &
 
 /// Whether an index is the one of a key of that table.
 pub fn is_index(index: &Index, name: &str, tree: u32, table: u32, columns: &[usize]) -> bool
-    ensures { IsTrue result → index.now ≡ record { name = name.now; tree = tree; table = table; columns = columns.now; order = plain; is_unique = true } }
+    ensures exact { IsTrue result → index.now ≡ record { name = name.now; tree = tree; table = table; columns = columns.now; order = plain; is_unique = true } }
+    ensures complete { index.now ≡ record { name = name.now; tree = tree; table = table; columns = columns.now; order = plain; is_unique = true } → IsTrue result }
 {
     index.tree == tree
         && index.table == table

@@ -11,7 +11,8 @@ use sql_tables::layout::{is_index, is_table, optional, required};
 use sqlite_schema::schema::{Index, Kind, Schema, Table};
 
 fn is_meta(table: &Table) -> bool
-    ensures { IsTrue result → table.now ≡ tables.meta }
+    ensures exact { IsTrue result → table.now ≡ tables.meta }
+    ensures complete { table.now ≡ tables.meta → IsTrue result }
 {
     is_table(
         table,
@@ -26,7 +27,8 @@ fn is_meta(table: &Table) -> bool
 }
 
 fn is_invocation(table: &Table) -> bool
-    ensures { IsTrue result → table.now ≡ tables.invocation }
+    ensures exact { IsTrue result → table.now ≡ tables.invocation }
+    ensures complete { table.now ≡ tables.invocation → IsTrue result }
 {
     is_table(
         table,
@@ -58,7 +60,8 @@ fn is_invocation(table: &Table) -> bool
 }
 
 fn is_entry(table: &Table) -> bool
-    ensures { IsTrue result → table.now ≡ tables.entry }
+    ensures exact { IsTrue result → table.now ≡ tables.entry }
+    ensures complete { table.now ≡ tables.entry → IsTrue result }
 {
     is_table(
         table,
@@ -79,7 +82,8 @@ fn is_entry(table: &Table) -> bool
 }
 
 fn is_state(table: &Table) -> bool
-    ensures { IsTrue result → table.now ≡ tables.state_table }
+    ensures exact { IsTrue result → table.now ≡ tables.state_table }
+    ensures complete { table.now ≡ tables.state_table → IsTrue result }
 {
     is_table(
         table,
@@ -95,7 +99,8 @@ fn is_state(table: &Table) -> bool
 }
 
 fn are_tables(tables: &[Table]) -> bool
-    ensures { IsTrue result → tables.now ≡ store_schema.tables }
+    ensures exact { IsTrue result → tables.now ≡ store_schema.tables }
+    ensures complete { tables.now ≡ store_schema.tables → IsTrue result }
 {
     let [meta, others @ ..] = tables else {
         return false;
@@ -117,49 +122,57 @@ fn are_tables(tables: &[Table]) -> bool
 }
 
 fn is_first_of_invocation(index: &Index) -> bool
-    ensures { IsTrue result → index.now ≡ automatic tables.invocation 0 (1 ∷ []) 2 }
+    ensures exact { IsTrue result → index.now ≡ automatic tables.invocation 0 (1 ∷ []) 2 }
+    ensures complete { index.now ≡ automatic tables.invocation 0 (1 ∷ []) 2 → IsTrue result }
 {
     is_index(index, "sqlite_autoindex_invocation_1", 2, 1, &[1])
 }
 
 fn is_second_of_invocation(index: &Index) -> bool
-    ensures { IsTrue result → index.now ≡ automatic tables.invocation 1 (6 ∷ []) 3 }
+    ensures exact { IsTrue result → index.now ≡ automatic tables.invocation 1 (6 ∷ []) 3 }
+    ensures complete { index.now ≡ automatic tables.invocation 1 (6 ∷ []) 3 → IsTrue result }
 {
     is_index(index, "sqlite_autoindex_invocation_2", 3, 1, &[6])
 }
 
 fn is_first_of_entry(index: &Index) -> bool
-    ensures { IsTrue result → index.now ≡ automatic tables.entry 0 (1 ∷ 2 ∷ []) 5 }
+    ensures exact { IsTrue result → index.now ≡ automatic tables.entry 0 (1 ∷ 2 ∷ []) 5 }
+    ensures complete { index.now ≡ automatic tables.entry 0 (1 ∷ 2 ∷ []) 5 → IsTrue result }
 {
     is_index(index, "sqlite_autoindex_entry_1", 5, 4, &[1, 2])
 }
 
 fn is_second_of_entry(index: &Index) -> bool
-    ensures { IsTrue result → index.now ≡ automatic tables.entry 1 (1 ∷ 5 ∷ []) 6 }
+    ensures exact { IsTrue result → index.now ≡ automatic tables.entry 1 (1 ∷ 5 ∷ []) 6 }
+    ensures complete { index.now ≡ automatic tables.entry 1 (1 ∷ 5 ∷ []) 6 → IsTrue result }
 {
     is_index(index, "sqlite_autoindex_entry_2", 6, 4, &[1, 5])
 }
 
 fn is_third_of_entry(index: &Index) -> bool
-    ensures { IsTrue result → index.now ≡ automatic tables.entry 2 (1 ∷ 6 ∷ []) 7 }
+    ensures exact { IsTrue result → index.now ≡ automatic tables.entry 2 (1 ∷ 6 ∷ []) 7 }
+    ensures complete { index.now ≡ automatic tables.entry 2 (1 ∷ 6 ∷ []) 7 → IsTrue result }
 {
     is_index(index, "sqlite_autoindex_entry_3", 7, 4, &[1, 6])
 }
 
 fn is_fourth_of_entry(index: &Index) -> bool
-    ensures { IsTrue result → index.now ≡ automatic tables.entry 3 (1 ∷ 7 ∷ []) 8 }
+    ensures exact { IsTrue result → index.now ≡ automatic tables.entry 3 (1 ∷ 7 ∷ []) 8 }
+    ensures complete { index.now ≡ automatic tables.entry 3 (1 ∷ 7 ∷ []) 8 → IsTrue result }
 {
     is_index(index, "sqlite_autoindex_entry_4", 8, 4, &[1, 7])
 }
 
 fn is_of_state(index: &Index) -> bool
-    ensures { IsTrue result → index.now ≡ automatic tables.state_table 0 (1 ∷ 2 ∷ []) 10 }
+    ensures exact { IsTrue result → index.now ≡ automatic tables.state_table 0 (1 ∷ 2 ∷ []) 10 }
+    ensures complete { index.now ≡ automatic tables.state_table 0 (1 ∷ 2 ∷ []) 10 → IsTrue result }
 {
     is_index(index, "sqlite_autoindex_state_1", 10, 9, &[1, 2])
 }
 
 fn are_of_entry(indexes: &[Index]) -> bool
-    ensures { IsTrue result → indexes.now ≡ automatics tables.entry 0 5 tables.entry_keys ++ automatics tables.state_table 0 10 tables.state_keys }
+    ensures exact { IsTrue result → indexes.now ≡ automatics tables.entry 0 5 tables.entry_keys ++ automatics tables.state_table 0 10 tables.state_keys }
+    ensures complete { indexes.now ≡ automatics tables.entry 0 5 tables.entry_keys ++ automatics tables.state_table 0 10 tables.state_keys → IsTrue result }
 {
     let [first, others @ ..] = indexes else {
         return false;
@@ -185,7 +198,8 @@ fn are_of_entry(indexes: &[Index]) -> bool
 }
 
 fn are_indexes(indexes: &[Index]) -> bool
-    ensures { IsTrue result → indexes.now ≡ store_schema.indexes }
+    ensures exact { IsTrue result → indexes.now ≡ store_schema.indexes }
+    ensures complete { indexes.now ≡ store_schema.indexes → IsTrue result }
 {
     let [first, others @ ..] = indexes else {
         return false;
@@ -198,7 +212,8 @@ fn are_indexes(indexes: &[Index]) -> bool
 
 /// Whether they are the tables and indexes that `create` makes.
 pub fn is_store_schema(schema: &Schema) -> bool
-    ensures { IsTrue result → schema.now ≡ store_schema }
+    ensures exact { IsTrue result → schema.now ≡ store_schema }
+    ensures complete { schema.now ≡ store_schema → IsTrue result }
 {
     are_tables(schema.tables.as_slice())
         && are_indexes(schema.indexes.as_slice())
@@ -207,7 +222,7 @@ pub fn is_store_schema(schema: &Schema) -> bool
 
 /// Whether there is nothing in it.
 pub fn is_empty_schema(schema: &Schema) -> bool
-    ensures empty { IsTrue result → schema.now ≡ no_schema }
+    ensures exact { IsTrue result → schema.now ≡ no_schema }
     ensures complete { schema.now ≡ no_schema → IsTrue result }
 {
     schema.tables.is_empty() && schema.indexes.is_empty() && schema.views.is_empty()

@@ -106,7 +106,7 @@ pub fn open<S: Alter>(alloc: Global, conn: &mut Connection<S>) -> Result<(), Rea
     ensures taken { HasCleanDisk (state S.Store conn.new) → OnOk result ((state S.Store conn.old).now.schema ≢ no_schema → ((state S.Store conn.old).now.schema ≡ store_schema) × IsMarked (state S.Store conn.old).now.trees × IsKept (state S.Store conn.old) (state S.Store conn.new)) }
     ensures store { OnOk result (IsStore (state S.Store conn.new)) }
     ensures refused { OnErr result (IsKept (state S.Store conn.old) (state S.Store conn.new)) }
-    ensures foreign { HasCleanDisk (state S.Store conn.new) → IfErr result (λ e. e ≡ ReadError.Foreign → (state S.Store conn.old).now.schema ≢ no_schema) }
+    ensures foreign { HasCleanDisk (state S.Store conn.new) → IfErr result (λ e. e ≡ ReadError.Foreign → ((state S.Store conn.old).now.schema ≢ no_schema) × ((state S.Store conn.old).now.schema ≡ store_schema → (r : Records) → Holds (state S.Store conn.old).now.trees r → ⊥)) }
     ensures idle { (state S.Store conn.new).in_transaction ≡ false }
     ensures crash { Survives (state S.Store conn.old) (state S.Store conn.new) (λ trees. ((state S.Store conn.old).now.schema ≡ no_schema) × Holds trees no_records) }
 {
