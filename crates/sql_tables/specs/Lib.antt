@@ -1,0 +1,7 @@
+pub mod Asking
+pub mod Cells
+pub mod Changes
+pub mod Columns
+pub mod Content
+pub mod Reading
+pub mod Statements

@@ -1,0 +1,31 @@
+-- Statements over one table, as the resolver understands them.
+use Rattle.std.specs.Prelude.{false, [], None, List, ℕ, pos, negsuc}
+use Rattle.sqlite.specs.declared.types.Value.TheVariants.{Int}
+use Rattle.sqlite.specs.Term.{Term, lit, col, op2}
+use Rattle.sqlite_sql.specs.declared.ops.BinaryOp.TheVariants.{Compare}
+use Rattle.sqlite_sql.specs.declared.ops.CompareOp.TheVariants.{Eq}
+use Rattle.sqlite_value.specs.declared.keys.Collation.TheVariants.{Binary}
+use Rattle.sqlite_value.specs.declared.keys.Key.{Key}
+use Rattle.sqlite.specs.Query.{Query, inner, end}
+use Rattle.sqlite_schema.specs.declared.program.Program.{Program}
+
+-- the rows of a table that pass each test
+abbrev pub rows_of : ℕ → List Term → List Term → List (Term × Key) → Query
+rows_of tree filter project order = record {
+  from = inner tree end;
+  filter = filter;
+  group = None;
+  project = project;
+  distinct = false;
+  collations = [];
+  order = order;
+  limit = lit (Int (negsuc 0));
+  offset = lit (Int (pos 0));
+}
+
+abbrev pub program_of : Query → Program
+program_of q = record { lets = []; body = q }
+
+-- a column equals a parameter
+abbrev pub equals : ℕ → ℕ → Term
+equals column parameter = op2 (Compare Eq Binary) (col 1 column) (col 0 parameter)

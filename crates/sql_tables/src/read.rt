@@ -1,0 +1,136 @@
+//! What is read from a cell, where it is what `cell` makes of a value.
+
+ghost use Rattle.std.specs.Prelude.{◌≡◌, ◌<◌, ◌↔◌, ⊤, length, IfErr, IfOk, IfSome, IsTrue, IsUtf8};
+ghost use Rattle.sqlite.specs.Values.{or_null};
+ghost use Rattle.sqlite_value.specs.declared.value.Value.TheVariants.{Blob, Null, Text as Words};
+ghost use Rattle.sqlite_value.specs.Order.{column};
+ghost use Rattle.sql_tables.specs.Cells.{IsLong, IsShort, flag_cell, long_cell, short_cell};
+ghost use Rattle.sql_tables.specs.Reading.{IsCell, IsForeign};
+
+use bytes::{ByteStr, Bytes};
+use sqlite::types::ValueRef;
+use sqlite::{Error, Row};
+use std::alloc::{AllocError, Global};
+
+/// Why records cannot be read.
+#[derive(Clone, Copy, Debug, PartialEq, Eq)]
+pub enum ReadError {
+    /// The database refused the statement.
+    Refused(Error),
+    /// There is a row that is no record.
+    Foreign,
+    /// There is no memory for the records.
+    OutOfMemory,
+}
+
+impl From<AllocError> for ReadError {
+    ghost use Rattle.std.specs.Prelude.{◌≡◌};
+    ghost use Rattle.sql_tables.specs.declared.read.ReadError.TheVariants.{OutOfMemory};
+
+    ghost from_gives = { λ _ e. e ≡ OutOfMemory };
+
+    fn from(_: AllocError) -> ReadError {
+        ReadError::OutOfMemory
+    }
+}
+
+pub fn text_at(alloc: Global, row: &Row, at: usize) -> Result<ByteStr, ReadError>
+    ensures ok { IfOk result (IsCell Words IsUtf8 row.now at) }
+    ensures foreign { IfErr result (λ e. e ≡ ReadError.Foreign → IsForeign Words IsUtf8 row.now at) }
+{
+    match row.get_ref(at) {
+        Ok(ValueRef::Text(bytes)) => match std::str::from_utf8(bytes) {
+            Ok(text) => Ok(ByteStr::copy_from_str(alloc, text)?),
+            Err(_) => Err(ReadError::Foreign),
+        },
+        _ => Err(ReadError::Foreign),
+    }
+}
+
+pub fn blob_at(alloc: Global, row: &Row, at: usize) -> Result<Bytes, ReadError>
+    ensures ok { IfOk result (IsCell Blob (λ _. ⊤) row.now at) }
+    ensures foreign { IfErr result (λ e. e ≡ ReadError.Foreign → IsForeign Blob (λ _. ⊤) row.now at) }
+{
+    match row.get_ref(at) {
+        Ok(ValueRef::Blob(bytes)) => Ok(Bytes::copy_from_slice(alloc, bytes)?),
+        _ => Err(ReadError::Foreign),
+    }
+}
+
+pub fn short_at(row: &Row, at: usize) -> Result<u32, ReadError>
+    ensures ok { IfOk result (IsCell short_cell IsShort row.now at) }
+    ensures foreign { IfErr result (λ e. e ≡ ReadError.Foreign → IsForeign short_cell IsShort row.now at) }
+{
+    match row.get_ref(at) {
+        Ok(ValueRef::Int(n)) => u32::try_from(n).map_err(|_| ReadError::Foreign),
+        _ => Err(ReadError::Foreign),
+    }
+}
+
+/// 64 bits that were written as an integer of SQL, with its sign.
+pub fn long_at(row: &Row, at: usize) -> Result<u64, ReadError>
+    ensures ok { IfOk result (IsCell long_cell IsLong row.now at) }
+    ensures foreign { IfErr result (λ e. e ≡ ReadError.Foreign → IsForeign long_cell IsLong row.now at) }
+{
+    match row.get_ref(at) {
+        Ok(ValueRef::Int(n)) => Ok(n.cast_unsigned()),
+        _ => Err(ReadError::Foreign),
+    }
+}
+
+pub fn flag_at(row: &Row, at: usize) -> Result<bool, ReadError>
+    ensures ok { IfOk result (IsCell flag_cell (λ _. ⊤) row.now at) }
+    ensures foreign { IfErr result (λ e. e ≡ ReadError.Foreign → IsForeign flag_cell (λ _. ⊤) row.now at) }
+{
+    match row.get_ref(at) {
+        Ok(ValueRef::Int(0)) => Ok(false),
+        Ok(ValueRef::Int(1)) => Ok(true),
+        _ => Err(ReadError::Foreign),
+    }
+}
+
+fn is_null_at(row: &Row, at: usize) -> bool
+    ensures { IsTrue result ↔ (at < length row.now) × (column row.now at ≡ Null) }
+{
+    matches!(row.get_ref(at), Ok(ValueRef::Null))
+}
+
+pub fn text_or_none_at(alloc: Global, row: &Row, at: usize) -> Result<Option<ByteStr>, ReadError>
+    ensures ok { IfOk result (IsCell (or_null Words) (λ o. IfSome o IsUtf8) row.now at) }
+    ensures foreign { IfErr result (λ e. e ≡ ReadError.Foreign → IsForeign (or_null Words) (λ o. IfSome o IsUtf8) row.now at) }
+{
+    if is_null_at(row, at) {
+        return Ok(None);
+    }
+    text_at(alloc, row, at).map(Some)
+}
+
+pub fn blob_or_none_at(alloc: Global, row: &Row, at: usize) -> Result<Option<Bytes>, ReadError>
+    ensures ok { IfOk result (IsCell (or_null Blob) (λ o. IfSome o (λ _. ⊤)) row.now at) }
+    ensures foreign { IfErr result (λ e. e ≡ ReadError.Foreign → IsForeign (or_null Blob) (λ o. IfSome o (λ _. ⊤)) row.now at) }
+{
+    if is_null_at(row, at) {
+        return Ok(None);
+    }
+    blob_at(alloc, row, at).map(Some)
+}
+
+pub fn short_or_none_at(row: &Row, at: usize) -> Result<Option<u32>, ReadError>
+    ensures ok { IfOk result (IsCell (or_null short_cell) (λ o. IfSome o IsShort) row.now at) }
+    ensures foreign { IfErr result (λ e. e ≡ ReadError.Foreign → IsForeign (or_null short_cell) (λ o. IfSome o IsShort) row.now at) }
+{
+    if is_null_at(row, at) {
+        return Ok(None);
+    }
+    short_at(row, at).map(Some)
+}
+
+pub fn long_or_none_at(row: &Row, at: usize) -> Result<Option<u64>, ReadError>
+    ensures ok { IfOk result (IsCell (or_null long_cell) (λ o. IfSome o IsLong) row.now at) }
+    ensures foreign { IfErr result (λ e. e ≡ ReadError.Foreign → IsForeign (or_null long_cell) (λ o. IfSome o IsLong) row.now at) }
+{
+    if is_null_at(row, at) {
+        return Ok(None);
+    }
+    long_at(row, at).map(Some)
+}

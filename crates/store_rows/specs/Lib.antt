@@ -1,0 +1,6 @@
+pub mod Parts
+pub mod Questions
+pub mod Records
+pub mod Statements
+pub mod Steps
+pub mod Tables

@@ -1,0 +1,56 @@
+-- The texts of the statements.
+use Rattle.std.specs.Prelude.{List, ℕ, codes}
+
+abbrev pub mark_text : List ℕ
+mark_text = codes "INSERT INTO meta VALUES ('journal_store', 1)"
+
+abbrev pub add_invocation_text : List ℕ
+add_invocation_text = codes "INSERT INTO invocation VALUES (?1, ?2, ?3, ?4, ?5, ?6, ?7, ?8, ?9, ?10, ?11, ?12, ?13, ?14, ?15, ?16, ?17, ?18, ?19)"
+
+abbrev pub set_progress_text : List ℕ
+set_progress_text = codes "UPDATE invocation SET open_object = ?2, suspension = ?3, handed = ?4, closing = ?5, answer = ?6, error_code = ?7, error_behavior = ?8, error_delay = ?9, error_message = ?10, attempts = ?11, attempts_since_entry = ?12, first_moment = ?13, last_completion = ?14, entries = ?15 WHERE id = ?1"
+
+abbrev pub add_entry_text : List ℕ
+add_entry_text = codes "INSERT INTO entry VALUES (?1, ?2, ?3, ?4, ?5, ?6, ?7, ?8)"
+
+abbrev pub add_state_text : List ℕ
+add_state_text = codes "INSERT INTO state VALUES (?1, ?2, ?3)"
+
+abbrev pub drop_state_text : List ℕ
+drop_state_text = codes "DELETE FROM state WHERE object = ?1 AND key = ?2"
+
+abbrev pub drop_states_text : List ℕ
+drop_states_text = codes "DELETE FROM state WHERE object = ?1"
+
+abbrev pub marks_text : List ℕ
+marks_text = codes "SELECT * FROM meta"
+
+abbrev pub invocation_by_id_text : List ℕ
+invocation_by_id_text = codes "SELECT * FROM invocation WHERE id = ?1"
+
+abbrev pub open_invocation_text : List ℕ
+open_invocation_text = codes "SELECT * FROM invocation WHERE open_object = ?1"
+
+abbrev pub all_invocations_text : List ℕ
+all_invocations_text = codes "SELECT * FROM invocation ORDER BY id"
+
+abbrev pub entry_by_place_text : List ℕ
+entry_by_place_text = codes "SELECT * FROM entry WHERE invocation = ?1 AND place = ?2"
+
+abbrev pub entry_by_completion_text : List ℕ
+entry_by_completion_text = codes "SELECT * FROM entry WHERE invocation = ?1 AND completion = ?2"
+
+abbrev pub entry_by_second_completion_text : List ℕ
+entry_by_second_completion_text = codes "SELECT * FROM entry WHERE invocation = ?1 AND second_completion = ?2"
+
+abbrev pub entry_by_answered_text : List ℕ
+entry_by_answered_text = codes "SELECT * FROM entry WHERE invocation = ?1 AND answered = ?2"
+
+abbrev pub entries_text : List ℕ
+entries_text = codes "SELECT * FROM entry WHERE invocation = ?1 ORDER BY place"
+
+abbrev pub state_by_key_text : List ℕ
+state_by_key_text = codes "SELECT * FROM state WHERE object = ?1 AND key = ?2"
+
+abbrev pub states_text : List ℕ
+states_text = codes "SELECT * FROM state WHERE object = ?1 ORDER BY key"

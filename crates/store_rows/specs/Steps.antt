@@ -1,0 +1,37 @@
+-- What a call does to the records.
+use Rattle.std.specs.Prelude.{◌≡◌, [], IsTrue}
+use Rattle.sqlite_trees.specs.Tree.{Trees}
+use Rattle.sqlite.specs.State.{State, HasCleanDisk}
+use Rattle.store_rows.specs.Records.{Records, Holds}
+use Rattle.store_rows.specs.Tables.{store_schema}
+
+-- whatever records the tables had, they have the changed ones then
+abbrev pub Turns : (Records → Records) → Trees → Trees → Type 0
+Turns change old new = (r : Records) → Holds old r → Holds new (change r)
+
+-- inside a transaction the records are changed so
+pub record Steps (change : Records → Records) (old new : State) : Type 0 where
+  pub schema : new.now.schema ≡ store_schema
+  pub inside : IsTrue new.in_transaction
+  pub records : Turns change old.now.trees new.now.trees
+
+-- a connection that is open has the tables of a store; one that is shut says nothing
+abbrev pub IsStore : State → Type 0
+IsStore s = HasCleanDisk s → IsTrue s.is_open → s.now.schema ≡ store_schema
+
+-- the tables have no rows
+pub record AreBare (db : Trees) : Type 0 where
+  pub meta : db 0 ≡ []
+  pub invocations : db 1 ≡ []
+  pub entries : db 4 ≡ []
+  pub states : db 9 ≡ []
+
+-- they are just made, inside a transaction
+pub record IsMade (s : State) : Type 0 where
+  pub schema : s.now.schema ≡ store_schema
+  pub inside : IsTrue s.in_transaction
+  pub bare : AreBare s.now.trees
+
+-- where the connection was open, the records are changed so
+abbrev pub Lands : (Records → Records) → State → Trees → Type 0
+Lands change old trees = IsTrue old.is_open → Turns change old.now.trees trees
