@@ -35,7 +35,7 @@ holds-tail (test ∷ tests) e = (holds-none test.0 test.1 tests e).1
 begin_when_free : (events : List Event) (new : NewInvocation) → causes_of events (Event.Invoke new) ≡ [] → is_busy events new.object ≡ false
 begin_when_free events new accepted = holds-head (own_tests events (Event.Invoke new)) accepted
 
-begin_when_new : (events : List Event) (new : NewInvocation) → causes_of events (Event.Invoke new) ≡ [] → is_some (invocation_begun events new.id) ≡ false
+pub begin_when_new : (events : List Event) (new : NewInvocation) → causes_of events (Event.Invoke new) ≡ [] → is_some (invocation_begun events new.id) ≡ false
 begin_when_new events new accepted =
     holds-head (tail_of (tail_of (own_tests events (Event.Invoke new))))
     (holds-tail (tail_of (own_tests events (Event.Invoke new))) (holds-tail (own_tests events (Event.Invoke new)) accepted))
@@ -64,7 +64,7 @@ at_same : (events : List Event) (other id : Text) → bytes_eq other id ≡ true
 at_same events other id e opened = subst (λ (x : Text). is_open events x ≡ true) ((bytes_eq-Decides other id).0 e) opened
 
 -- an accepted event that is no begin is one of an open invocation
-open_when_accepted : (events : List Event) (event : Event) (id : Text) → invoked_by event ≡ None → is_of id event ≡ true → causes_of events event ≡ [] → is_open events id ≡ true
+pub open_when_accepted : (events : List Event) (event : Event) (id : Text) → invoked_by event ≡ None → is_of id event ≡ true → causes_of events event ≡ [] → is_open events id ≡ true
 open_when_accepted events (Event.Invoke new) id e f accepted = cc
 open_when_accepted events (Event.Tick now) id e f accepted = cc
 open_when_accepted events (Event.Complete other n result) id e f accepted = at_same events other id f (open-from_tests events other (own_tests events (Event.Complete other n result)) accepted)
@@ -80,7 +80,7 @@ both_nothing : {A : Type 0} (b : Bool) → ◌≡◌ {A = List A} (if b then [] 
 both_nothing true = refl
 both_nothing false = refl
 
-find-passes : (p : NewInvocation → Bool) (xs : List NewInvocation) (x : NewInvocation) → find p xs ≡ Some x → p x ≡ true
+pub find-passes : (p : NewInvocation → Bool) (xs : List NewInvocation) (x : NewInvocation) → find p xs ≡ Some x → p x ≡ true
 find-passes p [] x e = cc
 find-passes p (y ∷ ys) x e = by_test (p y) refl e (find-passes p ys x)
   where
@@ -120,7 +120,7 @@ busy_when_open events id object opened is = by_cases (invocation_begun events id
         (ap₂ (λ (a b : Bool). a && b) same opened_there)
 
 -- an event that begins no invocation changes nothing of how one was begun, and opens none
-begun_before : (event : Event) (events : List Event) (id : Text) → invoked_by event ≡ None → invocation_begun (event ∷ events) id ≡ invocation_begun events id
+pub begun_before : (event : Event) (events : List Event) (id : Text) → invoked_by event ≡ None → invocation_begun (event ∷ events) id ≡ invocation_begun events id
 begun_before event events id e =
     ap (λ (o : Option NewInvocation). find (λ new. bytes_eq new.id id) (cons_option o (filter_map invoked_by events))) e
 
@@ -191,7 +191,7 @@ unique (event ∷ earlier) accepted id other object opened opened' is is' =
     (sym (object_in-before event earlier id refl) ∙ is) (sym (object_in-before event earlier other refl) ∙ is')
 
 -- an invocation that was not begun has no entries
-no_entries : (start : StateMap) (events : List Event) → IsAccepted events → (id : Text) → invocation_begun events id ≡ None → entries_from start events id ≡ []
+pub no_entries : (start : StateMap) (events : List Event) → IsAccepted events → (id : Text) → invocation_begun events id ≡ None → entries_from start events id ≡ []
 no_entries start [] accepted id e = refl
 no_entries start (Event.Invoke new ∷ earlier) accepted id e =
     by_cases (bytes_eq new.id id) e (no_entries start earlier accepted.1 id)
@@ -219,7 +219,7 @@ no_entries start (event ∷ earlier) accepted id e =
     by_cases false f h = ap₂ (λ (xs ys : List Entry). xs ++ ys) h
         (ap (λ (o : Bool). if is_tick event && o then entries_of_event start (entries_from start earlier id) event else []) not_open ∙ nothing (is_tick event))
 
-requests_in-append : (xs ys : List Entry) → requests_in (xs ++ ys) ≡ requests_in xs ++ requests_in ys
+pub requests_in-append : (xs ys : List Entry) → requests_in (xs ++ ys) ≡ requests_in xs ++ requests_in ys
 requests_in-append [] ys = refl
 requests_in-append (Recorded request ∷ xs) ys = ap (λ (rest : List Request). request ∷ rest) (requests_in-append xs ys)
 requests_in-append (Arrived arrival ∷ xs) ys = requests_in-append xs ys
@@ -287,7 +287,7 @@ same_requests earlier accepted event causes e id object opened is start entries 
     ∙ ap (λ (requests : List Request). if is_of id event || (is_tick event && is_open earlier id) then requests else []) (requests_of_event start entries event)
     ∙ both_nothing (is_of id event || (is_tick event && is_open earlier id)))
 
-none_of : (o : Option NewInvocation) → is_some o ≡ false → o ≡ None
+pub none_of : (o : Option NewInvocation) → is_some o ≡ false → o ≡ None
 none_of None e = refl
 none_of (Some new) e = cc
 

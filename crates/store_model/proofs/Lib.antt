@@ -1,0 +1,5 @@
+mod Same
+mod Lists
+mod Writing
+mod Journals
+mod Invocations
