@@ -1,5 +1,5 @@
 -- An accepted event makes of the kept rows of invocations what the rows are after it.
-use Rattle.std.proofs.Common.{ℕ, ◌≡◌, refl, sym, ap, ap₂, subst, ◌∙◌, inl, inr, true≢false, Bool, true, false, ◌||◌, ◌&&◌, not, if◌then◌else◌, List, [], ◌∷◌, ◌++◌, append-nil, map, filter, Option, Some, None, is_some, bytes_eq}
+use Rattle.std.proofs.Common.{ℕ, ◌≡◌, refl, sym, ap, ap₂, subst, ◌∙◌, inl, inr, true≢false, Bool, true, false, ◌||◌, ◌&&◌, not, if◌then◌else◌, List, [], ◌∷◌, ◌++◌, append-nil, map, filter, Option, Some, is_some, bytes_eq}
 use Rattle.std.specs.List.{AllByRecursion, list_any}
 use Rattle.std.proofs.lemmas.List.{map-append}
 use Rattle.std.proofs.lemmas.List.Elements.{filter-append}
@@ -9,17 +9,16 @@ use Rattle.sqlite_keyed.proofs.ListLemmas.{map-map, all_weaker, all-append}
 use Rattle.journal_model.specs.Notification.{Text, Arrival}
 use Rattle.journal_model.specs.declared.invocation.NewInvocation.{NewInvocation}
 use Rattle.journal_model.specs.Event.{Frame, Event}
-use Rattle.journal_model.specs.Journal.{Entry, Arrived, is_of, is_tick, invoked_by, invocation_of, invocation_begun, is_open, slept, starting_state, entries_of, entries_added}
-use Rattle.journal_model.specs.Cause.{is_empty, causes_of, IsAccepted}
+use Rattle.journal_model.specs.Journal.{Entry, Arrived, is_of, is_tick, invocation_of, invocation_begun, is_open, slept, starting_state, entries_of}
+use Rattle.journal_model.specs.Cause.{is_empty, causes_of}
 use Rattle.journal_laws.proofs.ObjectState.{begin_when_new, begun_before}
-use Rattle.store_rows.specs.Records.{set_in}
 use Rattle.store_rows.specs.declared.row.Progress.{Progress}
 use Rattle.store_rows.specs.declared.row.InvocationRow.{InvocationRow}
 use Rattle.store_model.specs.Progress.{progress_of}
 use Rattle.store_model.specs.Kept.{begun, begun_by, invocation_row}
 use Rattle.store_model.specs.Writes.{ends_sleep, ids_of_frame, changed_by}
 use Rattle.store_model.proofs.Lists.{map_on}
-use Rattle.store_model.proofs.Same.{both_same, is_still, Leaves, same_progress, foreign_adds, nothing_added}
+use Rattle.store_model.proofs.Same.{both_same, Leaves, same_progress, nothing_added}
 use Rattle.store_model.proofs.Writing.{stepped}
 
 -- what is stepped is set to its progress, the rest stays

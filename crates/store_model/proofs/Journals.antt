@@ -8,12 +8,12 @@ use Rattle.journal_model.specs.Notification.{Text, Arrival}
 use Rattle.journal_model.specs.declared.invocation.NewInvocation.{NewInvocation}
 use Rattle.journal_model.specs.Event.{Frame, Event}
 use Rattle.journal_model.specs.Journal.{Entry, Recorded, Arrived, is_of, is_tick, invoked_by, invocation_of, begins, invocation_begun, starting_state, is_open, slept, entries_of, entries_from, entries_of_event, entries_added}
-use Rattle.journal_model.specs.Cause.{is_empty, causes_of, IsAccepted}
+use Rattle.journal_model.specs.Cause.{is_empty, IsAccepted}
 use Rattle.journal_laws.proofs.ObjectState.{begin_when_new, begun_before, no_entries, none_of}
 use Rattle.store_rows.specs.declared.row.EntryRow.{EntryRow}
 use Rattle.store_model.specs.Kept.{entry_row, rows_from, input_row, rows_of_journal, journal_rows, begun, begun_by}
 use Rattle.store_model.specs.Writes.{rows_added, ends_sleep, ids_of_frame, changed_by}
-use Rattle.store_model.proofs.Same.{both_same, is_still, Leaves, same_begun, same_entries, foreign_adds, nothing_added}
+use Rattle.store_model.proofs.Same.{both_same, is_still, same_begun, same_entries, foreign_adds, nothing_added}
 
 one_behind : (a n : ℕ) → (a + 1) + n ≡ a + suc n
 one_behind a n = omega arith
@@ -229,7 +229,7 @@ journal_begins events new id accepted = by_test (bytes_eq new.id id) refl
         let none : invocation_begun events id ≡ None = none_of (invocation_begun events id) (subst (λ (x : Text). is_some (invocation_begun events x) ≡ false) same (begin_when_new events new accepted.0)) in
         let start = starting_state (Event.Invoke new ∷ events) id in
         let nothing : entries_of (Event.Invoke new ∷ events) id ≡ [] =
-          ap₂ (λ (xs ys : List Entry). xs ++ ys) (no_entries start events accepted.1 id none) (both_same (bytes_eq new.id id || false) []) in
+        ap₂ (λ (xs ys : List Entry). xs ++ ys) (no_entries start events accepted.1 id none) (both_same (bytes_eq new.id id || false) []) in
         let now_begun : invocation_begun (Event.Invoke new ∷ events) id ≡ Some new = rw e refl in
         ap (λ (o : Option NewInvocation). rows_of_journal o id (entries_of events id) ++ input_row new ∷ []) none
         ∙ sym (ap₂ (λ (o : Option NewInvocation) (entries : List Entry). rows_of_journal o id entries) now_begun nothing)

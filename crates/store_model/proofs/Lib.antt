@@ -1,5 +1,7 @@
-mod Same
-mod Lists
-mod Writing
-mod Journals
-mod Invocations
+pub mod Same
+pub mod Lists
+pub mod Writing
+pub mod Journals
+pub mod Invocations
+pub mod States
+pub mod Keeping

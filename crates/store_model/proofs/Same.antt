@@ -1,18 +1,18 @@
 -- An event that is not an invocation's, and one by which nothing is told, changes nothing of the invocation's progress.
-use Rattle.std.proofs.Common.{ℕ, ◌+◌, zero-add, ◌≡◌, refl, sym, ap, ap₂, ◌∙◌, Bool, true, false, ◌||◌, ◌&&◌, not, if◌then◌else◌, List, [], ◌∷◌, ◌++◌, append-nil, length, filter, filter_map, Option, Some, None, is_some, option_map, unwrap_or, option_and_then, bytes_eq, ◌⊎◌, inl, inr}
+use Rattle.std.proofs.Common.{ℕ, ◌+◌, zero-add, ◌≡◌, refl, ap, ap₂, ◌∙◌, Bool, true, false, ◌||◌, ◌&&◌, not, if◌then◌else◌, List, [], ◌∷◌, ◌++◌, append-nil, length, filter, filter_map, Option, Some, None, is_some, option_map, unwrap_or, option_and_then, bytes_eq, ◌⊎◌, inl, inr}
 use Rattle.std.specs.List.{list_any, find, cons_option}
 use Rattle.journal_model.specs.Notification.{Text}
 use Rattle.journal_model.specs.State.{StateMap}
 use Rattle.journal_model.specs.declared.invocation.NewInvocation.{NewInvocation}
-use Rattle.journal_model.specs.Event.{Suspension, Frame, Event}
+use Rattle.journal_model.specs.Event.{Frame, Event}
 use Rattle.journal_model.specs.Journal.{Entry, Closing as Closed, is_of, is_tick, begins, invocation_begun, starting_state, closes, closing_frame, frame_of, frames_of, is_open, closing_of, requests_in, entries_of, entries_from, entries_of_event, entries_added}
-use Rattle.journal_model.specs.Attempt.{begins_attempt, attempts_begun, suspension_in, or_before, suspension_of}
+use Rattle.journal_model.specs.Attempt.{begins_attempt, attempts_begun, suspension_in, suspension_of}
 use Rattle.journal_model.specs.Start.{is_some_entry, moment_begun, begun_since_entry, attempts_since_entry}
 use Rattle.journal_model.specs.Cause.{last_completion}
 use Rattle.journal_laws.proofs.ObjectState.{begun_before}
 use Rattle.store_rows.specs.declared.row.LastError.{LastError}
-use Rattle.store_model.specs.Places.{handed_at, handed_in, or_kept, handed_of}
-use Rattle.store_model.specs.Progress.{first_of, number_or_zero, payload_of_suspension, way_closed, error_in, last_error_of, last_output, object_of_invocation, progress_of}
+use Rattle.store_model.specs.Places.{handed_in, handed_of}
+use Rattle.store_model.specs.Progress.{first_of, number_or_zero, payload_of_suspension, way_closed, error_in, last_error_of, last_output, progress_of}
 
 -- frames, and events, by which nothing is told of an invocation
 abbrev pub is_quiet : Option Frame → Bool
@@ -180,7 +180,7 @@ module _ (events : List Event) (event : Event) (id : Text) (leaves : Leaves even
       attempts_since_entry = length (same_moments i);
       first_moment = number_or_zero (first_of (same_moments i));
       last_completion = last_completion (requests_in (same_entries i));
-      entries = 1 + length (same_entries i)
+      entries = 1 + length (same_entries i);
     }
 
 -- ---- which events add nothing

@@ -1,5 +1,5 @@
 -- What writes make of records.
-use Rattle.std.proofs.Common.{◌≡◌, refl, sym, ap, ap₂, ◌∙◌, Bool, true, false, not, List, [], ◌∷◌, ◌++◌, map, map-id, filter, flat_map, append-nil, append_assoc, Option, Some, None}
+use Rattle.std.proofs.Common.{◌≡◌, refl, sym, ap, ap₂, ◌∙◌, not, List, [], ◌∷◌, ◌++◌, map, map-id, filter, flat_map, append-nil, append_assoc, Option, Some, None}
 use Rattle.sqlite_keyed.proofs.ListLemmas.{map-map}
 use Rattle.journal_model.specs.Notification.{Text}
 use Rattle.journal_model.specs.Request.{Request}
@@ -11,7 +11,7 @@ use Rattle.store_rows.specs.declared.row.InvocationRow.{InvocationRow}
 use Rattle.store_rows.specs.declared.row.EntryRow.{EntryRow}
 use Rattle.store_rows.specs.declared.row.StateRow.{StateRow}
 use Rattle.store_rows.specs.declared.row.Write.{Write}
-use Rattle.store_rows.specs.declared.row.Write.TheVariants.{AddInvocation, SetProgress, AddEntry, PutState, DropState, DropStates}
+use Rattle.store_rows.specs.declared.row.Write.TheVariants.{SetProgress, AddEntry}
 use Rattle.store_model.specs.Progress.{progress_of}
 use Rattle.store_model.specs.Kept.{input_row, begun_by, invocation_row}
 use Rattle.store_model.specs.Writes.{begin_writes, rows_added, invocation_writes, changed_by, state_write, state_writes, writes_of}
@@ -98,9 +98,9 @@ pub applied-event : (events : List Event) (event : Event) (r : Records)
     → applied_all (writes_of events event) r
     ≡ record {
       invocations = map (stepped (progress_of (event ∷ events)) (changed_by events event))
-      (r.invocations ++ map (invocation_row (event ∷ events)) (begun_by event));
+          (r.invocations ++ map (invocation_row (event ∷ events)) (begun_by event));
       entries = (r.entries ++ map input_row (begun_by event)) ++ flat_map (rows_added events event) (changed_by events event);
-      states = states_written (object_of events event) (request_of_frame (frame_of event)) r.states
+      states = states_written (object_of events event) (request_of_frame (frame_of event)) r.states;
     }
 applied-event events event r =
     let first = begin_writes events event in
@@ -108,7 +108,7 @@ applied-event events event r =
     let states = state_writes (object_of events event) (request_of_frame (frame_of event)) in
     let begun : Records = record r {
       invocations = r.invocations ++ map (invocation_row (event ∷ events)) (begun_by event);
-      entries = r.entries ++ map input_row (begun_by event)
+      entries = r.entries ++ map input_row (begun_by event);
     } in
     applied-append first (each ++ states) r
     ∙ ap (applied_all (each ++ states)) (applied-begin events event r)
@@ -116,5 +116,5 @@ applied-event events event r =
     ∙ ap (applied_all states) (applied-each (rows_added events event) (progress_of (event ∷ events)) (changed_by events event) begun)
     ∙ applied-written (object_of events event) (request_of_frame (frame_of event)) (record begun {
       invocations = map (stepped (progress_of (event ∷ events)) (changed_by events event)) begun.invocations;
-      entries = begun.entries ++ flat_map (rows_added events event) (changed_by events event)
+      entries = begun.entries ++ flat_map (rows_added events event) (changed_by events event);
     })
