@@ -1,5 +1,5 @@
 -- A question inside a transaction that is undone.
-use Rattle.std.proofs.Common.{◌≡◌, ◌⊎◌, inl, inr, ℕ, Bool, true, false, List, None, Some, Option, Ok, Err, OnOk, Result, IsTrue, refl, sym, ap, subst, subst₂, ◌∙◌, append-nil, arith}
+use Rattle.std.proofs.Common.{◌≡◌, ◌⊎◌, inl, inr, ℕ, Bool, true, false, List, None, Some, Option, Ok, Err, IfErr, IfOk, OnOk, Result, IsTrue, refl, sym, ap, subst, subst₂, ◌∙◌, append-nil, arith}
 use Rattle.sqlite_value.specs.Order.{Row}
 use Rattle.sqlite_schema.specs.declared.command.Command.{Command}
 use Rattle.sqlite_schema.specs.declared.command.Returning.{Returning}
@@ -109,3 +109,11 @@ answer_as sql params s schema has command is plain unlisted rows h =
 pub on_ok : {A E : Type 0} {P Q : Type 0} (r : Result A E) → OnOk r P → (P → Q) → OnOk r Q
 on_ok (Ok x) p f = f p
 on_ok (Err e) p f = tt
+
+pub ok_then : {A E : Type 0} {P Q : A → Type 0} (r : Result A E) → IfOk r P → ((x : A) → P x → Q x) → IfOk r Q
+ok_then (Ok x) p f = f x p
+ok_then (Err e) p f = tt
+
+pub err_then : {A E : Type 0} {P Q : E → Type 0} (r : Result A E) → IfErr r P → ((e : E) → P e → Q e) → IfErr r Q
+err_then (Ok x) p f = tt
+err_then (Err e) p f = f e p

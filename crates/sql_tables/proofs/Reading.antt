@@ -22,7 +22,8 @@ use Rattle.sqlite.proofs.Callers.{IsPlain, command_of}
 use Rattle.sql_tables.specs.Content.{HasRows}
 use Rattle.sql_tables.specs.Statements.{rows_of, program_of}
 use Rattle.sql_tables.specs.Asking.{IsAnswer}
-use Rattle.sql_tables.proofs.Answers.{passes, rows_read}
+use Rattle.sqlite_sql.specs.Program.{overlay}
+use Rattle.sql_tables.proofs.Answers.{answered, no_let, passes, rows_read, shows}
 use Rattle.sql_tables.proofs.Queries.{answer_as}
 
 pub permuted : {X : Type 0} (xs ys : List X) → IsPermutation xs ys → (x : X) → Has ys x → Has xs x
@@ -40,11 +41,11 @@ module _ {X : Type 0} (cells : X → Row) (back : Row → X) (Fits : X → Type 
 
 -- ---- one row at most
 
-no_more : {X : Type 0} (xs : List X) → IsPermutation xs [] → xs ≡ []
+pub no_more : {X : Type 0} (xs : List X) → IsPermutation xs [] → xs ≡ []
 no_more [] same = refl
 no_more (x ∷ xs) same = absurd (omega (arith, length_permutation _ _ same))
 
-only_one : {X : Type 0} (xs : List X) (y : X) → IsPermutation xs (y ∷ []) → xs ≡ y ∷ []
+pub only_one : {X : Type 0} (xs : List X) (y : X) → IsPermutation xs (y ∷ []) → xs ≡ y ∷ []
 only_one [] y same = absurd (omega (arith, length_permutation _ _ same))
 only_one (x ∷ []) y same = elim (permuted (x ∷ []) (y ∷ []) same y (inl refl)) [ inl e ↦ ap (λ z. z ∷ []) (sym e) | inr none ↦ absurd none ]
 only_one (x ∷ w ∷ xs) y same = absurd (omega (arith, length_permutation _ _ same))
@@ -108,3 +109,20 @@ all_listed (x ∷ row) = ap (λ l. x ∷ l) (all_listed row ∙ sym (listed_late
 
 pub listed_as : (row : Row) (n : ℕ) → length row ≡ n → row ≡ listed row 0 n
 listed_as row n len = all_listed row ∙ ap (listed row 0) len
+
+-- ---- the rows of a whole table
+
+all_pass : {X : Type 0} (xs : List X) → filter (λ x. true) xs ≡ xs
+all_pass [] = refl
+all_pass (x ∷ xs) = ap (λ l. x ∷ l) (all_pass xs)
+
+pub rows_shown : (schema : Schema) (sql : List ℕ) (params : Row) (old : State) (rows : List Row) (tree : ℕ) (project : List Term) (order : List (Term × Key)) (names : List (List ℕ)) → old.now.schema ≡ schema → IsPlain (understood schema sql) → reads_listing schema sql ≡ false
+    → command_of (understood schema sql) ≡ Select (program_of (rows_of tree [] project order)) names
+    → (show : Row → Row) → ((r : Row) → eval_all project (params ∷ r ∷ []) ≡ show r)
+    → IsAnswer sql params old rows → IsPermutation (map show (old.now.trees tree)) rows
+rows_shown schema sql params old rows tree project order names has plain unlisted is show shown answer =
+    let read = answer_as sql params old schema has _ is plain unlisted rows answer in
+    let db = old.now.trees in
+    let a = answered tree [] project order (overlay db []) params rows (read.answer Null) in
+    let seen = rw (no_let db tree) at (shows tree [] project order (overlay db []) params rows _ a) in
+    subst (λ l. IsPermutation l rows) (ap (map (λ r. eval_all project (params ∷ r ∷ []))) (all_pass (db tree)) ∙ map_same _ _ shown (db tree)) seen

@@ -53,13 +53,15 @@ casts e = rw (cast_int (pos e.place), cast_int (pos e.kind), cast_shorts e.compl
 pub entry_added : (old new : State) (e : EntryRow) → FitsEntry e → old.now.schema ≡ store_schema → HasRun add_entry_text (entry_cells e) old new → Moves (with_entry e) old new
 entry_added old new e fits has run =
     let change : Changes store_schema 4 (λ rows. rows ++ entry_cells e ∷ []) old.now new.now =
-    insert_changes store_schema none_refers add_entry_text (entry_cells e) old new has add_plain run.count run.ran 4 (codes "entry") entry_columns entry_keys (plain_orders entry_keys) 2 refl terms 9 (entry_cells e) add_is (add_values e) (casts e) in
-    (change.schema, λ r h. record {
-      mark = kept_rows old.now.trees new.now.trees 0 (mark_cells ∷ []) (change.others.0 (λ e. omega arith)) h.mark;
-      invocations = kept_rows old.now.trees new.now.trees 1 (map invocation_cells r.invocations) (change.others.1.0 (λ e. omega arith)) h.invocations;
-      entries = subst (HasRows (new.now.trees 4)) (sym (map-append entry_cells r.entries (e ∷ []))) (change.rows _ h.entries);
-      states = kept_rows old.now.trees new.now.trees 9 (map state_cells r.states) (change.others.1.1.1.0 (λ e. omega arith)) h.states;
-      fit_invocations = h.fit_invocations;
-      fit_entries = all-append FitsEntry r.entries (e ∷ []) h.fit_entries (fits, tt);
-      fit_states = h.fit_states;
-    })
+    insert_changes store_schema none_refers add_entry_text (entry_cells e) old new has add_plain run.count run.ran 4 (codes "entry") entry_columns entry_keys (plain_orders entry_keys) 2 refl terms 9 (entry_cells e) add_is (add_values e) (casts e) in (
+      change.schema,
+      λ r h. record {
+        mark = kept_rows old.now.trees new.now.trees 0 (mark_cells ∷ []) (change.others.0 (λ e. omega arith)) h.mark;
+        invocations = kept_rows old.now.trees new.now.trees 1 (map invocation_cells r.invocations) (change.others.1.0 (λ e. omega arith)) h.invocations;
+        entries = subst (HasRows (new.now.trees 4)) (sym (map-append entry_cells r.entries (e ∷ []))) (change.rows _ h.entries);
+        states = kept_rows old.now.trees new.now.trees 9 (map state_cells r.states) (change.others.1.1.1.0 (λ e. omega arith)) h.states;
+        fit_invocations = h.fit_invocations;
+        fit_entries = all-append FitsEntry r.entries (e ∷ []) h.fit_entries (fits, tt);
+        fit_states = h.fit_states;
+      },
+    )

@@ -78,25 +78,38 @@ cast_message = cast_or_null Words (λ (e : LastError). Text e.message) refl (λ 
 casts : (i : InvocationRow) → cast_all invocation_columns (invocation_cells i) ≡ invocation_cells i
 casts i =
     rw (
-      cast_int (pos i.version), cast_int (cast_signed w64 i.seed), cast_int (if i.is_whole then pos 1 else pos 0),
-      cast_texts i.progress.open_object, cast_shorts i.progress.handed, cast_closing i.progress.closing,
-      cast_code i.progress.last_error, cast_behavior i.progress.last_error, cast_longs (delay_of i.progress.last_error), cast_message i.progress.last_error,
-      cast_int (pos i.progress.attempts), cast_int (pos i.progress.attempts_since_entry), cast_int (cast_signed w64 i.progress.first_moment), cast_int (pos i.progress.last_completion), cast_int (pos i.progress.entries),
+      cast_int (pos i.version),
+      cast_int (cast_signed w64 i.seed),
+      cast_int (if i.is_whole then pos 1 else pos 0),
+      cast_texts i.progress.open_object,
+      cast_shorts i.progress.handed,
+      cast_closing i.progress.closing,
+      cast_code i.progress.last_error,
+      cast_behavior i.progress.last_error,
+      cast_longs (delay_of i.progress.last_error),
+      cast_message i.progress.last_error,
+      cast_int (pos i.progress.attempts),
+      cast_int (pos i.progress.attempts_since_entry),
+      cast_int (cast_signed w64 i.progress.first_moment),
+      cast_int (pos i.progress.last_completion),
+      cast_int (pos i.progress.entries),
     ) refl
 
 pub invocation_added : (old new : State) (i : InvocationRow) → FitsInvocation i → old.now.schema ≡ store_schema → HasRun add_invocation_text (invocation_cells i) old new → Moves (with_invocation i) old new
 invocation_added old new i fits has run =
     let change : Changes store_schema 1 (λ rows. rows ++ invocation_cells i ∷ []) old.now new.now =
-    insert_changes store_schema none_refers add_invocation_text (invocation_cells i) old new has add_plain run.count run.ran 1 (codes "invocation") invocation_columns invocation_keys (plain_orders invocation_keys) 1 refl terms 20 (invocation_cells i) add_is (add_values i) (casts i) in
-    (change.schema, λ r h. record {
-      mark = kept_rows old.now.trees new.now.trees 0 (mark_cells ∷ []) (change.others.0 (λ e. omega arith)) h.mark;
-      invocations = subst (HasRows (new.now.trees 1)) (sym (map-append invocation_cells r.invocations (i ∷ []))) (change.rows _ h.invocations);
-      entries = kept_rows old.now.trees new.now.trees 4 (map entry_cells r.entries) (change.others.1.1.0 (λ e. omega arith)) h.entries;
-      states = kept_rows old.now.trees new.now.trees 9 (map state_cells r.states) (change.others.1.1.1.0 (λ e. omega arith)) h.states;
-      fit_invocations = all-append FitsInvocation r.invocations (i ∷ []) h.fit_invocations (fits, tt);
-      fit_entries = h.fit_entries;
-      fit_states = h.fit_states;
-    })
+    insert_changes store_schema none_refers add_invocation_text (invocation_cells i) old new has add_plain run.count run.ran 1 (codes "invocation") invocation_columns invocation_keys (plain_orders invocation_keys) 1 refl terms 20 (invocation_cells i) add_is (add_values i) (casts i) in (
+      change.schema,
+      λ r h. record {
+        mark = kept_rows old.now.trees new.now.trees 0 (mark_cells ∷ []) (change.others.0 (λ e. omega arith)) h.mark;
+        invocations = subst (HasRows (new.now.trees 1)) (sym (map-append invocation_cells r.invocations (i ∷ []))) (change.rows _ h.invocations);
+        entries = kept_rows old.now.trees new.now.trees 4 (map entry_cells r.entries) (change.others.1.1.0 (λ e. omega arith)) h.entries;
+        states = kept_rows old.now.trees new.now.trees 9 (map state_cells r.states) (change.others.1.1.1.0 (λ e. omega arith)) h.states;
+        fit_invocations = all-append FitsInvocation r.invocations (i ∷ []) h.fit_invocations (fits, tt);
+        fit_entries = h.fit_entries;
+        fit_states = h.fit_states;
+      },
+    )
 
 -- ---- what changes of one
 
@@ -170,16 +183,18 @@ pub progress_set : (old new : State) (id : List ℕ) (p : Progress) → FitsProg
 progress_set old new id p fits has run =
     let writes = λ (r : Row) (v : IsInvocation (drop 1 r)).
     ap (cast_all invocation_columns) (changed_there id p r ∙ ap (changed id p) v.1 ∙ changed_is id p v.0) ∙ casts (record v.0 { progress = p }) ∙ sym (ap (changed id p) v.1 ∙ changed_is id p v.0) in
-    let change = update_changes store_schema none_refers set_progress_text (params_of id p) old new has set_plain run.count run.ran 1 (codes "invocation") invocation_columns invocation_keys (plain_orders invocation_keys) 1 refl tests sets (has_id id p) (changed id p) IsInvocation set_is (has_id_there id p) writes in
-    (change.0, λ r h. record {
-      mark = kept_rows old.now.trees new.now.trees 0 (mark_cells ∷ []) (change.2.0 (λ e. omega arith)) h.mark;
-      invocations = subst (HasRows (new.now.trees 1)) (map-map _ invocation_cells r.invocations ∙ map_same _ _ (set_cells id p) r.invocations ∙ sym (map-map invocation_cells (set_in id p) r.invocations)) (change.1 _ (are_invocations r.invocations) h.invocations);
-      entries = kept_rows old.now.trees new.now.trees 4 (map entry_cells r.entries) (change.2.1.1.0 (λ e. omega arith)) h.entries;
-      states = kept_rows old.now.trees new.now.trees 9 (map state_cells r.states) (change.2.1.1.1.0 (λ e. omega arith)) h.states;
-      fit_invocations = set_fits id p fits r.invocations h.fit_invocations;
-      fit_entries = h.fit_entries;
-      fit_states = h.fit_states;
-    })
+    let change = update_changes store_schema none_refers set_progress_text (params_of id p) old new has set_plain run.count run.ran 1 (codes "invocation") invocation_columns invocation_keys (plain_orders invocation_keys) 1 refl tests sets (has_id id p) (changed id p) IsInvocation set_is (has_id_there id p) writes in (
+      change.0,
+      λ r h. record {
+        mark = kept_rows old.now.trees new.now.trees 0 (mark_cells ∷ []) (change.2.0 (λ e. omega arith)) h.mark;
+        invocations = subst (HasRows (new.now.trees 1)) (map-map _ invocation_cells r.invocations ∙ map_same _ _ (set_cells id p) r.invocations ∙ sym (map-map invocation_cells (set_in id p) r.invocations)) (change.1 _ (are_invocations r.invocations) h.invocations);
+        entries = kept_rows old.now.trees new.now.trees 4 (map entry_cells r.entries) (change.2.1.1.0 (λ e. omega arith)) h.entries;
+        states = kept_rows old.now.trees new.now.trees 9 (map state_cells r.states) (change.2.1.1.1.0 (λ e. omega arith)) h.states;
+        fit_invocations = set_fits id p fits r.invocations h.fit_invocations;
+        fit_entries = h.fit_entries;
+        fit_states = h.fit_states;
+      },
+    )
 
 -- ---- what the code holds fits
 

@@ -1,6 +1,13 @@
+pub mod AskingEntries
+pub mod AskingInvocations
+pub mod AskingMarks
+pub mod AskingStates
+pub mod Back
 pub mod Columns
 pub mod Entries
+pub mod Found
 pub mod Invocations
 pub mod Making
 pub mod Moves
+pub mod Orders
 pub mod States

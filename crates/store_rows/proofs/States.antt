@@ -48,29 +48,34 @@ casts s = refl
 pub state_added : (old new : State) (s : StateRow) → FitsState s → old.now.schema ≡ store_schema → HasRun add_state_text (state_cells s) old new → Moves (with_state s) old new
 state_added old new s fits has run =
     let change : Changes store_schema 9 (λ rows. rows ++ state_cells s ∷ []) old.now new.now =
-    insert_changes store_schema none_refers add_state_text (state_cells s) old new has add_plain run.count run.ran 9 (codes "state") state_columns state_keys (plain_orders state_keys) 3 refl terms 4 (state_cells s) add_is (add_values s) (casts s) in
-    (change.schema, λ r h. record {
-      mark = kept_rows old.now.trees new.now.trees 0 (mark_cells ∷ []) (change.others.0 (λ e. omega arith)) h.mark;
-      invocations = kept_rows old.now.trees new.now.trees 1 (map invocation_cells r.invocations) (change.others.1.0 (λ e. omega arith)) h.invocations;
-      entries = kept_rows old.now.trees new.now.trees 4 (map entry_cells r.entries) (change.others.1.1.0 (λ e. omega arith)) h.entries;
-      states = subst (HasRows (new.now.trees 9)) (sym (map-append state_cells r.states (s ∷ []))) (change.rows _ h.states);
-      fit_invocations = h.fit_invocations;
-      fit_entries = h.fit_entries;
-      fit_states = all-append FitsState r.states (s ∷ []) h.fit_states (fits, tt);
-    })
+    insert_changes store_schema none_refers add_state_text (state_cells s) old new has add_plain run.count run.ran 9 (codes "state") state_columns state_keys (plain_orders state_keys) 3 refl terms 4 (state_cells s) add_is (add_values s) (casts s) in (
+      change.schema,
+      λ r h. record {
+        mark = kept_rows old.now.trees new.now.trees 0 (mark_cells ∷ []) (change.others.0 (λ e. omega arith)) h.mark;
+        invocations = kept_rows old.now.trees new.now.trees 1 (map invocation_cells r.invocations) (change.others.1.0 (λ e. omega arith)) h.invocations;
+        entries = kept_rows old.now.trees new.now.trees 4 (map entry_cells r.entries) (change.others.1.1.0 (λ e. omega arith)) h.entries;
+        states = subst (HasRows (new.now.trees 9)) (sym (map-append state_cells r.states (s ∷ []))) (change.rows _ h.states);
+        fit_invocations = h.fit_invocations;
+        fit_entries = h.fit_entries;
+        fit_states = all-append FitsState r.states (s ∷ []) h.fit_states (fits, tt);
+      },
+    )
 
 -- the states that stay where a statement removes those that pass
 dropped : (old new : State) (keeps : Row → Bool) (stays : StateRow → Bool) → ((s : StateRow) → keeps (state_cells s) ≡ stays s) → Changes store_schema 9 (filter keeps) old.now new.now
     → Moves (λ r. record r { states = filter stays r.states }) old new
-dropped old new keeps stays is change = (change.schema, λ r h. record {
-  mark = kept_rows old.now.trees new.now.trees 0 (mark_cells ∷ []) (change.others.0 (λ e. omega arith)) h.mark;
-  invocations = kept_rows old.now.trees new.now.trees 1 (map invocation_cells r.invocations) (change.others.1.0 (λ e. omega arith)) h.invocations;
-  entries = kept_rows old.now.trees new.now.trees 4 (map entry_cells r.entries) (change.others.1.1.0 (λ e. omega arith)) h.entries;
-  states = subst (HasRows (new.now.trees 9)) (filter-map keeps state_cells r.states ∙ ap (map state_cells) (filter_same _ _ is r.states)) (change.rows _ h.states);
-  fit_invocations = h.fit_invocations;
-  fit_entries = h.fit_entries;
-  fit_states = all-filter FitsState stays r.states h.fit_states;
-})
+dropped old new keeps stays is change = (
+  change.schema,
+  λ r h. record {
+    mark = kept_rows old.now.trees new.now.trees 0 (mark_cells ∷ []) (change.others.0 (λ e. omega arith)) h.mark;
+    invocations = kept_rows old.now.trees new.now.trees 1 (map invocation_cells r.invocations) (change.others.1.0 (λ e. omega arith)) h.invocations;
+    entries = kept_rows old.now.trees new.now.trees 4 (map entry_cells r.entries) (change.others.1.1.0 (λ e. omega arith)) h.entries;
+    states = subst (HasRows (new.now.trees 9)) (filter-map keeps state_cells r.states ∙ ap (map state_cells) (filter_same _ _ is r.states)) (change.rows _ h.states);
+    fit_invocations = h.fit_invocations;
+    fit_entries = h.fit_entries;
+    fit_states = all-filter FitsState stays r.states h.fit_states;
+  },
+)
 
 -- ---- one key
 

@@ -1,11 +1,11 @@
 -- What the store keeps, with no word of SQL, and the rows that it is kept in.
-use Rattle.std.specs.Prelude.{ℕ, List, [], ◌∷◌, ◌++◌, map, filter, not, ◌&&◌, Bool, bytes_eq, codes, Option, None, Some, IfSome, IsUtf8, if◌then◌else◌, pos, ⊤}
+use Rattle.std.specs.Prelude.{ℕ, List, [], ◌∷◌, ◌++◌, map, filter, not, ◌&&◌, Bool, bytes_eq, codes, Option, None, Some, IfSome, IsUtf8, if◌then◌else◌}
 use Rattle.std.specs.List.{AllByRecursion}
-use Rattle.std.specs.Option.{option_and_then}
+use Rattle.std.specs.List.Sorted.{IsPermutation}
 use Rattle.sqlite.specs.declared.types.Value.{Value}
-use Rattle.sqlite.specs.declared.types.Value.TheVariants.{Int, Text, Blob}
+use Rattle.sqlite.specs.declared.types.Value.TheVariants.{Text, Blob}
 use Rattle.sqlite.specs.Values.{or_null}
-use Rattle.sqlite_value.specs.Order.{Row}
+use Rattle.sqlite_value.specs.Order.{Row, column}
 use Rattle.sqlite_trees.specs.Tree.{Trees}
 use Rattle.sql_tables.specs.Cells.{IsLong, IsShort, flag_cell, long_cell, short_cell}
 use Rattle.sql_tables.specs.Content.{HasRows}
@@ -15,6 +15,7 @@ pub use Rattle.store_rows.specs.declared.row.Progress.{Progress}
 pub use Rattle.store_rows.specs.declared.row.InvocationRow.{InvocationRow}
 pub use Rattle.store_rows.specs.declared.row.EntryRow.{EntryRow}
 pub use Rattle.store_rows.specs.declared.row.StateRow.{StateRow}
+pub use Rattle.store_rows.specs.declared.row.Mark.{Mark}
 pub use Rattle.store_rows.specs.declared.row.Write.{Write}
 use Rattle.store_rows.specs.declared.row.Closing.TheVariants.{Ended, Failed}
 use Rattle.store_rows.specs.declared.row.Write.TheVariants.{AddInvocation, SetProgress, AddEntry, PutState, DropState, DropStates}
@@ -94,8 +95,22 @@ abbrev pub state_cells : StateRow → Row
 state_cells s = Text s.object ∷ Blob s.key ∷ Blob s.value ∷ []
 
 -- the row by which a database is a store's
+abbrev pub cells_of_mark : Mark → Row
+cells_of_mark m = Text m.name ∷ short_cell m.version ∷ []
+
+abbrev pub the_mark : Mark
+the_mark = record { name = codes "journal_store"; version = 1 }
+
 abbrev pub mark_cells : Row
-mark_cells = Text (codes "journal_store") ∷ Int (pos 1) ∷ []
+mark_cells = cells_of_mark the_mark
+
+pub record FitsMark (m : Mark) : Type 0 where
+  pub name : IsUtf8 m.name
+  pub version : IsShort m.version
+
+-- the first columns of the first table are the mark's, and it has one row
+abbrev pub IsMarked : Trees → Type 0
+IsMarked db = IsPermutation (map (λ r. column r 1 ∷ column r 2 ∷ []) (db 0)) (mark_cells ∷ [])
 
 -- the tables have these records, in any order
 pub record Holds (db : Trees) (r : Records) : Type 0 where

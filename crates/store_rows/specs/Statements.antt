@@ -22,8 +22,8 @@ drop_state_text = codes "DELETE FROM state WHERE object = ?1 AND key = ?2"
 abbrev pub drop_states_text : List ℕ
 drop_states_text = codes "DELETE FROM state WHERE object = ?1"
 
-abbrev pub mark_read_text : List ℕ
-mark_read_text = codes "SELECT name, version FROM meta"
+abbrev pub marks_text : List ℕ
+marks_text = codes "SELECT * FROM meta"
 
 abbrev pub invocation_by_id_text : List ℕ
 invocation_by_id_text = codes "SELECT * FROM invocation WHERE id = ?1"

@@ -4,9 +4,9 @@ ghost use Rattle.std.specs.Prelude.{◌≡◌, ◌≢◌, IfErr, IfOk};
 ghost use Rattle.sqlite_value.specs.Order.{column};
 ghost use Rattle.sqlite.specs.Values.{or_null};
 ghost use Rattle.store_rows.specs.Parts.{AreCounts, IsErrorAt, IsProgressAt};
-ghost use Rattle.store_rows.specs.Records.{FitsEntry, FitsInvocation, FitsState, InvocationRow as Invocation, EntryRow as Entry, StateRow as State, closing_cell, entry_cells, invocation_cells, state_cells};
+ghost use Rattle.store_rows.specs.Records.{FitsEntry, FitsInvocation, FitsState, FitsMark, InvocationRow as Invocation, EntryRow as Entry, Mark as Own, StateRow as State, cells_of_mark, closing_cell, entry_cells, invocation_cells, state_cells};
 
-use crate::row::{Closing, EntryRow, InvocationRow, LastError, Progress, StateRow};
+use crate::row::{Closing, EntryRow, InvocationRow, LastError, Mark, Progress, StateRow};
 use sql_tables::read::{
     ReadError, blob_at, blob_or_none_at, flag_at, long_at, long_or_none_at, short_at,
     short_or_none_at, text_at, text_or_none_at,
@@ -14,6 +14,30 @@ use sql_tables::read::{
 use sql_tables::stored::Stored;
 use sqlite::Row;
 use std::alloc::Global;
+
+fn mark_from(alloc: Global, row: &Row) -> Result<Mark, ReadError>
+    ensures ok { IfOk result (λ m. (cells_of_mark m ≡ row.now) × FitsMark m) }
+    ensures foreign { IfErr result (λ e. e ≡ ReadError.Foreign → (x : Own) → FitsMark x → cells_of_mark x ≢ row.now) }
+{
+    if row.column_count() != 2 {
+        return Err(ReadError::Foreign);
+    }
+    let version = short_at(row, 1)?;
+    let name = text_at(alloc, row, 0)?;
+    Ok(Mark { name, version })
+}
+
+impl Stored for Mark {
+    ghost use Rattle.store_rows.specs.Records.{FitsMark, cells_of_mark};
+
+    ghost cells = { cells_of_mark };
+
+    ghost fits = { FitsMark };
+
+    fn from_row(alloc: Global, row: &Row) -> Result<Mark, ReadError> {
+        mark_from(alloc, row)
+    }
+}
 
 fn state_from(alloc: Global, row: &Row) -> Result<StateRow, ReadError>
     ensures ok { IfOk result (λ s. (state_cells s ≡ row.now) × FitsState s) }

@@ -207,7 +207,8 @@ pub fn is_store_schema(schema: &Schema) -> bool
 
 /// Whether there is nothing in it.
 pub fn is_empty_schema(schema: &Schema) -> bool
-    ensures { IsTrue result → schema.now ≡ no_schema }
+    ensures empty { IsTrue result → schema.now ≡ no_schema }
+    ensures complete { schema.now ≡ no_schema → IsTrue result }
 {
     schema.tables.is_empty() && schema.indexes.is_empty() && schema.views.is_empty()
 }

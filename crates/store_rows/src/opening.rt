@@ -1,16 +1,21 @@
 //! The tables of a new store.
 
-ghost use Rattle.std.specs.Prelude.{◌≡◌, false, IsTrue, OnErr, OnOk};
+ghost use Rattle.std.specs.Prelude.{◌≡◌, ◌≢◌, Some, false, IfErr, IfOk, IsTrue, OnErr, OnOk};
 ghost use Rattle.sqlite.specs.Held.{state};
 ghost use Rattle.sqlite.specs.State.{HasCleanDisk, KeepsCommit, Survives};
 ghost use Rattle.sql_tables.specs.Asking.{IsKept};
 ghost use Rattle.sql_tables.specs.Columns.{no_schema};
-ghost use Rattle.store_rows.specs.Records.{Holds, no_records};
-ghost use Rattle.store_rows.specs.Steps.{IsMade};
+ghost use Rattle.store_rows.specs.Records.{Holds, IsMarked, Records, no_records, the_mark};
+ghost use Rattle.store_rows.specs.Steps.{IsMade, IsStore};
 ghost use Rattle.store_rows.specs.Tables.{store_schema};
 
+use crate::layout::{is_empty_schema, is_store_schema};
+use crate::row::Mark;
 use sql_tables::query::run;
+use sql_tables::read::ReadError;
+use sql_tables::stored::one_by;
 use sqlite::{Alter, Connection, Error, Transaction};
+use std::alloc::Global;
 
 fn make_tables<S: Alter>(tx: &mut Transaction<'_, S>) -> Result<(), Error>
     requires { HasCleanDisk (state S.Store tx.old.conn.now) → IsTrue (state S.Store tx.old.conn.now).is_open → (state S.Store tx.old.conn.now).now.schema ≡ no_schema }
@@ -53,7 +58,7 @@ fn add_mark<S: Alter>(tx: &mut Transaction<'_, S>) -> Result<(), Error>
 }
 
 /// Makes the tables of an empty database, all of them or none.
-pub fn create<S: Alter>(conn: &mut Connection<S>) -> Result<(), Error>
+fn create<S: Alter>(conn: &mut Connection<S>) -> Result<(), Error>
     requires empty { HasCleanDisk (state S.Store conn.old) → IsTrue (state S.Store conn.old).is_open → (state S.Store conn.old).now.schema ≡ no_schema }
     requires idle { (state S.Store conn.old).in_transaction ≡ false }
     ensures made { HasCleanDisk (state S.Store conn.new) → OnOk result (((state S.Store conn.new).now.schema ≡ store_schema) × Holds (state S.Store conn.new).now.trees no_records) }
@@ -66,4 +71,56 @@ pub fn create<S: Alter>(conn: &mut Connection<S>) -> Result<(), Error>
     make_tables(&mut tx)?;
     add_mark(&mut tx)?;
     tx.commit()
+}
+
+fn is_own(mark: &Option<Mark>) -> bool
+    ensures own { IsTrue result → mark.now ≡ Some the_mark }
+    ensures held { mark.now ≡ Some the_mark → IsTrue result }
+{
+    match mark {
+        Some(mark) => mark.name.as_str() == "journal_store" && mark.version == 1,
+        None => false,
+    }
+}
+
+/// Whether the row is there by which a database is a store's.
+fn is_marked<S: Alter>(alloc: Global, conn: &mut Connection<S>) -> Result<bool, ReadError>
+    requires store { IsStore (state S.Store conn.old) }
+    requires idle { (state S.Store conn.old).in_transaction ≡ false }
+    ensures marked { HasCleanDisk (state S.Store conn.new) → IfOk result (λ b. IsTrue b → IsMarked (state S.Store conn.old).now.trees) }
+    ensures held { HasCleanDisk (state S.Store conn.new) → IfOk result (λ b. (r : Records) → Holds (state S.Store conn.old).now.trees r → IsTrue b) }
+    ensures foreign { HasCleanDisk (state S.Store conn.new) → IfErr result (λ e. e ≡ ReadError.Foreign → (r : Records) → Holds (state S.Store conn.old).now.trees r → ⊥) }
+    ensures kept { IsKept (state S.Store conn.old) (state S.Store conn.new) }
+    ensures idle { (state S.Store conn.new).in_transaction ≡ false }
+    ensures crash { Survives (state S.Store conn.old) (state S.Store conn.new) (λ _. ⊥) }
+{
+    let mark: Option<Mark> = one_by(alloc, conn, "SELECT * FROM meta", &[])?;
+    Ok(is_own(&mark))
+}
+
+/// Gives an empty database the tables of a store, and takes a database that has them. What its rows are is not looked at: a row
+/// that no store writes is met where it is read.
+pub fn open<S: Alter>(alloc: Global, conn: &mut Connection<S>) -> Result<(), ReadError>
+    requires { (state S.Store conn.old).in_transaction ≡ false }
+    ensures fresh { HasCleanDisk (state S.Store conn.new) → OnOk result ((state S.Store conn.old).now.schema ≡ no_schema → Holds (state S.Store conn.new).now.trees no_records) }
+    ensures taken { HasCleanDisk (state S.Store conn.new) → OnOk result ((state S.Store conn.old).now.schema ≢ no_schema → ((state S.Store conn.old).now.schema ≡ store_schema) × IsMarked (state S.Store conn.old).now.trees × IsKept (state S.Store conn.old) (state S.Store conn.new)) }
+    ensures store { OnOk result (IsStore (state S.Store conn.new)) }
+    ensures refused { OnErr result (IsKept (state S.Store conn.old) (state S.Store conn.new)) }
+    ensures foreign { HasCleanDisk (state S.Store conn.new) → IfErr result (λ e. e ≡ ReadError.Foreign → (state S.Store conn.old).now.schema ≢ no_schema) }
+    ensures idle { (state S.Store conn.new).in_transaction ≡ false }
+    ensures crash { Survives (state S.Store conn.old) (state S.Store conn.new) (λ trees. ((state S.Store conn.old).now.schema ≡ no_schema) × Holds trees no_records) }
+{
+    if is_empty_schema(conn.schema()) {
+        return match create(conn) {
+            Ok(()) => Ok(()),
+            Err(cause) => Err(ReadError::Refused(cause)),
+        };
+    }
+    if !is_store_schema(conn.schema()) {
+        return Err(ReadError::Foreign);
+    }
+    if !is_marked(alloc, conn)? {
+        return Err(ReadError::Foreign);
+    }
+    Ok(())
 }

@@ -95,3 +95,10 @@ pub enum Write {
     DropState { object: ByteStr, key: Bytes },
     DropStates { object: ByteStr },
 }
+
+/// The row by which a database is a store's.
+#[derive(Debug, Drop)]
+pub struct Mark {
+    pub name: ByteStr,
+    pub version: u32,
+}

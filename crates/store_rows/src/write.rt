@@ -142,10 +142,7 @@ fn set_progress<S: Alter>(
     )
 }
 
-fn add_entry<S: Alter>(
-    tx: &mut Transaction<'_, S>,
-    entry: &EntryRow,
-) -> Result<(), Error>
+fn add_entry<S: Alter>(tx: &mut Transaction<'_, S>, entry: &EntryRow) -> Result<(), Error>
     requires { IsStore (state S.Store tx.old.conn.now) }
     ensures same_reference { tx.new.conn.ghost_name ≡ tx.old.conn.ghost_name }
     ensures ok { HasCleanDisk (state S.Store tx.new.conn.now) → OnOk result (Steps (with_entry entry.now) (state S.Store tx.old.conn.now) (state S.Store tx.new.conn.now)) }
@@ -168,10 +165,7 @@ fn add_entry<S: Alter>(
     )
 }
 
-fn add_state<S: Alter>(
-    tx: &mut Transaction<'_, S>,
-    row: &StateRow,
-) -> Result<(), Error>
+fn add_state<S: Alter>(tx: &mut Transaction<'_, S>, row: &StateRow) -> Result<(), Error>
     requires { IsStore (state S.Store tx.old.conn.now) }
     ensures same_reference { tx.new.conn.ghost_name ≡ tx.old.conn.ghost_name }
     ensures ok { HasCleanDisk (state S.Store tx.new.conn.now) → OnOk result (Steps (with_state row.now) (state S.Store tx.old.conn.now) (state S.Store tx.new.conn.now)) }
@@ -181,11 +175,7 @@ fn add_state<S: Alter>(
     run(
         tx,
         "INSERT INTO state VALUES (?1, ?2, ?3)",
-        &[
-            text(&row.object),
-            blob(&row.key),
-            blob(&row.value),
-        ],
+        &[text(&row.object), blob(&row.key), blob(&row.value)],
     )
 }
 
@@ -203,30 +193,18 @@ fn drop_state<S: Alter>(
     run(
         tx,
         "DELETE FROM state WHERE object = ?1 AND key = ?2",
-        &[
-            text(object),
-            blob(key),
-        ],
+        &[text(object), blob(key)],
     )
 }
 
-fn drop_states<S: Alter>(
-    tx: &mut Transaction<'_, S>,
-    object: &ByteStr,
-) -> Result<(), Error>
+fn drop_states<S: Alter>(tx: &mut Transaction<'_, S>, object: &ByteStr) -> Result<(), Error>
     requires { IsStore (state S.Store tx.old.conn.now) }
     ensures same_reference { tx.new.conn.ghost_name ≡ tx.old.conn.ghost_name }
     ensures ok { HasCleanDisk (state S.Store tx.new.conn.now) → OnOk result (Steps (without_states object.now) (state S.Store tx.old.conn.now) (state S.Store tx.new.conn.now)) }
     ensures kept { HasCleanDisk (state S.Store tx.new.conn.now) → KeepsCommit (state S.Store tx.old.conn.now) (state S.Store tx.new.conn.now) }
     ensures survives { Survives (state S.Store tx.old.conn.now) (state S.Store tx.new.conn.now) (λ _. ⊥) }
 {
-    run(
-        tx,
-        "DELETE FROM state WHERE object = ?1",
-        &[
-            text(object),
-        ],
-    )
+    run(tx, "DELETE FROM state WHERE object = ?1", &[text(object)])
 }
 
 fn put_state<S: Alter>(tx: &mut Transaction<'_, S>, row: &StateRow) -> Result<(), Error>

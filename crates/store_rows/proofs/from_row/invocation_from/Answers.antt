@@ -5,8 +5,7 @@ use Rattle.store_rows.proofs.from_row.invocation_from.Goals as goal
 pub returns-clause-ok : goal.returns-clause-ok
 returns-clause-ok c =
     let len : length c.args.row.now ≡ 19 = omega (arith, c.column_count.ensures) in
-    let all = nineteen c.args.row.now len in
-    (
+    let all = nineteen c.args.row.now len in (
       cc (all, c.in_ok-id.ensures.ok.1, c.in_ok-object.ensures.ok.1, c.in_ok-version.ensures.ok.1, c.in_ok-seed.ensures.ok.1, c.in_ok-is_whole.ensures.ok.1, c.in_ok-progress.ensures.ok.0),
       record {
         id = c.in_ok-id.ensures.ok.2;

@@ -12,5 +12,5 @@ returns-clause-ok g c clean =
     let early : HasCleanDisk old = omega (arith, c.run.ensures.survives.clean) in
     let made = c.requires early in
     on_ok c.run.result (c.run.ensures.ran clean) (λ ran.
-      let done = marked old new made.schema made.bare ran in
-      (done.0, ran.inside, done.1))
+    let done = marked old new made.schema made.bare ran in
+    (done.0, ran.inside, done.1))

@@ -45,6 +45,6 @@ returns-clause-ok g c clean =
     let clean_b : HasCleanDisk b = omega (arith, c.run-2.ensures.survives.clean) in
     let clean_a : HasCleanDisk a = omega (arith, c.run.ensures.survives.clean) in
     on_ok c.run-4.result (c.run-4.ensures.ran clean) (λ last.
-      let first = c.in_ok-run.ensures.ran clean_b in
-      let made = all_made a b d e f (c.requires clean_a first.was_open) first (c.in_ok-run-2.ensures.ran clean_d) (c.in_ok-run-3.ensures.ran clean_e) last in
-      record { schema = made.0; inside = last.inside; bare = made.1 })
+    let first = c.in_ok-run.ensures.ran clean_b in
+    let made = all_made a b d e f (c.requires clean_a first.was_open) first (c.in_ok-run-2.ensures.ran clean_d) (c.in_ok-run-3.ensures.ran clean_e) last in
+    record { schema = made.0; inside = last.inside; bare = made.1 })

@@ -15,5 +15,5 @@ returns-clause-ok g c clean =
     let new : State = state g.S.Store c.run.new.tx.conn.now in
     let early : HasCleanDisk old = omega (arith, c.run.ensures.survives.clean) in
     on_ok c.run.result (c.run.ensures.ran clean) (λ ran.
-      let run : HasRun add_entry_text (entry_cells c.args.entry.now) old new = rw (c.text.ensures.cell, c.short.ensures.cell, c.short-2.ensures.cell, c.blob.ensures, c.short_or_null.ensures.cell, c.short_or_null-2.ensures.cell, c.short_or_null-3.ensures.cell, c.long.ensures.cell) at ran in
-      step_of (with_entry c.args.entry.now) add_entry_text (entry_cells c.args.entry.now) old new run (entry_added old new c.args.entry.now (record { invocation = c.text.ensures.fits; place = c.short.ensures.fits; kind = c.short-2.ensures.fits; completion = c.short_or_null.ensures.fits; second_completion = c.short_or_null-2.ensures.fits; answered = c.short_or_null-3.ensures.fits; moment = c.long.ensures.fits }) (c.requires early run.was_open) run))
+    let run : HasRun add_entry_text (entry_cells c.args.entry.now) old new = rw (c.text.ensures.cell, c.short.ensures.cell, c.short-2.ensures.cell, c.blob.ensures, c.short_or_null.ensures.cell, c.short_or_null-2.ensures.cell, c.short_or_null-3.ensures.cell, c.long.ensures.cell) at ran in
+    step_of (with_entry c.args.entry.now) add_entry_text (entry_cells c.args.entry.now) old new run (entry_added old new c.args.entry.now (record { invocation = c.text.ensures.fits; place = c.short.ensures.fits; kind = c.short-2.ensures.fits; completion = c.short_or_null.ensures.fits; second_completion = c.short_or_null-2.ensures.fits; answered = c.short_or_null-3.ensures.fits; moment = c.long.ensures.fits }) (c.requires early run.was_open) run))

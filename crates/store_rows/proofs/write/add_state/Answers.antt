@@ -15,5 +15,5 @@ returns-clause-ok g c clean =
     let new : State = state g.S.Store c.run.new.tx.conn.now in
     let early : HasCleanDisk old = omega (arith, c.run.ensures.survives.clean) in
     on_ok c.run.result (c.run.ensures.ran clean) (λ ran.
-      let run : HasRun add_state_text (state_cells c.args.row.now) old new = rw (c.text.ensures.cell, c.blob.ensures, c.blob-2.ensures) at ran in
-      step_of (with_state c.args.row.now) add_state_text (state_cells c.args.row.now) old new run (state_added old new c.args.row.now c.text.ensures.fits (c.requires early run.was_open) run))
+    let run : HasRun add_state_text (state_cells c.args.row.now) old new = rw (c.text.ensures.cell, c.blob.ensures, c.blob-2.ensures) at ran in
+    step_of (with_state c.args.row.now) add_state_text (state_cells c.args.row.now) old new run (state_added old new c.args.row.now c.text.ensures.fits (c.requires early run.was_open) run))

@@ -32,9 +32,9 @@ returns-clause-crash g c =
     let last : State = state g.S.Store c.loop-write.tx.conn.now in
     let P = Lands (applied_all c.args.writes.now) old in
     let done : HasCleanDisk (state g.S.Store c.commit.new.self.0) → (db : Trees) → db ≡ last.now.trees → P db = λ clean db is is_open r h.
-        let w = rw (c.transaction-tx.ensures.begun, take_all c.loop-write.write-index c.args.writes.now c.loop-write-test.false) at (c.loop-write.invariant.steps (omega (arith, c.commit.ensures.survives.clean))) in
-        rw is ((w is_open).records r h) in
+    let w = rw (c.transaction-tx.ensures.begun, take_all c.loop-write.write-index c.args.writes.now c.loop-write-test.false) at (c.loop-write.invariant.steps (omega (arith, c.commit.ensures.survives.clean))) in
+    rw is ((w is_open).records r h) in
     let whole = survives_then old last (state g.S.Store c.commit.new.self.0) _ _ P (λ _ db none. absurd none) done
-        (survives_begin g.S.Store c.args.conn.now last _ (rw c.transaction-tx.ensures.begun at c.loop-write.invariant.survives)) c.commit.ensures.survives in
+    (survives_begin g.S.Store c.args.conn.now last _ (rw c.transaction-tx.ensures.begun at c.loop-write.invariant.survives)) c.commit.ensures.survives in
     let same : c.commit.new.self.0 ≡ c.conn-2-1.given.0 = search rules in
     subst (λ h. Survives old (state g.S.Store h) P) same whole

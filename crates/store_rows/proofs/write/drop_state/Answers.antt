@@ -17,5 +17,5 @@ returns-clause-ok g c clean =
     let new : State = state g.S.Store c.run.new.tx.conn.now in
     let early : HasCleanDisk old = omega (arith, c.run.ensures.survives.clean) in
     on_ok c.run.result (c.run.ensures.ran clean) (λ ran.
-      let run : HasRun drop_state_text (Text c.args.object.now ∷ Blob c.args.key.now ∷ []) old new = rw (c.text.ensures.cell, c.blob.ensures) at ran in
-      step_of (without_state c.args.object.now c.args.key.now) drop_state_text (Text c.args.object.now ∷ Blob c.args.key.now ∷ []) old new run (state_dropped old new c.args.object.now c.args.key.now (c.requires early run.was_open) run))
+    let run : HasRun drop_state_text (Text c.args.object.now ∷ Blob c.args.key.now ∷ []) old new = rw (c.text.ensures.cell, c.blob.ensures) at ran in
+    step_of (without_state c.args.object.now c.args.key.now) drop_state_text (Text c.args.object.now ∷ Blob c.args.key.now ∷ []) old new run (state_dropped old new c.args.object.now c.args.key.now (c.requires early run.was_open) run))

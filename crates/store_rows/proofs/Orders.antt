@@ -1,0 +1,66 @@
+-- Orders of records that were read.
+use Rattle.std.proofs.Common.{◌≡◌, inl, inr, ◌+◌, ◌-◌, ◌<◌, ◌≤◌, ℕ, suc, Bool, nat_lt, List, [], ◌∷◌, ◌++◌, length, slice_get, slice_index_or, Some, IsTrue, refl, sym, ap, subst, ◌∙◌, arith}
+use Rattle.std.specs.List.Sorted.{IsPermutation}
+use Rattle.std.proofs.lemmas.List.Sorted.{IsPermutation-sym}
+use Rattle.std.proofs.lemmas.Bool.{cases_Bool, ltb-true, ltb-false}
+use Rattle.std.proofs.lemmas.Option.{slice_get_read}
+use Rattle.sqlite_rules.specs.Lists.{Has}
+use Rattle.sql_tables.proofs.Reading.{permuted}
+use Rattle.store_rows.specs.Records.{EntryRow}
+use Rattle.store_rows.specs.Questions.{AreInPlace, DoAscend, is_before}
+
+-- ---- places
+
+pub in_place_push : (n : ℕ) (es : List EntryRow) (e : EntryRow) → AreInPlace n es → e.place ≡ n + length es → AreInPlace n (es ++ e ∷ [])
+in_place_push n [] e h at = (omega arith, tt)
+in_place_push n (x ∷ es) e h at = (h.0, in_place_push (n + 1) es e h.1 (omega arith))
+
+no_earlier : (n : ℕ) (es : List EntryRow) (e : EntryRow) → AreInPlace n es → Has es e → n ≤ e.place
+no_earlier n [] e h has = absurd has
+no_earlier n (x ∷ es) e h (inl same) = let p : e.place ≡ n = ap (λ (y : EntryRow). y.place) same ∙ h.0 in omega arith
+no_earlier n (x ∷ es) e h (inr has) = let later = no_earlier (n + 1) es e h.1 has in omega arith
+
+same_members : (n : ℕ) (xs ys : List EntryRow) → AreInPlace n xs → AreInPlace n ys → ((e : EntryRow) → Has xs e → Has ys e) → ((e : EntryRow) → Has ys e → Has xs e) → xs ≡ ys
+same_members n [] [] p q f g = refl
+same_members n [] (y ∷ ys) p q f g = absurd (g y (inl refl))
+same_members n (x ∷ xs) [] p q f g = absurd (f x (inl refl))
+same_members n (x ∷ xs) (y ∷ ys) p q f g =
+    let head : x ≡ y = elim (f x (inl refl)) [ inl e ↦ e | inr later ↦ absurd (let late = no_earlier (n + 1) ys x q.1 later in omega (arith, p.0)) ] in
+    let tail = same_members (n + 1) xs ys p.1 q.1
+    (λ e h. elim (f e (inr h)) [ inl s ↦ absurd (let late = no_earlier (n + 1) xs e p.1 h in let at : e.place ≡ n = ap (λ (z : EntryRow). z.place) s ∙ q.0 in omega arith) | inr k ↦ k ])
+    (λ e h. elim (g e (inr h)) [ inl s ↦ absurd (let late = no_earlier (n + 1) ys e q.1 h in let at : e.place ≡ n = ap (λ (z : EntryRow). z.place) s ∙ p.0 in omega arith) | inr k ↦ k ]) in
+    ap (λ (z : EntryRow). z ∷ xs) head ∙ ap (λ l. y ∷ l) tail
+
+-- of the orders of entries whose places count up there is one
+pub one_order : (xs ys : List EntryRow) → IsPermutation xs ys → AreInPlace 0 xs → AreInPlace 0 ys → ys ≡ xs
+one_order xs ys same h k = same_members 0 ys xs k h (permuted xs ys same) (permuted ys xs (IsPermutation-sym xs ys same))
+
+-- ---- keys
+
+-- each of the first n is before the next
+abbrev pub DoAscendTo : {X : Type 0} → (X → List ℕ) → List X → ℕ → Type 0
+DoAscendTo {X} key xs n = (k : ℕ) (a b : X) → k + 1 < n → slice_get xs k ≡ Some a → slice_get xs (k + 1) ≡ Some b → IsTrue (is_before (key a) (key b))
+
+module _ {X : Type 0} (key : X → List ℕ) where
+  some_same : {a b : X} → Some a ≡ Some b → a ≡ b
+  some_same e = cc
+
+  pub ascends_on : (xs : List X) (at : ℕ) (x y : X) → 1 ≤ at → at < length xs → x ≡ slice_index_or xs (at - 1) x → y ≡ slice_index_or xs at y → IsTrue (is_before (key x) (key y))
+      → DoAscendTo key xs at → DoAscendTo key xs (at + 1)
+  ascends_on xs at x y past within first second before so k a b small ea eb = elim (cases_Bool (nat_lt (k + 1) at)) [
+    | inl earlier ↦ so k a b (ltb-true (k + 1) at earlier) ea eb
+    | inr last ↦
+        let here : at ≡ k + 1 = omega (arith, ltb-false (k + 1) at last) in
+        let before_it : at - 1 ≡ k = omega (arith, here) in
+        let one : x ≡ a = some_same (sym (subst (λ i. slice_get xs i ≡ Some x) before_it (slice_get_read xs (length xs) (at - 1) x refl (omega arith) first)) ∙ ea) in
+        let two : y ≡ b = some_same (sym (subst (λ i. slice_get xs i ≡ Some y) here (slice_get_read xs (length xs) at y refl within second)) ∙ eb) in
+        subst (λ z. IsTrue (is_before (key z) (key b))) one (subst (λ z. IsTrue (is_before (key x) (key z))) two before)
+  ]
+
+  later : (k : ℕ) → suc (k + 1) ≡ suc k + 1
+  later k = omega arith
+
+  pub all_ascend : (xs : List X) (n : ℕ) → length xs ≤ n → DoAscendTo key xs n → DoAscend key xs
+  all_ascend [] n long so = tt
+  all_ascend (x ∷ []) n long so = tt
+  all_ascend (x ∷ y ∷ xs) n long so = (so 0 x y (omega arith) refl refl, all_ascend (y ∷ xs) (n - 1) (omega (arith, long)) (λ k a b small ea eb. so (suc k) a b (omega (arith, small, long)) ea (subst (λ i. slice_get (x ∷ y ∷ xs) i ≡ Some b) (later k) eb)))

@@ -1,0 +1,30 @@
+use Rattle.std.proofs.Common.{◌∷◌, [], map, arith}
+use Rattle.std.specs.Option.{option_to_list}
+use Rattle.sqlite.specs.declared.types.Value.TheVariants.{Text}
+use Rattle.sqlite.specs.Held.{state}
+use Rattle.sqlite.specs.State.{State, HasCleanDisk}
+use Rattle.sql_tables.specs.Asking.{IsAnswer}
+use Rattle.sql_tables.proofs.Queries.{err_then, ok_then}
+use Rattle.store_rows.specs.Records.{FitsInvocation, invocation_cells}
+use Rattle.store_rows.specs.Questions.{is_open_of}
+use Rattle.store_rows.specs.Statements.{open_invocation_text}
+use Rattle.store_rows.proofs.AskingInvocations.{open_invocation_read}
+use Rattle.store_rows.proofs.Back.{invocation_back, invocation_back_is}
+use Rattle.store_rows.proofs.Found.{one_ambiguous, one_found}
+use Rattle.store_rows.proofs.read.open_invocation.Goals as goal
+
+pub returns-clause-found : goal.returns-clause-found
+returns-clause-found g c clean =
+    let old : State = state g.S.Store c.args.conn.now in
+    let early : HasCleanDisk old = omega (arith, c.one_by.ensures.crash.clean) in
+    ok_then c.one_by.result (c.one_by.ensures.answers clean) (λ o it.
+    let answer : IsAnswer open_invocation_text (Text c.args.object.now ∷ []) old (map invocation_cells (option_to_list o)) = rw c.text.ensures.cell at it.1 in
+    one_found invocation_cells invocation_back FitsInvocation invocation_back_is open_invocation_text (Text c.args.object.now ∷ []) old (λ r. r.invocations) (is_open_of c.args.object.now) (λ r h. h.fit_invocations) (λ rows. open_invocation_read old c.args.object.now rows (c.requires.store early it.0)) o answer it.2)
+
+pub returns-clause-foreign : goal.returns-clause-foreign
+returns-clause-foreign g c clean =
+    let old : State = state g.S.Store c.args.conn.now in
+    let early : HasCleanDisk old = omega (arith, c.one_by.ensures.crash.clean) in
+    err_then c.one_by.result (c.one_by.ensures.foreign clean) (λ e it is.
+    let other = rw c.text.ensures.cell at (it is).1 in
+    one_ambiguous invocation_cells invocation_back FitsInvocation invocation_back_is open_invocation_text (Text c.args.object.now ∷ []) old (λ r. r.invocations) (is_open_of c.args.object.now) (λ r h. h.fit_invocations) (λ rows. open_invocation_read old c.args.object.now rows (c.requires.store early (it is).0)) other)

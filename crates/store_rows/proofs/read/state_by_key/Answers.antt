@@ -1,0 +1,30 @@
+use Rattle.std.proofs.Common.{◌∷◌, [], map, arith}
+use Rattle.std.specs.Option.{option_to_list}
+use Rattle.sqlite.specs.declared.types.Value.TheVariants.{Blob, Text}
+use Rattle.sqlite.specs.Held.{state}
+use Rattle.sqlite.specs.State.{State, HasCleanDisk}
+use Rattle.sql_tables.specs.Asking.{IsAnswer}
+use Rattle.sql_tables.proofs.Queries.{err_then, ok_then}
+use Rattle.store_rows.specs.Records.{FitsState, state_cells}
+use Rattle.store_rows.specs.Questions.{is_at_key}
+use Rattle.store_rows.specs.Statements.{state_by_key_text}
+use Rattle.store_rows.proofs.AskingStates.{state_by_key_read}
+use Rattle.store_rows.proofs.Back.{state_back, state_back_is}
+use Rattle.store_rows.proofs.Found.{one_ambiguous, one_found}
+use Rattle.store_rows.proofs.read.state_by_key.Goals as goal
+
+pub returns-clause-found : goal.returns-clause-found
+returns-clause-found g c clean =
+    let old : State = state g.S.Store c.args.conn.now in
+    let early : HasCleanDisk old = omega (arith, c.one_by.ensures.crash.clean) in
+    ok_then c.one_by.result (c.one_by.ensures.answers clean) (λ o it.
+    let answer : IsAnswer state_by_key_text (Text c.args.object.now ∷ Blob c.args.key.now ∷ []) old (map state_cells (option_to_list o)) = rw (c.text.ensures.cell, c.blob.ensures) at it.1 in
+    one_found state_cells state_back FitsState state_back_is state_by_key_text (Text c.args.object.now ∷ Blob c.args.key.now ∷ []) old (λ r. r.states) (is_at_key c.args.object.now c.args.key.now) (λ r h. h.fit_states) (λ rows. state_by_key_read old c.args.object.now c.args.key.now rows (c.requires.store early it.0)) o answer it.2)
+
+pub returns-clause-foreign : goal.returns-clause-foreign
+returns-clause-foreign g c clean =
+    let old : State = state g.S.Store c.args.conn.now in
+    let early : HasCleanDisk old = omega (arith, c.one_by.ensures.crash.clean) in
+    err_then c.one_by.result (c.one_by.ensures.foreign clean) (λ e it is.
+    let other = rw (c.text.ensures.cell, c.blob.ensures) at (it is).1 in
+    one_ambiguous state_cells state_back FitsState state_back_is state_by_key_text (Text c.args.object.now ∷ Blob c.args.key.now ∷ []) old (λ r. r.states) (is_at_key c.args.object.now c.args.key.now) (λ r h. h.fit_states) (λ rows. state_by_key_read old c.args.object.now c.args.key.now rows (c.requires.store early (it is).0)) other)

@@ -1,0 +1,22 @@
+use Rattle.std.proofs.Common.{◌∷◌, [], map, arith, bytes_eq}
+use Rattle.sqlite.specs.declared.types.Value.TheVariants.{Text}
+use Rattle.sqlite.specs.Held.{state}
+use Rattle.sqlite.specs.State.{State, HasCleanDisk}
+use Rattle.sql_tables.specs.Asking.{IsAnswer}
+use Rattle.store_rows.specs.Records.{FitsState, state_cells}
+use Rattle.store_rows.specs.Questions.{is_of_object}
+use Rattle.store_rows.specs.Statements.{states_text}
+use Rattle.store_rows.proofs.AskingStates.{states_read}
+use Rattle.store_rows.proofs.Back.{state_back, state_back_is}
+use Rattle.store_rows.proofs.Found.{all_found}
+use Rattle.store_rows.proofs.Orders.{one_order}
+use Rattle.store_rows.proofs.read.states_of.Goals as goal
+
+pub returns-clause-found : goal.returns-clause-found
+returns-clause-found g c clean =
+    let old : State = state g.S.Store c.args.conn.now in
+    let early : HasCleanDisk old = omega (arith, c.all_by.ensures.crash.clean) in
+    let xs = c.in_ok-records.records.items in
+    let it = c.in_ok-records.ensures.answers clean in
+    let answer : IsAnswer states_text (Text c.args.object.now ∷ []) old (map state_cells xs) = rw c.text.ensures.cell at it.1 in
+    (rw c.as_slice.ensures.value at (c.do_states_ascend.ensures c.if-not-do_states_ascend.false), all_found state_cells state_back FitsState state_back_is states_text (Text c.args.object.now ∷ []) old (λ r. r.states) (is_of_object c.args.object.now) (λ r h. h.fit_states) (λ rows. states_read old c.args.object.now rows (c.requires.store early it.0)) xs answer it.2)

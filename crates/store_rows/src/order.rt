@@ -1,0 +1,49 @@
+//! Whether records that were read stand in the order in which they were asked for.
+
+ghost use Rattle.std.specs.Prelude.{◌≡◌, IsTrue};
+ghost use Rattle.store_rows.specs.Questions.{AreInPlace, DoAscend, is_before};
+
+use crate::row::{EntryRow, InvocationRow, StateRow};
+
+/// Whether the places count up from 0.
+pub(crate) fn are_in_place(entries: &[EntryRow]) -> bool
+    ensures { IsTrue result → AreInPlace 0 entries.now }
+{
+    for (place, entry) in entries.iter().enumerate() {
+        if entry.place as usize != place {
+            return false;
+        }
+    }
+    true
+}
+
+fn is_first(first: &[u8], second: &[u8]) -> bool
+    ensures { result ≡ is_before first.now second.now }
+{
+    first.cmp(second).is_lt()
+}
+
+pub(crate) fn do_states_ascend(states: &[StateRow]) -> bool
+    ensures { IsTrue result → DoAscend (λ s. s.key) states.now }
+{
+    for at in 1..states.len() {
+        if !is_first(states[at - 1].key.as_slice(), states[at].key.as_slice()) {
+            return false;
+        }
+    }
+    true
+}
+
+pub(crate) fn do_invocations_ascend(invocations: &[InvocationRow]) -> bool
+    ensures { IsTrue result → DoAscend (λ i. i.id) invocations.now }
+{
+    for at in 1..invocations.len() {
+        if !is_first(
+            invocations[at - 1].id.as_bytes().as_slice(),
+            invocations[at].id.as_bytes().as_slice(),
+        ) {
+            return false;
+        }
+    }
+    true
+}
