@@ -15,19 +15,19 @@ holds-none : (b : Bool) (cause : Cause) (tests : Tests) → those_that_hold ((b,
 holds-none true cause tests e = cc
 holds-none false cause tests e = (refl, e)
 
-abbrev tail_of : Tests → Tests
+abbrev pub tail_of : Tests → Tests
 tail_of [] = []
 tail_of (test ∷ tests) = tests
 
-abbrev head_of : Tests → Bool
+abbrev pub head_of : Tests → Bool
 head_of [] = false
 head_of (test ∷ tests) = test.0
 
-holds-head : (tests : Tests) → those_that_hold tests ≡ [] → head_of tests ≡ false
+pub holds-head : (tests : Tests) → those_that_hold tests ≡ [] → head_of tests ≡ false
 holds-head [] e = refl
 holds-head (test ∷ tests) e = (holds-none test.0 test.1 tests e).0
 
-holds-tail : (tests : Tests) → those_that_hold tests ≡ [] → those_that_hold (tail_of tests) ≡ []
+pub holds-tail : (tests : Tests) → those_that_hold tests ≡ [] → those_that_hold (tail_of tests) ≡ []
 holds-tail [] e = refl
 holds-tail (test ∷ tests) e = (holds-none test.0 test.1 tests e).1
 
@@ -40,7 +40,7 @@ begin_when_new events new accepted =
     holds-head (tail_of (tail_of (own_tests events (Event.Invoke new))))
     (holds-tail (tail_of (own_tests events (Event.Invoke new))) (holds-tail (own_tests events (Event.Invoke new)) accepted))
 
-not-false : (b : Bool) → not b ≡ false → b ≡ true
+pub not-false : (b : Bool) → not b ≡ false → b ≡ true
 not-false true e = refl
 not-false false e = cc
 
@@ -190,6 +190,15 @@ unique (event ∷ earlier) accepted id other object opened opened' is is' =
     unique earlier accepted.1 id other object (open_before event earlier id refl opened) (open_before event earlier other refl opened')
     (sym (object_in-before event earlier id refl) ∙ is) (sym (object_in-before event earlier other refl) ∙ is')
 
+-- two invocations of one object that are both open are one
+pub open_alone : (events : List Event) → IsAccepted events → (a b : NewInvocation) → invocation_begun events a.id ≡ Some a → invocation_begun events b.id ≡ Some b
+    → is_open events a.id ≡ true → is_open events b.id ≡ true → a.object ≡ b.object → a.id ≡ b.id
+unfolding object_in
+open_alone events accepted a b is_a is_b opened_a opened_b same =
+    unique events accepted a.id b.id b.object opened_a opened_b
+    (ap (λ (o : Option NewInvocation). option_map (λ (new : NewInvocation). new.object) o) is_a ∙ ap Some same)
+    (ap (λ (o : Option NewInvocation). option_map (λ (new : NewInvocation). new.object) o) is_b)
+
 -- an invocation that was not begun has no entries
 pub no_entries : (start : StateMap) (events : List Event) → IsAccepted events → (id : Text) → invocation_begun events id ≡ None → entries_from start events id ≡ []
 no_entries start [] accepted id e = refl
@@ -233,7 +242,7 @@ state_after-append [] ys entries = refl
 state_after-append (x ∷ xs) ys entries = state_after-append xs ys (state_change x entries)
 
 -- the requests among the entries that an event of the invocation adds are those of its frame
-requests_of_event : (start : StateMap) (entries : List Entry) (event : Event) → requests_in (entries_of_event start entries event) ≡ request_of_frame (frame_of event)
+pub requests_of_event : (start : StateMap) (entries : List Entry) (event : Event) → requests_in (entries_of_event start entries event) ≡ request_of_frame (frame_of event)
 requests_of_event start entries (Event.Tick now) = requests_in-arrived (slept entries now)
 requests_of_event start entries (Event.Take invocation attempt (Frame.Command request)) =
     ap (λ (rest : List Request). request ∷ rest) (requests_in-arrived (read_answer (state_after (requests_in entries) start) request))
@@ -265,7 +274,7 @@ or-false_right : (a b : Bool) → (a || (false && b)) ≡ a
 or-false_right true b = refl
 or-false_right false b = refl
 
-requests_if : (b : Bool) (entries : List Entry) → requests_in (if b then entries else []) ≡ (if b then requests_in entries else [])
+pub requests_if : (b : Bool) (entries : List Entry) → requests_in (if b then entries else []) ≡ (if b then requests_in entries else [])
 requests_if true entries = refl
 requests_if false entries = refl
 

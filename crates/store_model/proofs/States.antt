@@ -23,11 +23,11 @@ use Rattle.store_model.proofs.Writing.{states_changed, states_after, states_writ
 
 -- ---- keys in order
 
-first_holds : (a b : Bool) → T (a && b) → T a
+pub first_holds : (a b : Bool) → T (a && b) → T a
 first_holds true b h = tt
 first_holds false b h = absurd h
 
-second_holds : (a b : Bool) → T (a && b) → T b
+pub second_holds : (a b : Bool) → T (a && b) → T b
 second_holds true b h = h
 second_holds false b h = absurd h
 
@@ -35,7 +35,7 @@ both_hold : (a b : Bool) → T a → T b → T (a && b)
 both_hold true b h k = k
 both_hold false b h k = h
 
-is_less : (o : Ordering) → T (is_lt o) → o ≡ Less
+pub is_less : (o : Ordering) → T (is_lt o) → o ≡ Less
 is_less Less h = refl
 is_less Equal h = absurd h
 is_less Greater h = absurd h
@@ -91,13 +91,13 @@ both_ways true b f g = sym (f refl)
 both_ways false true f g = g refl
 both_ways false false f g = refl
 
-either_way : (x y : Bytes) → bytes_eq x y ≡ bytes_eq y x
+pub either_way : (x y : Bytes) → bytes_eq x y ≡ bytes_eq y x
 either_way x y =
     both_ways (bytes_eq x y) (bytes_eq y x)
     (λ e. (bytes_eq-Decides y x).1 (sym ((bytes_eq-Decides x y).0 e)))
     (λ e. (bytes_eq-Decides x y).1 (sym ((bytes_eq-Decides y x).0 e)))
 
-itself : (x : Bytes) → bytes_eq x x ≡ true
+pub itself : (x : Bytes) → bytes_eq x x ≡ true
 itself x = (bytes_eq-Decides x x).1 refl
 
 -- the rows without a key are those of the state without it
