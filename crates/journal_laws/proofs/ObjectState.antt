@@ -15,19 +15,19 @@ holds-none : (b : Bool) (cause : Cause) (tests : Tests) → those_that_hold ((b,
 holds-none true cause tests e = cc
 holds-none false cause tests e = (refl, e)
 
-abbrev tail_of : Tests → Tests
+abbrev pub tail_of : Tests → Tests
 tail_of [] = []
 tail_of (test ∷ tests) = tests
 
-abbrev head_of : Tests → Bool
+abbrev pub head_of : Tests → Bool
 head_of [] = false
 head_of (test ∷ tests) = test.0
 
-holds-head : (tests : Tests) → those_that_hold tests ≡ [] → head_of tests ≡ false
+pub holds-head : (tests : Tests) → those_that_hold tests ≡ [] → head_of tests ≡ false
 holds-head [] e = refl
 holds-head (test ∷ tests) e = (holds-none test.0 test.1 tests e).0
 
-holds-tail : (tests : Tests) → those_that_hold tests ≡ [] → those_that_hold (tail_of tests) ≡ []
+pub holds-tail : (tests : Tests) → those_that_hold tests ≡ [] → those_that_hold (tail_of tests) ≡ []
 holds-tail [] e = refl
 holds-tail (test ∷ tests) e = (holds-none test.0 test.1 tests e).1
 
@@ -35,12 +35,12 @@ holds-tail (test ∷ tests) e = (holds-none test.0 test.1 tests e).1
 begin_when_free : (events : List Event) (new : NewInvocation) → causes_of events (Event.Invoke new) ≡ [] → is_busy events new.object ≡ false
 begin_when_free events new accepted = holds-head (own_tests events (Event.Invoke new)) accepted
 
-begin_when_new : (events : List Event) (new : NewInvocation) → causes_of events (Event.Invoke new) ≡ [] → is_some (invocation_begun events new.id) ≡ false
+pub begin_when_new : (events : List Event) (new : NewInvocation) → causes_of events (Event.Invoke new) ≡ [] → is_some (invocation_begun events new.id) ≡ false
 begin_when_new events new accepted =
     holds-head (tail_of (tail_of (own_tests events (Event.Invoke new))))
     (holds-tail (tail_of (own_tests events (Event.Invoke new))) (holds-tail (own_tests events (Event.Invoke new)) accepted))
 
-not-false : (b : Bool) → not b ≡ false → b ≡ true
+pub not-false : (b : Bool) → not b ≡ false → b ≡ true
 not-false true e = refl
 not-false false e = cc
 
@@ -64,7 +64,7 @@ at_same : (events : List Event) (other id : Text) → bytes_eq other id ≡ true
 at_same events other id e opened = subst (λ (x : Text). is_open events x ≡ true) ((bytes_eq-Decides other id).0 e) opened
 
 -- an accepted event that is no begin is one of an open invocation
-open_when_accepted : (events : List Event) (event : Event) (id : Text) → invoked_by event ≡ None → is_of id event ≡ true → causes_of events event ≡ [] → is_open events id ≡ true
+pub open_when_accepted : (events : List Event) (event : Event) (id : Text) → invoked_by event ≡ None → is_of id event ≡ true → causes_of events event ≡ [] → is_open events id ≡ true
 open_when_accepted events (Event.Invoke new) id e f accepted = cc
 open_when_accepted events (Event.Tick now) id e f accepted = cc
 open_when_accepted events (Event.Complete other n result) id e f accepted = at_same events other id f (open-from_tests events other (own_tests events (Event.Complete other n result)) accepted)
@@ -80,7 +80,7 @@ both_nothing : {A : Type 0} (b : Bool) → ◌≡◌ {A = List A} (if b then [] 
 both_nothing true = refl
 both_nothing false = refl
 
-find-passes : (p : NewInvocation → Bool) (xs : List NewInvocation) (x : NewInvocation) → find p xs ≡ Some x → p x ≡ true
+pub find-passes : (p : NewInvocation → Bool) (xs : List NewInvocation) (x : NewInvocation) → find p xs ≡ Some x → p x ≡ true
 find-passes p [] x e = cc
 find-passes p (y ∷ ys) x e = by_test (p y) refl e (find-passes p ys x)
   where
@@ -120,7 +120,7 @@ busy_when_open events id object opened is = by_cases (invocation_begun events id
         (ap₂ (λ (a b : Bool). a && b) same opened_there)
 
 -- an event that begins no invocation changes nothing of how one was begun, and opens none
-begun_before : (event : Event) (events : List Event) (id : Text) → invoked_by event ≡ None → invocation_begun (event ∷ events) id ≡ invocation_begun events id
+pub begun_before : (event : Event) (events : List Event) (id : Text) → invoked_by event ≡ None → invocation_begun (event ∷ events) id ≡ invocation_begun events id
 begun_before event events id e =
     ap (λ (o : Option NewInvocation). find (λ new. bytes_eq new.id id) (cons_option o (filter_map invoked_by events))) e
 
@@ -190,8 +190,17 @@ unique (event ∷ earlier) accepted id other object opened opened' is is' =
     unique earlier accepted.1 id other object (open_before event earlier id refl opened) (open_before event earlier other refl opened')
     (sym (object_in-before event earlier id refl) ∙ is) (sym (object_in-before event earlier other refl) ∙ is')
 
+-- two invocations of one object that are both open are one
+pub open_alone : (events : List Event) → IsAccepted events → (a b : NewInvocation) → invocation_begun events a.id ≡ Some a → invocation_begun events b.id ≡ Some b
+    → is_open events a.id ≡ true → is_open events b.id ≡ true → a.object ≡ b.object → a.id ≡ b.id
+unfolding object_in
+open_alone events accepted a b is_a is_b opened_a opened_b same =
+    unique events accepted a.id b.id b.object opened_a opened_b
+    (ap (λ (o : Option NewInvocation). option_map (λ (new : NewInvocation). new.object) o) is_a ∙ ap Some same)
+    (ap (λ (o : Option NewInvocation). option_map (λ (new : NewInvocation). new.object) o) is_b)
+
 -- an invocation that was not begun has no entries
-no_entries : (start : StateMap) (events : List Event) → IsAccepted events → (id : Text) → invocation_begun events id ≡ None → entries_from start events id ≡ []
+pub no_entries : (start : StateMap) (events : List Event) → IsAccepted events → (id : Text) → invocation_begun events id ≡ None → entries_from start events id ≡ []
 no_entries start [] accepted id e = refl
 no_entries start (Event.Invoke new ∷ earlier) accepted id e =
     by_cases (bytes_eq new.id id) e (no_entries start earlier accepted.1 id)
@@ -219,7 +228,7 @@ no_entries start (event ∷ earlier) accepted id e =
     by_cases false f h = ap₂ (λ (xs ys : List Entry). xs ++ ys) h
         (ap (λ (o : Bool). if is_tick event && o then entries_of_event start (entries_from start earlier id) event else []) not_open ∙ nothing (is_tick event))
 
-requests_in-append : (xs ys : List Entry) → requests_in (xs ++ ys) ≡ requests_in xs ++ requests_in ys
+pub requests_in-append : (xs ys : List Entry) → requests_in (xs ++ ys) ≡ requests_in xs ++ requests_in ys
 requests_in-append [] ys = refl
 requests_in-append (Recorded request ∷ xs) ys = ap (λ (rest : List Request). request ∷ rest) (requests_in-append xs ys)
 requests_in-append (Arrived arrival ∷ xs) ys = requests_in-append xs ys
@@ -233,7 +242,7 @@ state_after-append [] ys entries = refl
 state_after-append (x ∷ xs) ys entries = state_after-append xs ys (state_change x entries)
 
 -- the requests among the entries that an event of the invocation adds are those of its frame
-requests_of_event : (start : StateMap) (entries : List Entry) (event : Event) → requests_in (entries_of_event start entries event) ≡ request_of_frame (frame_of event)
+pub requests_of_event : (start : StateMap) (entries : List Entry) (event : Event) → requests_in (entries_of_event start entries event) ≡ request_of_frame (frame_of event)
 requests_of_event start entries (Event.Tick now) = requests_in-arrived (slept entries now)
 requests_of_event start entries (Event.Take invocation attempt (Frame.Command request)) =
     ap (λ (rest : List Request). request ∷ rest) (requests_in-arrived (read_answer (state_after (requests_in entries) start) request))
@@ -265,7 +274,7 @@ or-false_right : (a b : Bool) → (a || (false && b)) ≡ a
 or-false_right true b = refl
 or-false_right false b = refl
 
-requests_if : (b : Bool) (entries : List Entry) → requests_in (if b then entries else []) ≡ (if b then requests_in entries else [])
+pub requests_if : (b : Bool) (entries : List Entry) → requests_in (if b then entries else []) ≡ (if b then requests_in entries else [])
 requests_if true entries = refl
 requests_if false entries = refl
 
@@ -287,7 +296,7 @@ same_requests earlier accepted event causes e id object opened is start entries 
     ∙ ap (λ (requests : List Request). if is_of id event || (is_tick event && is_open earlier id) then requests else []) (requests_of_event start entries event)
     ∙ both_nothing (is_of id event || (is_tick event && is_open earlier id)))
 
-none_of : (o : Option NewInvocation) → is_some o ≡ false → o ≡ None
+pub none_of : (o : Option NewInvocation) → is_some o ≡ false → o ≡ None
 none_of None e = refl
 none_of (Some new) e = cc
 

@@ -1,0 +1,66 @@
+-- What is found among the records that are kept of accepted events.
+use Rattle.std.specs.Prelude.{◌≡◌, ℕ, ◌+◌, ◌≤◌, Bool, true, false, if◌then◌else◌, List, [], ◌∷◌, length, filter, slice_get, Option, Some, None, is_some, option_map, option_and_then, option_to_list}
+use Rattle.std.specs.List.{find}
+use Rattle.journal_model.specs.Notification.{Bytes, Text}
+use Rattle.journal_model.specs.Request.{Request, completions_asked}
+use Rattle.journal_model.specs.State.{value_at}
+use Rattle.journal_model.specs.Event.{Event}
+use Rattle.journal_model.specs.Journal.{Entry, Recorded, Arrived, asks_for as is_asking, invocation_begun, is_busy, entries_of, request_asking, is_awaited, object_state}
+use Rattle.journal_model.specs.Cause.{IsAccepted}
+use Rattle.store_rows.specs.Records.{Records, is_at_key}
+use Rattle.store_rows.specs.declared.row.EntryRow.{EntryRow}
+use Rattle.store_rows.specs.Questions.{has_id, is_open_of, is_at_place, asks_for, asks_second_for, answers, journal_of, is_number, AreInPlace}
+use Rattle.store_model.specs.Progress.{first_of, second_of}
+use Rattle.store_model.specs.Kept.{entry_row, journal_rows, invocation_row, state_row, IsKept}
+
+-- of all these, what passes a test is this one, or none: so it is the first one, and the only one
+abbrev pub IsOnly : {A : Type 0} → (A → Bool) → List A → Option A → Type 0
+IsOnly test xs found = filter test xs ≡ option_to_list found
+
+-- the first request that asks for a completion, with its place, among entries that stand from a place on
+abbrev pub asked_at : ℕ → List Entry → ℕ → Option (ℕ × Request)
+asked_at place [] n = None
+asked_at place (Recorded request ∷ entries) n = if is_asking n request then Some (place, request) else asked_at (place + 1) entries n
+asked_at place (Arrived arrival ∷ entries) n = asked_at (place + 1) entries n
+
+-- the row of that request, where it asks for the completion first, and where it does so second
+abbrev pub row_if : Text → Bool → ℕ × Request → Option EntryRow
+row_if id true asked = Some (entry_row id [] asked.0 (Recorded asked.1))
+row_if id false asked = None
+
+abbrev pub first_row : Text → ℕ → ℕ × Request → Option EntryRow
+first_row id n asked = row_if id (is_number n (first_of (completions_asked asked.1))) asked
+
+abbrev pub second_row : Text → ℕ → ℕ × Request → Option EntryRow
+second_row id n asked = row_if id (is_number n (second_of (completions_asked asked.1))) asked
+
+-- what is found in the records that are kept of these events
+pub record Finds (events : List Event) (r : Records) : Type 0 where
+  -- an invocation by its id
+  pub invocation : (id : Text) → IsOnly (has_id id) r.invocations (option_map (invocation_row events) (invocation_begun events id))
+  -- an entry by its place, the input at 0; and the places count up
+  pub entry : (id : Text) (place : ℕ) → IsOnly (is_at_place id place) r.entries (slice_get (journal_rows events id) place)
+  pub places : (id : Text) → AreInPlace 0 (journal_of id r)
+  -- a value by its key
+  pub value : (object : Text) (key : Bytes)
+      → IsOnly (is_at_key object key) r.states (option_map (λ (value : Bytes). state_row object (key, value)) (value_at (object_state events object) key))
+
+abbrev pub AllFind : Type 0
+AllFind = (events : List Event) (r : Records) → IsAccepted events → IsKept events r → Finds events r
+
+-- the request that asks for a completion, first or second
+abbrev pub AllAskOnce : Type 0
+AllAskOnce = (events : List Event) (r : Records) (id : Text) (n : ℕ) → IsAccepted events → IsKept events r
+    → IsOnly (asks_for id n) r.entries (option_and_then (first_row id n) (asked_at 1 (entries_of events id) n))
+    × IsOnly (asks_second_for id n) r.entries (option_and_then (second_row id n) (asked_at 1 (entries_of events id) n))
+    × (option_map (λ (asked : ℕ × Request). asked.1) (asked_at 1 (entries_of events id) n) ≡ request_asking (entries_of events id) n)
+
+-- an object's open invocation: one at most, and none where the object is not busy
+abbrev pub AllOpenOnce : Type 0
+AllOpenOnce = (events : List Event) (r : Records) (object : Text) → IsAccepted events → IsKept events r
+    → (is_some (find (is_open_of object) r.invocations) ≡ is_busy events object) × (length (filter (is_open_of object) r.invocations) ≤ 1)
+
+-- the arrival that answers a completion: one at most, and none while the completion is awaited
+abbrev pub AllAnswerOnce : Type 0
+AllAnswerOnce = (events : List Event) (r : Records) (id : Text) (n : ℕ) → IsAccepted events → IsKept events r
+    → (is_some (find (answers id n) r.entries) ≡ (if is_awaited (entries_of events id) n then false else true)) × (length (filter (answers id n) r.entries) ≤ 1)

@@ -1,0 +1,20 @@
+//! What is found among the records that a store keeps of accepted events: each question of a key has one answer, which the
+//! events decide. Each function does nothing: its contract is the law.
+#![tactic(auto)]
+
+ghost use Rattle.store_lookups.specs.Lookups.{AllAskOnce, AllFind, AllOpenOnce};
+
+/// An invocation is found by its id, an entry by its place and a value by its key, and no second one.
+pub fn records_found()
+    ensures { AllFind }
+{}
+
+/// The open invocation of an object is found exactly where the object is busy, and no second one.
+pub fn open_invocations_found()
+    ensures { AllOpenOnce }
+{}
+
+/// The request that asks for a completion is found, whether it does so first or second, and no other one.
+pub fn requests_found()
+    ensures { AllAskOnce }
+{}

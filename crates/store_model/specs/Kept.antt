@@ -1,0 +1,117 @@
+-- Which records are kept of the accepted events.
+use Rattle.std.specs.Prelude.{◌≡◌, ℕ, ◌+◌, Bool, true, false, List, [], ◌∷◌, ◌++◌, map, filter, Option, Some, None, IsPermutation}
+use Rattle.journal_model.specs.Notification.{Bytes, Text}
+use Rattle.journal_model.specs.declared.notification.NotificationId.{NotificationId}
+use Rattle.journal_model.specs.declared.notification.NotificationId.TheVariants.{CompletionId}
+use Rattle.journal_model.specs.Request.{completions_asked}
+use Rattle.journal_model.specs.declared.invocation.NewInvocation.{NewInvocation}
+use Rattle.journal_model.specs.declared.invocation.StateMode.{StateMode}
+use Rattle.journal_model.specs.Event.{Event}
+use Rattle.journal_model.specs.Spelling.{request_type, request_payload, notification_payload, input_payload}
+use Rattle.journal_model.specs.Journal.{Entry, Recorded, Arrived, invocation_begun, entries_of, object_state, sleep_in}
+use Rattle.journal_model.specs.Attempt.{notification_type}
+use Rattle.store_rows.specs.Records.{Records, is_of_object}
+use Rattle.store_rows.specs.declared.row.InvocationRow.{InvocationRow}
+use Rattle.store_rows.specs.declared.row.EntryRow.{EntryRow}
+use Rattle.store_rows.specs.declared.row.StateRow.{StateRow}
+use Rattle.store_rows.specs.Questions.{DoAscend, journal_of}
+use Rattle.store_model.specs.Progress.{first_of, second_of, progress_of}
+
+-- ---- journals
+
+abbrev pub answered_by : NotificationId → Option ℕ
+answered_by (CompletionId n) = Some n
+answered_by _ = None
+
+abbrev pub moment_of : List (ℕ × ℕ) → ℕ
+moment_of [] = 0
+moment_of (sleep ∷ sleeps) = sleep.0
+
+-- the row of an entry at a place; an arrival's kind is that of the request that asked for it, which is among the entries before it
+abbrev pub entry_row : Text → List Entry → ℕ → Entry → EntryRow
+entry_row id before place (Recorded request) = record {
+  invocation = id;
+  place = place;
+  kind = request_type request;
+  payload = request_payload request;
+  completion = first_of (completions_asked request);
+  second_completion = second_of (completions_asked request);
+  answered = None;
+  moment = moment_of (sleep_in request);
+}
+entry_row id before place (Arrived arrival) = record {
+  invocation = id;
+  place = place;
+  kind = notification_type before arrival.id;
+  payload = notification_payload arrival;
+  completion = None;
+  second_completion = None;
+  answered = answered_by arrival.id;
+  moment = 0;
+}
+
+-- the rows of entries that stand behind others, from a place on
+abbrev pub rows_from : Text → List Entry → ℕ → List Entry → List EntryRow
+rows_from id before place [] = []
+rows_from id before place (entry ∷ entries) = entry_row id before place entry ∷ rows_from id (before ++ entry ∷ []) (place + 1) entries
+
+abbrev pub input_row : NewInvocation → EntryRow
+input_row new = record {
+  invocation = new.id;
+  place = 0;
+  kind = 0x0400;
+  payload = input_payload new.headers new.input;
+  completion = None;
+  second_completion = None;
+  answered = None;
+  moment = 0;
+}
+
+abbrev pub rows_of_journal : Option NewInvocation → Text → List Entry → List EntryRow
+rows_of_journal None id entries = []
+rows_of_journal (Some new) id entries = input_row new ∷ rows_from id [] 1 entries
+
+-- an invocation's rows: its input's, then those of its entries by place
+abbrev pub journal_rows : List Event → Text → List EntryRow
+journal_rows events id = rows_of_journal (invocation_begun events id) id (entries_of events id)
+
+-- ---- invocations
+
+-- the invocations that were begun, the first one first
+abbrev pub begun_by : Event → List NewInvocation
+begun_by (Event.Invoke new) = new ∷ []
+begun_by _ = []
+
+abbrev pub begun : List Event → List NewInvocation
+begun [] = []
+begun (event ∷ earlier) = begun earlier ++ begun_by event
+
+abbrev pub is_shown_whole : StateMode → Bool
+is_shown_whole StateMode.Whole = true
+is_shown_whole StateMode.None = false
+
+abbrev pub invocation_row : List Event → NewInvocation → InvocationRow
+invocation_row events new = record {
+  id = new.id;
+  object = new.object;
+  version = new.version;
+  seed = new.seed;
+  is_whole = is_shown_whole new.state;
+  progress = progress_of events new.id;
+}
+
+-- ---- states
+
+abbrev pub state_row : Text → Bytes × Bytes → StateRow
+state_row object entry = record { object = object; key = entry.0; value = entry.1 }
+
+-- an object's rows are these, in any order, and by ascending keys they are in this one
+abbrev pub AreStates : Text → Records → List StateRow → Type 0
+AreStates object r rows = DoAscend (λ (s : StateRow). s.key) rows × IsPermutation (filter (is_of_object object) r.states) rows
+
+-- ---- all
+
+pub record IsKept (events : List Event) (r : Records) : Type 0 where
+  pub invocations : r.invocations ≡ map (invocation_row events) (begun events)
+  pub journals : (id : Text) → journal_of id r ≡ journal_rows events id
+  pub states : (object : Text) → AreStates object r (map (state_row object) (object_state events object))

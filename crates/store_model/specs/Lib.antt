@@ -1,0 +1,4 @@
+pub mod Places
+pub mod Progress
+pub mod Kept
+pub mod Writes

@@ -1,0 +1,12 @@
+//! Which records a store keeps of the events that it accepted. The function does nothing: its contract is the law that the writes
+//! of each accepted event lead from the records kept before it to those kept after it.
+#![tactic(auto)]
+
+ghost use Rattle.store_model.specs.Writes.{KeptAfter, KeptAtFirst};
+
+/// Of no events there are no records, and each accepted event writes what is missing: nothing else changes, of this invocation or
+/// of another.
+pub fn records_kept()
+    ensures at_first { KeptAtFirst }
+    ensures after { KeptAfter }
+{}
