@@ -3,18 +3,21 @@ use crate::samples::place_of;
 use crate::timing::{Clocked, time_messages};
 use anyhow::{Result, bail};
 use bytes::Bytes;
-use journal_codec::records::{
-    AttachInvocationCommandMessage, CallCommandMessage, ClearAllStateCommandMessage,
-    ClearStateCommandMessage, CompleteAwakeableCommandMessage, CompletePromiseCommandMessage,
-    GetEagerStateCommandMessage, GetEagerStateKeysCommandMessage,
-    GetInvocationOutputCommandMessage, GetLazyStateCommandMessage, GetLazyStateKeysCommandMessage,
-    GetPromiseCommandMessage, InputCommandMessage, OneWayCallCommandMessage, OutputCommandMessage,
-    PeekPromiseCommandMessage, RunCommandMessage, SendSignalCommandMessage, SetStateCommandMessage,
-    SleepCommandMessage,
+use call_records::{
+    AttachInvocationCommandMessage, CallCommandMessage, CompleteAwakeableCommandMessage,
+    GetInvocationOutputCommandMessage, OneWayCallCommandMessage, SendSignalCommandMessage,
 };
-use journal_codec::{Encoder, PlainMessage, RawMessage, RawMessageExt, RestateMessage, Version};
+use command_records::{
+    ClearAllStateCommandMessage, ClearStateCommandMessage, CompletePromiseCommandMessage,
+    GetEagerStateCommandMessage, GetEagerStateKeysCommandMessage, GetLazyStateCommandMessage,
+    GetLazyStateKeysCommandMessage, GetPromiseCommandMessage, PeekPromiseCommandMessage,
+    RunCommandMessage, SetStateCommandMessage,
+};
+use journal_protocol::{RawMessage, Version};
+use protocol_records::{InputCommandMessage, OutputCommandMessage, SleepCommandMessage};
 use std::alloc::Global;
 use std::time::CpuClock;
+use typed_messages::{Encoder, PlainMessage, RawMessageExt, RestateMessage};
 
 // Calls a function at the record of the command at a place.
 macro_rules! at_place {
