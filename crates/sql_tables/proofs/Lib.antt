@@ -1,6 +1,7 @@
 pub mod Answers
 pub mod Cells
 pub mod Making
+pub mod Ordered
 pub mod Queries
 pub mod Reading
 pub mod Rows

@@ -3,3 +3,6 @@ pub mod Finding
 pub mod Opening
 pub mod Growing
 pub mod Asking
+pub mod Sleeping
+pub mod Answering
+pub mod Framing

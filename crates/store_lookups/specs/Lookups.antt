@@ -1,10 +1,12 @@
 -- What is found among the records that are kept of accepted events.
-use Rattle.std.specs.Prelude.{◌≡◌, ℕ, ◌+◌, ◌≤◌, Bool, true, false, if◌then◌else◌, List, [], ◌∷◌, length, filter, slice_get, Option, Some, None, is_some, option_map, option_and_then, option_to_list}
+use Rattle.std.specs.Prelude.{◌≡◌, ℕ, ◌+◌, ◌≤◌, Bool, true, false, not, if◌then◌else◌, List, [], ◌∷◌, length, filter, flat_map, slice_get, Option, Some, None, is_some, option_map, option_and_then, option_to_list}
 use Rattle.std.specs.List.{find}
 use Rattle.journal_model.specs.Notification.{Bytes, Text}
 use Rattle.journal_model.specs.Request.{Request, completions_asked}
 use Rattle.journal_model.specs.State.{value_at}
+use Rattle.journal_model.specs.Spelling.{frame_bytes}
 use Rattle.journal_model.specs.Event.{Event}
+use Rattle.journal_model.specs.Attempt.{input_bytes, journal_pieces}
 use Rattle.journal_model.specs.Journal.{Entry, Recorded, Arrived, asks_for as is_asking, invocation_begun, is_busy, entries_of, request_asking, is_awaited, object_state}
 use Rattle.journal_model.specs.Cause.{IsAccepted}
 use Rattle.store_rows.specs.Records.{Records, is_at_key}
@@ -63,4 +65,12 @@ AllOpenOnce = (events : List Event) (r : Records) (object : Text) → IsAccepted
 -- the arrival that answers a completion: one at most, and none while the completion is awaited
 abbrev pub AllAnswerOnce : Type 0
 AllAnswerOnce = (events : List Event) (r : Records) (id : Text) (n : ℕ) → IsAccepted events → IsKept events r
-    → (is_some (find (answers id n) r.entries) ≡ (if is_awaited (entries_of events id) n then false else true)) × (length (filter (answers id n) r.entries) ≤ 1)
+    → (is_some (find (answers id n) r.entries) ≡ not (is_awaited (entries_of events id) n)) × (length (filter (answers id n) r.entries) ≤ 1)
+
+-- a row as a frame: the frames of a journal's rows are what an attempt that is begun then is handed
+abbrev pub row_frame : EntryRow → Bytes
+row_frame row = frame_bytes row.kind row.payload
+
+abbrev pub AllFrames : Type 0
+AllFrames = (events : List Event) (id : Text) → IsAccepted events
+    → flat_map row_frame (journal_rows events id) ≡ input_bytes (journal_pieces (invocation_begun events id) (entries_of events id))

@@ -2,7 +2,7 @@
 //! events decide. Each function does nothing: its contract is the law.
 #![tactic(auto)]
 
-ghost use Rattle.store_lookups.specs.Lookups.{AllAskOnce, AllFind, AllOpenOnce};
+ghost use Rattle.store_lookups.specs.Lookups.{AllAnswerOnce, AllAskOnce, AllFind, AllFrames, AllOpenOnce};
 
 /// An invocation is found by its id, an entry by its place and a value by its key, and no second one.
 pub fn records_found()
@@ -17,4 +17,14 @@ pub fn open_invocations_found()
 /// The request that asks for a completion is found, whether it does so first or second, and no other one.
 pub fn requests_found()
     ensures { AllAskOnce }
+{}
+
+/// The arrival that answers a completion is found exactly where the completion is no longer awaited, and no second one.
+pub fn answers_found()
+    ensures { AllAnswerOnce }
+{}
+
+/// What an attempt that is begun is handed is read off the rows of its journal, by their kinds and payloads.
+pub fn frames_found()
+    ensures { AllFrames }
 {}

@@ -5,3 +5,4 @@ pub mod Journals
 pub mod Invocations
 pub mod States
 pub mod Keeping
+pub mod KeptRows

@@ -90,10 +90,10 @@ frames_alike {A} read alike event events id (inr e) = by_test (is_of id event)
     by_test true = alike (frame_of event) (still_frame event e) (frames_of events id)
     by_test false = refl
 
-abbrev version_in : Option NewInvocation → ℕ
+abbrev pub version_in : Option NewInvocation → ℕ
 version_in o = unwrap_or (option_map (λ (new : NewInvocation). new.version) o) 0
 
-abbrev opened : Option NewInvocation → List Frame → Bool
+abbrev pub opened : Option NewInvocation → List Frame → Bool
 opened o frames = is_some o && not (list_any (closes (version_in o)) frames)
 
 opened-quiet : (o : Option NewInvocation) (frame : Option Frame) → is_quiet frame ≡ true → (frames : List Frame) → opened o (cons_option frame frames) ≡ opened o frames
@@ -104,7 +104,7 @@ opened-quiet o (Some Frame.TooDeep) e frames = refl
 opened-quiet o (Some Frame.NotAccepted) e frames = refl
 opened-quiet o (Some _) e frames = cc
 
-abbrev closed_by : Option NewInvocation → List Frame → Option Closed
+abbrev pub closed_by : Option NewInvocation → List Frame → Option Closed
 closed_by o frames = option_and_then closing_frame (find (closes (version_in o)) frames)
 
 closed-quiet : (o : Option NewInvocation) (frame : Option Frame) → is_quiet frame ≡ true → (frames : List Frame) → closed_by o (cons_option frame frames) ≡ closed_by o frames
@@ -115,7 +115,7 @@ closed-quiet o (Some Frame.TooDeep) e frames = refl
 closed-quiet o (Some Frame.NotAccepted) e frames = refl
 closed-quiet o (Some _) e frames = cc
 
-abbrev error_of : List Frame → Option LastError
+abbrev pub error_of : List Frame → Option LastError
 error_of frames = first_of (filter_map error_in frames)
 
 error-quiet : (frame : Option Frame) → is_quiet frame ≡ true → (frames : List Frame) → error_of (cons_option frame frames) ≡ error_of frames

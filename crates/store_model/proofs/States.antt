@@ -55,7 +55,7 @@ others_stay key (e ∷ es) h =
     ap (λ (o : Ordering). if not (is_eq o) then e ∷ without_key es key else without_key es key) less
     ∙ ap (λ (rest : StateMap). e ∷ rest) (others_stay key es (second_holds (is_lt (bytes_cmp key e.0)) (below_all bytes_cmp key es) h))
 
-exchanged : {A : Type 0} (x y : A) (xs : List A) → IsPermutation (x ∷ y ∷ xs) (y ∷ x ∷ xs)
+pub exchanged : {A : Type 0} (x y : A) (xs : List A) → IsPermutation (x ∷ y ∷ xs) (y ∷ x ∷ xs)
 exchanged x y xs = IsPermutation-append_left xs (x ∷ y ∷ []) (y ∷ x ∷ []) (IsPermutation-append_comm (x ∷ []) (y ∷ []))
 
 -- a key's value is put among the others

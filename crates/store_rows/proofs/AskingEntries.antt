@@ -1,9 +1,11 @@
 -- What the questions about entries ask for.
 use Rattle.std.proofs.Common.{◌≡◌, ◌==◌, ◌&&◌, ℕ, Bool, true, false, List, [], ◌∷◌, map, filter, drop, Option, None, Some, refl, sym, ap, ◌∙◌, bytes_eq}
 use Rattle.std.specs.List.Sorted.{IsPermutation}
+use Rattle.std.proofs.Common.{Less}
+use Rattle.sqlite_trees.specs.Tree.{IsAscending}
 use Rattle.sqlite.specs.declared.types.Value.TheVariants.{Null, Text, Blob}
 use Rattle.sqlite.specs.Values.{or_null}
-use Rattle.sqlite_value.specs.Order.{Row}
+use Rattle.sqlite_value.specs.Order.{Row, column, value_cmp}
 use Rattle.sqlite_value.specs.Keys.{ascending}
 use Rattle.sqlite_value.specs.declared.keys.Collation.TheVariants.{Binary}
 use Rattle.sqlite.specs.Term.{Term, col, eval_all}
@@ -18,6 +20,7 @@ use Rattle.sql_tables.specs.Cells.{short_cell}
 use Rattle.sql_tables.specs.Statements.{rows_of, program_of, equals}
 use Rattle.sql_tables.proofs.Answers.{passes}
 use Rattle.sql_tables.proofs.Cells.{are_same, both_true, same_text, same_blob, same_short, same_null-Int, same_null-Text}
+use Rattle.sql_tables.proofs.Ordered.{records_ordered}
 use Rattle.sql_tables.proofs.Reading.{records_read}
 use Rattle.store_rows.specs.Tables.{store_schema, invocation_columns, entry_columns, state_columns}
 use Rattle.store_rows.specs.Statements.{entry_by_place_text, entry_by_completion_text, entry_by_second_completion_text, entry_by_answered_text, entries_text}
@@ -202,3 +205,13 @@ pub entries_read : (old : State) (invocation : List ℕ) (rows : List Row) → o
 entries_read old invocation rows has answer r h =
     records_read store_schema entries_text (Text invocation ∷ []) old rows 4 entries_tests entry_project ((col 1 2, ascending Binary) ∷ []) (names_of entry_columns) has entries_plain entries_is.1 entries_is.0
     (entries_keeps invocation) entry_pick (entries_there invocation) (entry_there _) entry_cells (λ e. bytes_eq e.invocation invocation) (entries_kept invocation) entry_picked answer r.entries h.entries
+
+entries_keyed : (r : Row) → column r 2 ≡ column (drop 1 r) 1
+entries_keyed [] = refl
+entries_keyed (x ∷ r) = refl
+
+pub entries_ordered : (old : State) (invocation : List ℕ) (rows : List Row) → old.now.schema ≡ store_schema → IsAnswer entries_text (Text invocation ∷ []) old rows
+    → (r : Records) → Holds old.now.trees r → (zs : List EntryRow) → IsPermutation (filter (λ e. bytes_eq e.invocation invocation) r.entries) zs → IsAscending (λ a b. value_cmp (column (entry_cells a) 1) (column (entry_cells b) 1) ≡ Less) zs → rows ≡ map entry_cells zs
+entries_ordered old invocation rows has answer r h zs same rising =
+    records_ordered store_schema entries_text (Text invocation ∷ []) old rows 4 entries_tests entry_project 2 1 (names_of entry_columns) has entries_plain entries_is.1 entries_is.0
+    (entries_keeps invocation) entry_pick (entries_there invocation) (entry_there _) entries_keyed entry_cells (λ e. bytes_eq e.invocation invocation) (entries_kept invocation) entry_picked answer r.entries h.entries zs same rising

@@ -1,15 +1,17 @@
 -- From rows to the records that were asked for.
-use Rattle.std.proofs.Common.{◌≡◌, ◌≤◌, ℕ, Bool, List, [], ◌∷◌, map, filter, length, Option, None, Some, refl, sym, subst, arith}
+use Rattle.std.proofs.Common.{◌≡◌, ◌≤◌, ℕ, Bool, List, [], ◌∷◌, map, filter, length, Option, None, Some, refl, sym, ap, subst, ◌∙◌, arith}
 use Rattle.std.specs.Prelude.{IfSome}
 use Rattle.std.specs.List.{AllByRecursion, find}
 use Rattle.std.specs.List.Sorted.{IsPermutation}
 use Rattle.std.specs.Option.{option_to_list}
 use Rattle.std.proofs.lemmas.List.Sorted.{IsPermutation-sym}
 use Rattle.sqlite_keyed.proofs.ListLemmas.{all-filter}
+use Rattle.sqlite_trees.specs.Tree.{IsAscending}
+use Rattle.sqlite_trees.proofs.ListLemmas.{all-permutation}
 use Rattle.sqlite_value.specs.Order.{Row}
 use Rattle.sqlite.specs.State.{State}
 use Rattle.sql_tables.specs.Asking.{IsAnswer, IsOther}
-use Rattle.sql_tables.proofs.Reading.{found_as, no_more, only_one, same_records}
+use Rattle.sql_tables.proofs.Reading.{all_back, found_as, no_more, only_one, same_records}
 use Rattle.store_rows.specs.Records.{Records, Holds}
 use Rattle.store_rows.specs.Questions.{IsAmbiguous, IsFound}
 
@@ -34,3 +36,17 @@ module _ {X : Type 0} (cells : X → Row) (back : Row → X) (Fits : X → Type 
       by_list [] few fits same = other.2 (None, tt, sym (no_more other.0 (IsPermutation-sym _ _ same)))
       by_list (x ∷ []) few fits same = other.2 (Some x, fits.0, sym (only_one other.0 (cells x) (IsPermutation-sym _ _ same)))
       by_list (x ∷ y ∷ xs) few fits same = omega arith
+
+-- the records in the one order that a relation gives them
+module _ {X : Type 0} (cells : X → Row) (back : Row → X) (Fits : X → Type 0) (is : (x : X) → Fits x → back (cells x) ≡ x) (sql : List ℕ) (params : Row) (old : State) (records : Records → List X) (test : X → Bool)
+    (fit : (r : Records) → Holds old.now.trees r → AllByRecursion Fits (records r)) (R : X → X → Type 0)
+    (ordered : (rows : List Row) → IsAnswer sql params old rows → (r : Records) → Holds old.now.trees r → (zs : List X) → IsPermutation (filter test (records r)) zs → IsAscending R zs → rows ≡ map cells zs) where
+  fit_arranged : (r : Records) → Holds old.now.trees r → (zs : List X) → IsPermutation (filter test (records r)) zs → AllByRecursion Fits zs
+  fit_arranged r h zs same = all-permutation Fits (filter test (records r)) zs same (all-filter Fits test (records r) (fit r h))
+
+  pub all_arranged : (xs : List X) → IsAnswer sql params old (map cells xs) → AllByRecursion Fits xs → (r : Records) → Holds old.now.trees r → (zs : List X) → IsPermutation (filter test (records r)) zs → IsAscending R zs → xs ≡ zs
+  all_arranged xs answer fits r h zs same rising =
+      sym (all_back cells back Fits is xs fits) ∙ ap (map back) (ordered (map cells xs) answer r h zs same rising) ∙ all_back cells back Fits is zs (fit_arranged r h zs same)
+
+  pub all_other : IsOther sql params old (λ rows. (xs : List X) × AllByRecursion Fits xs × (map cells xs ≡ rows)) → (r : Records) → Holds old.now.trees r → (zs : List X) → IsPermutation (filter test (records r)) zs → IsAscending R zs → ⊥
+  all_other other r h zs same rising = other.2 (zs, fit_arranged r h zs same, sym (ordered other.0 other.1 r h zs same rising))

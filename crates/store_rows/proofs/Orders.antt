@@ -1,12 +1,19 @@
 -- Orders of records that were read.
-use Rattle.std.proofs.Common.{◌≡◌, inl, inr, ◌+◌, ◌-◌, ◌<◌, ◌≤◌, ℕ, suc, Bool, nat_lt, List, [], ◌∷◌, ◌++◌, length, slice_get, slice_index_or, Some, IsTrue, refl, sym, ap, subst, ◌∙◌, arith}
+use Rattle.std.proofs.Common.{◌≡◌, inl, inr, ◌+◌, ◌-◌, ◌<◌, ◌≤◌, ℕ, pos, zero, suc, Bool, cond, Less, Equal, Greater, nat_lt, List, [], ◌∷◌, ◌++◌, length, slice_get, slice_index_or, Some, IsTrue, refl, sym, ap, subst, ◌∙◌, arith}
 use Rattle.std.specs.List.Sorted.{IsPermutation}
 use Rattle.std.proofs.lemmas.List.Sorted.{IsPermutation-sym}
-use Rattle.std.proofs.lemmas.Bool.{cases_Bool, ltb-true, ltb-false}
+use Rattle.std.proofs.lemmas.Bool.{cases_Bool, lt-ltb, ltb-true, ltb-false}
+use Rattle.std.specs.List.{AllByRecursion}
+use Rattle.std.specs.Prelude.{int_lt}
+use Rattle.std.specs.Ordering.{int_cmp}
+use Rattle.sqlite_trees.specs.Tree.{IsAscending}
+use Rattle.sqlite_keyed.proofs.ListLemmas.{all_weaker}
+use Rattle.sqlite_value.specs.Order.{column, value_cmp}
+use Rattle.sqlite_value.proofs.OrderLemmas.{value_cmp-Int}
 use Rattle.std.proofs.lemmas.Option.{slice_get_read}
 use Rattle.sqlite_rules.specs.Lists.{Has}
 use Rattle.sql_tables.proofs.Reading.{permuted}
-use Rattle.store_rows.specs.Records.{EntryRow}
+use Rattle.store_rows.specs.Records.{EntryRow, entry_cells}
 use Rattle.store_rows.specs.Questions.{AreInPlace, DoAscend, is_before}
 
 -- ---- places
@@ -34,6 +41,28 @@ same_members n (x ∷ xs) (y ∷ ys) p q f g =
 -- of the orders of entries whose places count up there is one
 pub one_order : (xs ys : List EntryRow) → IsPermutation xs ys → AreInPlace 0 xs → AreInPlace 0 ys → ys ≡ xs
 one_order xs ys same h k = same_members 0 ys xs k h (permuted xs ys same) (permuted ys xs (IsPermutation-sym xs ys same))
+
+places_from : (n : ℕ) (es : List EntryRow) → AreInPlace n es → AllByRecursion (λ (e : EntryRow). n ≤ e.place) es
+places_from n [] h = tt
+places_from n (e ∷ es) h = (omega (arith, h.0), all_weaker (λ (x : EntryRow). n + 1 ≤ x.place) (λ (x : EntryRow). n ≤ x.place) (λ (x : EntryRow) later. omega (arith, later)) es (places_from (n + 1) es h.1))
+
+int_before : (a b : ℕ) → a < b → int_cmp (pos a) (pos b) ≡ Less
+int_before a b less = ap (λ t. cond t Less (cond (int_lt (pos b) (pos a)) Greater Equal)) (lt-ltb a b less)
+
+abbrev pub IsPlacedBefore : EntryRow → EntryRow → Type 0
+IsPlacedBefore a b = value_cmp (column (entry_cells a) 1) (column (entry_cells b) 1) ≡ Less
+
+pub in_place_rises : (n : ℕ) (es : List EntryRow) → AreInPlace n es → IsAscending IsPlacedBefore es
+in_place_rises n [] h = tt
+in_place_rises n (e ∷ es) h = (
+  all_weaker (λ (x : EntryRow). n + 1 ≤ x.place) (IsPlacedBefore e) (λ (x : EntryRow) later. value_cmp-Int (pos e.place) (pos x.place) ∙ int_before e.place x.place (omega (arith, h.0, later))) es (places_from (n + 1) es h.1),
+  in_place_rises (n + 1) es h.1,
+)
+
+pub in_place_at : (n : ℕ) (es : List EntryRow) (k : ℕ) (x : EntryRow) → AreInPlace n es → k < length es → x ≡ slice_index_or es k x → x.place ≡ n + k
+in_place_at n [] k x h small is = absurd (omega (arith, small))
+in_place_at n (e ∷ es) zero x h small is = let here : x.place ≡ e.place = ap (λ (y : EntryRow). y.place) is in omega (arith, here, h.0)
+in_place_at n (e ∷ es) (suc k) x h small is = let later = in_place_at (n + 1) es k x h.1 (omega (arith, small)) is in omega (arith, later)
 
 -- ---- keys
 

@@ -76,3 +76,7 @@ AreInPlace n (e ∷ es) = (e.place ≡ n) × AreInPlace (n + 1) es
 -- a journal whose places count up, whatever records the tables have
 abbrev pub IsJournal : List ℕ → Trees → List EntryRow → Type 0
 IsJournal invocation db found = (r : Records) → Holds db r → AreInPlace 0 (journal_of invocation r) → found ≡ journal_of invocation r
+
+-- the tables have no records of which that journal counts up
+abbrev pub IsNoJournal : List ℕ → Trees → Type 0
+IsNoJournal invocation db = (r : Records) → Holds db r → AreInPlace 0 (journal_of invocation r) → ⊥

@@ -124,3 +124,12 @@ pub fn open<S: Alter>(alloc: Global, conn: &mut Connection<S>) -> Result<(), Rea
     }
     Ok(())
 }
+
+/// Whether a connection may be asked and changed: it has the tables of a store, and no transaction is under way.
+pub fn is_ready<S: Alter>(conn: &Connection<S>) -> bool
+    ensures store { IsTrue result → IsStore (state S.Store conn.now) }
+    ensures idle { IsTrue result → (state S.Store conn.now).in_transaction ≡ false }
+    ensures complete { (state S.Store conn.now).now.schema ≡ store_schema → (state S.Store conn.now).in_transaction ≡ false → IsTrue result }
+{
+    is_store_schema(conn.schema()) && conn.is_autocommit()
+}

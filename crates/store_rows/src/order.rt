@@ -6,8 +6,10 @@ ghost use Rattle.store_rows.specs.Questions.{AreInPlace, DoAscend, is_before};
 use crate::row::{EntryRow, InvocationRow, StateRow};
 
 /// Whether the places count up from 0.
+#[tactic(auto, using(crate::proofs::Orders::in_place_at))]
 pub(crate) fn are_in_place(entries: &[EntryRow]) -> bool
-    ensures { IsTrue result → AreInPlace 0 entries.now }
+    ensures exact { IsTrue result → AreInPlace 0 entries.now }
+    ensures complete { AreInPlace 0 entries.now → IsTrue result }
 {
     for (place, entry) in entries.iter().enumerate() {
         if entry.place as usize != place {

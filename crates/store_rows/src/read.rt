@@ -1,11 +1,11 @@
-//! What is recorded, as it is asked for. A question leaves the tables as they were, and where they hold records, a row of one
-//! is never foreign.
+//! What is recorded, as it is asked for. A question leaves the tables as they were. Where they hold records of which one at most
+//! has the key, that one is found, and no row is foreign.
 
 ghost use Rattle.std.specs.Prelude.{◌≡◌, false, IfErr, IfOk};
 ghost use Rattle.sqlite.specs.Held.{state};
 ghost use Rattle.sqlite.specs.State.{HasCleanDisk, Survives};
 ghost use Rattle.sql_tables.specs.Asking.{IsKept};
-ghost use Rattle.store_rows.specs.Questions.{AreFound, IsAmbiguous, IsFound, IsJournal, answers, asks_for, asks_second_for, has_id, is_any, is_at_key, is_at_place, is_of_object, is_open_of};
+ghost use Rattle.store_rows.specs.Questions.{AreFound, IsAmbiguous, IsFound, IsJournal, IsNoJournal, answers, asks_for, asks_second_for, has_id, is_any, is_at_key, is_at_place, is_of_object, is_open_of};
 ghost use Rattle.store_rows.specs.Steps.{IsStore};
 
 use crate::order::{are_in_place, do_invocations_ascend, do_states_ascend};
@@ -28,6 +28,7 @@ pub fn invocation_by_id<S: Alter>(
     ensures found { HasCleanDisk (state S.Store conn.new) → IfOk result (IsFound (λ r. r.invocations) (has_id id.now) (state S.Store conn.old).now.trees) }
     ensures foreign { HasCleanDisk (state S.Store conn.new) → IfErr result (λ e. e ≡ ReadError.Foreign → IsAmbiguous (λ r. r.invocations) (has_id id.now) (state S.Store conn.old).now.trees) }
     ensures kept { IsKept (state S.Store conn.old) (state S.Store conn.new) }
+    ensures store { IsStore (state S.Store conn.new) }
     ensures idle { (state S.Store conn.new).in_transaction ≡ false }
     ensures crash { Survives (state S.Store conn.old) (state S.Store conn.new) (λ _. ⊥) }
 {
@@ -50,6 +51,7 @@ pub fn open_invocation<S: Alter>(
     ensures found { HasCleanDisk (state S.Store conn.new) → IfOk result (IsFound (λ r. r.invocations) (is_open_of object.now) (state S.Store conn.old).now.trees) }
     ensures foreign { HasCleanDisk (state S.Store conn.new) → IfErr result (λ e. e ≡ ReadError.Foreign → IsAmbiguous (λ r. r.invocations) (is_open_of object.now) (state S.Store conn.old).now.trees) }
     ensures kept { IsKept (state S.Store conn.old) (state S.Store conn.new) }
+    ensures store { IsStore (state S.Store conn.new) }
     ensures idle { (state S.Store conn.new).in_transaction ≡ false }
     ensures crash { Survives (state S.Store conn.old) (state S.Store conn.new) (λ _. ⊥) }
 {
@@ -73,6 +75,7 @@ pub fn entry_by_place<S: Alter>(
     ensures found { HasCleanDisk (state S.Store conn.new) → IfOk result (IsFound (λ r. r.entries) (is_at_place invocation.now place) (state S.Store conn.old).now.trees) }
     ensures foreign { HasCleanDisk (state S.Store conn.new) → IfErr result (λ e. e ≡ ReadError.Foreign → IsAmbiguous (λ r. r.entries) (is_at_place invocation.now place) (state S.Store conn.old).now.trees) }
     ensures kept { IsKept (state S.Store conn.old) (state S.Store conn.new) }
+    ensures store { IsStore (state S.Store conn.new) }
     ensures idle { (state S.Store conn.new).in_transaction ≡ false }
     ensures crash { Survives (state S.Store conn.old) (state S.Store conn.new) (λ _. ⊥) }
 {
@@ -96,6 +99,7 @@ pub fn entry_by_completion<S: Alter>(
     ensures found { HasCleanDisk (state S.Store conn.new) → IfOk result (IsFound (λ r. r.entries) (asks_for invocation.now completion) (state S.Store conn.old).now.trees) }
     ensures foreign { HasCleanDisk (state S.Store conn.new) → IfErr result (λ e. e ≡ ReadError.Foreign → IsAmbiguous (λ r. r.entries) (asks_for invocation.now completion) (state S.Store conn.old).now.trees) }
     ensures kept { IsKept (state S.Store conn.old) (state S.Store conn.new) }
+    ensures store { IsStore (state S.Store conn.new) }
     ensures idle { (state S.Store conn.new).in_transaction ≡ false }
     ensures crash { Survives (state S.Store conn.old) (state S.Store conn.new) (λ _. ⊥) }
 {
@@ -119,6 +123,7 @@ pub fn entry_by_second_completion<S: Alter>(
     ensures found { HasCleanDisk (state S.Store conn.new) → IfOk result (IsFound (λ r. r.entries) (asks_second_for invocation.now completion) (state S.Store conn.old).now.trees) }
     ensures foreign { HasCleanDisk (state S.Store conn.new) → IfErr result (λ e. e ≡ ReadError.Foreign → IsAmbiguous (λ r. r.entries) (asks_second_for invocation.now completion) (state S.Store conn.old).now.trees) }
     ensures kept { IsKept (state S.Store conn.old) (state S.Store conn.new) }
+    ensures store { IsStore (state S.Store conn.new) }
     ensures idle { (state S.Store conn.new).in_transaction ≡ false }
     ensures crash { Survives (state S.Store conn.old) (state S.Store conn.new) (λ _. ⊥) }
 {
@@ -142,6 +147,7 @@ pub fn entry_by_answered<S: Alter>(
     ensures found { HasCleanDisk (state S.Store conn.new) → IfOk result (IsFound (λ r. r.entries) (answers invocation.now completion) (state S.Store conn.old).now.trees) }
     ensures foreign { HasCleanDisk (state S.Store conn.new) → IfErr result (λ e. e ≡ ReadError.Foreign → IsAmbiguous (λ r. r.entries) (answers invocation.now completion) (state S.Store conn.old).now.trees) }
     ensures kept { IsKept (state S.Store conn.old) (state S.Store conn.new) }
+    ensures store { IsStore (state S.Store conn.new) }
     ensures idle { (state S.Store conn.new).in_transaction ≡ false }
     ensures crash { Survives (state S.Store conn.old) (state S.Store conn.new) (λ _. ⊥) }
 {
@@ -165,6 +171,7 @@ pub fn state_by_key<S: Alter>(
     ensures found { HasCleanDisk (state S.Store conn.new) → IfOk result (IsFound (λ r. r.states) (is_at_key object.now key.now) (state S.Store conn.old).now.trees) }
     ensures foreign { HasCleanDisk (state S.Store conn.new) → IfErr result (λ e. e ≡ ReadError.Foreign → IsAmbiguous (λ r. r.states) (is_at_key object.now key.now) (state S.Store conn.old).now.trees) }
     ensures kept { IsKept (state S.Store conn.old) (state S.Store conn.new) }
+    ensures store { IsStore (state S.Store conn.new) }
     ensures idle { (state S.Store conn.new).in_transaction ≡ false }
     ensures crash { Survives (state S.Store conn.old) (state S.Store conn.new) (λ _. ⊥) }
 {
@@ -185,7 +192,9 @@ pub fn journal<S: Alter>(
     requires store { IsStore (state S.Store conn.old) }
     requires idle { (state S.Store conn.old).in_transaction ≡ false }
     ensures found { HasCleanDisk (state S.Store conn.new) → IfOk result (λ es. IsJournal invocation.now (state S.Store conn.old).now.trees es.items) }
+    ensures foreign { HasCleanDisk (state S.Store conn.new) → IfErr result (λ e. e ≡ ReadError.Foreign → IsNoJournal invocation.now (state S.Store conn.old).now.trees) }
     ensures kept { IsKept (state S.Store conn.old) (state S.Store conn.new) }
+    ensures store { IsStore (state S.Store conn.new) }
     ensures idle { (state S.Store conn.new).in_transaction ≡ false }
     ensures crash { Survives (state S.Store conn.old) (state S.Store conn.new) (λ _. ⊥) }
 {
@@ -211,6 +220,7 @@ pub fn states_of<S: Alter>(
     requires idle { (state S.Store conn.old).in_transaction ≡ false }
     ensures found { HasCleanDisk (state S.Store conn.new) → IfOk result (λ es. AreFound (λ r. r.states) (is_of_object object.now) (λ s. s.key) (state S.Store conn.old).now.trees es.items) }
     ensures kept { IsKept (state S.Store conn.old) (state S.Store conn.new) }
+    ensures store { IsStore (state S.Store conn.new) }
     ensures idle { (state S.Store conn.new).in_transaction ≡ false }
     ensures crash { Survives (state S.Store conn.old) (state S.Store conn.new) (λ _. ⊥) }
 {
@@ -235,6 +245,7 @@ pub fn all_invocations<S: Alter>(
     requires idle { (state S.Store conn.old).in_transaction ≡ false }
     ensures found { HasCleanDisk (state S.Store conn.new) → IfOk result (λ es. AreFound (λ r. r.invocations) is_any (λ i. i.id) (state S.Store conn.old).now.trees es.items) }
     ensures kept { IsKept (state S.Store conn.old) (state S.Store conn.new) }
+    ensures store { IsStore (state S.Store conn.new) }
     ensures idle { (state S.Store conn.new).in_transaction ≡ false }
     ensures crash { Survives (state S.Store conn.old) (state S.Store conn.new) (λ _. ⊥) }
 {
