@@ -1,12 +1,13 @@
 //! What is recorded, as it is asked for. A question leaves the tables as they were. Where they hold records of which one at most
-//! has the key, that one is found, and no row is foreign.
+//! has the key, that one is found, and no row is foreign. What is answered was asked of an open connection, so questions in turn
+//! are all about the same tables.
 
 ghost use Rattle.std.specs.Prelude.{◌≡◌, false, IfErr, IfOk};
 ghost use Rattle.sqlite.specs.Held.{state};
 ghost use Rattle.sqlite.specs.State.{HasCleanDisk, Survives};
 ghost use Rattle.sql_tables.specs.Asking.{IsKept};
 ghost use Rattle.store_rows.specs.Questions.{AreFound, IsAmbiguous, IsFound, IsJournal, IsNoJournal, answers, asks_for, asks_second_for, has_id, is_any, is_at_key, is_at_place, is_of_object, is_open_of};
-ghost use Rattle.store_rows.specs.Steps.{IsStore};
+ghost use Rattle.store_rows.specs.Steps.{IsStore, WasAsked};
 
 use crate::order::{are_in_place, do_invocations_ascend, do_states_ascend};
 use crate::row::{EntryRow, InvocationRow, StateRow};
@@ -31,6 +32,7 @@ pub fn invocation_by_id<S: Alter>(
     ensures store { IsStore (state S.Store conn.new) }
     ensures idle { (state S.Store conn.new).in_transaction ≡ false }
     ensures crash { Survives (state S.Store conn.old) (state S.Store conn.new) (λ _. ⊥) }
+    ensures open { HasCleanDisk (state S.Store conn.new) → WasAsked result (state S.Store conn.old) }
 {
     one_by(
         alloc,
@@ -54,6 +56,7 @@ pub fn open_invocation<S: Alter>(
     ensures store { IsStore (state S.Store conn.new) }
     ensures idle { (state S.Store conn.new).in_transaction ≡ false }
     ensures crash { Survives (state S.Store conn.old) (state S.Store conn.new) (λ _. ⊥) }
+    ensures open { HasCleanDisk (state S.Store conn.new) → WasAsked result (state S.Store conn.old) }
 {
     one_by(
         alloc,
@@ -78,6 +81,7 @@ pub fn entry_by_place<S: Alter>(
     ensures store { IsStore (state S.Store conn.new) }
     ensures idle { (state S.Store conn.new).in_transaction ≡ false }
     ensures crash { Survives (state S.Store conn.old) (state S.Store conn.new) (λ _. ⊥) }
+    ensures open { HasCleanDisk (state S.Store conn.new) → WasAsked result (state S.Store conn.old) }
 {
     one_by(
         alloc,
@@ -102,6 +106,7 @@ pub fn entry_by_completion<S: Alter>(
     ensures store { IsStore (state S.Store conn.new) }
     ensures idle { (state S.Store conn.new).in_transaction ≡ false }
     ensures crash { Survives (state S.Store conn.old) (state S.Store conn.new) (λ _. ⊥) }
+    ensures open { HasCleanDisk (state S.Store conn.new) → WasAsked result (state S.Store conn.old) }
 {
     one_by(
         alloc,
@@ -126,6 +131,7 @@ pub fn entry_by_second_completion<S: Alter>(
     ensures store { IsStore (state S.Store conn.new) }
     ensures idle { (state S.Store conn.new).in_transaction ≡ false }
     ensures crash { Survives (state S.Store conn.old) (state S.Store conn.new) (λ _. ⊥) }
+    ensures open { HasCleanDisk (state S.Store conn.new) → WasAsked result (state S.Store conn.old) }
 {
     one_by(
         alloc,
@@ -150,6 +156,7 @@ pub fn entry_by_answered<S: Alter>(
     ensures store { IsStore (state S.Store conn.new) }
     ensures idle { (state S.Store conn.new).in_transaction ≡ false }
     ensures crash { Survives (state S.Store conn.old) (state S.Store conn.new) (λ _. ⊥) }
+    ensures open { HasCleanDisk (state S.Store conn.new) → WasAsked result (state S.Store conn.old) }
 {
     one_by(
         alloc,
@@ -174,6 +181,7 @@ pub fn state_by_key<S: Alter>(
     ensures store { IsStore (state S.Store conn.new) }
     ensures idle { (state S.Store conn.new).in_transaction ≡ false }
     ensures crash { Survives (state S.Store conn.old) (state S.Store conn.new) (λ _. ⊥) }
+    ensures open { HasCleanDisk (state S.Store conn.new) → WasAsked result (state S.Store conn.old) }
 {
     one_by(
         alloc,
@@ -197,6 +205,7 @@ pub fn journal<S: Alter>(
     ensures store { IsStore (state S.Store conn.new) }
     ensures idle { (state S.Store conn.new).in_transaction ≡ false }
     ensures crash { Survives (state S.Store conn.old) (state S.Store conn.new) (λ _. ⊥) }
+    ensures open { HasCleanDisk (state S.Store conn.new) → WasAsked result (state S.Store conn.old) }
 {
     let records: Vec<EntryRow> = all_by(
         alloc,
@@ -223,6 +232,7 @@ pub fn states_of<S: Alter>(
     ensures store { IsStore (state S.Store conn.new) }
     ensures idle { (state S.Store conn.new).in_transaction ≡ false }
     ensures crash { Survives (state S.Store conn.old) (state S.Store conn.new) (λ _. ⊥) }
+    ensures open { HasCleanDisk (state S.Store conn.new) → WasAsked result (state S.Store conn.old) }
 {
     let records: Vec<StateRow> = all_by(
         alloc,
@@ -248,6 +258,7 @@ pub fn all_invocations<S: Alter>(
     ensures store { IsStore (state S.Store conn.new) }
     ensures idle { (state S.Store conn.new).in_transaction ≡ false }
     ensures crash { Survives (state S.Store conn.old) (state S.Store conn.new) (λ _. ⊥) }
+    ensures open { HasCleanDisk (state S.Store conn.new) → WasAsked result (state S.Store conn.old) }
 {
     let records: Vec<InvocationRow> = all_by(
         alloc,

@@ -1,4 +1,4 @@
-use Rattle.std.proofs.Common.{◌∷◌, [], map, arith, bytes_eq}
+use Rattle.std.proofs.Common.{◌∙◌, sym, ◌∷◌, [], map, arith, bytes_eq}
 use Rattle.sqlite.specs.declared.types.Value.TheVariants.{Text}
 use Rattle.sqlite.specs.Held.{state}
 use Rattle.sqlite.specs.State.{State, HasCleanDisk}
@@ -10,6 +10,7 @@ use Rattle.store_rows.proofs.AskingStates.{states_read}
 use Rattle.store_rows.proofs.Back.{state_back, state_back_is}
 use Rattle.store_rows.proofs.Found.{all_found}
 use Rattle.store_rows.proofs.Orders.{one_order}
+use Rattle.store_rows.proofs.Asked.{asked_err}
 use Rattle.store_rows.proofs.read.states_of.Goals as goal
 
 pub returns-clause-found : goal.returns-clause-found
@@ -20,3 +21,14 @@ returns-clause-found g c clean =
     let it = c.in_ok-records.ensures.answers clean in
     let answer : IsAnswer states_text (Text c.args.object.now ∷ []) old (map state_cells xs) = rw c.text.ensures.cell at it.1 in
     (rw c.as_slice.ensures.value at (c.do_states_ascend.ensures c.if-not-do_states_ascend.false), all_found state_cells state_back FitsState state_back_is states_text (Text c.args.object.now ∷ []) old (λ r. r.states) (is_of_object c.args.object.now) (λ r h. h.fit_states) (λ rows. states_read old c.args.object.now rows (c.requires.store early it.0)) xs answer it.2)
+
+pub returns-clause-open : goal.returns-clause-open
+returns-clause-open g c clean = (c.in_ok-records.ensures.answers clean).0
+
+pub returns-in_err-records-clause-open : goal.returns-in_err-records-clause-open
+returns-in_err-records-clause-open g c clean =
+    asked_err (state g.S.Store c.args.conn.now) c.from_residual.result c.from_residual.ensures.1 (λ e gives is.
+    (c.in_err-records.ensures.foreign clean (sym gives ∙ is)).0)
+
+pub returns-then-not-do_states_ascend-clause-open : goal.returns-then-not-do_states_ascend-clause-open
+returns-then-not-do_states_ascend-clause-open g c clean is = (c.in_ok-records.ensures.answers clean).0
