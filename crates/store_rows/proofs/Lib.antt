@@ -1,3 +1,4 @@
+pub mod Asked
 pub mod AskingEntries
 pub mod AskingInvocations
 pub mod AskingMarks

@@ -1,7 +1,9 @@
 -- What a call does to the records.
-use Rattle.std.specs.Prelude.{◌≡◌, [], IsTrue}
+use Rattle.std.specs.Prelude.{◌≡◌, [], Result, Ok, Err, IsTrue}
 use Rattle.sqlite_trees.specs.Tree.{Trees}
 use Rattle.sqlite.specs.State.{State, HasCleanDisk}
+use Rattle.sql_tables.specs.declared.read.ReadError.{ReadError}
+use Rattle.sql_tables.specs.declared.read.ReadError.TheVariants.{Foreign}
 use Rattle.store_rows.specs.Records.{Records, Holds}
 use Rattle.store_rows.specs.Tables.{store_schema}
 
@@ -35,3 +37,8 @@ pub record IsMade (s : State) : Type 0 where
 -- where the connection was open, the records are changed so
 abbrev pub Lands : (Records → Records) → State → Trees → Type 0
 Lands change old trees = IsTrue old.is_open → Turns change old.now.trees trees
+
+-- a question that was answered, or that met a foreign row, was asked of an open connection
+abbrev pub WasAsked : {A : Type 0} → Result A ReadError → State → Type 0
+WasAsked (Ok found) s = IsTrue s.is_open
+WasAsked (Err e) s = e ≡ Foreign → IsTrue s.is_open

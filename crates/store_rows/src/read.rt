@@ -1,12 +1,14 @@
 //! What is recorded, as it is asked for. A question leaves the tables as they were. Where they hold records of which one at most
-//! has the key, that one is found, and no row is foreign.
+//! has the key, that one is found, and no row is foreign. What is answered was asked of an open connection, so questions in turn
+//! are all about the same tables.
 
 ghost use Rattle.std.specs.Prelude.{◌≡◌, false, IfErr, IfOk};
 ghost use Rattle.sqlite.specs.Held.{state};
 ghost use Rattle.sqlite.specs.State.{HasCleanDisk, Survives};
 ghost use Rattle.sql_tables.specs.Asking.{IsKept};
 ghost use Rattle.store_rows.specs.Questions.{AreFound, IsAmbiguous, IsFound, IsJournal, IsNoJournal, answers, asks_for, asks_second_for, has_id, is_any, is_at_key, is_at_place, is_of_object, is_open_of};
-ghost use Rattle.store_rows.specs.Steps.{IsStore};
+ghost use Rattle.store_rows.specs.Orders.{IsArranged, IsUnarranged};
+ghost use Rattle.store_rows.specs.Steps.{IsStore, WasAsked};
 
 use crate::order::{are_in_place, do_invocations_ascend, do_states_ascend};
 use crate::row::{EntryRow, InvocationRow, StateRow};
@@ -31,6 +33,7 @@ pub fn invocation_by_id<S: Alter>(
     ensures store { IsStore (state S.Store conn.new) }
     ensures idle { (state S.Store conn.new).in_transaction ≡ false }
     ensures crash { Survives (state S.Store conn.old) (state S.Store conn.new) (λ _. ⊥) }
+    ensures open { HasCleanDisk (state S.Store conn.new) → WasAsked result (state S.Store conn.old) }
 {
     one_by(
         alloc,
@@ -54,6 +57,7 @@ pub fn open_invocation<S: Alter>(
     ensures store { IsStore (state S.Store conn.new) }
     ensures idle { (state S.Store conn.new).in_transaction ≡ false }
     ensures crash { Survives (state S.Store conn.old) (state S.Store conn.new) (λ _. ⊥) }
+    ensures open { HasCleanDisk (state S.Store conn.new) → WasAsked result (state S.Store conn.old) }
 {
     one_by(
         alloc,
@@ -78,6 +82,7 @@ pub fn entry_by_place<S: Alter>(
     ensures store { IsStore (state S.Store conn.new) }
     ensures idle { (state S.Store conn.new).in_transaction ≡ false }
     ensures crash { Survives (state S.Store conn.old) (state S.Store conn.new) (λ _. ⊥) }
+    ensures open { HasCleanDisk (state S.Store conn.new) → WasAsked result (state S.Store conn.old) }
 {
     one_by(
         alloc,
@@ -102,6 +107,7 @@ pub fn entry_by_completion<S: Alter>(
     ensures store { IsStore (state S.Store conn.new) }
     ensures idle { (state S.Store conn.new).in_transaction ≡ false }
     ensures crash { Survives (state S.Store conn.old) (state S.Store conn.new) (λ _. ⊥) }
+    ensures open { HasCleanDisk (state S.Store conn.new) → WasAsked result (state S.Store conn.old) }
 {
     one_by(
         alloc,
@@ -126,6 +132,7 @@ pub fn entry_by_second_completion<S: Alter>(
     ensures store { IsStore (state S.Store conn.new) }
     ensures idle { (state S.Store conn.new).in_transaction ≡ false }
     ensures crash { Survives (state S.Store conn.old) (state S.Store conn.new) (λ _. ⊥) }
+    ensures open { HasCleanDisk (state S.Store conn.new) → WasAsked result (state S.Store conn.old) }
 {
     one_by(
         alloc,
@@ -150,6 +157,7 @@ pub fn entry_by_answered<S: Alter>(
     ensures store { IsStore (state S.Store conn.new) }
     ensures idle { (state S.Store conn.new).in_transaction ≡ false }
     ensures crash { Survives (state S.Store conn.old) (state S.Store conn.new) (λ _. ⊥) }
+    ensures open { HasCleanDisk (state S.Store conn.new) → WasAsked result (state S.Store conn.old) }
 {
     one_by(
         alloc,
@@ -174,6 +182,7 @@ pub fn state_by_key<S: Alter>(
     ensures store { IsStore (state S.Store conn.new) }
     ensures idle { (state S.Store conn.new).in_transaction ≡ false }
     ensures crash { Survives (state S.Store conn.old) (state S.Store conn.new) (λ _. ⊥) }
+    ensures open { HasCleanDisk (state S.Store conn.new) → WasAsked result (state S.Store conn.old) }
 {
     one_by(
         alloc,
@@ -197,6 +206,7 @@ pub fn journal<S: Alter>(
     ensures store { IsStore (state S.Store conn.new) }
     ensures idle { (state S.Store conn.new).in_transaction ≡ false }
     ensures crash { Survives (state S.Store conn.old) (state S.Store conn.new) (λ _. ⊥) }
+    ensures open { HasCleanDisk (state S.Store conn.new) → WasAsked result (state S.Store conn.old) }
 {
     let records: Vec<EntryRow> = all_by(
         alloc,
@@ -219,10 +229,13 @@ pub fn states_of<S: Alter>(
     requires store { IsStore (state S.Store conn.old) }
     requires idle { (state S.Store conn.old).in_transaction ≡ false }
     ensures found { HasCleanDisk (state S.Store conn.new) → IfOk result (λ es. AreFound (λ r. r.states) (is_of_object object.now) (λ s. s.key) (state S.Store conn.old).now.trees es.items) }
+    ensures arranged { HasCleanDisk (state S.Store conn.new) → IfOk result (λ es. IsArranged (λ r. r.states) (is_of_object object.now) (λ s. s.key) (state S.Store conn.old).now.trees es.items) }
+    ensures foreign { HasCleanDisk (state S.Store conn.new) → IfErr result (λ e. e ≡ ReadError.Foreign → IsUnarranged (λ r. r.states) (is_of_object object.now) (λ s. s.key) (state S.Store conn.old).now.trees) }
     ensures kept { IsKept (state S.Store conn.old) (state S.Store conn.new) }
     ensures store { IsStore (state S.Store conn.new) }
     ensures idle { (state S.Store conn.new).in_transaction ≡ false }
     ensures crash { Survives (state S.Store conn.old) (state S.Store conn.new) (λ _. ⊥) }
+    ensures open { HasCleanDisk (state S.Store conn.new) → WasAsked result (state S.Store conn.old) }
 {
     let records: Vec<StateRow> = all_by(
         alloc,
@@ -244,10 +257,13 @@ pub fn all_invocations<S: Alter>(
     requires store { IsStore (state S.Store conn.old) }
     requires idle { (state S.Store conn.old).in_transaction ≡ false }
     ensures found { HasCleanDisk (state S.Store conn.new) → IfOk result (λ es. AreFound (λ r. r.invocations) is_any (λ i. i.id) (state S.Store conn.old).now.trees es.items) }
+    ensures arranged { HasCleanDisk (state S.Store conn.new) → IfOk result (λ es. IsArranged (λ r. r.invocations) is_any (λ i. i.id) (state S.Store conn.old).now.trees es.items) }
+    ensures foreign { HasCleanDisk (state S.Store conn.new) → IfErr result (λ e. e ≡ ReadError.Foreign → IsUnarranged (λ r. r.invocations) is_any (λ i. i.id) (state S.Store conn.old).now.trees) }
     ensures kept { IsKept (state S.Store conn.old) (state S.Store conn.new) }
     ensures store { IsStore (state S.Store conn.new) }
     ensures idle { (state S.Store conn.new).in_transaction ≡ false }
     ensures crash { Survives (state S.Store conn.old) (state S.Store conn.new) (λ _. ⊥) }
+    ensures open { HasCleanDisk (state S.Store conn.new) → WasAsked result (state S.Store conn.old) }
 {
     let records: Vec<InvocationRow> = all_by(
         alloc,

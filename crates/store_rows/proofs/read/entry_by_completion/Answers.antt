@@ -12,6 +12,7 @@ use Rattle.store_rows.specs.Statements.{entry_by_completion_text}
 use Rattle.store_rows.proofs.AskingEntries.{entry_by_completion_read}
 use Rattle.store_rows.proofs.Back.{entry_back, entry_back_is}
 use Rattle.store_rows.proofs.Found.{one_ambiguous, one_found}
+use Rattle.store_rows.proofs.Asked.{was_asked}
 use Rattle.store_rows.proofs.read.entry_by_completion.Goals as goal
 
 pub returns-clause-found : goal.returns-clause-found
@@ -29,3 +30,8 @@ returns-clause-foreign g c clean =
     err_then c.one_by.result (c.one_by.ensures.foreign clean) (λ e it is.
     let other = rw (c.text.ensures.cell, c.short.ensures.cell) at (it is).1 in
     one_ambiguous entry_cells entry_back FitsEntry entry_back_is entry_by_completion_text (Text c.args.invocation.now ∷ short_cell c.args.completion ∷ []) old (λ r. r.entries) (asks_for c.args.invocation.now c.args.completion) (λ r h. h.fit_entries) (λ rows. entry_by_completion_read old c.args.invocation.now c.args.completion rows (c.requires.store early (it is).0)) other)
+
+pub returns-clause-open : goal.returns-clause-open
+returns-clause-open g c clean =
+    was_asked (state g.S.Store c.args.conn.now) c.one_by.result (ok_then c.one_by.result (c.one_by.ensures.answers clean) (λ o it. it.0))
+    (err_then c.one_by.result (c.one_by.ensures.foreign clean) (λ e it is. (it is).0))

@@ -11,6 +11,7 @@ use Rattle.store_rows.specs.Statements.{invocation_by_id_text}
 use Rattle.store_rows.proofs.AskingInvocations.{invocation_by_id_read}
 use Rattle.store_rows.proofs.Back.{invocation_back, invocation_back_is}
 use Rattle.store_rows.proofs.Found.{one_ambiguous, one_found}
+use Rattle.store_rows.proofs.Asked.{was_asked}
 use Rattle.store_rows.proofs.read.invocation_by_id.Goals as goal
 
 pub returns-clause-found : goal.returns-clause-found
@@ -28,3 +29,8 @@ returns-clause-foreign g c clean =
     err_then c.one_by.result (c.one_by.ensures.foreign clean) (λ e it is.
     let other = rw c.text.ensures.cell at (it is).1 in
     one_ambiguous invocation_cells invocation_back FitsInvocation invocation_back_is invocation_by_id_text (Text c.args.id.now ∷ []) old (λ r. r.invocations) (has_id c.args.id.now) (λ r h. h.fit_invocations) (λ rows. invocation_by_id_read old c.args.id.now rows (c.requires.store early (it is).0)) other)
+
+pub returns-clause-open : goal.returns-clause-open
+returns-clause-open g c clean =
+    was_asked (state g.S.Store c.args.conn.now) c.one_by.result (ok_then c.one_by.result (c.one_by.ensures.answers clean) (λ o it. it.0))
+    (err_then c.one_by.result (c.one_by.ensures.foreign clean) (λ e it is. (it is).0))

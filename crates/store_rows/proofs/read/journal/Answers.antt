@@ -12,6 +12,7 @@ use Rattle.store_rows.proofs.AskingEntries.{entries_ordered, entries_read}
 use Rattle.store_rows.proofs.Back.{entry_back, entry_back_is}
 use Rattle.store_rows.proofs.Found.{all_arranged, all_found, all_other}
 use Rattle.store_rows.proofs.Orders.{IsPlacedBefore, in_place_rises, one_order}
+use Rattle.store_rows.proofs.Asked.{asked_err}
 use Rattle.store_rows.proofs.read.journal.Goals as goal
 
 pub returns-clause-found : goal.returns-clause-found
@@ -43,3 +44,14 @@ returns-then-not-are_in_place-clause-foreign g c clean is r h place =
     let yes : c.are_in_place.result ≡ true = (rw c.as_slice.ensures.value at c.are_in_place.ensures.complete) (subst (AreInPlace 0) (sym same) place) in
     let no : true ≡ false = sym yes ∙ c.if-not-are_in_place.true in
     absurd cc
+
+pub returns-clause-open : goal.returns-clause-open
+returns-clause-open g c clean = (c.in_ok-records.ensures.answers clean).0
+
+pub returns-in_err-records-clause-open : goal.returns-in_err-records-clause-open
+returns-in_err-records-clause-open g c clean =
+    asked_err (state g.S.Store c.args.conn.now) c.from_residual.result c.from_residual.ensures.1 (λ e gives is.
+    (c.in_err-records.ensures.foreign clean (sym gives ∙ is)).0)
+
+pub returns-then-not-are_in_place-clause-open : goal.returns-then-not-are_in_place-clause-open
+returns-then-not-are_in_place-clause-open g c clean is = (c.in_ok-records.ensures.answers clean).0

@@ -11,6 +11,7 @@ use Rattle.store_rows.specs.Statements.{state_by_key_text}
 use Rattle.store_rows.proofs.AskingStates.{state_by_key_read}
 use Rattle.store_rows.proofs.Back.{state_back, state_back_is}
 use Rattle.store_rows.proofs.Found.{one_ambiguous, one_found}
+use Rattle.store_rows.proofs.Asked.{was_asked}
 use Rattle.store_rows.proofs.read.state_by_key.Goals as goal
 
 pub returns-clause-found : goal.returns-clause-found
@@ -28,3 +29,8 @@ returns-clause-foreign g c clean =
     err_then c.one_by.result (c.one_by.ensures.foreign clean) (λ e it is.
     let other = rw (c.text.ensures.cell, c.blob.ensures) at (it is).1 in
     one_ambiguous state_cells state_back FitsState state_back_is state_by_key_text (Text c.args.object.now ∷ Blob c.args.key.now ∷ []) old (λ r. r.states) (is_at_key c.args.object.now c.args.key.now) (λ r h. h.fit_states) (λ rows. state_by_key_read old c.args.object.now c.args.key.now rows (c.requires.store early (it is).0)) other)
+
+pub returns-clause-open : goal.returns-clause-open
+returns-clause-open g c clean =
+    was_asked (state g.S.Store c.args.conn.now) c.one_by.result (ok_then c.one_by.result (c.one_by.ensures.answers clean) (λ o it. it.0))
+    (err_then c.one_by.result (c.one_by.ensures.foreign clean) (λ e it is. (it is).0))
