@@ -1,9 +1,11 @@
 -- What the questions about invocations ask for.
 use Rattle.std.proofs.Common.{◌≡◌, ◌==◌, ◌&&◌, ℕ, Bool, true, false, List, [], ◌∷◌, map, filter, drop, Option, None, Some, refl, sym, ap, ◌∙◌, bytes_eq}
 use Rattle.std.specs.List.Sorted.{IsPermutation}
+use Rattle.std.proofs.Common.{Less}
+use Rattle.sqlite_trees.specs.Tree.{IsAscending}
 use Rattle.sqlite.specs.declared.types.Value.TheVariants.{Null, Text, Blob}
 use Rattle.sqlite.specs.Values.{or_null}
-use Rattle.sqlite_value.specs.Order.{Row}
+use Rattle.sqlite_value.specs.Order.{Row, column, value_cmp}
 use Rattle.sqlite_value.specs.Keys.{ascending}
 use Rattle.sqlite_value.specs.declared.keys.Collation.TheVariants.{Binary}
 use Rattle.sqlite.specs.Term.{Term, col, eval_all}
@@ -18,6 +20,7 @@ use Rattle.sql_tables.specs.Cells.{short_cell}
 use Rattle.sql_tables.specs.Statements.{rows_of, program_of, equals}
 use Rattle.sql_tables.proofs.Answers.{passes}
 use Rattle.sql_tables.proofs.Cells.{are_same, both_true, same_text, same_blob, same_short, same_null-Int, same_null-Text}
+use Rattle.sql_tables.proofs.Ordered.{records_ordered}
 use Rattle.sql_tables.proofs.Reading.{records_read}
 use Rattle.store_rows.specs.Tables.{store_schema, invocation_columns, entry_columns, state_columns}
 use Rattle.store_rows.specs.Statements.{invocation_by_id_text, open_invocation_text, all_invocations_text}
@@ -144,3 +147,13 @@ pub all_invocations_read : (old : State) (rows : List Row) → old.now.schema �
 all_invocations_read old rows has answer r h =
     records_read store_schema all_invocations_text ([]) old rows 1 all_invocations_tests invocation_project ((col 1 1, ascending Binary) ∷ []) (names_of invocation_columns) has all_invocations_plain all_invocations_is.1 all_invocations_is.0
     (all_invocations_keeps) invocation_pick (all_invocations_there) (invocation_there _) invocation_cells is_any (all_invocations_kept) invocation_picked answer r.invocations h.invocations
+
+all_invocations_keyed : (r : Row) → column r 1 ≡ column (drop 1 r) 0
+all_invocations_keyed [] = refl
+all_invocations_keyed (x ∷ r) = refl
+
+pub all_invocations_ordered : (old : State) (rows : List Row) → old.now.schema ≡ store_schema → IsAnswer all_invocations_text ([]) old rows
+    → (r : Records) → Holds old.now.trees r → (zs : List InvocationRow) → IsPermutation (filter is_any r.invocations) zs → IsAscending (λ a b. value_cmp (column (invocation_cells a) 0) (column (invocation_cells b) 0) ≡ Less) zs → rows ≡ map invocation_cells zs
+all_invocations_ordered old rows has answer r h zs same rising =
+    records_ordered store_schema all_invocations_text ([]) old rows 1 all_invocations_tests invocation_project 1 0 (names_of invocation_columns) has all_invocations_plain all_invocations_is.1 all_invocations_is.0
+    (all_invocations_keeps) invocation_pick (all_invocations_there) (invocation_there _) all_invocations_keyed invocation_cells is_any (all_invocations_kept) invocation_picked answer r.invocations h.invocations zs same rising

@@ -1,9 +1,11 @@
 -- What the questions about the state of objects ask for.
 use Rattle.std.proofs.Common.{◌≡◌, ◌==◌, ◌&&◌, ℕ, Bool, true, false, List, [], ◌∷◌, map, filter, drop, Option, None, Some, refl, sym, ap, ◌∙◌, bytes_eq}
 use Rattle.std.specs.List.Sorted.{IsPermutation}
+use Rattle.std.proofs.Common.{Less}
+use Rattle.sqlite_trees.specs.Tree.{IsAscending}
 use Rattle.sqlite.specs.declared.types.Value.TheVariants.{Null, Text, Blob}
 use Rattle.sqlite.specs.Values.{or_null}
-use Rattle.sqlite_value.specs.Order.{Row}
+use Rattle.sqlite_value.specs.Order.{Row, column, value_cmp}
 use Rattle.sqlite_value.specs.Keys.{ascending}
 use Rattle.sqlite_value.specs.declared.keys.Collation.TheVariants.{Binary}
 use Rattle.sqlite.specs.Term.{Term, col, eval_all}
@@ -18,6 +20,7 @@ use Rattle.sql_tables.specs.Cells.{short_cell}
 use Rattle.sql_tables.specs.Statements.{rows_of, program_of, equals}
 use Rattle.sql_tables.proofs.Answers.{passes}
 use Rattle.sql_tables.proofs.Cells.{are_same, both_true, same_text, same_blob, same_short, same_null-Int, same_null-Text}
+use Rattle.sql_tables.proofs.Ordered.{records_ordered}
 use Rattle.sql_tables.proofs.Reading.{records_read}
 use Rattle.store_rows.specs.Tables.{store_schema, invocation_columns, entry_columns, state_columns}
 use Rattle.store_rows.specs.Statements.{state_by_key_text, states_text}
@@ -115,3 +118,13 @@ pub states_read : (old : State) (object : List ℕ) (rows : List Row) → old.no
 states_read old object rows has answer r h =
     records_read store_schema states_text (Text object ∷ []) old rows 9 states_tests state_project ((col 1 2, ascending Binary) ∷ []) (names_of state_columns) has states_plain states_is.1 states_is.0
     (states_keeps object) state_pick (states_there object) (state_there _) state_cells (is_of_object object) (states_kept object) state_picked answer r.states h.states
+
+states_keyed : (r : Row) → column r 2 ≡ column (drop 1 r) 1
+states_keyed [] = refl
+states_keyed (x ∷ r) = refl
+
+pub states_ordered : (old : State) (object : List ℕ) (rows : List Row) → old.now.schema ≡ store_schema → IsAnswer states_text (Text object ∷ []) old rows
+    → (r : Records) → Holds old.now.trees r → (zs : List StateRow) → IsPermutation (filter (is_of_object object) r.states) zs → IsAscending (λ a b. value_cmp (column (state_cells a) 1) (column (state_cells b) 1) ≡ Less) zs → rows ≡ map state_cells zs
+states_ordered old object rows has answer r h zs same rising =
+    records_ordered store_schema states_text (Text object ∷ []) old rows 9 states_tests state_project 2 1 (names_of state_columns) has states_plain states_is.1 states_is.0
+    (states_keeps object) state_pick (states_there object) (state_there _) states_keyed state_cells (is_of_object object) (states_kept object) state_picked answer r.states h.states zs same rising

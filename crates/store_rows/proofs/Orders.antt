@@ -1,19 +1,21 @@
 -- Orders of records that were read.
-use Rattle.std.proofs.Common.{◌≡◌, inl, inr, ◌+◌, ◌-◌, ◌<◌, ◌≤◌, ℕ, pos, zero, suc, Bool, cond, Less, Equal, Greater, nat_lt, List, [], ◌∷◌, ◌++◌, length, slice_get, slice_index_or, Some, IsTrue, refl, sym, ap, subst, ◌∙◌, arith}
+use Rattle.std.proofs.Common.{◌≡◌, inl, inr, ◌+◌, ◌-◌, ◌<◌, ◌≤◌, ℕ, pos, zero, suc, Bool, cond, Ordering, Less, Equal, Greater, nat_lt, List, [], ◌∷◌, ◌++◌, length, slice_get, slice_index_or, Some, IsTrue, refl, sym, ap, subst, ◌∙◌, arith}
 use Rattle.std.specs.List.Sorted.{IsPermutation}
 use Rattle.std.proofs.lemmas.List.Sorted.{IsPermutation-sym}
 use Rattle.std.proofs.lemmas.Bool.{cases_Bool, lt-ltb, ltb-true, ltb-false}
 use Rattle.std.specs.List.{AllByRecursion}
 use Rattle.std.specs.Prelude.{int_lt}
-use Rattle.std.specs.Ordering.{int_cmp}
+use Rattle.std.specs.Cmp.Lexicographic.{slice_cmp}
+use Rattle.std.proofs.lemmas.Cmp.{nat_list_cmp_total}
+use Rattle.std.specs.Ordering.{int_cmp, is_lt, nat_cmp}
 use Rattle.sqlite_trees.specs.Tree.{IsAscending}
-use Rattle.sqlite_keyed.proofs.ListLemmas.{all_weaker}
+use Rattle.sqlite_keyed.proofs.ListLemmas.{all_weaker, ascending_weaker}
 use Rattle.sqlite_value.specs.Order.{column, value_cmp}
-use Rattle.sqlite_value.proofs.OrderLemmas.{value_cmp-Int}
+use Rattle.sqlite_value.proofs.OrderLemmas.{value_cmp-Int, value_cmp-Text, value_cmp-Blob}
 use Rattle.std.proofs.lemmas.Option.{slice_get_read}
 use Rattle.sqlite_rules.specs.Lists.{Has}
 use Rattle.sql_tables.proofs.Reading.{permuted}
-use Rattle.store_rows.specs.Records.{EntryRow, entry_cells}
+use Rattle.store_rows.specs.Records.{InvocationRow, EntryRow, StateRow, invocation_cells, entry_cells, state_cells}
 use Rattle.store_rows.specs.Questions.{AreInPlace, DoAscend, is_before}
 
 -- ---- places
@@ -93,3 +95,44 @@ module _ {X : Type 0} (key : X → List ℕ) where
   all_ascend [] n long so = tt
   all_ascend (x ∷ []) n long so = tt
   all_ascend (x ∷ y ∷ xs) n long so = (so 0 x y (omega arith) refl refl, all_ascend (y ∷ xs) (n - 1) (omega (arith, long)) (λ k a b small ea eb. so (suc k) a b (omega (arith, small, long)) ea (subst (λ i. slice_get (x ∷ y ∷ xs) i ≡ Some b) (later k) eb)))
+
+  -- two neighbours of ascending keys
+  pub ascends_at : (xs : List X) (at : ℕ) (x y : X) → DoAscend key xs → 1 ≤ at → at < length xs → x ≡ slice_index_or xs (at - 1) x → y ≡ slice_index_or xs at y → IsTrue (is_before (key x) (key y))
+  ascends_at xs zero x y up past within first second = absurd (omega (arith, past))
+  ascends_at [] (suc at) x y up past within first second = absurd (omega (arith, within))
+  ascends_at (a ∷ []) (suc at) x y up past within first second = absurd (omega (arith, within))
+  ascends_at (a ∷ b ∷ xs) (suc zero) x y up past within first second = subst (λ z. IsTrue (is_before (key z) (key y))) (sym first) (subst (λ z. IsTrue (is_before (key a) (key z))) (sym second) up.0)
+  ascends_at (a ∷ b ∷ xs) (suc (suc at)) x y up past within first second =
+      let before : suc (suc at) - 1 ≡ suc (suc at - 1) = omega arith in
+      ascends_at (b ∷ xs) (suc at) x y up.1 (omega arith) (omega (arith, within)) (subst (λ i. x ≡ slice_index_or (a ∷ b ∷ xs) i x) before first) second
+
+  is_less : (o : Ordering) → IsTrue (is_lt o) → o ≡ Less
+  is_less Less h = refl
+  is_less Equal h = absurd cc
+  is_less Greater h = absurd cc
+
+  abbrev pub IsKeyedBefore : X → X → Type 0
+  IsKeyedBefore a b = slice_cmp nat_cmp (key a) (key b) ≡ Less
+
+  -- each key is before all later ones
+  pub ascending_rises : (xs : List X) → DoAscend key xs → IsAscending IsKeyedBefore xs
+  ascending_rises [] up = tt
+  ascending_rises (x ∷ []) up = (tt, tt)
+  ascending_rises (x ∷ y ∷ xs) up =
+      let rest = ascending_rises (y ∷ xs) up.1 in
+      let first : IsKeyedBefore x y = is_less (slice_cmp nat_cmp (key x) (key y)) up.0 in
+      ((first, all_weaker (IsKeyedBefore y) (IsKeyedBefore x) (λ z less. nat_list_cmp_total.trans (key x) (key y) (key z) first less) xs rest.0), rest)
+
+abbrev pub IsStateBefore : StateRow → StateRow → Type 0
+IsStateBefore a b = value_cmp (column (state_cells a) 1) (column (state_cells b) 1) ≡ Less
+
+pub states_rise : (xs : List StateRow) → DoAscend (λ (s : StateRow). s.key) xs → IsAscending IsStateBefore xs
+states_rise xs up =
+    ascending_weaker (IsKeyedBefore (λ (s : StateRow). s.key)) IsStateBefore (λ a b less. value_cmp-Blob a.key b.key ∙ less) xs (ascending_rises (λ (s : StateRow). s.key) xs up)
+
+abbrev pub IsInvocationBefore : InvocationRow → InvocationRow → Type 0
+IsInvocationBefore a b = value_cmp (column (invocation_cells a) 0) (column (invocation_cells b) 0) ≡ Less
+
+pub invocations_rise : (xs : List InvocationRow) → DoAscend (λ (i : InvocationRow). i.id) xs → IsAscending IsInvocationBefore xs
+invocations_rise xs up =
+    ascending_weaker (IsKeyedBefore (λ (i : InvocationRow). i.id)) IsInvocationBefore (λ a b less. value_cmp-Text a.id b.id ∙ less) xs (ascending_rises (λ (i : InvocationRow). i.id) xs up)

@@ -4,3 +4,4 @@ pub mod Records
 pub mod Statements
 pub mod Steps
 pub mod Tables
+pub mod Orders

@@ -25,8 +25,10 @@ fn is_first(first: &[u8], second: &[u8]) -> bool
     first.cmp(second).is_lt()
 }
 
+/// Whether each key is before the next.
 pub(crate) fn do_states_ascend(states: &[StateRow]) -> bool
-    ensures { IsTrue result → DoAscend (λ s. s.key) states.now }
+    ensures exact { IsTrue result → DoAscend (λ s. s.key) states.now }
+    ensures complete { DoAscend (λ s. s.key) states.now → IsTrue result }
 {
     for at in 1..states.len() {
         if !is_first(states[at - 1].key.as_slice(), states[at].key.as_slice()) {
@@ -36,8 +38,10 @@ pub(crate) fn do_states_ascend(states: &[StateRow]) -> bool
     true
 }
 
+/// Whether each id is before the next.
 pub(crate) fn do_invocations_ascend(invocations: &[InvocationRow]) -> bool
-    ensures { IsTrue result → DoAscend (λ i. i.id) invocations.now }
+    ensures exact { IsTrue result → DoAscend (λ i. i.id) invocations.now }
+    ensures complete { DoAscend (λ i. i.id) invocations.now → IsTrue result }
 {
     for at in 1..invocations.len() {
         if !is_first(

@@ -7,6 +7,7 @@ ghost use Rattle.sqlite.specs.Held.{state};
 ghost use Rattle.sqlite.specs.State.{HasCleanDisk, Survives};
 ghost use Rattle.sql_tables.specs.Asking.{IsKept};
 ghost use Rattle.store_rows.specs.Questions.{AreFound, IsAmbiguous, IsFound, IsJournal, IsNoJournal, answers, asks_for, asks_second_for, has_id, is_any, is_at_key, is_at_place, is_of_object, is_open_of};
+ghost use Rattle.store_rows.specs.Orders.{IsArranged, IsUnarranged};
 ghost use Rattle.store_rows.specs.Steps.{IsStore, WasAsked};
 
 use crate::order::{are_in_place, do_invocations_ascend, do_states_ascend};
@@ -228,6 +229,8 @@ pub fn states_of<S: Alter>(
     requires store { IsStore (state S.Store conn.old) }
     requires idle { (state S.Store conn.old).in_transaction ≡ false }
     ensures found { HasCleanDisk (state S.Store conn.new) → IfOk result (λ es. AreFound (λ r. r.states) (is_of_object object.now) (λ s. s.key) (state S.Store conn.old).now.trees es.items) }
+    ensures arranged { HasCleanDisk (state S.Store conn.new) → IfOk result (λ es. IsArranged (λ r. r.states) (is_of_object object.now) (λ s. s.key) (state S.Store conn.old).now.trees es.items) }
+    ensures foreign { HasCleanDisk (state S.Store conn.new) → IfErr result (λ e. e ≡ ReadError.Foreign → IsUnarranged (λ r. r.states) (is_of_object object.now) (λ s. s.key) (state S.Store conn.old).now.trees) }
     ensures kept { IsKept (state S.Store conn.old) (state S.Store conn.new) }
     ensures store { IsStore (state S.Store conn.new) }
     ensures idle { (state S.Store conn.new).in_transaction ≡ false }
@@ -254,6 +257,8 @@ pub fn all_invocations<S: Alter>(
     requires store { IsStore (state S.Store conn.old) }
     requires idle { (state S.Store conn.old).in_transaction ≡ false }
     ensures found { HasCleanDisk (state S.Store conn.new) → IfOk result (λ es. AreFound (λ r. r.invocations) is_any (λ i. i.id) (state S.Store conn.old).now.trees es.items) }
+    ensures arranged { HasCleanDisk (state S.Store conn.new) → IfOk result (λ es. IsArranged (λ r. r.invocations) is_any (λ i. i.id) (state S.Store conn.old).now.trees es.items) }
+    ensures foreign { HasCleanDisk (state S.Store conn.new) → IfErr result (λ e. e ≡ ReadError.Foreign → IsUnarranged (λ r. r.invocations) is_any (λ i. i.id) (state S.Store conn.old).now.trees) }
     ensures kept { IsKept (state S.Store conn.old) (state S.Store conn.new) }
     ensures store { IsStore (state S.Store conn.new) }
     ensures idle { (state S.Store conn.new).in_transaction ≡ false }
