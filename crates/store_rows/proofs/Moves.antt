@@ -17,10 +17,11 @@ abbrev pub Moves : (Records → Records) → State → State → Type 0
 Moves change old new = (new.now.schema ≡ store_schema) × Turns change old.now.trees new.now.trees
 
 pub step_of : (change : Records → Records) (sql : List ℕ) (params : Row) (old new : State) → HasRun sql params old new → Moves change old new → Steps change old new
-step_of change sql params old new ran moved = record { schema = moved.0; inside = ran.inside; records = moved.1 }
+step_of change sql params old new ran moved = record { was_open = ran.was_open; schema = moved.0; inside = ran.inside; records = moved.1 }
 
 pub steps_then : (f g : Records → Records) (a b c : State) → Steps f a b → Steps g b c → Steps (λ r. g (f r)) a c
 steps_then f g a b c one two = record {
+  was_open = one.was_open;
   schema = two.schema;
   inside = two.inside;
   records = λ r h. two.records (f r) (one.records r h);
@@ -32,7 +33,11 @@ applied_last (v ∷ ws) w r = applied_last ws w (applied v r)
 
 pub steps_on : (ws : List Write) (w : Write) (a b c : State) → Steps (applied_all ws) a b → Steps (applied w) b c → Steps (applied_all (ws ++ w ∷ [])) a c
 steps_on ws w a b c one two = record {
+  was_open = one.was_open;
   schema = two.schema;
   inside = two.inside;
   records = λ r h. rw applied_last (two.records (applied_all ws r) (one.records r h));
 }
+
+pub turns_on : (ws : List Write) (w : Write) (a b c : Trees) → Turns (applied_all ws) a b → Turns (applied w) b c → Turns (applied_all (ws ++ w ∷ [])) a c
+turns_on ws w a b c one two = λ r h. rw applied_last (two (applied_all ws r) (one r h))

@@ -1,10 +1,10 @@
 -- What a call does to the records.
-use Rattle.std.specs.Prelude.{◌≡◌, [], Result, Ok, Err, IsTrue}
+use Rattle.std.specs.Prelude.{◌≡◌, ◌⊎◌, List, [], Result, Ok, Err, IsTrue}
 use Rattle.sqlite_trees.specs.Tree.{Trees}
 use Rattle.sqlite.specs.State.{State, HasCleanDisk}
 use Rattle.sql_tables.specs.declared.read.ReadError.{ReadError}
 use Rattle.sql_tables.specs.declared.read.ReadError.TheVariants.{Foreign}
-use Rattle.store_rows.specs.Records.{Records, Holds}
+use Rattle.store_rows.specs.Records.{Records, Write, Holds, applied_all}
 use Rattle.store_rows.specs.Tables.{store_schema}
 
 -- whatever records the tables had, they have the changed ones then
@@ -13,6 +13,7 @@ Turns change old new = (r : Records) → Holds old r → Holds new (change r)
 
 -- inside a transaction the records are changed so
 pub record Steps (change : Records → Records) (old new : State) : Type 0 where
+  pub was_open : IsTrue old.is_open
   pub schema : new.now.schema ≡ store_schema
   pub inside : IsTrue new.in_transaction
   pub records : Turns change old.now.trees new.now.trees
@@ -34,9 +35,12 @@ pub record IsMade (s : State) : Type 0 where
   pub inside : IsTrue s.in_transaction
   pub bare : AreBare s.now.trees
 
--- where the connection was open, the records are changed so
-abbrev pub Lands : (Records → Records) → State → Trees → Type 0
-Lands change old trees = IsTrue old.is_open → Turns change old.now.trees trees
+-- the connection was open, unless nothing was to be written, and the records are changed so
+abbrev pub WasOpen : List Write → State → Type 0
+WasOpen writes s = (writes ≡ []) ⊎ IsTrue s.is_open
+
+abbrev pub Lands : List Write → State → Trees → Type 0
+Lands writes old trees = WasOpen writes old × Turns (applied_all writes) old.now.trees trees
 
 -- a question that was answered, or that met a foreign row, was asked of an open connection
 abbrev pub WasAsked : {A : Type 0} → Result A ReadError → State → Type 0

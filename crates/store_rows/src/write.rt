@@ -243,7 +243,7 @@ pub fn commit_all<S: Alter>(conn: &mut Connection<S>, writes: &[Write]) -> Resul
     ensures undone { OnErr result (IsKept (state S.Store conn.old) (state S.Store conn.new)) }
     ensures store { IsStore (state S.Store conn.new) }
     ensures idle { (state S.Store conn.new).in_transaction ≡ false }
-    ensures crash { Survives (state S.Store conn.old) (state S.Store conn.new) (Lands (applied_all writes.now) (state S.Store conn.old)) }
+    ensures crash { Survives (state S.Store conn.old) (state S.Store conn.new) (Lands writes.now (state S.Store conn.old)) }
 {
     let _settled = conn.is_autocommit();
     let mut tx = conn.transaction();

@@ -2,7 +2,7 @@ use Rattle.std.proofs.Common.{◌≡◌, take, IsTrue}
 use Rattle.sqlite.specs.Held.{state}
 use Rattle.sqlite.specs.State.{HasCleanDisk, KeepsCommit, Survives}
 use Rattle.store_rows.specs.Records.{applied_all}
-use Rattle.store_rows.specs.Steps.{Steps}
+use Rattle.store_rows.specs.Steps.{Steps, Turns, WasOpen}
 use Rattle.store_rows.proofs.write.commit_all.Given as goal
 
 abbrev pub invariant-loop-write : goal.invariant-loop-write
@@ -13,5 +13,7 @@ invariant-loop-write g l =
       same_reference : l.tx.conn.ghost_name ≡ l.initial.tx.conn.ghost_name;
       survives : Survives old now (λ _. ⊥);
       kept : HasCleanDisk now → KeepsCommit old now;
+      opened : HasCleanDisk now → WasOpen (take l.write-index l.writes) old;
+      turns : HasCleanDisk now → Turns (applied_all (take l.write-index l.writes)) old.now.trees now.now.trees;
       steps : HasCleanDisk now → IsTrue old.is_open → Steps (applied_all (take l.write-index l.writes)) old now;
     }
