@@ -57,6 +57,10 @@ all_other id (event ∷ earlier) accepted none =
 
 -- ---- so nothing was done
 
+pub no_frames_of : (id : Text) (events : List Event) → IsAccepted events → invocation_begun events id ≡ None → frames_of events id ≡ []
+no_frames_of id events accepted none =
+    ap (λ (own : List Event). filter_map frame_of own) (filter_nothing (is_of id) events (all_other id events accepted none))
+
 begins_none : (event : Event) (id : Text) → is_of id event ≡ false → begins_attempt id event ≡ false
 begins_none (Event.Begin other now) id e = e
 begins_none _ id e = refl
