@@ -1,0 +1,4 @@
+pub mod Waiting
+pub mod Completing
+pub mod Framing
+pub mod Written

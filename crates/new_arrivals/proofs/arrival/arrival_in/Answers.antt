@@ -1,0 +1,28 @@
+use Rattle.std.proofs.Common.{◌≡◌, ◌∙◌, ◌∷◌, [], sym, ap, subst, arith, refl, ◌^◌, ◌-◌, ◌<◌, nat_lt, List}
+use Rattle.journal_model.specs.Spelling.{frame_bytes, notification_payload}
+use Rattle.journal_model.specs.Cause.{Cause, is_too_long, those_that_hold}
+use Rattle.journal_protocol.specs.MessageType.{number_of}
+use Rattle.store_refusals.specs.Refused.{IsRefused}
+use Rattle.new_invocations.proofs.Refusing.{decided_later, first_of_two, none_of_one, refused_memory}
+use Rattle.new_arrivals.specs.Arrivals.{IsArrival, arrival_tests, payload_tests}
+use Rattle.new_arrivals.proofs.Framing.{long_enough, not_used_up, used_up}
+use Rattle.new_arrivals.proofs.Written.{arrival_made}
+use Rattle.new_arrivals.proofs.arrival.arrival_in.Goals as goal
+
+pub arrival_with-requires-clause-framed : goal.arrival_with-requires-clause-framed
+arrival_with-requires-clause-framed c = long_enough _ (notification_payload c.args.arrival) c.in-Ok.frame c.in-Ok.ensures.1
+
+pub returns-in_ok-made-in-Ok : goal.returns-in_ok-made-in-Ok
+returns-in_ok-made-in-Ok c = (
+  c.in-Ok.ensures.0,
+  subst (λ kind. IsArrival c.args.row kind c.args.arrival c.in_ok-made-in-Ok.made) c.from-kind.ensures
+      (arrival_made c.args.row _ c.args.arrival c.in-Ok.frame c.in_ok-made-in-Ok.made c.in-Ok.ensures.1 (rw c.answered_id-answered.ensures at c.in_ok-made-in-Ok.ensures)),
+)
+
+pub returns-in_err-made-in-Ok : goal.returns-in_err-made-in-Ok
+returns-in_err-made-in-Ok c =
+    refused_memory (payload_tests (notification_payload c.args.arrival)) (IsArrival c.args.row (number_of c.args.ty) c.args.arrival)
+    c.from_residual.result c.from_residual.ensures.1
+
+pub returns-in-Err : goal.returns-in-Err
+returns-in-Err c = c.in-Err.ensures

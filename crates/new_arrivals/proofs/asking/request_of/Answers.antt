@@ -1,0 +1,45 @@
+use Rattle.std.proofs.Common.{◌≡◌, ◌∙◌, sym, ap, subst, arith, inl, inr, refl, List, Option, None, Some, IsTrue}
+use Rattle.sqlite.specs.Held.{state}
+use Rattle.sqlite.specs.State.{State, HasCleanDisk}
+use Rattle.std.proofs.Common.{option_map, option_and_then, []}
+use Rattle.journal_model.specs.Journal.{entries_of, request_asking}
+use Rattle.store_refusals.specs.Refused.{IsRefused}
+use Rattle.new_invocations.proofs.Reading.{told_err}
+use Rattle.new_invocations.proofs.Standing.{kept_on, store_kept, survives_on}
+use Rattle.new_arrivals.specs.Asked.{as_second, asked_by, first_kind, second_kind}
+use Rattle.new_arrivals.proofs.Waiting.{first_asked, second_asked}
+use Rattle.new_arrivals.proofs.asking.request_of.Goals as goal
+
+pub returns-in_err-first-clause-told : goal.returns-in_err-first-clause-told
+returns-in_err-first-clause-told g c clean events store =
+    let id = c.args.id.now in
+    let n = c.args.completion in
+    told_err (λ asked. asked ≡ option_map (asked_by n) (request_asking (entries_of events id) n)) c.from_residual.result c.from_residual.ensures.1 (λ why gives.
+    subst (IsRefused []) (sym gives) (c.in_err-first.ensures.told clean events store))
+
+pub returns-in-Some-clause-told : goal.returns-in-Some-clause-told
+returns-in-Some-clause-told g c clean events store =
+    let id = c.args.id.now in
+    let n = c.args.completion in
+    first_asked n (request_asking (entries_of events id) n) c.in-Some.kind (sym c.in-Some.is ∙ c.in_ok-first.ensures.told clean events store)
+
+pub returns-in_err-second-in-None-clause-told : goal.returns-in_err-second-in-None-clause-told
+returns-in_err-second-in-None-clause-told g c clean events store =
+    let old : State = state g.S.Store c.args.conn.now in
+    let mid : State = state g.S.Store c.first_kind.new.conn in
+    let id = c.args.id.now in
+    let n = c.args.completion in
+    let stands = store_kept events old mid c.first_kind.ensures.crash c.first_kind.ensures.kept store in
+    told_err (λ asked. asked ≡ option_map (asked_by n) (request_asking (entries_of events id) n)) c.from_residual-in_err-second-in-None.result c.from_residual-in_err-second-in-None.ensures.1 (λ why gives.
+    subst (IsRefused []) (sym gives) (c.in_err-second-in-None.ensures.told clean events stands))
+
+pub returns-in_ok-second-in-None-clause-told : goal.returns-in_ok-second-in-None-clause-told
+returns-in_ok-second-in-None-clause-told g c clean events store =
+    let old : State = state g.S.Store c.args.conn.now in
+    let mid : State = state g.S.Store c.first_kind.new.conn in
+    let early : HasCleanDisk mid = omega (arith, c.second_kind.ensures.crash.clean) in
+    let id = c.args.id.now in
+    let n = c.args.completion in
+    let stands = store_kept events old mid c.first_kind.ensures.crash c.first_kind.ensures.kept store in
+    let none = sym c.in-None.is ∙ c.in_ok-first.ensures.told early events store in
+    c.asked_second.ensures ∙ ap (option_map as_second) (c.in_ok-second-in-None.ensures.told clean events stands) ∙ second_asked n (entries_of events id) none

@@ -1,0 +1,132 @@
+//! What the result of a request makes ready.
+
+ghost use Rattle.std.specs.Prelude.{◌≡◌, false, List};
+ghost use Rattle.sqlite.specs.Held.{state};
+ghost use Rattle.sqlite.specs.State.{HasCleanDisk, Survives};
+ghost use Rattle.journal_model.specs.declared.notification.NotificationId.TheVariants.{CompletionId as ModelId};
+ghost use Rattle.journal_model.specs.Event.{Event};
+ghost use Rattle.journal_model.specs.Journal.{completion as arrival_of, entries_of};
+ghost use Rattle.journal_model.specs.Attempt.{notification_type};
+ghost use Rattle.journal_model.specs.Cause.{own_tests};
+ghost use Rattle.journal_protocol.specs.MessageType.{number_of};
+ghost use Rattle.sql_tables.specs.Asking.{IsKept};
+ghost use Rattle.store_rows.specs.Steps.{IsStore};
+ghost use Rattle.store_refusals.specs.Prepared.{Prepares};
+ghost use Rattle.new_invocations.specs.Rows.{Decides, IsRowOf, IsStoreOf};
+ghost use Rattle.new_arrivals.specs.Arrivals.{IsMadeReady};
+ghost use Rattle.new_arrivals.specs.Asked.{TypeGiven, completion_tests};
+
+use crate::arrival::{PreparedArrival, prepare_arrival};
+use crate::asking::{AskedCompletion, open_request_of};
+use bytes::ByteStr;
+use journal_model::{Notification, NotificationId, NotificationResult};
+use journal_protocol::MessageType;
+use new_invocations::open_row;
+use sqlite::{Alter, Connection};
+use std::alloc::Global;
+use store_refusals::Refusal;
+use store_rows::InvocationRow;
+
+impl AskedCompletion {
+    /// The type of the notification by which it is given this, if it may be.
+    fn type_of(self, brought: &NotificationResult) -> Result<MessageType, Refusal>
+        ensures { TypeGiven self brought.now result }
+    {
+        match self.completed_by() {
+            Some(ty) => {
+                if self.may_be_given(brought) {
+                    Ok(ty)
+                } else {
+                    Err(Refusal::WrongKind)
+                }
+            }
+            None => Err(Refusal::WrongKind),
+        }
+    }
+}
+
+/// The type of the notification by which an open completion is given this.
+fn type_of_result<S: Alter>(
+    alloc: Global,
+    conn: &mut Connection<S>,
+    id: &ByteStr,
+    completion: u32,
+    brought: &NotificationResult,
+) -> Result<MessageType, Refusal>
+    requires store { IsStore (state S.Store conn.old) }
+    requires idle { (state S.Store conn.old).in_transaction ≡ false }
+    ensures decided { HasCleanDisk (state S.Store conn.new) → (events : List Event) → IsStoreOf events (state S.Store conn.old)
+        → Decides (completion_tests events id.now completion brought.now) (λ ty. number_of ty ≡ notification_type (entries_of events id.now) (ModelId completion)) result }
+    ensures kept { IsKept (state S.Store conn.old) (state S.Store conn.new) }
+    ensures store { IsStore (state S.Store conn.new) }
+    ensures idle { (state S.Store conn.new).in_transaction ≡ false }
+    ensures crash { Survives (state S.Store conn.old) (state S.Store conn.new) (λ _. ⊥) }
+{
+    let open = open_request_of(alloc, conn, id, completion)?;
+    match open {
+        Some(asked) => asked.type_of(brought),
+        None => Err(Refusal::CompletionNotOpen),
+    }
+}
+
+/// What a result makes ready, of the open invocation that has this row.
+fn prepare_for<S: Alter>(
+    alloc: Global,
+    conn: &mut Connection<S>,
+    row: InvocationRow,
+    id: &ByteStr,
+    completion: u32,
+    brought: NotificationResult,
+) -> Result<PreparedArrival, Refusal>
+    requires store { IsStore (state S.Store conn.old) }
+    requires idle { (state S.Store conn.old).in_transaction ≡ false }
+    ensures decided { HasCleanDisk (state S.Store conn.new) → (events : List Event) → IsStoreOf events (state S.Store conn.old) → IsRowOf events id.now row
+        → Decides (own_tests events (Event.Complete id.now completion brought)) (IsMadeReady events (Event.Complete id.now completion brought) id.now (arrival_of completion brought)) result }
+    ensures kept { IsKept (state S.Store conn.old) (state S.Store conn.new) }
+    ensures store { IsStore (state S.Store conn.new) }
+    ensures idle { (state S.Store conn.new).in_transaction ≡ false }
+    ensures crash { Survives (state S.Store conn.old) (state S.Store conn.new) (λ _. ⊥) }
+{
+    match type_of_result(alloc, conn, id, completion, &brought) {
+        Ok(ty) => prepare_arrival(
+            alloc,
+            row,
+            ty,
+            Notification {
+                id: NotificationId::CompletionId(completion),
+                result: brought,
+            },
+        ),
+        Err(why) => {
+            drop(row);
+            drop(brought);
+            Err(why)
+        }
+    }
+}
+
+/// What a result of a recorded request makes ready, or why it is refused: its entry, and its frame for a live attempt.
+pub fn prepare_result<S: Alter>(
+    alloc: Global,
+    conn: &mut Connection<S>,
+    id: &ByteStr,
+    completion: u32,
+    brought: NotificationResult,
+) -> Result<PreparedArrival, Refusal>
+    requires store { IsStore (state S.Store conn.old) }
+    requires idle { (state S.Store conn.old).in_transaction ≡ false }
+    ensures prepared { HasCleanDisk (state S.Store conn.new) → (events : List Event) → IsStoreOf events (state S.Store conn.old)
+        → Prepares events (Event.Complete id.now completion brought) (IsMadeReady events (Event.Complete id.now completion brought) id.now (arrival_of completion brought)) result }
+    ensures kept { IsKept (state S.Store conn.old) (state S.Store conn.new) }
+    ensures store { IsStore (state S.Store conn.new) }
+    ensures idle { (state S.Store conn.new).in_transaction ≡ false }
+    ensures crash { Survives (state S.Store conn.old) (state S.Store conn.new) (λ _. ⊥) }
+{
+    match open_row(alloc, conn, id) {
+        Ok(row) => prepare_for(alloc, conn, row, id, completion, brought),
+        Err(why) => {
+            drop(brought);
+            Err(why)
+        }
+    }
+}
