@@ -12,4 +12,4 @@ mod record;
 mod tree;
 
 pub use frame::{AttemptFrame, ErrorBehavior, RecordedCommand};
-pub use read::read_frame;
+pub use read::{read_frame, read_frame_at};

@@ -12,7 +12,7 @@ use crate::kind::{FrameKind, kind_of, record_of};
 use crate::record::{FIRST_WITH_TREES, FrameRecord};
 use call_records::CallCommandMessage;
 use control_records::ErrorMessage;
-use journal_protocol::{MessageType, RawMessage};
+use journal_protocol::{MessageHeader, MessageType, RawMessage};
 use protocol_records::{
     OutputCommandMessage, SleepCommandMessage, SuspensionMessage, SuspensionMessageV6,
 };
@@ -101,6 +101,19 @@ fn read_payload(
         FrameKind::End => Ok(unless_faulty(RecordType::End, payload, AttemptFrame::End)),
         FrameKind::Other => Ok(read_other(ty, payload)),
     }
+}
+
+/// The frame that a message from an attempt of this version of the protocol is, whose payload is looked at in its place. An
+/// `Err` is for want of memory alone.
+pub fn read_frame_at(
+    alloc: Global,
+    version: u32,
+    header: MessageHeader,
+    payload: &[u8],
+) -> Result<AttemptFrame, AllocError>
+    ensures { IfOk result (IsFrame (frame_of version (record { header = header; payload = payload.now }))) }
+{
+    read_payload(alloc, version, header.message_type(), payload)
 }
 
 /// The frame that a message from an attempt of this version of the protocol is. An `Err` is for want of memory alone.

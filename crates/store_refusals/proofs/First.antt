@@ -1,0 +1,17 @@
+-- The first test that holds.
+use Rattle.std.proofs.Common.{◌≡◌, refl, Bool, true, false, if◌then◌else◌, List, [], ◌∷◌, ◌++◌, Option, Some, None}
+use Rattle.journal_model.specs.Cause.{Cause, Tests, those_that_hold}
+use Rattle.store_refusals.specs.declared.refusal.Refusal.{Refusal}
+use Rattle.store_refusals.specs.Refused.{refusal_of, first_of, refusal_by}
+
+-- the least cause is that of the first test that holds
+pub first_holds : (tests : Tests) → first_of (those_that_hold tests) ≡ refusal_by tests
+first_holds [] = refl
+first_holds ((true, cause) ∷ tests) = refl
+first_holds ((false, cause) ∷ tests) = first_holds tests
+
+-- none holds
+pub none_holds : (tests : Tests) → refusal_by tests ≡ None → those_that_hold tests ≡ []
+none_holds [] eq = refl
+none_holds ((true, cause) ∷ tests) eq = cc
+none_holds ((false, cause) ∷ tests) eq = none_holds tests eq
