@@ -1,5 +1,5 @@
 -- The attempts since the last entry are among all that were begun.
-use Rattle.std.proofs.Common.{◌≡◌, ap, ap₂, subst, sym, ◌∙◌, ℕ, ◌+◌, ◌≤◌, arith, Bool, true, false, if◌then◌else◌, List, [], ◌∷◌, ◌++◌, length, length-append, bytes_eq}
+use Rattle.std.proofs.Common.{ℕ, ◌+◌, ◌≤◌, arith, Bool, true, false, if◌then◌else◌, List, [], ◌∷◌, ◌++◌, length, length-append, bytes_eq}
 use Rattle.journal_model.specs.Notification.{Text}
 use Rattle.journal_model.specs.State.{StateMap}
 use Rattle.journal_model.specs.Event.{Event}

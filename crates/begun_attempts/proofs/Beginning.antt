@@ -1,5 +1,5 @@
 -- What is made ready of the row of an open invocation is what the definitions say of its events.
-use Rattle.std.proofs.Common.{◌≡◌, refl, sym, ap, ap₂, subst, ◌∙◌, ℕ, suc, arith, ◌+◌, ◌-◌, ◌==◌, Bool, true, false, if◌then◌else◌, List, [], ◌∷◌, ◌++◌, append-nil, length, map, Option, Some, None, option_map, unwrap_or}
+use Rattle.std.proofs.Common.{◌≡◌, refl, sym, ap, ◌∙◌, ℕ, suc, arith, ◌+◌, ◌-◌, ◌==◌, Bool, if◌then◌else◌, List, [], ◌∷◌, ◌++◌, append-nil, length, map, Option, Some, None, option_map, unwrap_or}
 use Rattle.std.proofs.lemmas.Bool.{ne_eqb}
 use Rattle.journal_model.specs.Notification.{Bytes, Text}
 use Rattle.journal_model.specs.State.{StateMap}
@@ -22,7 +22,7 @@ use Rattle.progress_steps.specs.Steps.{after_begin}
 use Rattle.progress_steps.proofs.Following.{follows}
 use Rattle.new_invocations.specs.Rows.{IsRowOf}
 use Rattle.begun_attempts.specs.Begun.{shown_states}
-use Rattle.begun_attempts.specs.Start.{partial_number, since_first, start_of, state_bytes}
+use Rattle.begun_attempts.specs.Start.{partial_number, start_of, state_bytes}
 
 -- ---- the start
 

@@ -1,5 +1,5 @@
 -- The eight bytes of a header.
-use Rattle.std.proofs.Common.{◌≡◌, ◌∙◌, ℕ, ◌+◌, ◌*◌, ◌/◌, ◌%◌, ◌^◌, ◌<◌, List, [], ◌∷◌, arith}
+use Rattle.std.proofs.Common.{◌≡◌, ◌∙◌, ℕ, ◌+◌, ◌*◌, ◌/◌, ◌%◌, ◌^◌, ◌<◌, [], ◌∷◌, arith}
 use Rattle.std.specs.Int.{w64, to_be_bytes}
 use Rattle.journal_model.specs.Spelling.{header_bytes}
 

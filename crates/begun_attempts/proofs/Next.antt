@@ -1,6 +1,6 @@
 -- The next attempt of an open invocation, by its row.
-use Rattle.std.proofs.Common.{◌≡◌, refl, sym, ap, subst, ◌∙◌, inl, inr, ℕ, ◌+◌, ◌-◌, ◌<◌, ◌≤◌, ◌^◌, nat_le, true, false, List, [], ◌∷◌, Some, arith}
-use Rattle.std.proofs.lemmas.Bool.{cases_Bool, leb-true, leb-false}
+use Rattle.std.proofs.Common.{◌≡◌, refl, sym, ap, subst, ◌∙◌, inl, inr, ℕ, ◌+◌, ◌-◌, ◌<◌, ◌≤◌, ◌^◌, nat_le, List, [], ◌∷◌, arith}
+use Rattle.std.proofs.lemmas.Bool.{cases_Bool, leb-false}
 use Rattle.journal_model.specs.Notification.{Bytes, Text}
 use Rattle.journal_model.specs.Event.{Event}
 use Rattle.journal_model.specs.Spelling.{frame_bytes}
@@ -10,7 +10,6 @@ use Rattle.journal_model.specs.Cause.{Cause, those_that_hold, own_tests}
 use Rattle.store_rows.specs.declared.row.InvocationRow.{InvocationRow}
 use Rattle.store_rows.specs.declared.row.Progress.{Progress}
 use Rattle.store_rows.specs.declared.row.Write.TheVariants.{SetProgress}
-use Rattle.store_model.specs.Progress.{progress_of}
 use Rattle.store_model.specs.Kept.{journal_rows}
 use Rattle.store_lookups.specs.Lookups.{row_frame}
 use Rattle.progress_steps.specs.Steps.{after_begin}

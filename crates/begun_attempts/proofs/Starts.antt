@@ -1,5 +1,5 @@
 -- The record of a start is spelled so.
-use Rattle.std.proofs.Common.{◌≡◌, ℕ, Bool, true, false, not, List, [], ◌∷◌, ◌++◌, map, Option, None, refl, ap, ◌∙◌, append-nil}
+use Rattle.std.proofs.Common.{◌≡◌, ℕ, Bool, true, false, not, List, [], ◌∷◌, ◌++◌, map, None, refl, ap, ◌∙◌, append-nil}
 use Rattle.journal_model.specs.Spelling as model
 use Rattle.protocol_wire.specs.Parts.{Part, payload_of, part_spelling, bool_number, plain_number}
 use Rattle.protocol_records.specs.StateEntry.{state_entry_parts}

@@ -1,14 +1,14 @@
 -- What is read where records are kept, and what is decided from it.
-use Rattle.std.proofs.Common.{◌≡◌, refl, sym, subst, ◌∙◌, inl, inr, ℕ, ◌+◌, ◌≤◌, ◌^◌, nat_le, Bool, true, false, List, [], ◌∷◌, map, Result, Ok, Err, IsErrAnd, IsTrue, arith}
-use Rattle.std.proofs.lemmas.Bool.{cases_Bool, leb-true, leb-false}
+use Rattle.std.proofs.Common.{◌≡◌, refl, ◌∙◌, inl, inr, ℕ, ◌+◌, ◌≤◌, nat_le, List, [], ◌∷◌, map, Result, Ok, Err, IsErrAnd, IsTrue, arith}
+use Rattle.std.proofs.lemmas.Bool.{cases_Bool, leb-true}
 use Rattle.sqlite.specs.State.{State}
 use Rattle.journal_model.specs.Notification.{Text}
 use Rattle.journal_model.specs.Event.{Event}
 use Rattle.journal_model.specs.Journal.{object_state}
-use Rattle.journal_model.specs.Cause.{Cause, Tests, those_that_hold, open_tests, own_tests}
+use Rattle.journal_model.specs.Cause.{Cause, those_that_hold, open_tests, own_tests}
 use Rattle.sql_tables.specs.declared.read.ReadError.{ReadError}
 use Rattle.sql_tables.specs.declared.read.ReadError.TheVariants.{Refused, Foreign, OutOfMemory}
-use Rattle.store_rows.specs.Records.{Records, is_of_object}
+use Rattle.store_rows.specs.Records.{is_of_object}
 use Rattle.store_rows.specs.declared.row.EntryRow.{EntryRow}
 use Rattle.store_rows.specs.declared.row.StateRow.{StateRow}
 use Rattle.store_rows.specs.Orders.{IsArranged, IsUnarranged}
@@ -17,7 +17,7 @@ use Rattle.store_model.specs.Kept.{journal_rows, state_row}
 use Rattle.store_lookups.proofs.Finding.{all_found}
 use Rattle.store_refusals.specs.declared.refusal.Refusal.{Refusal}
 use Rattle.store_refusals.specs.Refused.{IsRefused, is_circumstance, reading_refusal}
-use Rattle.store_refusals.specs.Prepared.{Keeps, Prepares, Tells}
+use Rattle.store_refusals.specs.Prepared.{Keeps, Prepares}
 use Rattle.new_invocations.specs.Rows.{Decides}
 use Rattle.new_invocations.proofs.Refusing.{none_of_both, refused_later, refused_more}
 

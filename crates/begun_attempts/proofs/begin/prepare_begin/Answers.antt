@@ -1,4 +1,4 @@
-use Rattle.std.proofs.Common.{◌∙◌, sym, subst, arith}
+use Rattle.std.proofs.Common.{sym, subst, arith}
 use Rattle.sqlite.specs.Held.{state}
 use Rattle.journal_model.specs.Cause.{open_tests, those_that_hold}
 use Rattle.store_refusals.specs.Refused.{IsRefused}

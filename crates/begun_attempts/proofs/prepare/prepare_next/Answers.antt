@@ -1,10 +1,10 @@
-use Rattle.std.proofs.Common.{◌≡◌, ◌∙◌, ℕ, ◌+◌, ◌<◌, ◌^◌, refl, sym, subst, arith, inr}
+use Rattle.std.proofs.Common.{◌+◌, ◌<◌, ◌^◌, refl, sym, subst, arith, inr}
 use Rattle.journal_model.specs.Event.{Event}
 use Rattle.journal_model.specs.Cause.{own_tests, those_that_hold}
 use Rattle.store_refusals.specs.Refused.{IsRefused}
 use Rattle.new_invocations.proofs.Reading.{decided_err}
 use Rattle.begun_attempts.specs.Begun.{IsBegun}
-use Rattle.begun_attempts.proofs.Next.{among, next_made, next_none, next_refused, next_used_up}
+use Rattle.begun_attempts.proofs.Next.{among, next_made, next_none, next_refused}
 use Rattle.begun_attempts.proofs.prepare.prepare_next.Goals as goal
 
 pub returns-clause-decided : goal.returns-clause-decided

@@ -1,4 +1,4 @@
-use Rattle.std.proofs.Common.{◌≡◌, ◌∙◌, [], sym, subst, arith, inr}
+use Rattle.std.proofs.Common.{◌≡◌, [], sym, subst, arith, inr}
 use Rattle.sqlite.specs.Held.{state}
 use Rattle.sqlite.specs.State.{State, HasCleanDisk}
 use Rattle.new_invocations.proofs.Reading.{told_err}
