@@ -1,0 +1,8 @@
+pub mod Attempts
+pub mod Beginning
+pub mod Headers
+pub mod Lengths
+pub mod Next
+pub mod ShortKinds
+pub mod Starts
+pub mod Telling
