@@ -20,6 +20,6 @@ abbrev pub LeavesState : Frame → Type 0
 LeavesState (Frame.Command request) = is_of_state request ≡ false
 LeavesState _ = Unit {0}
 
--- of the messages of attempts each that is read as a frame is one of these
+-- every message from an attempt is read as one of these
 abbrev pub AllLeaveState : Type 0
 AllLeaveState = (version : ℕ) (message : RawMessage) → LeavesState (frame_of version message)
