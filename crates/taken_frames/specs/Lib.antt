@@ -1,0 +1,4 @@
+pub mod Live
+pub mod Stateless
+pub mod Told
+pub mod Taken

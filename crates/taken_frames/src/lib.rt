@@ -1,0 +1,17 @@
+//! What is made ready of a frame that an attempt has written: why it is refused, or what is written of it and how it is answered.
+//!
+//! `prepare_frame` reads the invocation's row and decides; nothing is written yet. What it makes ready is stated by the accepted
+//! events of which the database keeps the records.
+#![tactic(auto)]
+
+mod end;
+mod frame;
+mod laws;
+mod prepare;
+mod refuse;
+mod write;
+
+pub use end::refusal_ends_attempt;
+pub use frame::{FrameReply, LiveFacts, PreparedFrame};
+pub use laws::{frames_leave_state, live_are_open};
+pub use prepare::prepare_frame;

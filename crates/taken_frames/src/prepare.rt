@@ -1,0 +1,88 @@
+// Taking a frame of a live attempt: what is asked of the database, and what is decided by it.
+ghost use Rattle.std.specs.Prelude.{◌≡◌, false, List, IfErr, IfOk};
+ghost use Rattle.sqlite.specs.Held.{state};
+ghost use Rattle.sqlite.specs.State.{HasCleanDisk, Survives};
+ghost use Rattle.sql_tables.specs.Asking.{IsKept};
+ghost use Rattle.store_rows.specs.Steps.{IsStore};
+ghost use Rattle.journal_model.specs.Event.{Event};
+ghost use Rattle.store_refusals.specs.Prepared.{Keeps};
+ghost use Rattle.taken_frames.specs.Taken.{IsMade, IsWhy, Takes};
+
+use crate::frame::{LiveFacts, PreparedFrame};
+use crate::refuse::frame_refusal;
+use crate::write::{frame_writes, reply_to};
+use attempt_frames::AttemptFrame;
+use bytes::ByteStr;
+use sqlite::{Alter, Connection};
+use std::alloc::Global;
+use store_refusals::Refusal;
+use store_rows::{InvocationRow, Progress, invocation_by_id};
+
+/// What is made ready of a frame, by how far its invocation is.
+fn decide(
+    alloc: Global,
+    id: &ByteStr,
+    version: u32,
+    progress: Progress,
+    attempt: LiveFacts,
+    frame: AttemptFrame,
+) -> Result<PreparedFrame, Refusal>
+    ensures ok { IfOk result (IsMade id.now version progress attempt frame) }
+    ensures err { IfErr result (IsWhy progress attempt frame) }
+{
+    match frame_refusal(&progress, attempt, &frame) {
+        Some(refusal) => {
+            drop(progress);
+            drop(frame);
+            Err(refusal)
+        }
+        None => {
+            let reply = reply_to(&progress, &frame);
+            let writes = frame_writes(alloc, id, version, attempt.handed, progress, frame)?;
+            Ok(PreparedFrame { writes, reply })
+        }
+    }
+}
+
+fn decide_by_row(
+    alloc: Global,
+    id: &ByteStr,
+    row: InvocationRow,
+    attempt: LiveFacts,
+    frame: AttemptFrame,
+) -> Result<PreparedFrame, Refusal>
+    ensures ok { IfOk result (IsMade id.now row.version row.progress attempt frame) }
+    ensures err { IfErr result (IsWhy row.progress attempt frame) }
+{
+    decide(alloc, id, row.version, row.progress, attempt, frame)
+}
+
+/// Decides on a frame that the live attempt of the invocation has written, and makes ready what is written of it. The row of the
+/// invocation is all that is read. Whether the attempt is live is the caller's to know.
+pub fn prepare_frame<S: Alter>(
+    alloc: Global,
+    conn: &mut Connection<S>,
+    id: &ByteStr,
+    attempt: LiveFacts,
+    frame: AttemptFrame,
+) -> Result<PreparedFrame, Refusal>
+    requires store { IsStore (state S.Store conn.old) }
+    requires idle { (state S.Store conn.old).in_transaction ≡ false }
+    ensures prepared { HasCleanDisk (state S.Store conn.new) → (events : List Event) → Keeps events (state S.Store conn.old) → Takes events id.now attempt frame result }
+    ensures kept { IsKept (state S.Store conn.old) (state S.Store conn.new) }
+    ensures store { IsStore (state S.Store conn.new) }
+    ensures idle { (state S.Store conn.new).in_transaction ≡ false }
+    ensures crash { Survives (state S.Store conn.old) (state S.Store conn.new) (λ _. ⊥) }
+{
+    match invocation_by_id(alloc, conn, id) {
+        Ok(Some(row)) => decide_by_row(alloc, id, row, attempt, frame),
+        Ok(None) => {
+            drop(frame);
+            Err(Refusal::UnknownInvocation)
+        }
+        Err(error) => {
+            drop(frame);
+            Err(Refusal::from(error))
+        }
+    }
+}
