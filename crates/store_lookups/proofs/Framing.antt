@@ -120,7 +120,7 @@ found_before p (x ∷ xs) ys e = by_test (p x) e (found_before p xs ys)
     by_test true e later = refl
     by_test false e later = later e
 
-kind_stays : (before more : List Entry) (id : NotificationId) → ((n : ℕ) → same_id id (CompletionId n) ≡ true → is_asked n before ≡ true)
+pub kind_stays : (before more : List Entry) (id : NotificationId) → ((n : ℕ) → same_id id (CompletionId n) ≡ true → is_asked n before ≡ true)
     → notification_type before id ≡ notification_type (before ++ more) id
 kind_stays before more (CompletionId n) h =
     ap (λ (o : Option Request). type_of_completion o n)
