@@ -1,0 +1,14 @@
+-- What stands first of an attempt's bytes.
+use Rattle.std.specs.Prelude.{◌≡◌, ℕ, ◌+◌, ◌≤◌, List, length, drop, Some, None}
+use Rattle.journal_protocol.specs.declared.message_type.UnknownMessageType.{UnknownMessageType}
+use Rattle.journal_protocol.specs.Item.{item_at, unknown, message}
+use Rattle.live_attempts.specs.declared.output.FirstItem.{FirstItem}
+use Rattle.live_attempts.specs.declared.output.FirstItem.TheVariants.{Partial, Unknown, Frame}
+
+-- the first item of the bytes, as it is seen in its place
+abbrev pub IsFirst : List ℕ → FirstItem → Type 0
+IsFirst bytes Partial = item_at bytes ≡ None
+IsFirst bytes Unknown = (ty : UnknownMessageType) × (item_at bytes ≡ Some (unknown ty, drop 8 bytes))
+IsFirst bytes (Frame header payload) =
+    (8 + length payload.now ≤ length bytes)
+    × (item_at bytes ≡ Some (message (record { header = header; payload = payload.now }), drop (8 + length payload.now) bytes))

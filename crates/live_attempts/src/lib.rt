@@ -1,0 +1,13 @@
+//! The attempts that are live, which are kept in memory alone: of each, the input that it has still to be handed, and the
+//! output that came and was not taken.
+#![tactic(auto)]
+
+mod attempt;
+mod attempts;
+mod input;
+mod output;
+
+pub use attempt::LiveAttempt;
+pub use attempts::LiveAttempts;
+pub use input::{AttemptInput, PieceLeft};
+pub use output::{AttemptOutput, FirstItem, HEADER_LEN};

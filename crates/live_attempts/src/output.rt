@@ -1,0 +1,92 @@
+// The bytes of an attempt that wait to be taken.
+ghost use Rattle.std.specs.Prelude.{◌≡◌, ◌≤◌, ◌++◌, [], length, drop, OnOk, OnErr};
+ghost use Rattle.live_attempts.specs.Output.{IsFirst};
+
+use bytes::BytesMut;
+use journal_protocol::MessageHeader;
+use std::alloc::{AllocError, Global};
+use std::marker::Model;
+
+/// The bytes of a header.
+pub const HEADER_LEN: usize = 8;
+
+/// What came from an attempt and was not taken: whole frames, and the beginning of one.
+///
+/// Contracts see it as the bytes. The first frame is looked at in its place, and taken once it is decided on: a decision
+/// that is put off, for want of memory or of numbers, leaves it first in line.
+#[derive(Debug, Drop)]
+pub struct AttemptOutput {
+    buffer: BytesMut,
+}
+
+impl Model for AttemptOutput {
+    ghost use Rattle.std.specs.Prelude.{List, ℕ};
+
+    ghost Value = { List ℕ };
+
+    ghost view = { λ output. output.buffer.items };
+}
+
+/// What stands first.
+#[derive(Clone, Copy, Debug)]
+pub enum FirstItem<'a> {
+    /// No whole frame.
+    Partial,
+    /// A header of unknown type.
+    Unknown,
+    Frame {
+        header: MessageHeader,
+        payload: &'a [u8],
+    },
+}
+
+impl AttemptOutput {
+    /// Nothing came yet.
+    pub fn new(alloc: Global) -> AttemptOutput
+        ensures { result ≡ [] }
+    {
+        AttemptOutput {
+            buffer: BytesMut::new(alloc),
+        }
+    }
+
+    /// How many bytes wait.
+    pub fn len(&self) -> usize
+        ensures { result ≡ length self.now }
+    {
+        self.buffer.len()
+    }
+
+    /// The next bytes came.
+    pub fn push(&mut self, bytes: &[u8]) -> Result<(), AllocError>
+        ensures ok { OnOk result (self.new ≡ self.old ++ bytes.now) }
+        ensures err { OnErr result (self.new ≡ self.old) }
+    {
+        self.buffer.extend_from_slice(bytes)
+    }
+
+    /// Looks at the first item.
+    #[tactic(auto, unfolding(journal_protocol::specs::Item::item_at))]
+    pub fn first(&self) -> FirstItem<'_>
+        ensures { IsFirst self.now result }
+    {
+        let Some((word, rest)) = self.buffer.as_slice().split_first_chunk::<HEADER_LEN>() else {
+            return FirstItem::Partial;
+        };
+        let Ok(header) = MessageHeader::try_from(u64::from_be_bytes(*word)) else {
+            return FirstItem::Unknown;
+        };
+        match rest.get(..header.message_length() as usize) {
+            Some(payload) => FirstItem::Frame { header, payload },
+            None => FirstItem::Partial,
+        }
+    }
+
+    /// Drops the first bytes, which were taken.
+    pub fn advance(&mut self, count: usize)
+        requires { count ≤ length self.old }
+        ensures { self.new ≡ drop count self.old }
+    {
+        self.buffer.advance(count);
+    }
+}

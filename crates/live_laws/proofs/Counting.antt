@@ -1,0 +1,87 @@
+-- The frames of an attempt's input and their places, one by one; and no more is handed out than there is.
+use Rattle.std.proofs.Common.{ℕ, suc, ◌+◌, ◌≤◌, arith, nat_le, ◌≡◌, refl, sym, ap, ap₂, ◌∙◌, Bool, true, false, ◌||◌, ◌&&◌, if◌then◌else◌, List, [], ◌∷◌, ◌++◌, append_assoc, length, length-append, map, Option, Some, None, bytes_eq}
+use Rattle.journal_model.specs.Notification.{Text, Arrival}
+use Rattle.journal_model.specs.Value.{result_of_value}
+use Rattle.journal_model.specs.State.{StateMap}
+use Rattle.journal_model.specs.declared.invocation.NewInvocation.{NewInvocation}
+use Rattle.journal_model.specs.Event.{Frame, Event}
+use Rattle.journal_model.specs.Journal.{Entry, Recorded, Arrived, completion, invocation_begun, version_of, starting_state, arrivals_in, entries_from, entries_added, entries_after}
+use Rattle.journal_model.specs.Attempt.{Piece, begins_attempt, entry_piece, arrival_piece, journal_pieces, later_pieces, event_pieces, input_from, input_bytes, input_pieces, bytes_asked, handed_after, handed_from, bytes_handed}
+use Rattle.store_model.specs.Places.{places_of, places_of_arrivals, journal_places, places_from, input_places}
+
+-- ---- each frame has its place
+
+arrivals_count : (all : List Entry) (place : ℕ) (entries : List Entry) → length (map (arrival_piece all) (arrivals_in entries)) ≡ length (places_of_arrivals place entries)
+arrivals_count all place [] = refl
+arrivals_count all place (Recorded request ∷ entries) = arrivals_count all (place + 1) entries
+arrivals_count all place (Arrived arrival ∷ entries) = ap suc (arrivals_count all (place + 1) entries)
+
+event_count : (start : StateMap) (earlier : List Event) (id : Text) (event : Event) (entries : List Entry)
+    → length (event_pieces start earlier id event entries) ≡ length (places_of_arrivals (1 + length entries) (entries_added start earlier id event entries))
+event_count start earlier id (Event.Take other attempt (Frame.RunOutcome n value true)) entries =
+    by_tests (entries_after start earlier id (Event.Take other attempt (Frame.RunOutcome n value true)) entries) (1 + length entries) (completion n (result_of_value value))
+    (nat_le 7 (version_of earlier id)) (bytes_eq other id)
+  where
+    by_tests : (all : List Entry) (place : ℕ) (arrival : Arrival) (a b : Bool)
+        → length (later_pieces all (if a && b then Some n else None) (arrivals_in (if b || false then Arrived arrival ∷ [] else [])))
+        ≡ length (places_of_arrivals place (if b || false then Arrived arrival ∷ [] else []))
+    by_tests all place arrival true true = refl
+    by_tests all place arrival true false = refl
+    by_tests all place arrival false true = refl
+    by_tests all place arrival false false = refl
+event_count start earlier id event entries =
+    arrivals_count (entries_after start earlier id event entries) (1 + length entries) (entries_added start earlier id event entries)
+
+map_count : (all : List Entry) (place : ℕ) (entries : List Entry) → length (map (entry_piece all) entries) ≡ length (places_of place entries)
+map_count all place [] = refl
+map_count all place (entry ∷ entries) = ap suc (map_count all (place + 1) entries)
+
+journal_count : (o : Option NewInvocation) (entries : List Entry) → length (journal_pieces o entries) ≡ length (journal_places o entries)
+journal_count None entries = refl
+journal_count (Some new) entries = ap suc (map_count entries 1 entries)
+
+count_from : (start : StateMap) (events : List Event) (id : Text) → length (input_from start events id) ≡ length (places_from start events id)
+count_from start [] id = refl
+count_from start (event ∷ earlier) id = by_test (begins_attempt id event) (count_from start earlier id)
+  where
+    by_test : (b : Bool) → length (input_from start earlier id) ≡ length (places_from start earlier id)
+        → length (if b then journal_pieces (invocation_begun earlier id) (entries_from start earlier id)
+        else input_from start earlier id ++ event_pieces start earlier id event (entries_from start earlier id))
+        ≡ length (if b then journal_places (invocation_begun earlier id) (entries_from start earlier id)
+        else places_from start earlier id
+        ++ places_of_arrivals (1 + length (entries_from start earlier id)) (entries_added start earlier id event (entries_from start earlier id)))
+    by_test true e = journal_count (invocation_begun earlier id) (entries_from start earlier id)
+    by_test false e =
+        length-append (input_from start earlier id) (event_pieces start earlier id event (entries_from start earlier id))
+        ∙ ap₂ (λ (m n : ℕ). m + n) e (event_count start earlier id event (entries_from start earlier id))
+        ∙ sym (length-append (places_from start earlier id) (places_of_arrivals (1 + length (entries_from start earlier id)) (entries_added start earlier id event (entries_from start earlier id))))
+
+pub same_count : (events : List Event) (id : Text) → length (input_pieces events id) ≡ length (input_places events id)
+same_count events id = count_from (starting_state events id) events id
+
+-- ---- no more is handed out than there is
+
+pub bytes_more : (pieces more : List Piece) → input_bytes (pieces ++ more) ≡ input_bytes pieces ++ input_bytes more
+bytes_more [] more = refl
+bytes_more (piece ∷ pieces) more = ap (λ (rest : List ℕ). piece.bytes ++ rest) (bytes_more pieces more) ∙ sym (append_assoc piece.bytes (input_bytes pieces) (input_bytes more))
+
+within_from : (start : StateMap) (events : List Event) (id : Text) → handed_from start events id ≤ length (input_bytes (input_from start events id))
+within_from start [] id = omega arith
+within_from start (event ∷ earlier) id = by_test (begins_attempt id event) (bytes_asked id event) (within_from start earlier id)
+  where
+    by_test : (b : Bool) (o : Option ℕ) → handed_from start earlier id ≤ length (input_bytes (input_from start earlier id))
+        → (if b then 0 else handed_after o (handed_from start earlier id) (length (input_bytes (input_from start earlier id))))
+        ≤ length (input_bytes (if b then journal_pieces (invocation_begun earlier id) (entries_from start earlier id)
+        else input_from start earlier id ++ event_pieces start earlier id event (entries_from start earlier id)))
+    by_test true o h = omega arith
+    by_test false None h =
+        let more = ap (λ (xs : List ℕ). length xs) (bytes_more (input_from start earlier id) (event_pieces start earlier id event (entries_from start earlier id))) in
+        let sum = length-append (input_bytes (input_from start earlier id)) (input_bytes (event_pieces start earlier id event (entries_from start earlier id))) in
+        omega arith
+    by_test false (Some most) h =
+        let more = ap (λ (xs : List ℕ). length xs) (bytes_more (input_from start earlier id) (event_pieces start earlier id event (entries_from start earlier id))) in
+        let sum = length-append (input_bytes (input_from start earlier id)) (input_bytes (event_pieces start earlier id event (entries_from start earlier id))) in
+        omega arith
+
+pub handed_within : (events : List Event) (id : Text) → bytes_handed events id ≤ length (input_bytes (input_pieces events id))
+handed_within events id = within_from (starting_state events id) events id

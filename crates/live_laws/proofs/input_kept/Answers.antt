@@ -1,0 +1,12 @@
+-- The laws are proved in `Steps`.
+use Rattle.live_laws.proofs.Steps.{arrived, handed_out, closed}
+use Rattle.live_laws.proofs.input_kept.Goals as goal
+
+pub returns-clause-arrived : goal.returns-clause-arrived
+returns-clause-arrived c = arrived
+
+pub returns-clause-handed_out : goal.returns-clause-handed_out
+returns-clause-handed_out c = handed_out
+
+pub returns-clause-closed : goal.returns-clause-closed
+returns-clause-closed c = closed
