@@ -137,7 +137,7 @@ module _ {H : Type 0} (function : H → Handler) (next : Handler) (options : VMO
       (flown_by function next options one.invocation held row (record row { live = Some (record live { input = left }) }) live (record live { input = left }) one (record one { attempt = attempt })
       refl refl refl refl refl found refl refl
       (fed_flight function next options row live left one.attempt attempt k.options k.output (λ on. (k.kept on).0)
-      (λ invocation known retry duration more on. unread_fed function next invocation known retry duration live.input left more given one.attempt attempt (k.kept on).1 parts)
+      (λ invocation state known retry duration more on. unread_fed function next invocation state known retry duration live.input left more given one.attempt attempt (k.kept on).1 parts)
       (λ invocation calls on. stands_fed function next invocation calls given one.attempt attempt (k.kept on).1)
       (flight_of function next options one.invocation held row live one is found follows))
       follows)) f
@@ -153,7 +153,7 @@ module _ {H : Type 0} (function : H → Handler) (next : Handler) (options : VMO
       refl refl refl refl refl found refl refl
       (sent_flight function next options row live bytes one.attempt attempt (ap (λ (a : Attempt H). a.options) d) (ap (λ (a : Attempt H). a.over) d)
       (ap (λ (a : Attempt H). bytes ++ a.progress.output) d ∙ take-append-drop count one.attempt.progress.output)
-      (λ invocation known retry duration left more. unread_sent function next invocation known retry duration left more count one.attempt attempt d)
+      (λ invocation state known retry duration left more. unread_sent function next invocation state known retry duration left more count one.attempt attempt d)
       (λ invocation calls. stands_sent function next invocation calls count one.attempt attempt d)
       (flight_of function next options one.invocation held row live one is found follows))
       follows)) f

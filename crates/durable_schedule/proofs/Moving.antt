@@ -2,6 +2,7 @@
 use Rattle.std.proofs.Common.{◌≡◌, ◌≢◌, ℕ, suc, ◌+◌, ◌<◌, ◌==◌, Bool, true, false, List, [], ◌∷◌, ◌++◌, length, map, Option, Some, None, refl, sym, ap, subst, ◌∙◌, arith, ◌⊎◌, inl, inr, append_assoc}
 use Rattle.std.proofs.lemmas.Bool.Decides.{Decides-eqb}
 use Rattle.journal_model.specs.declared.invocation.NewInvocation.{NewInvocation}
+use Rattle.journal_model.specs.State.{StateMap}
 use Rattle.journal_model.specs.Run.{Handler, Invocation}
 use Rattle.journal_store.specs.declared.row.StoredInvocation.{StoredInvocation}
 use Rattle.journal_store.specs.declared.row.LiveAttempt.{LiveAttempt}
@@ -46,8 +47,8 @@ module _ {H : Type 0} (function : H → Handler) (next : Handler) (options : VMO
   -- a turn
   pub turn_flight : (row : StoredInvocation) (live : LiveAttempt) (old new : Attempt H) (t : Turn) → new.options ≡ old.options
       → ((u : Turn) → old.over ≡ Some u → new ≡ old)
-      → ((invocation : NewInvocation) (known retry duration : ℕ) (left more : List ℕ) → old.over ≡ None → IsUnread function next invocation known retry duration left more old
-      → ReadTurn function next invocation known retry duration left more old new t)
+      → ((invocation : NewInvocation) (state : StateMap) (known retry duration : ℕ) (left more : List ℕ) → old.over ≡ None → IsUnread function next invocation state known retry duration left more old
+      → ReadTurn function next invocation state known retry duration left more old new t)
       → ((given : Invocation) (calls : ℕ) → old.over ≡ None → Stands function next given calls old → RunTurn function next given calls old new t)
       → Flight function next options row live old → Flight function next options row live new
   turn_flight row live old new t chosen over reads runs f = by_over old.over refl
@@ -56,15 +57,15 @@ module _ {H : Type 0} (function : H → Handler) (next : Handler) (options : VMO
       by_over (Some u) is = subst (λ (a : Attempt H). Flight function next options row live a) (sym (over u is)) f
       by_over None is =
           elim (f.flies.stands is) [
-            | inl n ↦ read_turn function next options row live old new t chosen f n (reads row.invocation (1 + length row.requests) n.retry n.duration live.input n.more is n.unread)
+            | inl n ↦ read_turn function next options row live old new t chosen f n (reads row.invocation [] (1 + length row.requests) n.retry n.duration live.input n.more is n.unread)
             | inr h ↦ run_turn function next options row live old new t chosen f h (runs (run_given options row) f.calls is h.stands)
           ]
 
   -- bytes of the input go to the attempt
   pub fed_flight : (row : StoredInvocation) (live : LiveAttempt) (left : List ℕ) (old new : Attempt H) → new.options ≡ old.options → new.progress.output ≡ old.progress.output
       → (new.over ≡ None → old.over ≡ None)
-      → ((invocation : NewInvocation) (known retry duration : ℕ) (more : List ℕ) → new.over ≡ None → IsUnread function next invocation known retry duration live.input more old
-      → IsUnread function next invocation known retry duration left more new)
+      → ((invocation : NewInvocation) (state : StateMap) (known retry duration : ℕ) (more : List ℕ) → new.over ≡ None → IsUnread function next invocation state known retry duration live.input more old
+      → IsUnread function next invocation state known retry duration left more new)
       → ((given : Invocation) (calls : ℕ) → new.over ≡ None → Stands function next given calls old → Stands function next given calls new)
       → Flight function next options row live old → Flight function next options (record row { live = Some (record live { input = left }) }) (record live { input = left }) new
   fed_flight row live left old new chosen output over unread stands f = record {
@@ -77,7 +78,7 @@ module _ {H : Type 0} (function : H → Handler) (next : Handler) (options : VMO
       chosen = chosen ∙ f.flies.chosen;
       bytes = ap (λ (s : List ℕ). live.output ++ s) output ∙ f.flies.bytes;
       stands = λ on. elim (f.flies.stands (over on)) [
-        | inl n ↦ inl (record { retry = n.retry; duration = n.duration; more = n.more; unread = unread row.invocation (1 + length row.requests) n.retry n.duration n.more on n.unread; nothing = n.nothing })
+        | inl n ↦ inl (record { retry = n.retry; duration = n.duration; more = n.more; unread = unread row.invocation [] (1 + length row.requests) n.retry n.duration n.more on n.unread; nothing = n.nothing })
         | inr h ↦ inr (record { stands = stands (run_given options row) f.calls on h.stands; whole = h.whole })
       ];
     };
@@ -86,8 +87,8 @@ module _ {H : Type 0} (function : H → Handler) (next : Handler) (options : VMO
   -- bytes of the output go to the store
   pub sent_flight : (row : StoredInvocation) (live : LiveAttempt) (moved : List ℕ) (old new : Attempt H) → new.options ≡ old.options → new.over ≡ old.over
       → moved ++ new.progress.output ≡ old.progress.output
-      → ((invocation : NewInvocation) (known retry duration : ℕ) (left more : List ℕ) → IsUnread function next invocation known retry duration left more old
-      → IsUnread function next invocation known retry duration left more new)
+      → ((invocation : NewInvocation) (state : StateMap) (known retry duration : ℕ) (left more : List ℕ) → IsUnread function next invocation state known retry duration left more old
+      → IsUnread function next invocation state known retry duration left more new)
       → ((given : Invocation) (calls : ℕ) → Stands function next given calls old → Stands function next given calls new)
       → Flight function next options row live old
       → Flight function next options (record row { live = Some (record live { output = live.output ++ moved }) }) (record live { output = live.output ++ moved }) new
@@ -101,7 +102,7 @@ module _ {H : Type 0} (function : H → Handler) (next : Handler) (options : VMO
       chosen = chosen ∙ f.flies.chosen;
       bytes = append_assoc live.output moved new.progress.output ∙ ap (λ (s : List ℕ). live.output ++ s) output ∙ f.flies.bytes;
       stands = λ on. elim (f.flies.stands (sym over ∙ on)) [
-        | inl n ↦ inl (record { retry = n.retry; duration = n.duration; more = n.more; unread = unread row.invocation (1 + length row.requests) n.retry n.duration live.input n.more n.unread; nothing = n.nothing })
+        | inl n ↦ inl (record { retry = n.retry; duration = n.duration; more = n.more; unread = unread row.invocation [] (1 + length row.requests) n.retry n.duration live.input n.more n.unread; nothing = n.nothing })
         | inr h ↦ inr (record { stands = stands (run_given options row) f.calls h.stands; whole = h.whole })
       ];
     };

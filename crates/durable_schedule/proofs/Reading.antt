@@ -3,6 +3,7 @@ use Rattle.std.proofs.Common.{◌≡◌, ℕ, ◌+◌, ◌<◌, ◌^◌, Bool, t
 use Rattle.std.specs.List.{list_any}
 use Rattle.std.proofs.lemmas.Bool.Decides.{nat_tests}
 use Rattle.journal_model.specs.declared.invocation.NewInvocation.{NewInvocation}
+use Rattle.journal_model.specs.State.{StateMap}
 use Rattle.journal_model.specs.Run.{Handler, Invocation}
 use Rattle.journal_model.specs.Spelling.{frame_bytes, input_payload}
 use Rattle.journal_model.specs.Start.{start_payload_of}
@@ -50,23 +51,23 @@ took_in {H = H} old bytes new d = by_over old.over refl d
       kept = λ on. some_none (sym is ∙ sym (ap (λ (a : Attempt H). a.over) e) ∙ on);
     }
 
-to_read_more : (invocation : NewInvocation) (known retry duration : ℕ) (left rest more came given : List ℕ) (start : Option StartMessage) → left ≡ given ++ rest
-    → AreToRead invocation known retry duration left more start came → AreToRead invocation known retry duration rest more start (came ++ given)
-to_read_more invocation known retry duration left rest more came given None parts e = append_assoc came given rest ∙ ap (λ (s : List ℕ). came ++ s) (sym parts) ∙ e
-to_read_more invocation known retry duration left rest more came given (Some start) parts e = (e.0, e.1, append_assoc came given rest ∙ ap (λ (s : List ℕ). came ++ s) (sym parts) ∙ e.2)
+to_read_more : (invocation : NewInvocation) (state : StateMap) (known retry duration : ℕ) (left rest more came given : List ℕ) (start : Option StartMessage) → left ≡ given ++ rest
+    → AreToRead invocation state known retry duration left more start came → AreToRead invocation state known retry duration rest more start (came ++ given)
+to_read_more invocation state known retry duration left rest more came given None parts e = append_assoc came given rest ∙ ap (λ (s : List ℕ). came ++ s) (sym parts) ∙ e
+to_read_more invocation state known retry duration left rest more came given (Some start) parts e = (e.0, e.1, append_assoc came given rest ∙ ap (λ (s : List ℕ). came ++ s) (sym parts) ∙ e.2)
 
 module _ {H : Type 0} (function : H → Handler) (next : Handler) where
-  pub unread_fed : (invocation : NewInvocation) (known retry duration : ℕ) (left rest more given : List ℕ) (old new : Attempt H) → new ≡ record old { decoder = old.decoder ++ given } → left ≡ given ++ rest
-      → IsUnread function next invocation known retry duration left more old → IsUnread function next invocation known retry duration rest more new
-  unread_fed invocation known retry duration left rest more given old new kept parts u =
-      subst (λ (a : Attempt H). IsUnread function next invocation known retry duration rest more a) (sym kept)
+  pub unread_fed : (invocation : NewInvocation) (state : StateMap) (known retry duration : ℕ) (left rest more given : List ℕ) (old new : Attempt H) → new ≡ record old { decoder = old.decoder ++ given } → left ≡ given ++ rest
+      → IsUnread function next invocation state known retry duration left more old → IsUnread function next invocation state known retry duration rest more new
+  unread_fed invocation state known retry duration left rest more given old new kept parts u =
+      subst (λ (a : Attempt H). IsUnread function next invocation state known retry duration rest more a) (sym kept)
       (record {
         serves = record { handler = u.serves.handler; version = u.serves.version; options = u.serves.options };
         fits = u.fits;
         input = u.input;
         answers = u.answers;
         completions = u.completions;
-        bytes = to_read_more invocation known retry duration left rest more old.decoder given old.start parts u.bytes;
+        bytes = to_read_more invocation state known retry duration left rest more old.decoder given old.start parts u.bytes;
       })
 
   pub stands_fed : (given : Invocation) (calls : ℕ) (bytes : List ℕ) (old new : Attempt H) → new ≡ record old { decoder = old.decoder ++ bytes } → Stands function next given calls old → Stands function next given calls new
@@ -74,10 +75,10 @@ module _ {H : Type 0} (function : H → Handler) (next : Handler) where
       subst (λ (a : Attempt H). Stands function next given calls a) (sym kept)
       (record { serves = record { handler = s.serves.handler; version = s.serves.version; options = s.serves.options }; input = s.input; going = s.going; tallies = s.tallies })
 
-  pub unread_sent : (invocation : NewInvocation) (known retry duration : ℕ) (left more : List ℕ) (count : ℕ) (old new : Attempt H) → SendDoes old count new
-      → IsUnread function next invocation known retry duration left more old → IsUnread function next invocation known retry duration left more new
-  unread_sent invocation known retry duration left more count old new d u =
-      subst (λ (a : Attempt H). IsUnread function next invocation known retry duration left more a) (sym d)
+  pub unread_sent : (invocation : NewInvocation) (state : StateMap) (known retry duration : ℕ) (left more : List ℕ) (count : ℕ) (old new : Attempt H) → SendDoes old count new
+      → IsUnread function next invocation state known retry duration left more old → IsUnread function next invocation state known retry duration left more new
+  unread_sent invocation state known retry duration left more count old new d u =
+      subst (λ (a : Attempt H). IsUnread function next invocation state known retry duration left more a) (sym d)
       (record {
         serves = record { handler = u.serves.handler; version = u.serves.version; options = u.serves.options };
         fits = u.fits;
@@ -143,7 +144,7 @@ module _ {H : Type 0} (function : H → Handler) (next : Handler) (options : VMO
         retry = begun_since_entry row;
         duration = since_first row now;
         more = more;
-        unread = subst (λ (a : Attempt H). IsUnread function next row.invocation (1 + length row.requests) (begun_since_entry row) (since_first row now) (protocol.stream (journal_messages row)) more a) (sym kept)
+        unread = subst (λ (a : Attempt H). IsUnread function next row.invocation [] (1 + length row.requests) (begun_since_entry row) (since_first row now) (protocol.stream (journal_messages row)) more a) (sym kept)
             (record {
               serves = record {
                 handler = ap function is.handler_is ∙ brings;
@@ -161,7 +162,7 @@ module _ {H : Type 0} (function : H → Handler) (next : Handler) (options : VMO
               input = is.input;
               answers = ap (λ p. p.answers) is.progress;
               completions = ap (λ p. p.completions) is.progress;
-              bytes = subst (λ (s : Option StartMessage). AreToRead row.invocation (1 + length row.requests) (begun_since_entry row) (since_first row now) (protocol.stream (journal_messages row)) more s (fresh.decoder ++ begun.start)) (sym is.start)
+              bytes = subst (λ (s : Option StartMessage). AreToRead row.invocation [] (1 + length row.requests) (begun_since_entry row) (since_first row now) (protocol.stream (journal_messages row)) more s (fresh.decoder ++ begun.start)) (sym is.start)
                   (ap (λ (s : List ℕ). (s ++ begun.start) ++ protocol.stream (journal_messages row)) is.decoder
                   ∙ ap (λ (s : List ℕ). s ++ protocol.stream (journal_messages row)) first ∙ ap (λ (s : List ℕ). frame_bytes 0 (start_payload row now) ++ (s ++ more)) second);
             });

@@ -122,7 +122,7 @@ module _ {H : Type 0} (function : H → Handler) (next : Handler) (options : VMO
   run_turn old new (turn.Failed why) chosen f h r = over_now old new (turn.Failed why) r.over chosen r.output f
 
   read_in : (old new : Attempt H) → new.options ≡ old.options → (f : F old) → (n : IsNotRead function next options row live old f.coming)
-      → (1 + length row.requests ≡ 1) → Stands function next (given_by old.options row.invocation) 0 new
+      → (1 + length row.requests ≡ 1) → Stands function next (given_by old.options row.invocation []) 0 new
       → new.progress.output ≡ old.progress.output → F new
   read_in old new chosen f n first stands output =
       let none = no_requests row.requests first in
@@ -136,14 +136,14 @@ module _ {H : Type 0} (function : H → Handler) (next : Handler) (options : VMO
           chosen = chosen ∙ f.flies.chosen;
           bytes = ap (λ (s : List ℕ). live.output ++ s) output ∙ f.flies.bytes ∙ ap stream n.nothing;
           stands = λ on. inr (record {
-            stands = subst (λ (o : VMOptions). Stands function next (given_by o row.invocation) 0 new) f.flies.chosen stands;
+            stands = subst (λ (o : VMOptions). Stands function next (given_by o row.invocation []) 0 new) f.flies.chosen stands;
             whole = refl;
           });
         };
       }
 
   not_read_yet : (old new : Attempt H) → new.options ≡ old.options → (f : F old) → (n : IsNotRead function next options row live old f.coming)
-      → IsUnread function next row.invocation (1 + length row.requests) n.retry n.duration live.input n.more new → new.progress.output ≡ old.progress.output → F new
+      → IsUnread function next row.invocation [] (1 + length row.requests) n.retry n.duration live.input n.more new → new.progress.output ≡ old.progress.output → F new
   not_read_yet old new chosen f n unread output = record {
     calls = f.calls;
     coming = f.coming;
@@ -158,7 +158,7 @@ module _ {H : Type 0} (function : H → Handler) (next : Handler) (options : VMO
   }
 
   pub read_turn : (old new : Attempt H) (t : Turn) → new.options ≡ old.options → (f : F old) → (n : IsNotRead function next options row live old f.coming)
-      → ReadTurn function next row.invocation (1 + length row.requests) n.retry n.duration live.input n.more old new t → F new
+      → ReadTurn function next row.invocation [] (1 + length row.requests) n.retry n.duration live.input n.more old new t → F new
   read_turn old new turn.Answered chosen f n r = read_in old new chosen f n r.alone r.stands r.output
   read_turn old new turn.Waiting chosen f n r = not_read_yet old new chosen f n r.unread r.output
   read_turn old new turn.Ended chosen f n r = absurd r

@@ -17,7 +17,7 @@ use Rattle.durable_schedule.specs.Flight.{Frame, stream, IsFrame, requests_in, f
 
 -- the run of a stored invocation: its object's state is empty at its start
 abbrev pub run_given : VMOptions → StoredInvocation → Invocation
-run_given options row = given_by options row.invocation
+run_given options row = given_by options row.invocation []
 
 -- recorded requests that are the first of a run over no arrivals
 pub record IsBeginningOfRun (next : Handler) (given : Invocation) (recorded : List RecordedRequest) : Type 0 where
@@ -39,7 +39,7 @@ module _ {H : Type 0} (function : H → Handler) (next : Handler) (options : VMO
     pub retry : ℕ
     pub duration : ℕ
     pub more : List ℕ
-    pub unread : IsUnread function next row.invocation (1 + length row.requests) retry duration live.input more attempt
+    pub unread : IsUnread function next row.invocation [] (1 + length row.requests) retry duration live.input more attempt
     pub nothing : coming ≡ []
 
   -- an attempt that has its input: its calls so far were answered as the run's, and all that they asked is recorded or on its way

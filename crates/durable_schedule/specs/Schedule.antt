@@ -1,6 +1,7 @@
 -- What each event answers and leaves, and what a list of events does one after another.
 use Rattle.std.specs.Prelude.{◌≡◌, ◌⊎◌, ℕ, suc, zero, min, List, [], ◌∷◌, ◌++◌, length, take, drop, Option, Some, None, IfSome, Result, Ok, Err}
 use Rattle.journal_model.specs.declared.invocation.NewInvocation.{NewInvocation}
+use Rattle.journal_model.specs.State.{StateMap}
 use Rattle.journal_model.specs.Run.{Handler}
 use Rattle.journal_store.specs.declared.row.BegunAttempt.{BegunAttempt}
 use Rattle.journal_store.specs.declared.row.FrameReply.{FrameReply}
@@ -79,8 +80,8 @@ module _ {H : Type 0} where
   -- what a turn does: one that is over answers the same again; else it reads the input, or makes the handler's next call
   pub record TurnDoes (function : H → Handler) (old : Attempt H) (turn : Turn) (new : Attempt H) : Type 0 where
     pub over : IfSome old.over (λ t. (turn ≡ t) × (new ≡ old))
-    pub reads : (next : Handler) (invocation : NewInvocation) (known retry_count duration : ℕ) (left more : List ℕ) → old.over ≡ None
-        → IsUnread function next invocation known retry_count duration left more old → ReadTurn function next invocation known retry_count duration left more old new turn
+    pub reads : (next : Handler) (invocation : NewInvocation) (state : StateMap) (known retry_count duration : ℕ) (left more : List ℕ) → old.over ≡ None
+        → IsUnread function next invocation state known retry_count duration left more old → ReadTurn function next invocation state known retry_count duration left more old new turn
     pub runs : (next : Handler) (given : Invocation) (calls : ℕ) → old.over ≡ None → Stands function next given calls old → RunTurn function next given calls old new turn
     pub chosen : new.options ≡ old.options
 

@@ -88,7 +88,7 @@ sleep_goes_on invocation steps name wake_up now old new t s =
         completions = ap (λ (n : ℕ). n + 1) t.completions;
         first = are_first (step ∷ steps) (first-sleep invocation steps (first_steps steps old t) name wake_up now);
       };
-      first = (tt, tt);
+      first = ((s.bounds, omega (arith, t.completions, s.handle)), tt);
       fits = (subst (λ (n : ℕ). FitsFrame (request_payload (Request.Sleep (milliseconds wake_up) n name))) t.completions s.fits, tt);
       output = ap (λ (n : ℕ). old.output ++ request_frame (Request.Sleep (milliseconds wake_up) n name)) t.completions
           ∙ ap (λ (bytes : List ℕ). old.output ++ bytes) (sym (append-nil (request_frame (Request.Sleep (milliseconds wake_up) (next_completion steps) name))));
@@ -131,7 +131,7 @@ output_goes_on invocation steps version value options refused old new v r t (acc
         completions = t.completions ∙ none_more;
         first = are_first (step ∷ steps) (first-output invocation steps (first_steps steps old t) value options);
       };
-      first = (tt, tt);
+      first = (s.code, tt);
       fits = (s.fits, tt);
       output = ap (λ (bytes : List ℕ). old.output ++ bytes) (sym (append-nil (request_frame (Request.Output value []))));
     })

@@ -3,95 +3,60 @@
 use Rattle.std.proofs.Common.{◌≡◌, refl, sym, ap, ap₂, ◌∙◌, ℕ, ◌+◌, ◌-◌, ◌==◌, ◌^◌, ◌<◌, arith, Bool, true, false, if◌then◌else◌, nat_lt, List, [], ◌∷◌, ◌++◌, append-nil, length, map, Option, Some, None}
 use Rattle.std.specs.Prelude.{option_map}
 use Rattle.std.specs.List.{AllByRecursion}
-use Rattle.protocol_wire.specs.Wire.{Wire, varint, bytes, Field}
+use Rattle.protocol_wire.specs.Wire.{bytes}
 use Rattle.protocol_wire.specs.Fields.{fields}
-use Rattle.protocol_wire.specs.Check.{payload_fault}
 use Rattle.protocol_wire.specs.Decodes.{IsRead}
-use Rattle.protocol_wire.specs.Parts as parts
-use Rattle.protocol_wire.specs.Parts.{Part, payload_of, fields_of, bool_number, nonempty, bytes_if}
+use Rattle.protocol_wire.specs.Parts.{Part, payload_of, fields_of}
 use Rattle.protocol_wire.specs.declared.record.TheConstants.{LEVELS}
-use Rattle.protocol_wire.specs.declared.check.Fault.{Fault}
-use Rattle.protocol_table.specs.declared.table.RecordType.{RecordType}
 use Rattle.protocol_table.specs.declared.table.RecordType.TheVariants as types
-use Rattle.protocol_wire.proofs.Laws.{Fit, fields-payload_alone}
 use Rattle.protocol_wire.proofs.Back.{u64_back, u32_back, text_back, bool_back, optional_text_back, optional_record_back, records_back}
-use Rattle.protocol_wire.proofs.Holds.{LengthFits, PartLengthsFit, PartHolds, WireHolds, is_field_number, lengths_fit, fit}
+use Rattle.protocol_wire.proofs.Holds.{LengthFits, PartLengthsFit, lengths_fit}
 use Rattle.protocol_records.specs.declared.value.Value.{Value}
 use Rattle.protocol_records.specs.declared.header.Header as records
 use Rattle.protocol_records.specs.declared.start.StartMessage.{StartMessage}
 use Rattle.protocol_records.specs.declared.input_command.InputCommandMessage.{InputCommandMessage}
 use Rattle.protocol_records.specs.Value.{value_of, value_parts}
 use Rattle.protocol_records.specs.Header.{header_of, header_parts}
+use Rattle.protocol_records.specs.declared.start.StateEntry.{StateEntry}
 use Rattle.protocol_records.specs.StateEntry.{state_entry_of, state_entry_parts}
 use Rattle.protocol_records.specs.Start.{start_of, start_parts}
 use Rattle.protocol_records.specs.InputCommand.{input_command_of, input_command_parts}
 use Rattle.journal_model.specs.declared.call.Header.{Header}
 use Rattle.journal_model.specs.declared.handler.Input.{Input}
 use Rattle.journal_model.specs.declared.invocation.NewInvocation.{NewInvocation}
+use Rattle.journal_model.specs.State.{StateMap}
 use Rattle.journal_model.specs.declared.invocation.StateMode.{StateMode}
 use Rattle.journal_protocol.specs.Records.{header_record, header_told, is_partial, state_shown, input_record, start_record}
 use Rattle.journal_protocol.proofs.RecordSpellings.{starts_spelled, inputs_spelled}
 use Rattle.invocation_vm.specs.declared.options.VMOptions.{VMOptions}
 use Rattle.invocation_vm.specs.Preflight.{input_given, from_version_7}
+use Rattle.invocation_vm.proofs.Sizes.{number_holds, bool_holds, bytes_hold, optional_holds, repeated_hold, fields_are, small_as}
 use Rattle.invocation_vm.specs.First.{first_payload, second_payload, FitsFrames, given_by}
-
--- ---- sizes alone: a table that knows no field asks nothing of texts
-
-abbrev nothing_below : RecordType → List ℕ → Option Fault
-nothing_below t bs = None
-
-abbrev SizeHolds : Part → Type 0
-SizeHolds = PartHolds nothing_below []
-
-number_holds : (number n : ℕ) → is_field_number number ≡ true → n < 2 ^ 64 → SizeHolds (parts.plain_number number n)
-number_holds number n is lt = (is, go (n == 0))
-  where
-    go : (b : Bool) → AllByRecursion (WireHolds nothing_below [] number) (if b then [] else varint n ∷ [])
-    go true = tt
-    go false = ((lt, refl), tt)
-
-bool_holds : (number : ℕ) (b : Bool) → is_field_number number ≡ true → SizeHolds (parts.plain_number number (bool_number b))
-bool_holds number true is = number_holds number 1 is (omega arith)
-bool_holds number false is = number_holds number 0 is (omega arith)
-
-bytes_hold : (number : ℕ) (bs : List ℕ) → is_field_number number ≡ true → SizeHolds (parts.plain_bytes number bs)
-bytes_hold number [] is = (is, tt)
-bytes_hold number (b ∷ bs) is = (is, ((tt, refl), tt))
-
-optional_holds : (number : ℕ) (o : Option (List ℕ)) → is_field_number number ≡ true → SizeHolds (parts.optional_bytes number o)
-optional_holds number None is = (is, tt)
-optional_holds number (Some bs) is = (is, ((tt, refl), tt))
-
-repeated_hold : (number : ℕ) (items : List (List ℕ)) → is_field_number number ≡ true → SizeHolds (parts.repeated_bytes number items)
-repeated_hold number items is = (is, go items)
-  where
-    go : (items : List (List ℕ)) → AllByRecursion (WireHolds nothing_below [] number) (map bytes items)
-    go [] = tt
-    go (bs ∷ more) = ((tt, refl), go more)
-
--- the fields of a payload are those that were spelled
-fields_are : (ps : List Part) → AllByRecursion SizeHolds ps → length (payload_of ps) < 2 ^ 64 → fields (payload_of ps) ≡ fields_of ps
-fields_are ps holds small = fields-payload_alone ps (fit nothing_below [] ps holds (lengths_fit ps small))
-
-small_as : (a b : List ℕ) → a ≡ b → length b < 2 ^ 32 → length a < 2 ^ 64
-small_as a b e h = omega (arith, h, ap length e)
 
 -- ---- the start
 
--- no entry of state is shown
-each_entry : (state : StateMode) → AllByRecursion (λ entry. state_entry_of (LEVELS - 1) (fields (payload_of (state_entry_parts entry))) ≡ entry) (state_shown state [])
-each_entry StateMode.Whole = tt
-each_entry StateMode.None = tt
+-- each entry of state that is shown is read back
+entry_back : (entry : StateEntry) → length (payload_of (state_entry_parts entry)) < 2 ^ 64 → state_entry_of (LEVELS - 1) (fields (payload_of (state_entry_parts entry))) ≡ entry
+entry_back entry small =
+    let ps : List Part = state_entry_parts entry in
+    ap (state_entry_of (LEVELS - 1)) (fields_are ps (bytes_hold 1 entry.key refl, (bytes_hold 2 entry.value refl, tt)) small)
+    ∙ λ i. record { key = text_back 1 entry.key ps refl i; value = text_back 2 entry.value ps refl i }
 
-module _ (new : NewInvocation) (known retry_count duration : ℕ) where
-  start_payload : payload_of (start_parts (start_record new [] known retry_count duration)) ≡ first_payload new known retry_count duration
-  start_payload = starts_spelled new [] known retry_count duration
+each_entry : (entries : List StateEntry) → AllByRecursion LengthFits (map bytes (map (λ entry. payload_of (state_entry_parts entry)) entries))
+    → AllByRecursion (λ entry. state_entry_of (LEVELS - 1) (fields (payload_of (state_entry_parts entry))) ≡ entry) entries
+each_entry [] h = tt
+each_entry (entry ∷ entries) h = (entry_back entry h.0, each_entry entries h.1)
 
-  pub start_read : FitsFrames new known retry_count duration → (start : StartMessage)
-      → IsRead LEVELS types.Start start_of (first_payload new known retry_count duration) start → start ≡ start_record new [] known retry_count duration
+module _ (new : NewInvocation) (state : StateMap) (known retry_count duration : ℕ) where
+  start_payload : payload_of (start_parts (start_record new state known retry_count duration)) ≡ first_payload new state known retry_count duration
+  start_payload = starts_spelled new state known retry_count duration
+
+  pub start_read : FitsFrames new state known retry_count duration → (start : StartMessage)
+      → IsRead LEVELS types.Start start_of (first_payload new state known retry_count duration) start → start ≡ start_record new state known retry_count duration
   start_read fits start r =
-      let ps : List Part = start_parts (start_record new [] known retry_count duration) in
-      let small : length (payload_of ps) < 2 ^ 64 = small_as (payload_of ps) (first_payload new known retry_count duration) start_payload fits.start in
+      let ps : List Part = start_parts (start_record new state known retry_count duration) in
+      let small : length (payload_of ps) < 2 ^ 64 = small_as (payload_of ps) (first_payload new state known retry_count duration) start_payload fits.start in
+      let lengths : AllByRecursion PartLengthsFit ps = lengths_fit ps small in
       let are : fields (payload_of ps) ≡ fields_of ps = fields_are ps (
         bytes_hold 1 new.id refl,
         (
@@ -99,7 +64,7 @@ module _ (new : NewInvocation) (known retry_count duration : ℕ) where
           (
             number_holds 3 known refl (omega (arith, fits.entries)),
             (
-              repeated_hold 4 (map (λ e. payload_of (state_entry_parts e)) (state_shown new.state [])) refl,
+              repeated_hold 4 (map (λ e. payload_of (state_entry_parts e)) (state_shown new.state state)) refl,
               (
                 bool_holds 5 (is_partial new.state) refl,
                 (
@@ -130,7 +95,7 @@ module _ (new : NewInvocation) (known retry_count duration : ℕ) where
         id = text_back 1 new.id ps refl i;
         debug_id = text_back 2 new.id ps refl i;
         known_entries = u32_back 3 known ps refl fits.entries i;
-        state_map = records_back (state_entry_of (LEVELS - 1)) (λ e. payload_of (state_entry_parts e)) 4 (state_shown new.state []) ps refl (each_entry new.state) i;
+        state_map = records_back (state_entry_of (LEVELS - 1)) (λ e. payload_of (state_entry_parts e)) 4 (state_shown new.state state) ps refl (each_entry (state_shown new.state state) lengths.1.1.1.0) i;
         partial_state = bool_back 5 (is_partial new.state) ps refl i;
         key = text_back 6 new.object ps refl i;
         retry_count_since_last_stored_entry = u32_back 7 retry_count ps refl fits.attempts i;
@@ -197,9 +162,9 @@ absent version = go (nat_lt version 7)
     go true = refl
     go false = refl
 
-pub input_is : (options : VMOptions) (new : NewInvocation) (version known retry_count duration : ℕ) → version ≡ new.version
-    → input_given version options.fallback_random_seed (start_record new [] known retry_count duration) (input_record new.headers new.input) ≡ (given_by options new).input
-input_is options new version known retry_count duration e = λ i. record {
+pub input_is : (options : VMOptions) (new : NewInvocation) (state : StateMap) (version known retry_count duration : ℕ) → version ≡ new.version
+    → input_given version options.fallback_random_seed (start_record new state known retry_count duration) (input_record new.headers new.input) ≡ (given_by options new state).input
+input_is options new state version known retry_count duration e = λ i. record {
   invocation_id = new.id;
   key = new.object;
   random_seed = ap (λ (n : ℕ). if nat_lt n 6 then options.fallback_random_seed else new.seed) e i;

@@ -5,6 +5,7 @@ use Rattle.journal_model.specs.declared.call.Call.{Call}
 use Rattle.protocol_records.specs.declared.start.StartMessage.{StartMessage}
 use Rattle.journal_model.specs.declared.handler.Input.{Input}
 use Rattle.journal_model.specs.declared.invocation.NewInvocation.{NewInvocation}
+use Rattle.journal_model.specs.State.{StateMap}
 use Rattle.journal_model.specs.History.{Step, answers_of, requests_of}
 use Rattle.journal_model.specs.Run.{Handler, Invocation, Progress as Runs, Ending, GoesOn, Waits, Ended, after_call, run}
 use Rattle.journal_model.proofs.Continuing.{run-next}
@@ -129,13 +130,13 @@ module _ {H : Type 0} (function : H → Handler) (next : Handler) (given : Invoc
 
 -- ---- turns that read
 
-module _ {H : Type 0} (function : H → Handler) (next : Handler) (new : NewInvocation) (known retry_count duration : ℕ) (left more : List ℕ) where
+module _ {H : Type 0} (function : H → Handler) (next : Handler) (new : NewInvocation) (state : StateMap) (known retry_count duration : ℕ) (left more : List ℕ) where
   -- only what reading changes was changed
   abbrev pub OnlyReads : Attempt H → Attempt H → Type 0
   OnlyReads before after = after ≡ record before { decoder = after.decoder; start = after.start; input = after.input }
 
   pub read_on : (before after : Attempt H) (turn : Turn) → before.over ≡ None → OnlyReads before after
-      → ReadsSome function next new known retry_count duration left more before after (Ok turn) → ReadTurn function next new known retry_count duration left more before after turn
+      → ReadsSome function next new state known retry_count duration left more before after (Ok turn) → ReadTurn function next new state known retry_count duration left more before after turn
   read_on before after Turn.Waiting over e h = record {
     over = ap (λ (a : Attempt H). a.over) e ∙ over;
     unread = h.unread;
@@ -153,17 +154,17 @@ module _ {H : Type 0} (function : H → Handler) (next : Handler) (new : NewInvo
   read_on before after (Turn.Failed failure) over e h = absurd h
 
   pub read_failed : (before after : Attempt H) (failure : AttemptFailure) → OnlyReads before after
-      → ReadsSome function next new known retry_count duration left more before after (Err failure)
-      → ReadTurn function next new known retry_count duration left more before (record after { over = Some (Turn.Failed failure) }) (Turn.Failed failure)
+      → ReadsSome function next new state known retry_count duration left more before after (Err failure)
+      → ReadTurn function next new state known retry_count duration left more before (record after { over = Some (Turn.Failed failure) }) (Turn.Failed failure)
   read_failed before after failure e h = record { over = refl; output = ap (λ (a : Attempt H). a.progress.output) e; cause = h }
 
-  serves_so : (before : Attempt H) (came : List ℕ) (start : Option StartMessage) (input : Option Input) → IsUnread function next new known retry_count duration left more before
-      → Serves function next (given_by before.options new) (record before { decoder = came; start = start; input = input })
+  serves_so : (before : Attempt H) (came : List ℕ) (start : Option StartMessage) (input : Option Input) → IsUnread function next new state known retry_count duration left more before
+      → Serves function next (given_by before.options new state) (record before { decoder = came; start = start; input = input })
   serves_so before came start input u = record { handler = u.serves.handler; version = u.serves.version; options = u.serves.options }
 
-  pub lacks_input : (before : Attempt H) (start : StartMessage) (came : List ℕ) → IsUnread function next new known retry_count duration left more before
-      → HasInput before.options new known retry_count duration left more start (Ok None) came
-      → ReadsMore function next new known retry_count duration left more (record before { decoder = came; start = Some start })
+  pub lacks_input : (before : Attempt H) (start : StartMessage) (came : List ℕ) → IsUnread function next new state known retry_count duration left more before
+      → HasInput before.options new state known retry_count duration left more start (Ok None) came
+      → ReadsMore function next new state known retry_count duration left more (record before { decoder = came; start = Some start })
   lacks_input before start came u h = record {
     unread = record {
       serves = record { handler = u.serves.handler; version = u.serves.version; options = u.serves.options };
@@ -176,13 +177,13 @@ module _ {H : Type 0} (function : H → Handler) (next : Handler) (new : NewInvo
     lacks = h.1;
   }
 
-  announced : (start : StartMessage) (came : List ℕ) → AreToRead new known retry_count duration left more (Some start) came → known ≡ 1
+  announced : (start : StartMessage) (came : List ℕ) → AreToRead new state known retry_count duration left more (Some start) came → known ≡ 1
   announced start came (is, one, bytes) = one
 
-  pub has_input : (before : Attempt H) (start : StartMessage) (input : Input) (between came : List ℕ) → IsUnread function next new known retry_count duration left more before
-      → AreToRead new known retry_count duration left more (Some start) between
-      → HasInput before.options new known retry_count duration left more start (Ok (Some input)) came
-      → HasRead function next new known left more before (record before { decoder = came; start = Some start; input = Some input })
+  pub has_input : (before : Attempt H) (start : StartMessage) (input : Input) (between came : List ℕ) → IsUnread function next new state known retry_count duration left more before
+      → AreToRead new state known retry_count duration left more (Some start) between
+      → HasInput before.options new state known retry_count duration left more start (Ok (Some input)) came
+      → HasRead function next new state known left more before (record before { decoder = came; start = Some start; input = Some input })
   has_input before start input between came u started h = record {
     alone = announced start between started;
     stands = record {

@@ -3,6 +3,7 @@ use Rattle.std.specs.Prelude.{◌≡◌, ◌<◌, ◌⊎◌, ℕ, suc, List, [],
 use Rattle.std.specs.List.{flat_map, AllByRecursion}
 use Rattle.journal_model.specs.declared.notification.NotificationId.{NotificationId}
 use Rattle.journal_model.specs.declared.invocation.NewInvocation.{NewInvocation}
+use Rattle.journal_model.specs.State.{StateMap}
 use Rattle.journal_model.specs.AwaitTree.{AwaitTree}
 use Rattle.journal_model.specs.Request.{Request}
 use Rattle.journal_model.specs.Spelling.{request_payload, request_frame, frame_bytes}
@@ -25,13 +26,13 @@ module _ {H : Type 0} (function : H → Handler) (next : Handler) where
     pub options : run_options a.options ≡ given.options
 
   -- the input was not read yet
-  pub record IsUnread (new : NewInvocation) (known retry_count duration : ℕ) (left more : List ℕ) (a : Attempt H) : Type 0 where
-    pub serves : Serves (given_by a.options new) a
-    pub fits : FitsFrames new known retry_count duration
+  pub record IsUnread (new : NewInvocation) (state : StateMap) (known retry_count duration : ℕ) (left more : List ℕ) (a : Attempt H) : Type 0 where
+    pub serves : Serves (given_by a.options new state) a
+    pub fits : FitsFrames new state known retry_count duration
     pub input : a.input ≡ None
     pub answers : a.progress.answers ≡ []
     pub completions : a.progress.completions ≡ 0
-    pub bytes : AreToRead new known retry_count duration left more a.start a.decoder
+    pub bytes : AreToRead new state known retry_count duration left more a.start a.decoder
 
   -- the calls so far were answered as the run's, which goes on
   pub record Stands (given : Invocation) (calls : ℕ) (a : Attempt H) : Type 0 where
@@ -41,17 +42,17 @@ module _ {H : Type 0} (function : H → Handler) (next : Handler) where
     pub tallies : Tallies (run next given [] calls).steps a.progress
 
   -- a turn that read what there was and waits for more of the two frames
-  pub record ReadsOn (new : NewInvocation) (known retry_count duration : ℕ) (left more : List ℕ) (before after : Attempt H) : Type 0 where
+  pub record ReadsOn (new : NewInvocation) (state : StateMap) (known retry_count duration : ℕ) (left more : List ℕ) (before after : Attempt H) : Type 0 where
     pub over : after.over ≡ None
-    pub unread : IsUnread new known retry_count duration left more after
+    pub unread : IsUnread new state known retry_count duration left more after
     pub lacks : length more < length left
     pub output : after.progress.output ≡ before.progress.output
 
   -- a turn that read the input: no call was made
-  pub record ReadsInput (new : NewInvocation) (known : ℕ) (left more : List ℕ) (before after : Attempt H) : Type 0 where
+  pub record ReadsInput (new : NewInvocation) (state : StateMap) (known : ℕ) (left more : List ℕ) (before after : Attempt H) : Type 0 where
     pub over : after.over ≡ None
     pub alone : known ≡ 1
-    pub stands : Stands (given_by before.options new) 0 after
+    pub stands : Stands (given_by before.options new state) 0 after
     pub rest : after.decoder ++ left ≡ more
     pub output : after.progress.output ≡ before.progress.output
 
@@ -62,12 +63,12 @@ module _ {H : Type 0} (function : H → Handler) (next : Handler) where
     pub cause : Why
 
   -- a turn of an attempt whose input was not read
-  abbrev pub ReadTurn : NewInvocation → (known retry_count duration : ℕ) → (left more : List ℕ) → Attempt H → Attempt H → Turn → Type 0
-  ReadTurn new known retry_count duration left more before after Turn.Waiting = ReadsOn new known retry_count duration left more before after
-  ReadTurn new known retry_count duration left more before after Turn.Answered = ReadsInput new known left more before after
-  ReadTurn new known retry_count duration left more before after (Turn.Failed failure) =
-      FailsBy failure (CannotRead new known retry_count duration failure) before after
-  ReadTurn new known retry_count duration left more before after Turn.Ended = ⊥
+  abbrev pub ReadTurn : NewInvocation → StateMap → (known retry_count duration : ℕ) → (left more : List ℕ) → Attempt H → Attempt H → Turn → Type 0
+  ReadTurn new state known retry_count duration left more before after Turn.Waiting = ReadsOn new state known retry_count duration left more before after
+  ReadTurn new state known retry_count duration left more before after Turn.Answered = ReadsInput new state known left more before after
+  ReadTurn new state known retry_count duration left more before after (Turn.Failed failure) =
+      FailsBy failure (CannotRead new state known retry_count duration failure) before after
+  ReadTurn new state known retry_count duration left more before after Turn.Ended = ⊥
 
   -- a turn that answered the run's next call, and wrote its requests
   pub record AnswersCall (given : Invocation) (calls : ℕ) (before after : Attempt H) : Type 0 where
@@ -105,21 +106,21 @@ module _ {H : Type 0} (function : H → Handler) (next : Handler) where
       FailsBy failure (HasCause given (run next given [] calls).steps (next given.input (answers_of (run next given [] calls).steps)) failure) before after
 
   -- what reading as far as there is comes to, before it is known that the attempt is over
-  pub record ReadsMore (new : NewInvocation) (known retry_count duration : ℕ) (left more : List ℕ) (after : Attempt H) : Type 0 where
-    pub unread : IsUnread new known retry_count duration left more after
+  pub record ReadsMore (new : NewInvocation) (state : StateMap) (known retry_count duration : ℕ) (left more : List ℕ) (after : Attempt H) : Type 0 where
+    pub unread : IsUnread new state known retry_count duration left more after
     pub lacks : length more < length left
 
-  pub record HasRead (new : NewInvocation) (known : ℕ) (left more : List ℕ) (before after : Attempt H) : Type 0 where
+  pub record HasRead (new : NewInvocation) (state : StateMap) (known : ℕ) (left more : List ℕ) (before after : Attempt H) : Type 0 where
     pub alone : known ≡ 1
-    pub stands : Stands (given_by before.options new) 0 after
+    pub stands : Stands (given_by before.options new state) 0 after
     pub rest : after.decoder ++ left ≡ more
 
-  abbrev pub ReadsSome : NewInvocation → (known retry_count duration : ℕ) → (left more : List ℕ) → Attempt H → Attempt H → Result Turn AttemptFailure → Type 0
-  ReadsSome new known retry_count duration left more before after (Ok Turn.Waiting) = ReadsMore new known retry_count duration left more after
-  ReadsSome new known retry_count duration left more before after (Ok Turn.Answered) = HasRead new known left more before after
-  ReadsSome new known retry_count duration left more before after (Ok Turn.Ended) = ⊥
-  ReadsSome new known retry_count duration left more before after (Ok (Turn.Failed failure)) = ⊥
-  ReadsSome new known retry_count duration left more before after (Err failure) = CannotRead new known retry_count duration failure
+  abbrev pub ReadsSome : NewInvocation → StateMap → (known retry_count duration : ℕ) → (left more : List ℕ) → Attempt H → Attempt H → Result Turn AttemptFailure → Type 0
+  ReadsSome new state known retry_count duration left more before after (Ok Turn.Waiting) = ReadsMore new state known retry_count duration left more after
+  ReadsSome new state known retry_count duration left more before after (Ok Turn.Answered) = HasRead new state known left more before after
+  ReadsSome new state known retry_count duration left more before after (Ok Turn.Ended) = ⊥
+  ReadsSome new state known retry_count duration left more before after (Ok (Turn.Failed failure)) = ⊥
+  ReadsSome new state known retry_count duration left more before after (Err failure) = CannotRead new state known retry_count duration failure
 
   -- what the run's next call comes to
   pub record FailsAtCall (given : Invocation) (calls : ℕ) (failure : AttemptFailure) (before after : Attempt H) : Type 0 where

@@ -1,6 +1,7 @@
--- The first two frames of a new invocation whose object has no state: its start and its input.
+-- The first two frames of a new invocation whose object has this state: its start and its input.
 use Rattle.std.specs.Prelude.{◌≡◌, ◌<◌, ◌^◌, ◌++◌, ℕ, List, [], Option, Some, None, IsSome}
 use Rattle.journal_model.specs.declared.invocation.NewInvocation.{NewInvocation}
+use Rattle.journal_model.specs.State.{StateMap}
 use Rattle.journal_model.specs.Spelling.{frame_bytes, input_payload}
 use Rattle.journal_model.specs.Start.{start_payload_of}
 use Rattle.journal_model.specs.Run.{Invocation}
@@ -17,37 +18,37 @@ use Rattle.invocation_vm.specs.Options.{run_options}
 use Rattle.invocation_vm.specs.Frames.{FitsFrame}
 
 -- the payloads
-abbrev pub first_payload : NewInvocation → ℕ → ℕ → ℕ → List ℕ
-first_payload new known retry_count duration = start_payload_of new [] known retry_count duration
+abbrev pub first_payload : NewInvocation → StateMap → ℕ → ℕ → ℕ → List ℕ
+first_payload new state known retry_count duration = start_payload_of new state known retry_count duration
 
 abbrev pub second_payload : NewInvocation → List ℕ
 second_payload new = input_payload new.headers new.input
 
 -- their numbers are within their types, and their payloads fit a frame
-pub record FitsFrames (new : NewInvocation) (known retry_count duration : ℕ) : Type 0 where
+pub record FitsFrames (new : NewInvocation) (state : StateMap) (known retry_count duration : ℕ) : Type 0 where
   pub entries : known < 2 ^ 32
   pub attempts : retry_count < 2 ^ 32
   pub time : duration < 2 ^ 64
   pub seed : new.seed < 2 ^ 64
-  pub start : FitsFrame (first_payload new known retry_count duration)
+  pub start : FitsFrame (first_payload new state known retry_count duration)
   pub input : FitsFrame (second_payload new)
 
 -- what came and what is to come is the start frame, the input's, and more; once the start was read, the input's and more
-abbrev pub AreToRead : NewInvocation → (known retry_count duration : ℕ) → (left more : List ℕ) → Option StartMessage → List ℕ → Type 0
-AreToRead new known retry_count duration left more None came =
-    came ++ left ≡ frame_bytes 0 (first_payload new known retry_count duration) ++ (frame_bytes 0x0400 (second_payload new) ++ more)
-AreToRead new known retry_count duration left more (Some start) came =
-    (start ≡ start_record new [] known retry_count duration) × (known ≡ 1) × (came ++ left ≡ frame_bytes 0x0400 (second_payload new) ++ more)
+abbrev pub AreToRead : NewInvocation → StateMap → (known retry_count duration : ℕ) → (left more : List ℕ) → Option StartMessage → List ℕ → Type 0
+AreToRead new state known retry_count duration left more None came =
+    came ++ left ≡ frame_bytes 0 (first_payload new state known retry_count duration) ++ (frame_bytes 0x0400 (second_payload new) ++ more)
+AreToRead new state known retry_count duration left more (Some start) came =
+    (start ≡ start_record new state known retry_count duration) × (known ≡ 1) × (came ++ left ≡ frame_bytes 0x0400 (second_payload new) ++ more)
 
 -- what an attempt with these options begins with
-abbrev pub given_by : VMOptions → NewInvocation → Invocation
-given_by options new = run_of (run_options options) options.fallback_random_seed new []
+abbrev pub given_by : VMOptions → NewInvocation → StateMap → Invocation
+given_by options new state = run_of (run_options options) options.fallback_random_seed new state
 
 -- why the start or the input cannot be read
-abbrev pub CannotRead : NewInvocation → (known retry_count duration : ℕ) → AttemptFailure → Type 0
-CannotRead new known retry_count duration AttemptFailure.OutOfMemory = Unit {0}
-CannotRead new known retry_count duration AttemptFailure.KnownEntriesIsZero = known ≡ 0
-CannotRead new known retry_count duration AttemptFailure.ReplayNotCarriedOut = 1 < known
-CannotRead new known retry_count duration (AttemptFailure.BadPayload MessageType.Start) = IsSome (payload_fault LEVELS types.Start (first_payload new known retry_count duration))
-CannotRead new known retry_count duration (AttemptFailure.BadPayload MessageType.InputCommand) = IsSome (payload_fault LEVELS types.InputCommand (second_payload new))
-CannotRead new known retry_count duration _ = ⊥
+abbrev pub CannotRead : NewInvocation → StateMap → (known retry_count duration : ℕ) → AttemptFailure → Type 0
+CannotRead new state known retry_count duration AttemptFailure.OutOfMemory = Unit {0}
+CannotRead new state known retry_count duration AttemptFailure.KnownEntriesIsZero = known ≡ 0
+CannotRead new state known retry_count duration AttemptFailure.ReplayNotCarriedOut = 1 < known
+CannotRead new state known retry_count duration (AttemptFailure.BadPayload MessageType.Start) = IsSome (payload_fault LEVELS types.Start (first_payload new state known retry_count duration))
+CannotRead new state known retry_count duration (AttemptFailure.BadPayload MessageType.InputCommand) = IsSome (payload_fault LEVELS types.InputCommand (second_payload new))
+CannotRead new state known retry_count duration _ = ⊥

@@ -41,9 +41,15 @@ SleepFails name wake_up_time completions AttemptFailure.PayloadTooLong = 2 ^ 32 
 SleepFails name wake_up_time completions (AttemptFailure.RefusedCall refusal) = (refusal ≡ CallRefusal.OutOfBoundsDuration) × (2 ^ 64 ≤ wake_up_time)
 SleepFails name wake_up_time completions _ = ⊥
 
+-- the code of a failure is within its type
+abbrev pub HasShortCode : NonEmptyValue → Type 0
+HasShortCode (NonEmptyValue.Success bytes) = Unit {0}
+HasShortCode (NonEmptyValue.Failure failure) = failure.code < 2 ^ 16
+
 -- an output takes no completion
 pub record PutsOut (value : NonEmptyValue) (old new : Progress) : Type 0 where
   pub fits : length (request_payload (Request.Output value [])) < 2 ^ 32
+  pub code : HasShortCode value
   pub state : new ≡ record old {
     answers = old.answers ++ Answer.Done ∷ [];
     output = old.output ++ request_frame (Request.Output value []);

@@ -17,7 +17,7 @@ use Rattle.invocation_vm.specs.declared.progress.Progress.{Progress}
 use Rattle.invocation_vm.specs.declared.progress.Turn.{Turn}
 use Rattle.invocation_vm.specs.Failure.{refusal_meant}
 use Rattle.invocation_vm.specs.Frames.{awaiting_payloads, FitsFrame}
-use Rattle.invocation_vm.specs.Progress.{id_awaited, awaits_one}
+use Rattle.invocation_vm.specs.Progress.{id_awaited, awaits_one, HasShortCode}
 
 -- the steps have slept and put out values alone, before anything came
 pub record AreFirst (steps : List Step) : Type 0 where
@@ -42,10 +42,10 @@ is_carried_out (Call.Await tree) = awaits_one tree
 is_carried_out Call.End = true
 is_carried_out _ = false
 
--- a request that the calls of a first path make
+-- a request that the calls of a first path make; its numbers are within their types
 abbrev pub IsFirstRequest : Request → Type 0
-IsFirstRequest (Request.Sleep wake_up_time completion name) = Unit {0}
-IsFirstRequest (Request.Output value name) = Unit {0}
+IsFirstRequest (Request.Sleep wake_up_time completion name) = (wake_up_time < 2 ^ 64) × (completion < 2 ^ 32)
+IsFirstRequest (Request.Output value name) = HasShortCode value
 IsFirstRequest _ = ⊥
 
 -- the run goes on with one more step, whose answer was given and whose requests were written

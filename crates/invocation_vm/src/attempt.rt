@@ -1,6 +1,7 @@
 //! An attempt: a handler at work on one invocation.
 ghost use Rattle.std.specs.Prelude.{◌≡◌, ◌++◌, ◌≤◌, ℕ, List, [], None, IsSome, IfSome, IfOk, IfErr, OnOk, OnErr, length, take, drop};
 ghost use Rattle.journal_model.specs.declared.invocation.NewInvocation.{NewInvocation};
+ghost use Rattle.journal_model.specs.State.{StateMap};
 ghost use Rattle.journal_model.specs.Run.{Handler as HandlerFunction, Invocation};
 
 use crate::failure::AttemptFailure;
@@ -73,9 +74,9 @@ impl<H: Handler> Attempt<H> {
     // Reads the start and the input, as far as they came.
     fn read(&mut self) -> Result<Turn, AttemptFailure>
         requires { self.old.input ≡ None }
-        ensures reads { (next : HandlerFunction) (new : NewInvocation) (known retry_count duration : ℕ) (left more : List ℕ)
-            → IsUnread H.next_call next new known retry_count duration left more self.old
-            → ReadsSome H.next_call next new known retry_count duration left more self.old self.new result }
+        ensures reads { (next : HandlerFunction) (new : NewInvocation) (state : StateMap) (known retry_count duration : ℕ) (left more : List ℕ)
+            → IsUnread H.next_call next new state known retry_count duration left more self.old
+            → ReadsSome H.next_call next new state known retry_count duration left more self.old self.new result }
         ensures kept { self.new ≡ record self.old { decoder = self.new.decoder; start = self.new.start; input = self.new.input } }
     {
         let Some(start) = have_start(self.alloc, &mut self.decoder, self.start.take())? else {
@@ -100,9 +101,9 @@ impl<H: Handler> Attempt<H> {
 
     // Reads what comes before the handler is asked, or asks it and carries its call out.
     fn advance(&mut self) -> Result<Turn, AttemptFailure>
-        ensures reads { self.old.input ≡ None → (next : HandlerFunction) (new : NewInvocation) (known retry_count duration : ℕ) (left more : List ℕ)
-            → IsUnread H.next_call next new known retry_count duration left more self.old
-            → ReadsSome H.next_call next new known retry_count duration left more self.old self.new result }
+        ensures reads { self.old.input ≡ None → (next : HandlerFunction) (new : NewInvocation) (state : StateMap) (known retry_count duration : ℕ) (left more : List ℕ)
+            → IsUnread H.next_call next new state known retry_count duration left more self.old
+            → ReadsSome H.next_call next new state known retry_count duration left more self.old self.new result }
         ensures calls { (next : HandlerFunction) (given : Invocation) (calls : ℕ) → Stands H.next_call next given calls self.old
             → CallsOne H.next_call next given calls self.old self.new result }
         ensures kept { self.new ≡ record self.old {
@@ -132,9 +133,9 @@ impl<H: Handler> Attempt<H> {
     /// An attempt that is over answers what it answered last.
     pub fn turn(&mut self) -> Turn
         ensures over { IfSome self.old.over (λ turn. (result ≡ turn) × (self.new ≡ self.old)) }
-        ensures reads { (next : HandlerFunction) (new : NewInvocation) (known retry_count duration : ℕ) (left more : List ℕ)
-            → self.old.over ≡ None → IsUnread H.next_call next new known retry_count duration left more self.old
-            → ReadTurn H.next_call next new known retry_count duration left more self.old self.new result }
+        ensures reads { (next : HandlerFunction) (new : NewInvocation) (state : StateMap) (known retry_count duration : ℕ) (left more : List ℕ)
+            → self.old.over ≡ None → IsUnread H.next_call next new state known retry_count duration left more self.old
+            → ReadTurn H.next_call next new state known retry_count duration left more self.old self.new result }
         ensures runs { (next : HandlerFunction) (given : Invocation) (calls : ℕ) → self.old.over ≡ None
             → Stands H.next_call next given calls self.old → RunTurn H.next_call next given calls self.old self.new result }
         ensures kept { self.new ≡ record self.old {

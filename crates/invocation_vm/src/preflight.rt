@@ -2,6 +2,7 @@
 ghost use Rattle.std.specs.Prelude.{◌≡◌, ℕ, List, Some, None, map, IfOk, MatchResult};
 ghost use Rattle.journal_protocol.specs.Records.{header_told};
 ghost use Rattle.journal_model.specs.declared.invocation.NewInvocation.{NewInvocation};
+ghost use Rattle.journal_model.specs.State.{StateMap};
 ghost use Rattle.protocol_table.specs.declared.table.RecordType.TheVariants.{Start as start_type, InputCommand as input_command_type};
 ghost use Rattle.protocol_records.specs.Start.{start_of};
 ghost use Rattle.protocol_records.specs.InputCommand.{input_command_of};
@@ -102,9 +103,9 @@ fn check_start(start: &StartMessage) -> Result<(), AttemptFailure>
 
 // Takes the next message, which is to be a start that is served.
 fn next_served(alloc: Global, decoder: &mut Decoder) -> Result<Option<StartMessage>, AttemptFailure>
-    ensures { (new : NewInvocation) (known retry_count duration : ℕ) (left more : List ℕ) → FitsFrames new known retry_count duration
-        → AreToRead new known retry_count duration left more None decoder.old
-        → HasStart new known retry_count duration left more result decoder.new }
+    ensures { (new : NewInvocation) (state : StateMap) (known retry_count duration : ℕ) (left more : List ℕ) → FitsFrames new state known retry_count duration
+        → AreToRead new state known retry_count duration left more None decoder.old
+        → HasStart new state known retry_count duration left more result decoder.new }
 {
     let Some(start) = next_start(alloc, decoder)? else {
         return Ok(None);
@@ -124,9 +125,9 @@ pub(crate) fn have_start(
     decoder: &mut Decoder,
     start: Option<StartMessage>,
 ) -> Result<Option<StartMessage>, AttemptFailure>
-    ensures { (new : NewInvocation) (known retry_count duration : ℕ) (left more : List ℕ) → FitsFrames new known retry_count duration
-        → AreToRead new known retry_count duration left more start decoder.old
-        → HasStart new known retry_count duration left more result decoder.new }
+    ensures { (new : NewInvocation) (state : StateMap) (known retry_count duration : ℕ) (left more : List ℕ) → FitsFrames new state known retry_count duration
+        → AreToRead new state known retry_count duration left more start decoder.old
+        → HasStart new state known retry_count duration left more result decoder.new }
 {
     if start.is_some() {
         return Ok(start);
@@ -241,9 +242,9 @@ pub(crate) fn read_input(
     decoder: &mut Decoder,
     start: &StartMessage,
 ) -> Result<Option<Input>, AttemptFailure>
-    ensures { (new : NewInvocation) (known retry_count duration : ℕ) (left more : List ℕ) → FitsFrames new known retry_count duration
-        → version ≡ new.version → AreToRead new known retry_count duration left more (Some start.now) decoder.old
-        → HasInput options.now new known retry_count duration left more start.now result decoder.new }
+    ensures { (new : NewInvocation) (state : StateMap) (known retry_count duration : ℕ) (left more : List ℕ) → FitsFrames new state known retry_count duration
+        → version ≡ new.version → AreToRead new state known retry_count duration left more (Some start.now) decoder.old
+        → HasInput options.now new state known retry_count duration left more start.now result decoder.new }
 {
     let Some(message) = next_input(alloc, decoder)? else {
         return Ok(None);

@@ -9,9 +9,9 @@ has_some : (o : Option Input) (input : Input) → o ≡ Some input → is_some o
 has_some o input e = ap is_some e
 
 pub returns-in-Ok-Answered-clause-reads : goal.returns-in-Ok-Answered-clause-reads
-returns-in-Ok-Answered-clause-reads g c = λ next new known retry_count duration left more over u.
-    read_on g.H.Handler.next_call next new known retry_count duration left more c.args.self.now c.advance.new.self Turn.Answered over (c.in-Ok-Answered.ensures.read u.input)
-    (rw c.in-Ok-Answered.field-0-is at (c.in-Ok-Answered.ensures.reads u.input next new known retry_count duration left more u))
+returns-in-Ok-Answered-clause-reads g c = λ next new state known retry_count duration left more over u.
+    read_on g.H.Handler.next_call next new state known retry_count duration left more c.args.self.now c.advance.new.self Turn.Answered over (c.in-Ok-Answered.ensures.read u.input)
+    (rw c.in-Ok-Answered.field-0-is at (c.in-Ok-Answered.ensures.reads u.input next new state known retry_count duration left more u))
 
 pub returns-in-Ok-Answered-clause-runs : goal.returns-in-Ok-Answered-clause-runs
 returns-in-Ok-Answered-clause-runs g c = λ next given calls over s.
@@ -25,9 +25,9 @@ pub returns-in-Ok-Answered-clause-asked : goal.returns-in-Ok-Answered-clause-ask
 returns-in-Ok-Answered-clause-asked g c = λ there. asked_so c.args.self.now c.advance.new.self (c.in-Ok-Answered.ensures.asked there)
 
 pub returns-in-Ok-Waiting-clause-reads : goal.returns-in-Ok-Waiting-clause-reads
-returns-in-Ok-Waiting-clause-reads g c = λ next new known retry_count duration left more over u.
-    read_on g.H.Handler.next_call next new known retry_count duration left more c.args.self.now c.advance.new.self Turn.Waiting over (c.in-Ok-Waiting.ensures.read u.input)
-    (rw c.in-Ok-Waiting.field-0-is at (c.in-Ok-Waiting.ensures.reads u.input next new known retry_count duration left more u))
+returns-in-Ok-Waiting-clause-reads g c = λ next new state known retry_count duration left more over u.
+    read_on g.H.Handler.next_call next new state known retry_count duration left more c.args.self.now c.advance.new.self Turn.Waiting over (c.in-Ok-Waiting.ensures.read u.input)
+    (rw c.in-Ok-Waiting.field-0-is at (c.in-Ok-Waiting.ensures.reads u.input next new state known retry_count duration left more u))
 
 pub returns-in-Ok-Waiting-clause-runs : goal.returns-in-Ok-Waiting-clause-runs
 returns-in-Ok-Waiting-clause-runs g c = λ next given calls over s.
@@ -41,8 +41,8 @@ pub returns-in-Ok-Waiting-clause-asked : goal.returns-in-Ok-Waiting-clause-asked
 returns-in-Ok-Waiting-clause-asked g c = λ there. asked_so c.args.self.now c.advance.new.self (c.in-Ok-Waiting.ensures.asked there)
 
 pub returns-in-Ok-Ended-clause-reads : goal.returns-in-Ok-Ended-clause-reads
-returns-in-Ok-Ended-clause-reads g c = λ next new known retry_count duration left more over u.
-    rw c.in-Ok-Ended.field-0-is at (c.in-Ok-Ended.ensures.reads u.input next new known retry_count duration left more u)
+returns-in-Ok-Ended-clause-reads g c = λ next new state known retry_count duration left more over u.
+    rw c.in-Ok-Ended.field-0-is at (c.in-Ok-Ended.ensures.reads u.input next new state known retry_count duration left more u)
 
 pub returns-in-Ok-Ended-clause-runs : goal.returns-in-Ok-Ended-clause-runs
 returns-in-Ok-Ended-clause-runs g c = λ next given calls over s.
@@ -50,14 +50,14 @@ returns-in-Ok-Ended-clause-runs g c = λ next given calls over s.
     (rw c.in-Ok-Ended.field-0-is at (c.in-Ok-Ended.ensures.calls next given calls s))
 
 pub returns-in-Ok-Failed-clause-reads : goal.returns-in-Ok-Failed-clause-reads
-returns-in-Ok-Failed-clause-reads g c = λ next new known retry_count duration left more over u.
-    absurd (rw c.in-Ok-Failed.field-0-is at (c.in-Ok-Failed.ensures.reads u.input next new known retry_count duration left more u))
+returns-in-Ok-Failed-clause-reads g c = λ next new state known retry_count duration left more over u.
+    absurd (rw c.in-Ok-Failed.field-0-is at (c.in-Ok-Failed.ensures.reads u.input next new state known retry_count duration left more u))
 
 pub returns-in-Ok-Failed-clause-runs : goal.returns-in-Ok-Failed-clause-runs
 returns-in-Ok-Failed-clause-runs g c = λ next given calls over s.
     absurd (rw c.in-Ok-Failed.field-0-is at (c.in-Ok-Failed.ensures.calls next given calls s))
 
 pub returns-in-Err-clause-reads : goal.returns-in-Err-clause-reads
-returns-in-Err-clause-reads g c = λ next new known retry_count duration left more over u.
-    read_failed g.H.Handler.next_call next new known retry_count duration left more c.args.self.now c.advance.new.self c.in-Err.failure (c.in-Err.ensures.read u.input)
-    (c.in-Err.ensures.reads u.input next new known retry_count duration left more u)
+returns-in-Err-clause-reads g c = λ next new state known retry_count duration left more over u.
+    read_failed g.H.Handler.next_call next new state known retry_count duration left more c.args.self.now c.advance.new.self c.in-Err.failure (c.in-Err.ensures.read u.input)
+    (c.in-Err.ensures.reads u.input next new state known retry_count duration left more u)
