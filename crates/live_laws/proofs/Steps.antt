@@ -8,7 +8,7 @@ use Rattle.journal_model.specs.declared.notification.NotificationResult.{Notific
 use Rattle.journal_model.specs.Value.{result_of_value}
 use Rattle.journal_model.specs.Request.{Request}
 use Rattle.journal_model.specs.State.{StateMap, state_after}
-use Rattle.journal_model.specs.Spelling.{frame_bytes, notification_payload}
+use Rattle.journal_model.specs.Spelling.{frame_bytes, notification_payload, acknowledgement_payload}
 use Rattle.journal_model.specs.Event.{Frame, Event}
 use Rattle.journal_model.specs.Journal.{Entry, Recorded, Arrived, completion, id_of_signal, is_of, is_tick, begins, invoked_by, invocation_begun, version_of, starting_state, is_open, requests_in, arrivals_in, read_answer, entries_of, entries_of_event, entries_added, adds_to}
 use Rattle.journal_model.specs.Attempt.{Piece, begins_attempt, ends_live, live_attempt, closes_input, is_input_closed, notification_type, later_pieces, acknowledged, event_pieces, input_bytes, input_pieces, bytes_asked, handed_after, bytes_handed}
@@ -21,9 +21,9 @@ use Rattle.live_attempts.specs.declared.attempt.LiveAttempt.{LiveAttempt}
 use Rattle.live_attempts.specs.Input.{pieces_after, place_after}
 use Rattle.live_attempts.specs.Attempts.{after_put, after_close}
 use Rattle.live_attempts.proofs.Pieces.{pieces_twice, place_twice}
-use Rattle.live_laws.specs.Agrees.{rows_of_arrivals, after_rows, whole_pieces, Agrees, AgreesAtFirst, AgreesElsewhere, completed, signalled, cancelled, run_ended, AgreesArrived, AgreesHandedOut, AgreesClosed, is_answered_at_once, AgreesTaken, AgreesEnded, AgreesStopped}
+use Rattle.live_laws.specs.Agrees.{rows_of_arrivals, after_rows, whole_pieces, Agrees, AgreesAtFirst, AgreesElsewhere, completed, signalled, cancelled, run_ended, AgreesArrived, AgreesHandedOut, AgreesClosed, is_answered_at_once, AgreesTaken, AgreesEnded, AgreesStopped, AgreesAcknowledged}
 use Rattle.live_laws.proofs.Counting.{handed_within}
-use Rattle.live_laws.proofs.Whole.{place_counted}
+use Rattle.live_laws.proofs.Whole.{place_counted, frame_full}
 use Rattle.live_laws.proofs.Growing.{version_same, pieces_now, places_now, handed_now, live_now, closed_now, grown}
 use Rattle.live_laws.proofs.Opened.{itself, and_false}
 use Rattle.live_laws.proofs.Added.{added}
@@ -142,14 +142,37 @@ arrives events event id arrival new old going asks ends closes plain mine adds a
     (added events event id new old going asks ends closes plain attempt accepted e agrees)
 
 pub arrived : AgreesArrived
-arrived events _ id _ attempt (completed _ n result) accepted e agrees =
-    arrives events (Event.Complete id n result) id (completion n result) refl refl refl refl (and_false (bytes_eq id id)) (and_false (bytes_eq id id)) refl (itself id) refl attempt accepted e agrees
-arrived events _ id _ attempt (signalled _ key result) accepted e agrees =
-    arrives events (Event.Signal id key result) id (record { id = id_of_signal key; result = result }) refl refl refl refl (and_false (bytes_eq id id)) (and_false (bytes_eq id id)) refl (itself id) refl attempt accepted e agrees
-arrived events _ id _ attempt (cancelled _) accepted e agrees =
-    arrives events (Event.Cancel id) id (record { id = cancel_id; result = NotificationResult.Void }) refl refl refl refl (and_false (bytes_eq id id)) (and_false (bytes_eq id id)) refl (itself id) refl attempt accepted e agrees
-arrived events _ id _ attempt (run_ended _ number n value) accepted e agrees =
-    arrives events (Event.Take id number (Frame.RunOutcome n value false)) id (completion n (result_of_value value)) refl refl refl refl (and_false (bytes_eq id id)) (and_false (bytes_eq id id)) refl (itself id) refl attempt accepted e agrees
+arrived events _ id _ attempt (completed _ n result) plain accepted e agrees =
+    arrives events (Event.Complete id n result) id (completion n result) refl refl refl refl (and_false (bytes_eq id id)) (and_false (bytes_eq id id)) plain (itself id) refl attempt accepted e agrees
+arrived events _ id _ attempt (signalled _ key result) plain accepted e agrees =
+    arrives events (Event.Signal id key result) id (record { id = id_of_signal key; result = result }) refl refl refl refl (and_false (bytes_eq id id)) (and_false (bytes_eq id id)) plain (itself id) refl attempt accepted e agrees
+arrived events _ id _ attempt (cancelled _) plain accepted e agrees =
+    arrives events (Event.Cancel id) id (record { id = cancel_id; result = NotificationResult.Void }) refl refl refl refl (and_false (bytes_eq id id)) (and_false (bytes_eq id id)) plain (itself id) refl attempt accepted e agrees
+arrived events _ id _ attempt (run_ended _ number n value is_acknowledged) plain accepted e agrees =
+    arrives events (Event.Take id number (Frame.RunOutcome n value is_acknowledged)) id (completion n (result_of_value value)) refl refl refl refl
+    (and_false (bytes_eq id id)) (and_false (bytes_eq id id)) plain (itself id) refl attempt accepted e agrees
+
+-- the outcome of a run that is acknowledged
+pub is_acknowledged : AgreesAcknowledged
+is_acknowledged events id number n value None late e =
+    live_now events (Event.Take id number (Frame.RunOutcome n value true)) id refl refl (and_false (bytes_eq id id)) ∙ e
+is_acknowledged events id number n value (Some attempt) late kept =
+    let event = Event.Take id number (Frame.RunOutcome n value true) in
+    let start = starting_state events id in
+    let entries = entries_of events id in
+    let place : ℕ = 1 + length entries in
+    let frame : List ℕ = frame_bytes 0x0006 (acknowledgement_payload n) in
+    let piece : Piece = record { is_arrival = true; bytes = frame } in
+    let more : entries_added start events id event entries ≡ Arrived (completion n (result_of_value value)) ∷ [] =
+    mine_added start events event id entries (Arrived (completion n (result_of_value value)) ∷ []) (itself id) refl in
+    let told : acknowledged (version_of events id) id event ≡ Some n = ap₂ (λ (a b : Bool). if a && b then Some n else None) late (itself id) in
+    grown events event id refl refl refl (piece ∷ []) (place ∷ [])
+    (ap₂ (λ (o : Option ℕ) (some : List Entry). later_pieces (entries ++ some) o (arrivals_in some)) told more)
+    (ap (places_of_arrivals place) more)
+    (frame_full 0x0006 (acknowledgement_payload n), tt)
+    attempt (after_put place frame attempt) (begun_before event events id refl) (and_false (bytes_eq id id)) refl refl refl
+    (ap (λ (bytes : List ℕ). attempt.input.bytes ++ bytes) (sym (append-nil frame))) refl refl
+    (sym (ap (λ (b : Bool). b || attempt.is_input_closed) (and_false (bytes_eq id id)))) kept
 
 -- ---- the input is closed
 
