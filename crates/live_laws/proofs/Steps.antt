@@ -1,5 +1,5 @@
 -- What is kept agrees with the events step by step.
-use Rattle.std.proofs.Common.{ℕ, ◌+◌, ◌-◌, ◌≤◌, min, nat_le, arith, ◌≡◌, refl, sym, ap, ap₂, subst, ◌∙◌, inl, Bool, true, false, ◌&&◌, ◌||◌, not, if◌then◌else◌, List, [], ◌∷◌, ◌++◌, append-nil, append_assoc, length, map, drop, Option, Some, None, option_map, bytes_eq}
+use Rattle.std.proofs.Common.{ℕ, ◌+◌, ◌-◌, ◌≤◌, min, nat_le, arith, ◌≡◌, refl, sym, ap, ap₂, subst, ◌∙◌, inl, Bool, true, false, ◌&&◌, ◌||◌, not, if◌then◌else◌, List, [], ◌∷◌, ◌++◌, append-nil, length, map, drop, Option, Some, None, option_map, bytes_eq}
 use Rattle.std.proofs.lemmas.Bool.{leb-true, leb-false}
 use Rattle.std.proofs.lemmas.List.{length-drop, drop-drop}
 use Rattle.std.proofs.Math.ListN.{drop_of_length-le}
@@ -8,25 +8,25 @@ use Rattle.journal_model.specs.declared.notification.NotificationResult.{Notific
 use Rattle.journal_model.specs.Value.{result_of_value}
 use Rattle.journal_model.specs.Request.{Request}
 use Rattle.journal_model.specs.State.{StateMap, state_after}
-use Rattle.journal_model.specs.Spelling.{frame_bytes, notification_payload}
+use Rattle.journal_model.specs.Spelling.{frame_bytes, notification_payload, acknowledgement_payload}
 use Rattle.journal_model.specs.Event.{Frame, Event}
 use Rattle.journal_model.specs.Journal.{Entry, Recorded, Arrived, completion, id_of_signal, is_of, is_tick, begins, invoked_by, invocation_begun, version_of, starting_state, is_open, requests_in, arrivals_in, read_answer, entries_of, entries_of_event, entries_added, adds_to}
-use Rattle.journal_model.specs.Attempt.{Piece, begins_attempt, ends_live, live_attempt, closes_input, is_input_closed, notification_type, arrival_piece, later_pieces, acknowledged, event_pieces, input_bytes, input_pieces, bytes_asked, handed_after, bytes_handed}
+use Rattle.journal_model.specs.Attempt.{Piece, begins_attempt, ends_live, live_attempt, closes_input, is_input_closed, notification_type, later_pieces, acknowledged, event_pieces, input_bytes, input_pieces, bytes_asked, handed_after, bytes_handed}
 use Rattle.journal_model.specs.Cause.{causes_of, IsAccepted}
 use Rattle.journal_laws.proofs.ObjectState.{begun_before}
 use Rattle.store_model.specs.Places.{places_of_arrivals, input_places}
 use Rattle.store_model.proofs.Same.{both_same, same_begun, foreign_adds}
-use Rattle.store_lookups.proofs.Framing.{IsAskedIn, AreAskedBefore, all_asked_before, kind_stays}
 use Rattle.live_attempts.specs.declared.input.PieceLeft.{PieceLeft}
 use Rattle.live_attempts.specs.declared.attempt.LiveAttempt.{LiveAttempt}
 use Rattle.live_attempts.specs.Input.{pieces_after, place_after}
 use Rattle.live_attempts.specs.Attempts.{after_put, after_close}
 use Rattle.live_attempts.proofs.Pieces.{pieces_twice, place_twice}
-use Rattle.live_laws.specs.Agrees.{whole_pieces, Agrees, AgreesAtFirst, AgreesElsewhere, completed, signalled, cancelled, run_ended, AgreesArrived, AgreesHandedOut, AgreesClosed, is_answered_at_once, AgreesTaken, AgreesEnded, AgreesStopped}
+use Rattle.live_laws.specs.Agrees.{rows_of_arrivals, after_rows, whole_pieces, Agrees, AgreesAtFirst, AgreesElsewhere, completed, signalled, cancelled, run_ended, AgreesArrived, AgreesHandedOut, AgreesClosed, is_answered_at_once, AgreesTaken, AgreesEnded, AgreesStopped, AgreesAcknowledged}
 use Rattle.live_laws.proofs.Counting.{handed_within}
 use Rattle.live_laws.proofs.Whole.{place_counted, frame_full}
-use Rattle.live_laws.proofs.Growing.{version_same, pieces_now, places_now, handed_now, entries_now, live_now, closed_now, grown}
+use Rattle.live_laws.proofs.Growing.{version_same, pieces_now, places_now, handed_now, live_now, closed_now, grown}
 use Rattle.live_laws.proofs.Opened.{itself, and_false}
+use Rattle.live_laws.proofs.Added.{added}
 
 pub at_first : AgreesAtFirst
 at_first id = refl
@@ -128,11 +128,6 @@ stopped events id number = ap (λ (a : Bool). if a && true then None else live_a
 
 -- ---- an arrival
 
-last_asked : (before entries : List Entry) (entry : Entry) → AreAskedBefore before (entries ++ entry ∷ []) → IsAskedIn (before ++ entries) entry
-last_asked before [] entry h = subst (λ (all : List Entry). IsAskedIn all entry) (sym (append-nil before)) h.0
-last_asked before (first ∷ entries) entry h =
-    subst (λ (all : List Entry). IsAskedIn all entry) (append_assoc before (first ∷ []) entries) (last_asked (before ++ first ∷ []) entries entry h.1)
-
 -- an event of the invocation that brings one arrival, and does nothing else to the attempt
 arrives : (events : List Event) (event : Event) (id : Text) (arrival : Arrival) → invoked_by event ≡ None → begins id event ≡ false → begins_attempt id event ≡ false
     → bytes_asked id event ≡ None → (is_of id event && ends_live event) ≡ false → (is_of id event && closes_input event) ≡ false
@@ -140,38 +135,44 @@ arrives : (events : List Event) (event : Event) (id : Text) (arrival : Arrival) 
     → entries_of_event (starting_state events id) (entries_of events id) event ≡ Arrived arrival ∷ []
     → (attempt : Option LiveAttempt) → IsAccepted events → causes_of events event ≡ [] → Agrees events id attempt
     → Agrees (event ∷ events) id (option_map (after_put (1 + length (entries_of events id)) (frame_bytes (notification_type (entries_of events id) arrival.id) (notification_payload arrival))) attempt)
-arrives events event id arrival new old going asks ends closes plain mine adds None accepted e agrees = live_now events event id old going ends ∙ agrees
-arrives events event id arrival new old going asks ends closes plain mine adds (Some attempt) accepted e kept =
-    let entries = entries_of events id in
-    let added : entries_added (starting_state events id) events id event entries ≡ Arrived arrival ∷ [] =
-    mine_added (starting_state events id) events event id entries (Arrived arrival ∷ []) mine adds in
-    let now : entries_of (event ∷ events) id ≡ entries ++ Arrived arrival ∷ [] =
-    entries_now events event id old going ∙ ap (λ (more : List Entry). entries ++ more) added in
-    let asked : IsAskedIn entries (Arrived arrival) =
-    last_asked [] entries (Arrived arrival) (subst (λ (all : List Entry). AreAskedBefore [] all) now (all_asked_before id (event ∷ events) (e, accepted))) in
-    let piece : Piece = arrival_piece (entries ++ Arrived arrival ∷ []) arrival in
-    let frame : List ℕ = frame_bytes (notification_type entries arrival.id) (notification_payload arrival) in
-    let same : frame ≡ piece.bytes = ap (λ (kind : ℕ). frame_bytes kind (notification_payload arrival)) (kind_stays entries (Arrived arrival ∷ []) arrival.id asked) in
-    let place : ℕ = 1 + length entries in
-    grown events event id old going asks (piece ∷ []) (place ∷ [])
-    (ap₂ (λ (o : Option ℕ) (more : List Entry). later_pieces (entries ++ more) o (arrivals_in more)) plain added)
-    (ap (places_of_arrivals place) added)
-    (frame_full (notification_type (entries ++ Arrived arrival ∷ []) arrival.id) (notification_payload arrival), tt)
-    attempt (after_put place frame attempt) (begun_before event events id new) ends refl refl refl
-    (ap (λ (bytes : List ℕ). attempt.input.bytes ++ bytes) (same ∙ sym (append-nil piece.bytes)))
-    (ap (λ (bytes : List ℕ). attempt.input.pieces ++ record { behind = place + 1; len = length bytes } ∷ []) same)
-    refl
-    (sym (ap (λ (b : Bool). b || attempt.is_input_closed) closes)) kept
+arrives events event id arrival new old going asks ends closes plain mine adds attempt accepted e agrees =
+    subst
+    (λ (more : List Entry). Agrees (event ∷ events) id (option_map (after_rows (rows_of_arrivals id (entries_of events id) (1 + length (entries_of events id)) more)) attempt))
+    (mine_added (starting_state events id) events event id (entries_of events id) (Arrived arrival ∷ []) mine adds)
+    (added events event id new old going asks ends closes plain attempt accepted e agrees)
 
 pub arrived : AgreesArrived
-arrived events _ id _ attempt (completed _ n result) accepted e agrees =
-    arrives events (Event.Complete id n result) id (completion n result) refl refl refl refl (and_false (bytes_eq id id)) (and_false (bytes_eq id id)) refl (itself id) refl attempt accepted e agrees
-arrived events _ id _ attempt (signalled _ key result) accepted e agrees =
-    arrives events (Event.Signal id key result) id (record { id = id_of_signal key; result = result }) refl refl refl refl (and_false (bytes_eq id id)) (and_false (bytes_eq id id)) refl (itself id) refl attempt accepted e agrees
-arrived events _ id _ attempt (cancelled _) accepted e agrees =
-    arrives events (Event.Cancel id) id (record { id = cancel_id; result = NotificationResult.Void }) refl refl refl refl (and_false (bytes_eq id id)) (and_false (bytes_eq id id)) refl (itself id) refl attempt accepted e agrees
-arrived events _ id _ attempt (run_ended _ number n value) accepted e agrees =
-    arrives events (Event.Take id number (Frame.RunOutcome n value false)) id (completion n (result_of_value value)) refl refl refl refl (and_false (bytes_eq id id)) (and_false (bytes_eq id id)) refl (itself id) refl attempt accepted e agrees
+arrived events _ id _ attempt (completed _ n result) plain accepted e agrees =
+    arrives events (Event.Complete id n result) id (completion n result) refl refl refl refl (and_false (bytes_eq id id)) (and_false (bytes_eq id id)) plain (itself id) refl attempt accepted e agrees
+arrived events _ id _ attempt (signalled _ key result) plain accepted e agrees =
+    arrives events (Event.Signal id key result) id (record { id = id_of_signal key; result = result }) refl refl refl refl (and_false (bytes_eq id id)) (and_false (bytes_eq id id)) plain (itself id) refl attempt accepted e agrees
+arrived events _ id _ attempt (cancelled _) plain accepted e agrees =
+    arrives events (Event.Cancel id) id (record { id = cancel_id; result = NotificationResult.Void }) refl refl refl refl (and_false (bytes_eq id id)) (and_false (bytes_eq id id)) plain (itself id) refl attempt accepted e agrees
+arrived events _ id _ attempt (run_ended _ number n value is_acknowledged) plain accepted e agrees =
+    arrives events (Event.Take id number (Frame.RunOutcome n value is_acknowledged)) id (completion n (result_of_value value)) refl refl refl refl
+    (and_false (bytes_eq id id)) (and_false (bytes_eq id id)) plain (itself id) refl attempt accepted e agrees
+
+-- the outcome of a run that is acknowledged
+pub is_acknowledged : AgreesAcknowledged
+is_acknowledged events id number n value None late e =
+    live_now events (Event.Take id number (Frame.RunOutcome n value true)) id refl refl (and_false (bytes_eq id id)) ∙ e
+is_acknowledged events id number n value (Some attempt) late kept =
+    let event = Event.Take id number (Frame.RunOutcome n value true) in
+    let start = starting_state events id in
+    let entries = entries_of events id in
+    let place : ℕ = 1 + length entries in
+    let frame : List ℕ = frame_bytes 0x0006 (acknowledgement_payload n) in
+    let piece : Piece = record { is_arrival = true; bytes = frame } in
+    let more : entries_added start events id event entries ≡ Arrived (completion n (result_of_value value)) ∷ [] =
+    mine_added start events event id entries (Arrived (completion n (result_of_value value)) ∷ []) (itself id) refl in
+    let told : acknowledged (version_of events id) id event ≡ Some n = ap₂ (λ (a b : Bool). if a && b then Some n else None) late (itself id) in
+    grown events event id refl refl refl (piece ∷ []) (place ∷ [])
+    (ap₂ (λ (o : Option ℕ) (some : List Entry). later_pieces (entries ++ some) o (arrivals_in some)) told more)
+    (ap (places_of_arrivals place) more)
+    (frame_full 0x0006 (acknowledgement_payload n), tt)
+    attempt (after_put place frame attempt) (begun_before event events id refl) (and_false (bytes_eq id id)) refl refl refl
+    (ap (λ (bytes : List ℕ). attempt.input.bytes ++ bytes) (sym (append-nil frame))) refl refl
+    (sym (ap (λ (b : Bool). b || attempt.is_input_closed) (and_false (bytes_eq id id)))) kept
 
 -- ---- the input is closed
 

@@ -1,15 +1,15 @@
 -- What is kept of the live attempts is what the accepted events say.
-use Rattle.std.specs.Prelude.{◌≡◌, ℕ, ◌+◌, ◌==◌, Bool, true, false, not, if◌then◌else◌, List, [], ◌∷◌, ◌++◌, length, map, flat_map, Option, Some, None, is_some, option_map}
+use Rattle.std.specs.Prelude.{◌≡◌, ℕ, ◌+◌, nat_le, ◌==◌, Bool, true, false, not, if◌then◌else◌, List, [], ◌∷◌, ◌++◌, length, map, flat_map, Option, Some, None, is_some, option_map}
 use Rattle.journal_model.specs.Notification.{Text, Arrival, cancel_id}
 use Rattle.journal_model.specs.declared.notification.NotificationResult.{NotificationResult}
 use Rattle.journal_model.specs.declared.value.NonEmptyValue.{NonEmptyValue}
 use Rattle.journal_model.specs.Value.{result_of_value}
 use Rattle.journal_model.specs.declared.invocation.NewInvocation.{NewInvocation}
 use Rattle.journal_model.specs.Request.{Request, SignalKey}
-use Rattle.journal_model.specs.Spelling.{frame_bytes, notification_payload}
+use Rattle.journal_model.specs.Spelling.{frame_bytes, notification_payload, acknowledgement_payload}
 use Rattle.journal_model.specs.Event.{Frame, Event}
 use Rattle.journal_model.specs.Journal.{Entry, Recorded, Arrived, starting_state, entries_added, is_of, is_tick, id_of_signal, completion, version_of, invocation_begun, is_open, entries_of, ends_attempt}
-use Rattle.journal_model.specs.Attempt.{Piece, attempts_begun, live_attempt, is_live, is_input_closed, input_pieces, bytes_handed, input_left, notification_type}
+use Rattle.journal_model.specs.Attempt.{Piece, attempts_begun, live_attempt, is_live, is_input_closed, input_pieces, bytes_handed, input_left, notification_type, acknowledged}
 use Rattle.journal_model.specs.Cause.{Cause, UnknownInvocation, InvocationClosed, AttemptNotLive, InputRemains, InputAlreadyClosed, is_empty, those_that_hold, causes_of, IsAccepted}
 use Rattle.store_rows.specs.declared.row.EntryRow.{EntryRow}
 use Rattle.store_model.specs.Places.{input_places, handed_place}
@@ -109,13 +109,20 @@ pub data Brings : Text → Event → Arrival → Type 0 where
   completed : (id : Text) (n : ℕ) (result : NotificationResult) → Brings id (Event.Complete id n result) (completion n result)
   signalled : (id : Text) (key : SignalKey) (result : NotificationResult) → Brings id (Event.Signal id key result) (record { id = id_of_signal key; result = result })
   cancelled : (id : Text) → Brings id (Event.Cancel id) (record { id = cancel_id; result = NotificationResult.Void })
-  run_ended : (id : Text) (attempt n : ℕ) (value : NonEmptyValue) → Brings id (Event.Take id attempt (Frame.RunOutcome n value false)) (completion n (result_of_value value))
+  run_ended : (id : Text) (attempt n : ℕ) (value : NonEmptyValue) (is_acknowledged : Bool)
+      → Brings id (Event.Take id attempt (Frame.RunOutcome n value is_acknowledged)) (completion n (result_of_value value))
 
--- it is put behind, if an attempt is live
+-- it is put behind, if an attempt is live, unless the attempt that brought it is told only that it came
 abbrev pub AgreesArrived : Type 0
 AgreesArrived = (events : List Event) (event : Event) (id : Text) (arrival : Arrival) (attempt : Option LiveAttempt) → Brings id event arrival
-    → IsAccepted events → causes_of events event ≡ [] → Agrees events id attempt
+    → acknowledged (version_of events id) id event ≡ None → IsAccepted events → causes_of events event ≡ [] → Agrees events id attempt
     → Agrees (event ∷ events) id (option_map (after_put (1 + length (entries_of events id)) (frame_bytes (notification_type (entries_of events id) arrival.id) (notification_payload arrival))) attempt)
+
+abbrev pub AgreesAcknowledged : Type 0
+AgreesAcknowledged = (events : List Event) (id : Text) (number n : ℕ) (value : NonEmptyValue) (attempt : Option LiveAttempt) → nat_le 7 (version_of events id) ≡ true
+    → Agrees events id attempt
+    → Agrees (Event.Take id number (Frame.RunOutcome n value true) ∷ events) id
+    (option_map (after_put (1 + length (entries_of events id)) (frame_bytes 0x0006 (acknowledgement_payload n))) attempt)
 
 abbrev pub AgreesHandedOut : Type 0
 AgreesHandedOut = (events : List Event) (id : Text) (number most : ℕ) (attempt : Option LiveAttempt)

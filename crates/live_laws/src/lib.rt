@@ -2,7 +2,7 @@
 //! events is refused. Each function does nothing: its contract is the law.
 #![tactic(auto)]
 
-ghost use Rattle.live_laws.specs.Agrees.{AgreesAtFirst, AgreesElsewhere, AgreesInvoked, AgreesBegun, AgreesTicked, AgreesCommanded, AgreesArrived, AgreesHandedOut, AgreesClosed, AgreesTaken, AgreesEnded, AgreesStopped, LiveIsTold, LiveIsOpen, CausesAreTold, StaleIsTold};
+ghost use Rattle.live_laws.specs.Agrees.{AgreesAtFirst, AgreesElsewhere, AgreesInvoked, AgreesBegun, AgreesTicked, AgreesCommanded, AgreesArrived, AgreesAcknowledged, AgreesHandedOut, AgreesClosed, AgreesTaken, AgreesEnded, AgreesStopped, LiveIsTold, LiveIsOpen, CausesAreTold, StaleIsTold};
 
 /// Before any event no attempt is live; and an event of another invocation, that is no tick, changes nothing.
 pub fn elsewhere_kept()
@@ -16,9 +16,10 @@ pub fn begun_kept()
     ensures begun { AgreesBegun }
 {}
 
-/// An arrival is put behind, bytes are handed out, and the input is closed.
+/// An arrival, or that a run's outcome came, is put behind, bytes are handed out, and the input is closed.
 pub fn input_kept()
     ensures arrived { AgreesArrived }
+    ensures acknowledged { AgreesAcknowledged }
     ensures handed_out { AgreesHandedOut }
     ensures closed { AgreesClosed }
 {}

@@ -1,5 +1,5 @@
 -- The laws are proved in `Steps`.
-use Rattle.live_laws.proofs.Steps.{arrived, handed_out, closed}
+use Rattle.live_laws.proofs.Steps.{arrived, is_acknowledged, handed_out, closed}
 use Rattle.live_laws.proofs.input_kept.Goals as goal
 
 pub returns-clause-arrived : goal.returns-clause-arrived
@@ -10,3 +10,6 @@ returns-clause-handed_out c = handed_out
 
 pub returns-clause-closed : goal.returns-clause-closed
 returns-clause-closed c = closed
+
+pub returns-clause-acknowledged : goal.returns-clause-acknowledged
+returns-clause-acknowledged c = is_acknowledged
