@@ -78,7 +78,7 @@ module _ (events : List Event) (s : State) (keeps : Keeps events s) (id : Text) 
       ∙ only_found (has_id id) keeps.records.invocations (option_map (invocation_row events) (invocation_begun events id))
       ((all_found events keeps.records keeps.accepted keeps.kept).invocation id)
 
-  never_foreign : IsAmbiguous (λ r. r.invocations) (has_id id) s.now.trees → ⊥
+  pub never_foreign : IsAmbiguous (λ r. r.invocations) (has_id id) s.now.trees → ⊥
   never_foreign h =
       h keeps.records keeps.held
       (only_one (has_id id) keeps.records.invocations (option_map (invocation_row events) (invocation_begun events id))
@@ -124,8 +124,9 @@ module _ (events : List Event) (s : State) (keeps : Keeps events s) (id : Text) 
           cc
       by_begun (Some new) e = let no : None ≡ Some (invocation_row events new) = row_found None found ∙ ap (option_map (invocation_row events)) e in cc
 
-  pub read_failed : (error : ReadError) → (error ≡ reading.Foreign → IsAmbiguous (λ r. r.invocations) (has_id id) s.now.trees)
-      → (attempt : LiveFacts) (read : AttemptFrame) → Takes events id attempt read (Err (reading_refusal error))
-  read_failed (reading.Refused cause) foreign attempt read number frame live stateless h = inr refl
-  read_failed reading.Foreign foreign attempt read number frame live stateless h = absurd (never_foreign (foreign refl))
-  read_failed reading.OutOfMemory foreign attempt read number frame live stateless h = inr refl
+-- a row that could not be read, and is no foreign one
+pub read_failed : (events : List Event) (id : Text) (error : ReadError) → (error ≡ reading.Foreign → ⊥) → (attempt : LiveFacts) (read : AttemptFrame)
+    → Takes events id attempt read (Err (reading_refusal error))
+read_failed events id (reading.Refused cause) foreign attempt read number frame live stateless h = inr refl
+read_failed events id reading.Foreign foreign attempt read number frame live stateless h = absurd (foreign refl)
+read_failed events id reading.OutOfMemory foreign attempt read number frame live stateless h = inr refl

@@ -5,7 +5,7 @@ ghost use Rattle.sqlite.specs.State.{HasCleanDisk, Survives};
 ghost use Rattle.sql_tables.specs.Asking.{IsKept};
 ghost use Rattle.store_rows.specs.Steps.{IsStore};
 ghost use Rattle.journal_model.specs.Event.{Event};
-ghost use Rattle.store_refusals.specs.Prepared.{Keeps};
+ghost use Rattle.new_invocations.specs.Rows.{IsStoreOf};
 ghost use Rattle.taken_frames.specs.Taken.{IsMade, IsWhy, Takes};
 
 use crate::frame::{LiveFacts, PreparedFrame};
@@ -68,7 +68,7 @@ pub fn prepare_frame<S: Alter>(
 ) -> Result<PreparedFrame, Refusal>
     requires store { IsStore (state S.Store conn.old) }
     requires idle { (state S.Store conn.old).in_transaction ≡ false }
-    ensures prepared { HasCleanDisk (state S.Store conn.new) → (events : List Event) → Keeps events (state S.Store conn.old) → Takes events id.now attempt frame result }
+    ensures prepared { HasCleanDisk (state S.Store conn.new) → (events : List Event) → IsStoreOf events (state S.Store conn.old) → Takes events id.now attempt frame result }
     ensures kept { IsKept (state S.Store conn.old) (state S.Store conn.new) }
     ensures store { IsStore (state S.Store conn.new) }
     ensures idle { (state S.Store conn.new).in_transaction ≡ false }
