@@ -4,7 +4,7 @@ use Rattle.std.specs.List.{find, position}
 use Rattle.std.specs.Prelude.{slice_set}
 use Rattle.std.proofs.lemmas.Slice.Eq.{bytes_eq-Decides}
 use Rattle.live_attempts.specs.declared.attempt.LiveAttempt.{LiveAttempt}
-use Rattle.live_attempts.specs.Attempts.{is_attempt_of, attempt_of, IsNow, Changes}
+use Rattle.live_attempts.specs.Attempts.{is_attempt_of, attempt_of, IsNow, Changes, after_reserve}
 use Rattle.live_attempts.proofs.Firsts.{true_or_false, IsFirstAt, first_found, first_missing, first_at, with_first_at, set_same, first_with, first_of_other, first_push_none, first_push_other}
 
 itself : (id : List ℕ) → bytes_eq id id ≡ true
@@ -95,6 +95,17 @@ module _ (attempts items : List LiveAttempt) (same : items ≡ attempts) (id : L
     pub changed_now : (change : LiveAttempt → LiveAttempt) (after : LiveAttempt) → after ≡ change read → (change read).invocation ≡ read.invocation
         → Changes id change attempts (slice_set items place after)
     changed_now change after e keeps = rw same (changed_there attempts id place (sym sought ∙ is) change read after read_there e keeps)
+
+-- where room was made for a frame, it is there
+pub has_room : (len : ℕ) (id : List ℕ) (old new : List LiveAttempt) → Changes id (after_reserve len) old new
+    → (attempt : LiveAttempt) → attempt_of new id ≡ Some attempt → attempt.input.reserved ≡ Some len
+has_room len id old new changes attempt e = by_case (attempt_of old id) (sym changes.own ∙ e)
+  where
+    by_case : (o : Option LiveAttempt) → option_map (after_reserve len) o ≡ Some attempt → attempt.input.reserved ≡ Some len
+    by_case None h = cc
+    by_case (Some before) h =
+        let same : after_reserve len before ≡ attempt = cc in
+        ap (λ (some : LiveAttempt). some.input.reserved) (sym same)
 
 -- those of an invocation are left out
 none_kept : (test : LiveAttempt → Bool) (attempts : List LiveAttempt) → find test (filter (λ attempt. not (test attempt)) attempts) ≡ None

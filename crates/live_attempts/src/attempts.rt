@@ -96,6 +96,7 @@ impl LiveAttempts {
     /// Makes room for one more frame of an attempt's input, of this length.
     pub fn reserve(&mut self, id: &ByteStr, len: usize) -> Result<(), AllocError>
         ensures ok { OnOk result (Changes id.now (after_reserve len) self.old.attempts self.new.attempts) }
+        ensures room { OnOk result (ForSome (attempt_of self.new.attempts id.now) (λ attempt. attempt.input.reserved ≡ Some len)) }
         ensures err { OnErr result (self.new ≡ self.old) }
     {
         match self.place_of(id) {
