@@ -1,12 +1,11 @@
 -- What the row of an invocation tells is what the events tell.
-use Rattle.std.proofs.Common.{◌≡◌, refl, sym, ap, ◌∙◌, Bool, true, false, not, ◌&&◌, List, [], Option, Some, None, is_some, option_map, filter_map, unwrap_or}
+use Rattle.std.proofs.Common.{◌≡◌, refl, sym, ap, ◌∙◌, Bool, true, false, not, ◌&&◌, List, Option, Some, None, is_some, option_map, filter_map}
 use Rattle.std.specs.List.{list_any}
 use Rattle.journal_model.specs.Notification.{Text}
 use Rattle.journal_model.specs.declared.invocation.NewInvocation.{NewInvocation}
 use Rattle.journal_model.specs.Event.{Frame, Event}
 use Rattle.journal_model.specs.Journal.{closes, frames_of, invocation_begun, is_open, version_of}
 use Rattle.journal_model.specs.Cause.{IsAccepted}
-use Rattle.store_rows.specs.declared.row.LastError.{LastError}
 use Rattle.store_model.specs.Progress.{error_in, first_of, last_error_of, progress_of}
 use Rattle.store_model.specs.Kept.{invocation_row}
 use Rattle.new_invocations.specs.Rows.{row_at}

@@ -1,6 +1,6 @@
 -- The frame of a payload whose length fits, and the place of one more entry.
-use Rattle.std.proofs.Common.{true≢false, arith, ℕ, ◌-◌, ◌^◌, ◌<◌, ◌≤◌, nat_lt, nat_le, ◌≡◌, ◌==◌, refl, sym, ap, subst, ◌∙◌, inl, inr, Bool, true, false, List, [], ◌∷◌, ◌++◌, length, Option, Some, None, Result, Ok, Err, ◌↔◌}
-use Rattle.std.proofs.lemmas.Bool.{cases_Bool, le-leb, leb-true, lt-ltb, ltb-true, ltb-false, eqb-true, eq-eqb}
+use Rattle.std.proofs.Common.{arith, ℕ, ◌-◌, ◌^◌, ◌<◌, ◌≤◌, nat_lt, ◌≡◌, refl, sym, ap, subst, ◌∙◌, inl, inr, true, false, [], length, Result, Ok, Err, ◌↔◌}
+use Rattle.std.proofs.lemmas.Bool.{cases_Bool, le-leb, leb-true, lt-ltb, ltb-true, ltb-false}
 use Rattle.journal_model.specs.Notification.{Bytes}
 use Rattle.journal_model.specs.Spelling.{frame_bytes}
 use Rattle.journal_model.specs.Cause.{Cause, those_that_hold, is_too_long}

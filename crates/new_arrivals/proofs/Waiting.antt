@@ -11,7 +11,7 @@ use Rattle.store_refusals.specs.Prepared.{Tells}
 use Rattle.store_rows.specs.declared.row.EntryRow.{EntryRow}
 use Rattle.store_rows.specs.Questions.{is_number}
 use Rattle.store_model.specs.Progress.{first_of, second_of}
-use Rattle.store_lookups.specs.Lookups.{asked_at, row_if, first_row, second_row}
+use Rattle.store_lookups.specs.Lookups.{row_if, first_row, second_row}
 use Rattle.store_lookups.proofs.Opening.{or_nothing}
 use Rattle.new_arrivals.specs.declared.asking.AskedCompletion.{AskedCompletion}
 use Rattle.new_arrivals.specs.Asked.{as_second, is_first, is_second, first_kind, second_kind, asked_by}

@@ -1,9 +1,8 @@
 -- What is made ready of an arrival is what its event writes.
-use Rattle.std.proofs.Common.{ℕ, ◌+◌, ◌-◌, ◌^◌, nat_lt, arith, ◌≡◌, refl, sym, ap, ap₂, subst, ◌∙◌, Bool, true, false, not, ◌&&◌, ◌||◌, List, [], ◌∷◌, ◌++◌, length, map, Option, Some, None, drop, Result, Ok, Err}
+use Rattle.std.proofs.Common.{ℕ, ◌+◌, ◌-◌, ◌^◌, nat_lt, arith, ◌≡◌, refl, sym, ap, subst, ◌∙◌, List, [], ◌∷◌, ◌++◌, length, Option, Some, None, drop, Result, Ok, Err}
 use Rattle.journal_model.specs.Notification.{Bytes, Text, Arrival}
 use Rattle.journal_model.specs.declared.notification.NotificationResult.{NotificationResult}
 use Rattle.journal_model.specs.declared.notification.NotificationId.TheVariants.{CompletionId}
-use Rattle.journal_model.specs.declared.invocation.NewInvocation.{NewInvocation}
 use Rattle.journal_model.specs.Event.{Event}
 use Rattle.journal_model.specs.Spelling.{frame_bytes, notification_payload}
 use Rattle.journal_model.specs.Journal.{Arrived, completion, entries_of, object_of}
@@ -14,7 +13,7 @@ use Rattle.store_rows.specs.declared.row.Progress.{Progress}
 use Rattle.store_rows.specs.declared.row.Write.{Write}
 use Rattle.store_rows.specs.declared.row.Write.TheVariants.{SetProgress, AddEntry}
 use Rattle.store_model.specs.Progress.{progress_of}
-use Rattle.store_model.specs.Kept.{answered_by, entry_row, invocation_row}
+use Rattle.store_model.specs.Kept.{answered_by, entry_row}
 use Rattle.store_model.specs.Writes.{invocation_writes, state_writes, writes_of}
 use Rattle.store_lookups.proofs.Opening.{or_nothing}
 use Rattle.progress_steps.specs.Steps.{grown}

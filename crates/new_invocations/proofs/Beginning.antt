@@ -3,16 +3,14 @@ use Rattle.std.proofs.Common.{◌≡◌, refl, sym, ap, ◌∙◌, true≢false,
 use Rattle.std.specs.List.{AllByRecursion, list_any, find}
 use Rattle.std.proofs.lemmas.Bool.{ne_eqb}
 use Rattle.journal_model.specs.Notification.{Text}
-use Rattle.journal_model.specs.Request.{Request}
 use Rattle.journal_model.specs.State.{StateMap}
 use Rattle.journal_model.specs.declared.invocation.NewInvocation.{NewInvocation}
 use Rattle.journal_model.specs.Event.{Frame, Event}
-use Rattle.journal_model.specs.Journal.{Entry, invoked_by, is_of, closes, frame_of, frames_of, is_open, closing_frame, version_of, object_of, invocation_begun, entries_added, entries_from, entries_of, recorded_requests, starting_state, requests_in}
+use Rattle.journal_model.specs.Journal.{Entry, is_of, closes, frame_of, frames_of, is_open, closing_frame, version_of, object_of, invocation_begun, entries_added, entries_from, entries_of, starting_state, requests_in}
 use Rattle.journal_model.specs.Attempt.{begins_attempt, attempts_begun, suspension_in, suspension_of}
 use Rattle.journal_model.specs.Start.{is_some_entry, moment_begun, begun_since_entry, attempts_since_entry}
 use Rattle.journal_model.specs.Cause.{causes_of, IsAccepted, is_empty, last_completion, those_that_hold}
 use Rattle.journal_laws.proofs.ObjectState.{begin_when_new, begun_before, no_entries, none_of, open_when_accepted}
-use Rattle.store_rows.specs.declared.row.Progress.{Progress}
 use Rattle.store_rows.specs.declared.row.InvocationRow.{InvocationRow}
 use Rattle.store_rows.specs.declared.row.Write.{Write}
 use Rattle.store_rows.specs.declared.row.Write.TheVariants.{AddInvocation, AddEntry}

@@ -1,5 +1,5 @@
 -- What a question of one record answers where records are kept.
-use Rattle.std.proofs.Common.{◌≡◌, refl, ◌∙◌, inr, ℕ, ◌≤◌, Bool, List, [], length, filter, Option, Result, Ok, Err, IsErrAnd, IsTrue}
+use Rattle.std.proofs.Common.{◌≡◌, refl, ◌∙◌, ◌≤◌, Bool, List, [], length, filter, Option, Result, Ok, Err, IsErrAnd, IsTrue}
 use Rattle.sqlite.specs.State.{State}
 use Rattle.journal_model.specs.Notification.{Text}
 use Rattle.journal_model.specs.Event.{Event}
@@ -7,7 +7,6 @@ use Rattle.journal_model.specs.Cause.{IsAccepted, Tests, those_that_hold}
 use Rattle.sql_tables.specs.declared.read.ReadError.{ReadError}
 use Rattle.sql_tables.specs.declared.read.ReadError.TheVariants.{Refused, Foreign, OutOfMemory}
 use Rattle.store_rows.specs.Records.{Records}
-use Rattle.store_rows.specs.declared.row.InvocationRow.{InvocationRow}
 use Rattle.store_rows.specs.Questions.{IsFound, IsAmbiguous, has_id}
 use Rattle.store_model.specs.Kept.{IsKept}
 use Rattle.store_lookups.specs.Lookups.{IsOnly}

@@ -1,9 +1,9 @@
 -- The first test that holds, among tests in turn.
-use Rattle.std.proofs.Common.{◌≡◌, refl, sym, ap, subst, ◌∙◌, ◌⊎◌, inl, inr, Bool, true, false, List, [], ◌∷◌, ◌++◌, append_assoc, Option, Some, None, Result, Ok, Err, IsErrAnd, IsTrue}
+use Rattle.std.proofs.Common.{◌≡◌, refl, sym, ap, subst, ◌∙◌, inl, inr, Bool, true, false, List, [], ◌∷◌, ◌++◌, Some, Result, Ok, Err, IsErrAnd}
 use Rattle.journal_model.specs.Cause.{Cause, Tests, those_that_hold}
 use Rattle.store_refusals.specs.declared.refusal.Refusal.{Refusal}
 use Rattle.store_refusals.specs.declared.refusal.Refusal.TheVariants.{OutOfMemory}
-use Rattle.store_refusals.specs.Refused.{first_of, refusal_of, refusal_by, is_circumstance, IsRefused}
+use Rattle.store_refusals.specs.Refused.{first_of, refusal_of, refusal_by, IsRefused}
 use Rattle.store_refusals.proofs.First.{first_holds}
 use Rattle.new_invocations.specs.Rows.{Decides}
 

@@ -1,5 +1,5 @@
 -- A store of some events stays one while it is only asked.
-use Rattle.std.proofs.Common.{◌≡◌, ◌≤◌, sym, subst, ◌∙◌, arith, List, IsTrue}
+use Rattle.std.proofs.Common.{◌≡◌, sym, subst, ◌∙◌, arith, List}
 use Rattle.sqlite.specs.Effect.{Database}
 use Rattle.sqlite.specs.State.{State, HasCleanDisk, Survives}
 use Rattle.sqlite.proofs.StateLemmas.{survives_then}

@@ -1,5 +1,5 @@
 -- What is recorded of a new invocation.
-use Rattle.std.specs.Prelude.{ℕ, ◌==◌, length, nat_lt, Bool, ◌||◌, List, [], ◌∷◌, Some, None, is_some}
+use Rattle.std.specs.Prelude.{◌==◌, length, nat_lt, Bool, ◌||◌, List, [], ◌∷◌, Some, None, is_some}
 use Rattle.journal_model.specs.Notification.{Bytes}
 use Rattle.journal_model.specs.declared.invocation.NewInvocation.{NewInvocation}
 use Rattle.journal_model.specs.Event.{Event}

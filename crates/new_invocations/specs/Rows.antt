@@ -1,5 +1,5 @@
 -- What the row of an invocation says of the accepted events.
-use Rattle.std.specs.Prelude.{◌≡◌, Bool, true, not, List, [], ◌∷◌, Option, Some, Result, Ok, Err, is_some, option_map, IsTrue}
+use Rattle.std.specs.Prelude.{◌≡◌, true, not, List, [], ◌∷◌, Option, Some, Result, Ok, Err, is_some, option_map, IsTrue}
 use Rattle.sqlite.specs.State.{State, HasCleanDisk}
 use Rattle.journal_model.specs.Notification.{Text}
 use Rattle.journal_model.specs.declared.invocation.NewInvocation.{NewInvocation}

@@ -1,6 +1,4 @@
-use Rattle.std.proofs.Common.{◌≡◌, ◌∙◌, sym, ap, subst, arith, inr, [], map, filter, List, IsTrue}
-use Rattle.sqlite.specs.Held.{state}
-use Rattle.sqlite.specs.State.{State, HasCleanDisk}
+use Rattle.std.proofs.Common.{◌≡◌, ◌∙◌, sym, ap, subst, inr, [], map, filter, List}
 use Rattle.std.proofs.Common.{inr, refl}
 use Rattle.journal_model.specs.Journal.{entries_of, recorded_arrivals}
 use Rattle.store_rows.specs.declared.row.EntryRow.{EntryRow}

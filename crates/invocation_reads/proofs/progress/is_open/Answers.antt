@@ -1,6 +1,4 @@
-use Rattle.std.proofs.Common.{◌≡◌, ◌∙◌, sym, ap, subst, arith, inr, [], map, filter, List, IsTrue}
-use Rattle.sqlite.specs.Held.{state}
-use Rattle.sqlite.specs.State.{State, HasCleanDisk}
+use Rattle.std.proofs.Common.{◌≡◌, ◌∙◌, sym, ap, subst, []}
 use Rattle.journal_model.specs.Journal.{is_open}
 use Rattle.store_refusals.specs.Refused.{IsRefused}
 use Rattle.new_invocations.proofs.Reading.{told_err}

@@ -1,11 +1,9 @@
-use Rattle.std.proofs.Common.{◌≡◌, ◌∙◌, ◌∷◌, [], sym, ap, subst, arith, refl, ◌^◌, ◌-◌, ◌<◌, nat_lt, List}
-use Rattle.journal_model.specs.Spelling.{frame_bytes, notification_payload}
-use Rattle.journal_model.specs.Cause.{Cause, is_too_long, those_that_hold}
+use Rattle.std.proofs.Common.{subst}
+use Rattle.journal_model.specs.Spelling.{notification_payload}
 use Rattle.journal_protocol.specs.MessageType.{number_of}
-use Rattle.store_refusals.specs.Refused.{IsRefused}
-use Rattle.new_invocations.proofs.Refusing.{decided_later, first_of_two, none_of_one, refused_memory}
-use Rattle.new_arrivals.specs.Arrivals.{IsArrival, arrival_tests, payload_tests}
-use Rattle.new_arrivals.proofs.Framing.{long_enough, not_used_up, used_up}
+use Rattle.new_invocations.proofs.Refusing.{refused_memory}
+use Rattle.new_arrivals.specs.Arrivals.{IsArrival, payload_tests}
+use Rattle.new_arrivals.proofs.Framing.{long_enough}
 use Rattle.new_arrivals.proofs.Written.{arrival_made}
 use Rattle.new_arrivals.proofs.arrival.arrival_in.Goals as goal
 

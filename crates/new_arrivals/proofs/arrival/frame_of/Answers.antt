@@ -1,11 +1,8 @@
-use Rattle.std.proofs.Common.{◌≡◌, ◌∙◌, ◌++◌, ◌∷◌, [], sym, ap, subst, arith, refl, ◌^◌, ◌-◌, ◌<◌, nat_lt, List}
+use Rattle.std.proofs.Common.{◌≡◌, ◌∙◌, subst}
 use Rattle.journal_model.specs.Notification.{Bytes}
 use Rattle.journal_model.specs.Spelling.{frame_bytes, notification_payload}
-use Rattle.journal_model.specs.Cause.{Cause, those_that_hold}
-use Rattle.store_refusals.specs.Refused.{IsRefused}
-use Rattle.new_invocations.proofs.Reading.{decided_err}
 use Rattle.new_invocations.proofs.Refusing.{refused_memory}
-use Rattle.new_arrivals.specs.Arrivals.{IsArrival, arrival_tests, payload_tests}
+use Rattle.new_arrivals.specs.Arrivals.{payload_tests}
 use Rattle.new_invocations.specs.Rows.{Decides}
 use Rattle.new_arrivals.proofs.arrival.frame_of.Goals as goal
 

@@ -1,11 +1,10 @@
-use Rattle.std.proofs.Common.{◌≡◌, ◌∙◌, ◌++◌, ◌∷◌, [], sym, ap, subst, arith, refl, ◌^◌, ◌-◌, ◌<◌, nat_lt, List}
-use Rattle.journal_model.specs.Notification.{Bytes}
-use Rattle.journal_model.specs.Spelling.{frame_bytes, notification_payload}
-use Rattle.journal_model.specs.Cause.{Cause, those_that_hold}
+use Rattle.std.proofs.Common.{◌≡◌, ◌∙◌, ◌++◌, sym, ap, subst, arith, List}
+use Rattle.journal_model.specs.Spelling.{frame_bytes}
+use Rattle.journal_model.specs.Cause.{those_that_hold}
 use Rattle.store_refusals.specs.Refused.{IsRefused}
 use Rattle.new_invocations.proofs.Reading.{decided_err}
 use Rattle.new_invocations.proofs.Refusing.{refused_memory}
-use Rattle.new_arrivals.specs.Arrivals.{IsArrival, arrival_tests, payload_tests}
+use Rattle.new_arrivals.specs.Arrivals.{payload_tests}
 use Rattle.std.proofs.Common.{ℕ}
 use Rattle.journal_protocol.specs.Frame.{message_of, spelled}
 use Rattle.journal_protocol.proofs.Spellings.{spelled-frame_bytes}

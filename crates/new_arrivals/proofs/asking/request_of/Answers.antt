@@ -1,12 +1,12 @@
-use Rattle.std.proofs.Common.{◌≡◌, ◌∙◌, sym, ap, subst, arith, inl, inr, refl, List, Option, None, Some, IsTrue}
+use Rattle.std.proofs.Common.{◌≡◌, ◌∙◌, sym, ap, subst, arith}
 use Rattle.sqlite.specs.Held.{state}
 use Rattle.sqlite.specs.State.{State, HasCleanDisk}
-use Rattle.std.proofs.Common.{option_map, option_and_then, []}
+use Rattle.std.proofs.Common.{option_map, []}
 use Rattle.journal_model.specs.Journal.{entries_of, request_asking}
 use Rattle.store_refusals.specs.Refused.{IsRefused}
 use Rattle.new_invocations.proofs.Reading.{told_err}
-use Rattle.new_invocations.proofs.Standing.{kept_on, store_kept, survives_on}
-use Rattle.new_arrivals.specs.Asked.{as_second, asked_by, first_kind, second_kind}
+use Rattle.new_invocations.proofs.Standing.{store_kept}
+use Rattle.new_arrivals.specs.Asked.{as_second, asked_by}
 use Rattle.new_arrivals.proofs.Waiting.{first_asked, second_asked}
 use Rattle.new_arrivals.proofs.asking.request_of.Goals as goal
 

@@ -1,8 +1,5 @@
-use Rattle.std.proofs.Common.{◌≡◌, ◌∙◌, sym, ap, subst, arith, refl, List, Option, None, Some, IsTrue}
-use Rattle.sqlite.specs.Held.{state}
-use Rattle.sqlite.specs.State.{State, HasCleanDisk}
 use Rattle.journal_model.specs.Event.{Event}
-use Rattle.journal_model.specs.Cause.{adding_tests, open_tests, own_tests}
+use Rattle.journal_model.specs.Cause.{adding_tests}
 use Rattle.journal_protocol.specs.MessageType.{number_of}
 use Rattle.new_invocations.proofs.Refusing.{refused_more}
 use Rattle.new_arrivals.specs.Asked.{completion_tests}

@@ -1,8 +1,8 @@
-use Rattle.std.proofs.Common.{◌≡◌, ◌∙◌, sym, ap, subst, arith, refl, List, Option, None, Some, IsTrue}
+use Rattle.std.proofs.Common.{arith}
 use Rattle.sqlite.specs.Held.{state}
 use Rattle.sqlite.specs.State.{State, HasCleanDisk}
 use Rattle.journal_model.specs.Event.{Event}
-use Rattle.journal_model.specs.Cause.{adding_tests, open_tests, own_tests}
+use Rattle.journal_model.specs.Cause.{open_tests, own_tests}
 use Rattle.journal_model.specs.Journal.{completion}
 use Rattle.new_invocations.proofs.Refusing.{decided_later, refused_more}
 use Rattle.new_invocations.proofs.Standing.{store_kept}

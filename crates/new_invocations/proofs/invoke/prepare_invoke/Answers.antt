@@ -1,4 +1,4 @@
-use Rattle.std.proofs.Common.{◌≡◌, ◌∙◌, sym, ap, subst, arith, inl, inr, IsTrue}
+use Rattle.std.proofs.Common.{◌≡◌, sym, subst, arith}
 use Rattle.sqlite.specs.Held.{state}
 use Rattle.sqlite.specs.State.{State, HasCleanDisk}
 use Rattle.std.proofs.Common.{◌++◌}
@@ -10,7 +10,7 @@ use Rattle.new_invocations.specs.New.{id_tests, input_tests, object_tests}
 use Rattle.new_invocations.proofs.Beginning.{prepared_by}
 use Rattle.new_invocations.proofs.Reading.{decided_err}
 use Rattle.new_invocations.proofs.Refusing.{refused_later, refused_more}
-use Rattle.new_invocations.proofs.Standing.{kept_on, store_kept, survives_on}
+use Rattle.new_invocations.proofs.Standing.{store_kept}
 use Rattle.new_invocations.proofs.invoke.prepare_invoke.Goals as goal
 
 pub returns-in_err-take_object-clause-prepared : goal.returns-in_err-take_object-clause-prepared

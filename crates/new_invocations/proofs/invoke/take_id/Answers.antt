@@ -1,11 +1,9 @@
-use Rattle.std.proofs.Common.{◌≡◌, ◌∙◌, sym, ap, subst, arith, inl, inr, IsTrue}
-use Rattle.sqlite.specs.Held.{state}
-use Rattle.sqlite.specs.State.{State, HasCleanDisk}
-use Rattle.std.proofs.Common.{◌∷◌, [], nat_lt, ◌||◌, is_some}
-use Rattle.journal_model.specs.Journal.{invocation_begun, is_busy}
-use Rattle.journal_model.specs.Cause.{Cause, is_empty, those_that_hold}
+use Rattle.std.proofs.Common.{◌∙◌, sym, ap, subst}
+use Rattle.std.proofs.Common.{is_some}
+use Rattle.journal_model.specs.Journal.{invocation_begun}
+use Rattle.journal_model.specs.Cause.{Cause, those_that_hold}
 use Rattle.store_refusals.specs.Refused.{IsRefused}
-use Rattle.new_invocations.specs.New.{id_tests, object_tests}
+use Rattle.new_invocations.specs.New.{id_tests}
 use Rattle.new_invocations.proofs.Reading.{decided_err}
 use Rattle.new_invocations.proofs.Refusing.{first_of_two, none_of_two, refused_anyway, second_of_two}
 use Rattle.new_invocations.proofs.Opened.{some-map}

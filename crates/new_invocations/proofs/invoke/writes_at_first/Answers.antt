@@ -1,4 +1,4 @@
-use Rattle.std.proofs.Common.{◌≡◌, ◌∙◌, sym, subst, ap, ◌∷◌, [], List}
+use Rattle.std.proofs.Common.{◌≡◌, ◌∙◌, sym, subst, ap, ◌∷◌, []}
 use Rattle.journal_model.specs.Notification.{Bytes}
 use Rattle.journal_model.specs.Cause.{those_that_hold}
 use Rattle.store_rows.specs.declared.row.Write.TheVariants.{AddInvocation, AddEntry}

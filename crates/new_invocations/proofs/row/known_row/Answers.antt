@@ -1,6 +1,4 @@
-use Rattle.std.proofs.Common.{◌≡◌, ◌∙◌, sym, ap, subst, arith, inl, inr, IsTrue}
-use Rattle.sqlite.specs.Held.{state}
-use Rattle.sqlite.specs.State.{State, HasCleanDisk}
+use Rattle.std.proofs.Common.{◌∙◌, sym, subst}
 use Rattle.journal_model.specs.Cause.{those_that_hold}
 use Rattle.store_refusals.specs.Refused.{IsRefused}
 use Rattle.new_invocations.specs.Rows.{IsRowOf, known_tests}

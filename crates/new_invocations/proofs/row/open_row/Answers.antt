@@ -1,6 +1,4 @@
-use Rattle.std.proofs.Common.{◌≡◌, ◌∙◌, sym, ap, subst, arith, inl, inr, IsTrue}
-use Rattle.sqlite.specs.Held.{state}
-use Rattle.sqlite.specs.State.{State, HasCleanDisk}
+use Rattle.std.proofs.Common.{◌∙◌, sym, subst}
 use Rattle.std.proofs.Common.{◌∷◌, [], not, ◌&&◌, is_some}
 use Rattle.journal_model.specs.Journal.{invocation_begun, is_open}
 use Rattle.journal_model.specs.Cause.{Cause, open_tests, those_that_hold}
