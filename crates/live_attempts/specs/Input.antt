@@ -50,3 +50,12 @@ with_frame place frame input = record input {
 -- nothing is left, and nothing was handed out
 abbrev pub no_input : InputLeft
 no_input = record { bytes = []; pieces = []; handed = 0; reserved = None }
+
+-- the frames of a journal from a place on, by their lengths
+abbrev pub pieces_from : ℕ → List ℕ → List PieceLeft
+pieces_from place [] = []
+pieces_from place (len ∷ lengths) = record { behind = place + 1; len = len } ∷ pieces_from (place + 1) lengths
+
+-- all of a journal is left
+abbrev pub journal_left : List ℕ → List ℕ → InputLeft
+journal_left bytes lengths = record { bytes = bytes; pieces = pieces_from 0 lengths; handed = 0; reserved = None }

@@ -1,6 +1,6 @@
 // The bytes that an attempt has still to be handed.
 ghost use Rattle.std.specs.Prelude.{◌≡◌, ℕ, ◌+◌, ◌^◌, ◌==◌, ◌<◌, ◌≤◌, ◌++◌, length, take, Some, IfOk, OnOk, OnErr};
-ghost use Rattle.live_attempts.specs.Input.{pieces_after, place_after, handed_out, with_room, with_frame, no_input};
+ghost use Rattle.live_attempts.specs.Input.{pieces_after, pieces_from, place_after, handed_out, journal_left, with_room, with_frame, no_input};
 
 use bytes::{Bytes, BytesMut};
 use std::alloc::{AllocError, Global};
@@ -58,7 +58,42 @@ fn pass(pieces: &mut VecDeque<PieceLeft>, handed: &mut u32, count: usize)
     }
 }
 
+/// The frames of a journal, of which the first has place 0, as what is left of them: all.
+fn all_pieces(alloc: Global, lengths: &[usize]) -> Result<VecDeque<PieceLeft>, AllocError>
+    ensures { IfOk result (λ pieces. length lengths.now < 2 ^ 32 → pieces.items ≡ pieces_from 0 lengths.now) }
+{
+    let mut pieces = VecDeque::new(alloc);
+    let mut behind = 0u32;
+    for len in lengths {
+        behind = behind.saturating_add(1);
+        pieces.push_back(PieceLeft { behind, len: *len })?;
+    }
+    Ok(pieces)
+}
+
 impl AttemptInput {
+    /// The frames of a journal, one behind the other, of which the first has place 0, and how long each is: fewer than 2^32.
+    pub fn of_journal(
+        alloc: Global,
+        bytes: BytesMut,
+        lengths: &[usize],
+    ) -> Result<AttemptInput, AllocError>
+        ensures { IfOk result (λ input. length lengths.now < 2 ^ 32 → input ≡ journal_left bytes.items lengths.now) }
+    {
+        match all_pieces(alloc, lengths) {
+            Ok(pieces) => Ok(AttemptInput {
+                bytes,
+                pieces,
+                handed: 0,
+                reserved: None,
+            }),
+            Err(refused) => {
+                drop(bytes);
+                Err(refused)
+            }
+        }
+    }
+
     /// Nothing is left.
     pub fn new(alloc: Global) -> AttemptInput
         ensures { result ≡ no_input }

@@ -138,7 +138,8 @@ fn arrival_with(
 ) -> Result<PreparedArrival, AllocError>
     requires room { row.progress.entries + 1 < 2 ^ 32 }
     requires framed { 8 ≤ length frame }
-    ensures { IfOk result (IsWritten row kind answered frame) }
+    ensures written { IfOk result (IsWritten row kind answered frame) }
+    ensures place { IfOk result (λ made. made.place + 1 < 2 ^ 32) }
 {
     let place = row.progress.entries;
     match entry_of(&row, kind, answered, &frame) {
@@ -162,7 +163,8 @@ fn arrival_in(
     arrival: Notification,
 ) -> Result<PreparedArrival, Refusal>
     requires { row.progress.entries + 1 < 2 ^ 32 }
-    ensures { Decides (payload_tests (notification_payload arrival)) (IsArrival row (number_of ty) arrival) result }
+    ensures decided { Decides (payload_tests (notification_payload arrival)) (IsArrival row (number_of ty) arrival) result }
+    ensures place { IfOk result (λ made. made.place + 1 < 2 ^ 32) }
 {
     let kind = u16::from(ty);
     let answered = answered_id(&arrival.id);
@@ -186,7 +188,8 @@ pub fn prepare_arrival(
     ty: MessageType,
     arrival: Notification,
 ) -> Result<PreparedArrival, Refusal>
-    ensures { Decides (arrival_tests row arrival) (IsArrival row (number_of ty) arrival) result }
+    ensures decided { Decides (arrival_tests row arrival) (IsArrival row (number_of ty) arrival) result }
+    ensures place { IfOk result (λ made. made.place + 1 < 2 ^ 32) }
 {
     let has_room = row.progress.entries < u32::MAX;
     if has_room {

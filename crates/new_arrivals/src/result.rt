@@ -1,6 +1,6 @@
 //! What the result of a request makes ready.
 
-ghost use Rattle.std.specs.Prelude.{◌≡◌, false, List};
+ghost use Rattle.std.specs.Prelude.{◌≡◌, ◌+◌, ◌<◌, ◌^◌, false, List, IfOk};
 ghost use Rattle.sqlite.specs.Held.{state};
 ghost use Rattle.sqlite.specs.State.{HasCleanDisk, Survives};
 ghost use Rattle.journal_model.specs.declared.notification.NotificationId.TheVariants.{CompletionId as ModelId};
@@ -82,6 +82,7 @@ fn prepare_for<S: Alter>(
     requires idle { (state S.Store conn.old).in_transaction ≡ false }
     ensures decided { HasCleanDisk (state S.Store conn.new) → (events : List Event) → IsStoreOf events (state S.Store conn.old) → IsRowOf events id.now row
         → Decides (own_tests events (Event.Complete id.now completion brought)) (IsMadeReady events (Event.Complete id.now completion brought) id.now (arrival_of completion brought)) result }
+    ensures place { IfOk result (λ made. made.place + 1 < 2 ^ 32) }
     ensures kept { IsKept (state S.Store conn.old) (state S.Store conn.new) }
     ensures store { IsStore (state S.Store conn.new) }
     ensures idle { (state S.Store conn.new).in_transaction ≡ false }
@@ -117,6 +118,7 @@ pub fn prepare_result<S: Alter>(
     requires idle { (state S.Store conn.old).in_transaction ≡ false }
     ensures prepared { HasCleanDisk (state S.Store conn.new) → (events : List Event) → IsStoreOf events (state S.Store conn.old)
         → Prepares events (Event.Complete id.now completion brought) (IsMadeReady events (Event.Complete id.now completion brought) id.now (arrival_of completion brought)) result }
+    ensures place { IfOk result (λ made. made.place + 1 < 2 ^ 32) }
     ensures kept { IsKept (state S.Store conn.old) (state S.Store conn.new) }
     ensures store { IsStore (state S.Store conn.new) }
     ensures idle { (state S.Store conn.new).in_transaction ≡ false }

@@ -239,7 +239,7 @@ fn apply<S: Alter>(tx: &mut Transaction<'_, S>, write: &Write) -> Result<(), Err
 pub fn commit_all<S: Alter>(conn: &mut Connection<S>, writes: &[Write]) -> Result<(), Error>
     requires store { IsStore (state S.Store conn.old) }
     requires idle { (state S.Store conn.old).in_transaction ≡ false }
-    ensures done { HasCleanDisk (state S.Store conn.new) → OnOk result (Turns (applied_all writes.now) (state S.Store conn.old).now.trees (state S.Store conn.new).now.trees) }
+    ensures done { HasCleanDisk (state S.Store conn.new) → OnOk result (IsTrue (state S.Store conn.old).is_open × Turns (applied_all writes.now) (state S.Store conn.old).now.trees (state S.Store conn.new).now.trees) }
     ensures undone { OnErr result (IsKept (state S.Store conn.old) (state S.Store conn.new)) }
     ensures store { IsStore (state S.Store conn.new) }
     ensures idle { (state S.Store conn.new).in_transaction ≡ false }

@@ -10,17 +10,17 @@ use Rattle.new_arrivals.proofs.arrival.arrival_in.Goals as goal
 pub arrival_with-requires-clause-framed : goal.arrival_with-requires-clause-framed
 arrival_with-requires-clause-framed c = long_enough _ (notification_payload c.args.arrival) c.in-Ok.frame c.in-Ok.ensures.1
 
-pub returns-in_ok-made-in-Ok : goal.returns-in_ok-made-in-Ok
-returns-in_ok-made-in-Ok c = (
+pub returns-in_ok-made-in-Ok-clause-decided : goal.returns-in_ok-made-in-Ok-clause-decided
+returns-in_ok-made-in-Ok-clause-decided c = (
   c.in-Ok.ensures.0,
   subst (λ kind. IsArrival c.args.row kind c.args.arrival c.in_ok-made-in-Ok.made) c.from-kind.ensures
-      (arrival_made c.args.row _ c.args.arrival c.in-Ok.frame c.in_ok-made-in-Ok.made c.in-Ok.ensures.1 (rw c.answered_id-answered.ensures at c.in_ok-made-in-Ok.ensures)),
+      (arrival_made c.args.row _ c.args.arrival c.in-Ok.frame c.in_ok-made-in-Ok.made c.in-Ok.ensures.1 (rw c.answered_id-answered.ensures at c.in_ok-made-in-Ok.ensures.written)),
 )
 
-pub returns-in_err-made-in-Ok : goal.returns-in_err-made-in-Ok
-returns-in_err-made-in-Ok c =
+pub returns-in_err-made-in-Ok-clause-decided : goal.returns-in_err-made-in-Ok-clause-decided
+returns-in_err-made-in-Ok-clause-decided c =
     refused_memory (payload_tests (notification_payload c.args.arrival)) (IsArrival c.args.row (number_of c.args.ty) c.args.arrival)
     c.from_residual.result c.from_residual.ensures.1
 
-pub returns-in-Err : goal.returns-in-Err
-returns-in-Err c = c.in-Err.ensures
+pub returns-in-Err-clause-decided : goal.returns-in-Err-clause-decided
+returns-in-Err-clause-decided c = c.in-Err.ensures

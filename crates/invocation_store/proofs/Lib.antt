@@ -1,0 +1,4 @@
+pub mod Standing
+pub mod Quiet
+pub mod Arriving
+pub mod Beginning

@@ -1,0 +1,55 @@
+-- When a store stands for a list of accepted events, and what a call makes of that.
+use Rattle.std.specs.Prelude.{◌≡◌, List, [], ◌∷◌, Option, Some, None, option_map, Result, Ok, Err}
+use Rattle.sqlite_trees.specs.Tree.{Trees}
+use Rattle.sqlite.specs.State.{State}
+use Rattle.journal_model.specs.Notification.{Bytes, Text}
+use Rattle.journal_model.specs.Event.{Event}
+use Rattle.journal_model.specs.Cause.{causes_of}
+use Rattle.store_rows.specs.Records.{Records, Holds}
+use Rattle.store_model.specs.Kept.{IsKept}
+use Rattle.store_refusals.specs.declared.refusal.Refusal.{Refusal}
+use Rattle.store_refusals.specs.Refused.{IsRefused}
+use Rattle.new_invocations.specs.Rows.{IsStoreOf}
+use Rattle.live_attempts.specs.declared.attempt.LiveAttempt.{LiveAttempt}
+use Rattle.live_attempts.specs.Attempts.{attempt_of}
+use Rattle.live_laws.specs.Agrees.{Agrees}
+
+-- The events were accepted; the tables hold what is kept of them, as long as the connection is open; the attempts in memory are
+-- the live ones.
+pub record Stands (events : List Event) (database : State) (attempts : List LiveAttempt) : Type 0 where
+  pub kept : IsStoreOf events database
+  pub live : (id : Text) → Agrees events id (attempt_of attempts id)
+
+-- the bytes that came from the live attempt of an invocation and were not taken
+abbrev pub output_of : List LiveAttempt → Text → Option Bytes
+output_of attempts id = option_map (λ (attempt : LiveAttempt). attempt.output) (attempt_of attempts id)
+
+-- what attempts wrote waits as before
+abbrev pub KeepsOutputs : List LiveAttempt → List LiveAttempt → Type 0
+KeepsOutputs old new = (id : Text) → output_of new id ≡ output_of old id
+
+-- a live attempt is as before, but for room that was made for its input
+abbrev pub IsAsBefore : Option LiveAttempt → Option LiveAttempt → Type 0
+IsAsBefore None None = Unit {0}
+IsAsBefore (Some one) (Some other) = other ≡ record one { input = record (one.input) { reserved = other.input.reserved } }
+IsAsBefore _ _ = ⊥
+
+abbrev pub AreAsBefore : List LiveAttempt → List LiveAttempt → Type 0
+AreAsBefore old new = (id : Text) → IsAsBefore (attempt_of old id) (attempt_of new id)
+
+-- An event is accepted, and the store stands for it too; or it is refused, for the least of its causes or for a circumstance, and
+-- the store stands as before.
+abbrev pub Does : {A : Type 0} → List Event → Event → (A → Type 0) → Result A Refusal → State → List LiveAttempt → Type 0
+Does events event IsAnswer (Ok answer) database attempts = (causes_of events event ≡ []) × IsAnswer answer × Stands (event ∷ events) database attempts
+Does events event IsAnswer (Err why) database attempts = IsRefused (causes_of events event) why × Stands events database attempts
+
+-- the tables hold what is kept of these events
+pub record KeepsAll (events : List Event) (trees : Trees) : Type 0 where
+  pub records : Records
+  pub held : Holds trees records
+  pub kept : IsKept events records
+
+-- What the one commit of a call leaves, also where a crash comes before the call is over: whatever events the tables kept, the
+-- event is accepted, and the tables keep it too.
+abbrev pub Commits : Event → State → Trees → Type 0
+Commits event database trees = (events : List Event) → IsStoreOf events database → (causes_of events event ≡ []) × KeepsAll (event ∷ events) trees

@@ -1,0 +1,13 @@
+//! What is recorded of invocations, in a database, and which attempts are live, in memory: the store.
+//!
+//! A store stands for a list of accepted events, and each call says what it makes of that list: an event is accepted, and the
+//! store then stands for it too, or it is refused for the least of its causes and the store stands as before.
+#![tactic(auto)]
+
+mod attempt;
+mod begun;
+mod events;
+mod store;
+
+pub use begun::BegunAttempt;
+pub use store::Store;

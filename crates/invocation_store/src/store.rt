@@ -1,0 +1,151 @@
+// The store, and what it is opened from.
+ghost use Rattle.std.specs.Prelude.{◌≡◌, true, ◌+◌, length, take, List, IfErr};
+ghost use Rattle.sqlite.specs.Held.{state};
+ghost use Rattle.sqlite.specs.State.{HasCleanDisk, Survives};
+ghost use Rattle.journal_model.specs.Event.{Event};
+ghost use Rattle.journal_model.specs.Journal.{entries_of};
+ghost use Rattle.journal_model.specs.Attempt.{input_left};
+ghost use Rattle.live_attempts.specs.Attempts.{attempt_of};
+ghost use Rattle.live_laws.specs.Agrees.{has_number};
+ghost use Rattle.invocation_store.specs.Attempts.{Feeds, IsBegunAttempt};
+ghost use Rattle.invocation_store.specs.Stands.{Commits, Does, Stands};
+
+use crate::attempt::{close_input, feed, hand_out, stop};
+use crate::begun::BegunAttempt;
+use crate::events::{record_begin, record_new, record_result};
+use bytes::{ByteStr, Bytes};
+use journal_model::{NewInvocation, NotificationResult};
+use live_attempts::LiveAttempts;
+use sqlite::{Alter, Connection};
+use std::alloc::Global;
+use std::marker::Model;
+use store_refusals::Refusal;
+
+/// What is recorded of invocations, and the attempts that are live.
+#[derive(Drop)]
+pub struct Store<S: Alter> {
+    pub(crate) alloc: Global,
+    pub(crate) connection: Connection<S>,
+    pub(crate) live: LiveAttempts,
+}
+
+impl<S: Alter> Model for Store<S> {
+    ghost use Rattle.std.specs.Prelude.{◌≡◌, false};
+    ghost use Rattle.sqlite.specs.Held.{state};
+    ghost use Rattle.store_rows.specs.Steps.{IsStore};
+    ghost use Rattle.invocation_store.specs.Stored.{Stored, stored_code};
+
+    ghost Value = { Stored S };
+
+    ghost coded = { stored_code S.code };
+
+    ghost view = { λ store. record { connection = store.connection; live = store.live } };
+
+    ghost invariant = { λ store. IsStore (state S.Store store.connection) × ((state S.Store store.connection).in_transaction ≡ false) };
+}
+
+impl<S: Alter + Drop> Store<S> {
+    /// The connection. All attempts are over.
+    pub fn into_connection(self) -> Connection<S>
+        ensures { result ≡ self.connection }
+    {
+        let Store { connection, .. } = self;
+        connection
+    }
+
+    /// A new invocation. Its object may have had others, but none of them is open.
+    pub fn invoke(&mut self, new: NewInvocation) -> Result<(), Refusal>
+        ensures does { HasCleanDisk (state S.Store self.new.connection) → (events : List Event) → Stands events (state S.Store self.old.connection) self.old.live.attempts → Does events (Event.Invoke new) (λ _. Unit {0}) result (state S.Store self.new.connection) self.new.live.attempts }
+        ensures live { self.new.live ≡ self.old.live }
+        ensures crash { Survives (state S.Store self.old.connection) (state S.Store self.new.connection) (Commits (Event.Invoke new) (state S.Store self.old.connection)) }
+    {
+        record_new(self.alloc, &mut self.connection, new)
+    }
+
+    /// The result of a request, for its completion. Answers the place that it takes in the journal.
+    pub fn result(
+        &mut self,
+        id: &ByteStr,
+        completion: u32,
+        brought: NotificationResult,
+    ) -> Result<u32, Refusal>
+        ensures does { HasCleanDisk (state S.Store self.new.connection) → (events : List Event) → Stands events (state S.Store self.old.connection) self.old.live.attempts → Does events (Event.Complete id.now completion brought) (λ place. place ≡ 1 + length (entries_of events id.now)) result (state S.Store self.new.connection) self.new.live.attempts }
+        ensures crash { Survives (state S.Store self.old.connection) (state S.Store self.new.connection) (Commits (Event.Complete id.now completion brought) (state S.Store self.old.connection)) }
+    {
+        record_result(
+            self.alloc,
+            &mut self.connection,
+            &mut self.live,
+            id,
+            completion,
+            brought,
+        )
+    }
+
+    /// Begins an attempt at this moment, in milliseconds: it is live, and an earlier one is over.
+    pub fn begin(&mut self, id: &ByteStr, now: u64) -> Result<BegunAttempt, Refusal>
+        ensures does { HasCleanDisk (state S.Store self.new.connection) → (events : List Event) → Stands events (state S.Store self.old.connection) self.old.live.attempts → Does events (Event.Begin id.now now) (IsBegunAttempt events id.now now) result (state S.Store self.new.connection) self.new.live.attempts }
+        ensures crash { Survives (state S.Store self.old.connection) (state S.Store self.new.connection) (Commits (Event.Begin id.now now) (state S.Store self.old.connection)) }
+    {
+        record_begin(self.alloc, &mut self.connection, &mut self.live, id, now)
+    }
+
+    /// The next bytes that the attempt is handed, at most so many: none only where `most` is 0 or none remain.
+    pub fn next_input(&mut self, id: &ByteStr, attempt: u32, most: usize) -> Result<Bytes, Refusal>
+        ensures does { HasCleanDisk (state S.Store self.new.connection) → (events : List Event) → Stands events (state S.Store self.old.connection) self.old.live.attempts → Does events (Event.HandOut id.now attempt most) (λ bytes. bytes ≡ take most (input_left events id.now)) result (state S.Store self.new.connection) self.new.live.attempts }
+        ensures crash { Survives (state S.Store self.old.connection) (state S.Store self.new.connection) (λ _. ⊥) }
+    {
+        hand_out(
+            self.alloc,
+            &mut self.connection,
+            &mut self.live,
+            id,
+            attempt,
+            most,
+        )
+    }
+
+    /// No more is handed to the attempt. All of its input was.
+    pub fn close_input(&mut self, id: &ByteStr, attempt: u32) -> Result<(), Refusal>
+        ensures does { HasCleanDisk (state S.Store self.new.connection) → (events : List Event) → Stands events (state S.Store self.old.connection) self.old.live.attempts → Does events (Event.CloseInput id.now attempt) (λ _. Unit {0}) result (state S.Store self.new.connection) self.new.live.attempts }
+        ensures crash { Survives (state S.Store self.old.connection) (state S.Store self.new.connection) (λ _. ⊥) }
+    {
+        close_input(
+            self.alloc,
+            &mut self.connection,
+            &mut self.live,
+            id,
+            attempt,
+        )
+    }
+
+    /// Takes in the next bytes that the attempt wrote. `step` then takes the frames among them.
+    pub fn feed(&mut self, id: &ByteStr, attempt: u32, bytes: &[u8]) -> Result<(), Refusal>
+        ensures does { HasCleanDisk (state S.Store self.new.connection) → (events : List Event) → Stands events (state S.Store self.old.connection) self.old.live.attempts → Feeds events id.now attempt bytes.now result (state S.Store self.new.connection) self.old.live.attempts self.new.live.attempts }
+        ensures crash { Survives (state S.Store self.old.connection) (state S.Store self.new.connection) (λ _. ⊥) }
+    {
+        feed(
+            self.alloc,
+            &mut self.connection,
+            &mut self.live,
+            id,
+            attempt,
+            bytes,
+        )
+    }
+
+    /// Ends the attempt: what it writes from now on is refused. Of a live attempt it always succeeds.
+    pub fn stop(&mut self, id: &ByteStr, attempt: u32) -> Result<(), Refusal>
+        ensures does { HasCleanDisk (state S.Store self.new.connection) → (events : List Event) → Stands events (state S.Store self.old.connection) self.old.live.attempts → Does events (Event.Stop id.now attempt) (λ _. Unit {0}) result (state S.Store self.new.connection) self.new.live.attempts }
+        ensures live { has_number attempt (attempt_of self.old.live.attempts id.now) ≡ true → IfErr result (λ _. ⊥) }
+        ensures crash { Survives (state S.Store self.old.connection) (state S.Store self.new.connection) (λ _. ⊥) }
+    {
+        stop(
+            self.alloc,
+            &mut self.connection,
+            &mut self.live,
+            id,
+            attempt,
+        )
+    }
+}

@@ -1,0 +1,126 @@
+-- A turn, a feed and a move of the live attempt keep its invocation in the run.
+use Rattle.std.proofs.Common.{◌≡◌, ◌≢◌, ℕ, ◌+◌, ◌==◌, Bool, true, false, List, ◌++◌, length, Option, Some, None, refl, sym, ap, subst, ◌∙◌, inl, inr, append_assoc}
+use Rattle.std.proofs.lemmas.Bool.Decides.{Decides-eqb}
+use Rattle.journal_model.specs.declared.invocation.NewInvocation.{NewInvocation}
+use Rattle.journal_model.specs.State.{StateMap}
+use Rattle.journal_model.specs.Run.{Handler, Invocation}
+use Rattle.schedule_events.specs.First.{with_first}
+use Rattle.invocation_vm.specs.declared.options.VMOptions.{VMOptions}
+use Rattle.invocation_vm.specs.declared.attempt.Attempt.{Attempt}
+use Rattle.invocation_vm.specs.declared.progress.Turn.{Turn}
+use Rattle.invocation_vm.specs.Attempt.{IsUnread, Stands, RunTurn, ReadTurn}
+use Rattle.schedule_events.specs.declared.held.HeldAttempt.{HeldAttempt}
+use Rattle.schedule_events.specs.Following.{Seen, SeenAttempt, is_held, held_of, run_given, FollowsSeen}
+use Rattle.schedule_events.proofs.Holding.{some_is, some_none}
+use Rattle.schedule_events.proofs.Following.{flown, beside}
+use Rattle.schedule_events.proofs.Turning.{Flight, run_turn, read_turn}
+
+true_is_false : {A : Type 0} → true ≡ false → A
+true_is_false e = absurd cc
+
+module _ {H : Type 0} (function : H → Handler) (next : Handler) (options : VMOptions) where
+  -- the flight that an invocation in its run has, and the invocation in its run that a flight gives
+  pub flight_of : (id : List ℕ) (held : List (HeldAttempt H)) (seen : Seen) (live : SeenAttempt) (h : HeldAttempt H) → seen.live ≡ Some live → held_of held id live.number ≡ Some h
+      → FollowsSeen function next options id held seen → Flight function next options seen live h.attempt
+  flight_of id held seen live h is found f = record {
+    calls = f.calls;
+    coming = f.coming;
+    lost = f.lost;
+    fit = f.fit;
+    requests = f.requests;
+    flies = f.flies live is h found;
+  }
+
+  pub flown_by : (id : List ℕ) (held : List (HeldAttempt H)) (seen new : Seen) (live after : SeenAttempt) (h g : HeldAttempt H)
+      → new.live ≡ Some after → after.number ≡ live.number → new.attempts ≡ seen.attempts → new.arrivals ≡ seen.arrivals
+      → held_of held id live.number ≡ Some h → g.invocation ≡ h.invocation → g.number ≡ h.number
+      → Flight function next options new after g.attempt → FollowsSeen function next options id held seen
+      → FollowsSeen function next options id (with_first (is_held id live.number) held g) new
+  flown_by id held seen new live after h g is number attempts arrived found invocation same fl f =
+      flown function next options id held seen new live after h g is number attempts arrived found invocation same fl.calls fl.coming fl.lost fl.fit fl.requests fl.flies f
+
+  -- a turn
+  pub turn_flight : (seen : Seen) (live : SeenAttempt) (old new : Attempt H) (t : Turn) → new.options ≡ old.options
+      → ((u : Turn) → old.over ≡ Some u → new ≡ old)
+      → ((invocation : NewInvocation) (state : StateMap) (known retry duration : ℕ) (left more : List ℕ) → old.over ≡ None → IsUnread function next invocation state known retry duration left more old
+      → ReadTurn function next invocation state known retry duration left more old new t)
+      → ((given : Invocation) (calls : ℕ) → old.over ≡ None → Stands function next given calls old → RunTurn function next given calls old new t)
+      → Flight function next options seen live old → Flight function next options seen live new
+  turn_flight seen live old new t chosen over reads runs f = by_over old.over refl
+    where
+      by_over : (o : Option Turn) → old.over ≡ o → Flight function next options seen live new
+      by_over (Some u) is = subst (λ (a : Attempt H). Flight function next options seen live a) (sym (over u is)) f
+      by_over None is =
+          elim (f.flies.stands is) [
+            | inl n ↦ read_turn function next options seen live old new t chosen f n (reads seen.invocation n.shown (1 + length seen.requests) n.retry n.duration live.input n.more is n.unread)
+            | inr h ↦ run_turn function next options seen live old new t chosen f h (runs (run_given options seen) f.calls is h.stands)
+          ]
+
+  -- bytes of the input go to the attempt
+  pub fed_flight : (seen : Seen) (live : SeenAttempt) (left : List ℕ) (old new : Attempt H) → new.options ≡ old.options → new.progress.output ≡ old.progress.output
+      → (new.over ≡ None → old.over ≡ None)
+      → ((invocation : NewInvocation) (state : StateMap) (known retry duration : ℕ) (more : List ℕ) → new.over ≡ None → IsUnread function next invocation state known retry duration live.input more old
+      → IsUnread function next invocation state known retry duration left more new)
+      → ((given : Invocation) (calls : ℕ) → new.over ≡ None → Stands function next given calls old → Stands function next given calls new)
+      → Flight function next options seen live old → Flight function next options (record seen { live = Some (record live { input = left }) }) (record live { input = left }) new
+  fed_flight seen live left old new chosen output over unread stands f = record {
+    calls = f.calls;
+    coming = f.coming;
+    lost = f.lost;
+    fit = f.fit;
+    requests = f.requests;
+    flies = record {
+      chosen = chosen ∙ f.flies.chosen;
+      bytes = ap (λ (s : List ℕ). live.output ++ s) output ∙ f.flies.bytes;
+      stands = λ on. elim (f.flies.stands (over on)) [
+        | inl n ↦ inl (record { shown = n.shown; at_start = n.at_start; retry = n.retry; duration = n.duration; more = n.more; unread = unread seen.invocation n.shown (1 + length seen.requests) n.retry n.duration n.more on n.unread; nothing = n.nothing })
+        | inr h ↦ inr (record { stands = stands (run_given options seen) f.calls on h.stands; whole = h.whole })
+      ];
+    };
+  }
+
+  -- bytes of the output go to the store
+  pub sent_flight : (seen : Seen) (live : SeenAttempt) (moved : List ℕ) (old new : Attempt H) → new.options ≡ old.options → new.over ≡ old.over
+      → moved ++ new.progress.output ≡ old.progress.output
+      → ((invocation : NewInvocation) (state : StateMap) (known retry duration : ℕ) (left more : List ℕ) → IsUnread function next invocation state known retry duration left more old
+      → IsUnread function next invocation state known retry duration left more new)
+      → ((given : Invocation) (calls : ℕ) → Stands function next given calls old → Stands function next given calls new)
+      → Flight function next options seen live old
+      → Flight function next options (record seen { live = Some (record live { output = live.output ++ moved }) }) (record live { output = live.output ++ moved }) new
+  sent_flight seen live moved old new chosen over output unread stands f = record {
+    calls = f.calls;
+    coming = f.coming;
+    lost = f.lost;
+    fit = f.fit;
+    requests = f.requests;
+    flies = record {
+      chosen = chosen ∙ f.flies.chosen;
+      bytes = append_assoc live.output moved new.progress.output ∙ ap (λ (s : List ℕ). live.output ++ s) output ∙ f.flies.bytes;
+      stands = λ on. elim (f.flies.stands (sym over ∙ on)) [
+        | inl n ↦ inl (record { shown = n.shown; at_start = n.at_start; retry = n.retry; duration = n.duration; more = n.more; unread = unread seen.invocation n.shown (1 + length seen.requests) n.retry n.duration live.input n.more n.unread; nothing = n.nothing })
+        | inr h ↦ inr (record { stands = stands (run_given options seen) f.calls h.stands; whole = h.whole })
+      ];
+    };
+  }
+
+  -- a turn of any attempt that is held
+  pub turned : (id : List ℕ) (n : ℕ) (held : List (HeldAttempt H)) (seen : Seen) (h g : HeldAttempt H) → held_of held id n ≡ Some h → g.invocation ≡ h.invocation → g.number ≡ h.number
+      → ((live : SeenAttempt) → Flight function next options seen live h.attempt → Flight function next options seen live g.attempt)
+      → FollowsSeen function next options id held seen → FollowsSeen function next options id (with_first (is_held id n) held g) seen
+  turned id n held seen h g found invocation number flies f = by_live seen.live refl
+    where
+      not_live_now : (o : Option SeenAttempt) → seen.live ≡ o → ((live : SeenAttempt) → o ≡ Some live → live.number ≢ n) → FollowsSeen function next options id (with_first (is_held id n) held g) seen
+      not_live_now o is other = beside function next options id held seen n h g (λ live e. other live (sym is ∙ e)) found invocation number f
+
+      by_number : (live : SeenAttempt) → seen.live ≡ Some live → (b : Bool) → (live.number == n) ≡ b → FollowsSeen function next options id (with_first (is_held id n) held g) seen
+      by_number live is true e =
+          let same : live.number ≡ n = (Decides-eqb live.number n).0 e in
+          let there : held_of held id live.number ≡ Some h = ap (λ (m : ℕ). held_of held id m) same ∙ found in
+          subst (λ (m : ℕ). FollowsSeen function next options id (with_first (is_held id m) held g) seen) same
+          (flown_by id held seen seen live live h g is refl refl refl there invocation number (flies live (flight_of id held seen live h is there f)) f)
+      by_number live is false e =
+          not_live_now (Some live) is (λ l same equal. true_is_false (sym ((Decides-eqb live.number n).1 (ap (λ (k : SeenAttempt). k.number) (some_is live l same) ∙ equal)) ∙ e))
+
+      by_live : (o : Option SeenAttempt) → seen.live ≡ o → FollowsSeen function next options id (with_first (is_held id n) held g) seen
+      by_live None is = not_live_now None is (λ live e. some_none (sym e))
+      by_live (Some live) is = by_number live is (live.number == n) refl

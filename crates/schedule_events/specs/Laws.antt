@@ -1,0 +1,38 @@
+-- What schedules keep, and what they leave.
+use Rattle.std.specs.Prelude.{◌≡◌, List, [], Some, None}
+use Rattle.std.specs.List.{AllByRecursion}
+use Rattle.journal_model.specs.Notification.{Text}
+use Rattle.journal_model.specs.declared.invocation.NewInvocation.{NewInvocation}
+use Rattle.journal_model.specs.Run.{Handler}
+use Rattle.journal_model.specs.Journal.{invocation_begun, starting_state, recorded_requests}
+use Rattle.invocation_vm.specs.declared.options.VMOptions.{VMOptions}
+use Rattle.invocation_vm.specs.First.{given_by}
+use Rattle.schedule_events.specs.declared.event.Event.{Event}
+use Rattle.schedule_events.specs.declared.event.Reply.{Reply}
+use Rattle.schedule_events.specs.declared.held.HeldAttempt.{HeldAttempt}
+use Rattle.schedule_events.specs.Standing.{Standing}
+use Rattle.schedule_events.specs.Schedule.{Does, Scheduled, AppliesAll, Brings}
+use Rattle.schedule_events.specs.Following.{Follows, IsBeginningOfRun}
+
+module _ {H : Type 0} (function : H → Handler) where
+  -- where nothing is held, an invocation that was not begun follows its run
+  abbrev pub FollowsAtFirst : Type 0
+  FollowsAtFirst = (next : Handler) (options : VMOptions) (id : Text) (s : Standing) → invocation_begun s.events id ≡ None → Follows function next options id s []
+
+  -- what an event does keeps an invocation in its run, if begins of it bring the run's function
+  abbrev pub KeptByEach : Type 0
+  KeptByEach = (next : Handler) (options : VMOptions) (id : Text) (one : Event H) (answer : Reply) (old new : Standing) (held more : List (HeldAttempt H))
+      → Brings function id next one → Does function options one old held answer new more → Follows function next options id old held → Follows function next options id new more
+
+  -- what is recorded of an invocation in its run are the run's first requests
+  abbrev pub BeginsRun : Type 0
+  BeginsRun = (next : Handler) (options : VMOptions) (id : Text) (s : Standing) (held : List (HeldAttempt H)) (new : NewInvocation) → invocation_begun s.events id ≡ Some new
+      → Follows function next options id s held → IsBeginningOfRun next (given_by options new (starting_state s.events id)) (recorded_requests s.events id)
+
+  -- What a schedule leaves: of each invocation that was not begun before, and whose begins all bring one function, the recorded
+  -- requests are the first requests of the one uninterrupted run of that function.
+  abbrev pub LeavesRuns : Type 0
+  LeavesRuns = (options : VMOptions) (events : List (Event H)) (replies : List Reply) (old new : Scheduled H) → old.held ≡ [] → AppliesAll function options events replies old new
+      → (next : Handler) (id : Text) → invocation_begun old.standing.events id ≡ None → AllByRecursion (Brings function id next) events
+      → (invocation : NewInvocation) → invocation_begun new.standing.events id ≡ Some invocation
+      → IsBeginningOfRun next (given_by options invocation (starting_state new.standing.events id)) (recorded_requests new.standing.events id)

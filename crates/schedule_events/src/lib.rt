@@ -1,0 +1,10 @@
+//! What the events of a schedule answer and leave over a store that stands for accepted events, and what they keep.
+#![tactic(auto)]
+
+mod event;
+mod held;
+mod laws;
+
+pub use event::{Event, Refusal, Reply};
+pub use held::HeldAttempt;
+pub use laws::schedules_follow_runs;
