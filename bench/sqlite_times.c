@@ -32,12 +32,13 @@ static const char *const TEXTS[STATEMENTS] = {
     "INSERT INTO entry VALUES (?1, ?2, ?3, ?4, ?5, ?6, ?7, ?8)",
 };
 
-static const char *const SCHEMA =
-    "CREATE TABLE meta (name TEXT NOT NULL, version INTEGER NOT NULL) STRICT;"
-    "CREATE TABLE invocation (id TEXT NOT NULL UNIQUE, object TEXT NOT NULL, version INTEGER NOT NULL, seed INTEGER NOT NULL, mode INTEGER NOT NULL, open_object TEXT UNIQUE, suspension BLOB, handed INTEGER, closing INTEGER, answer BLOB, error_code INTEGER, error_behavior INTEGER, error_delay INTEGER, error_message TEXT, attempts INTEGER NOT NULL, attempts_since_entry INTEGER NOT NULL, first_moment INTEGER NOT NULL, last_completion INTEGER NOT NULL, entries INTEGER NOT NULL) STRICT;"
-    "CREATE TABLE entry (invocation TEXT NOT NULL, place INTEGER NOT NULL, kind INTEGER NOT NULL, payload BLOB NOT NULL, completion INTEGER, second_completion INTEGER, answered INTEGER, moment INTEGER NOT NULL, UNIQUE (invocation, place), UNIQUE (invocation, completion), UNIQUE (invocation, second_completion), UNIQUE (invocation, answered)) STRICT;"
-    "CREATE TABLE state (object TEXT NOT NULL, key BLOB NOT NULL, value BLOB NOT NULL, UNIQUE (object, key)) STRICT;"
-    "INSERT INTO meta VALUES ('journal_store', 1)";
+static const char *const SCHEMA[] = {
+    "CREATE TABLE meta (name TEXT NOT NULL, version INTEGER NOT NULL) STRICT",
+    "CREATE TABLE invocation (id TEXT NOT NULL UNIQUE, object TEXT NOT NULL, version INTEGER NOT NULL, seed INTEGER NOT NULL, mode INTEGER NOT NULL, open_object TEXT, suspension BLOB, handed INTEGER, closing INTEGER, answer BLOB, error_code INTEGER, error_behavior INTEGER, error_delay INTEGER, error_message TEXT, attempts INTEGER NOT NULL, attempts_since_entry INTEGER NOT NULL, first_moment INTEGER NOT NULL, last_completion INTEGER NOT NULL, entries INTEGER NOT NULL, UNIQUE (open_object, id)) STRICT",
+    "CREATE TABLE entry (invocation TEXT NOT NULL, place INTEGER NOT NULL, kind INTEGER NOT NULL, payload BLOB NOT NULL, completion INTEGER, second_completion INTEGER, answered INTEGER, moment INTEGER NOT NULL, UNIQUE (invocation, place), UNIQUE (invocation, completion, place), UNIQUE (invocation, second_completion, place), UNIQUE (invocation, answered, place)) STRICT",
+    "CREATE TABLE state (object TEXT NOT NULL, key BLOB NOT NULL, value BLOB NOT NULL, UNIQUE (object, key)) STRICT",
+    "INSERT INTO meta VALUES ('journal_store', 1)",
+};
 
 static sqlite3 *database;
 static sqlite3_stmt *statements[STATEMENTS];
@@ -71,7 +72,8 @@ static double now(void) {
 
 static void open_database(void) {
     if (sqlite3_open(":memory:", &database) != SQLITE_OK) fail("open");
-    if (sqlite3_exec(database, SCHEMA, NULL, NULL, NULL) != SQLITE_OK) fail("schema");
+    for (size_t i = 0; i < sizeof SCHEMA / sizeof SCHEMA[0]; i++)
+        if (sqlite3_exec(database, SCHEMA[i], NULL, NULL, NULL) != SQLITE_OK) fail(SCHEMA[i]);
     for (int i = 0; i < STATEMENTS; i++)
         if (sqlite3_prepare_v2(database, TEXTS[i], -1, &statements[i], NULL) != SQLITE_OK) fail(TEXTS[i]);
 }
