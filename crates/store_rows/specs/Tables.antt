@@ -11,10 +11,10 @@ abbrev pub meta_text : List ℕ
 meta_text = codes "CREATE TABLE meta (name TEXT NOT NULL, version INTEGER NOT NULL) STRICT"
 
 abbrev pub invocation_text : List ℕ
-invocation_text = codes "CREATE TABLE invocation (id TEXT NOT NULL UNIQUE, object TEXT NOT NULL, version INTEGER NOT NULL, seed INTEGER NOT NULL, mode INTEGER NOT NULL, open_object TEXT UNIQUE, suspension BLOB, handed INTEGER, closing INTEGER, answer BLOB, error_code INTEGER, error_behavior INTEGER, error_delay INTEGER, error_message TEXT, attempts INTEGER NOT NULL, attempts_since_entry INTEGER NOT NULL, first_moment INTEGER NOT NULL, last_completion INTEGER NOT NULL, entries INTEGER NOT NULL) STRICT"
+invocation_text = codes "CREATE TABLE invocation (id TEXT NOT NULL UNIQUE, object TEXT NOT NULL, version INTEGER NOT NULL, seed INTEGER NOT NULL, mode INTEGER NOT NULL, open_object TEXT, suspension BLOB, handed INTEGER, closing INTEGER, answer BLOB, error_code INTEGER, error_behavior INTEGER, error_delay INTEGER, error_message TEXT, attempts INTEGER NOT NULL, attempts_since_entry INTEGER NOT NULL, first_moment INTEGER NOT NULL, last_completion INTEGER NOT NULL, entries INTEGER NOT NULL, UNIQUE (open_object, id)) STRICT"
 
 abbrev pub entry_text : List ℕ
-entry_text = codes "CREATE TABLE entry (invocation TEXT NOT NULL, place INTEGER NOT NULL, kind INTEGER NOT NULL, payload BLOB NOT NULL, completion INTEGER, second_completion INTEGER, answered INTEGER, moment INTEGER NOT NULL, UNIQUE (invocation, place), UNIQUE (invocation, completion), UNIQUE (invocation, second_completion), UNIQUE (invocation, answered)) STRICT"
+entry_text = codes "CREATE TABLE entry (invocation TEXT NOT NULL, place INTEGER NOT NULL, kind INTEGER NOT NULL, payload BLOB NOT NULL, completion INTEGER, second_completion INTEGER, answered INTEGER, moment INTEGER NOT NULL, UNIQUE (invocation, place), UNIQUE (invocation, completion, place), UNIQUE (invocation, second_completion, place), UNIQUE (invocation, answered, place)) STRICT"
 
 abbrev pub state_text : List ℕ
 state_text = codes "CREATE TABLE state (object TEXT NOT NULL, key BLOB NOT NULL, value BLOB NOT NULL, UNIQUE (object, key)) STRICT"
@@ -32,9 +32,10 @@ invocation_columns =
     ∷ optional (codes "error_code") Integer ∷ optional (codes "error_behavior") Integer ∷ optional (codes "error_delay") Integer ∷ optional (codes "error_message") Text
     ∷ required (codes "attempts") Integer ∷ required (codes "attempts_since_entry") Integer ∷ required (codes "first_moment") Integer ∷ required (codes "last_completion") Integer ∷ required (codes "entries") Integer ∷ []
 
--- an id comes once, and an object has one open invocation at most
+-- An id comes once. By the second key the open invocation of an object is found: it ends in the id, since a key of which a column is null
+-- is looked for among all rows that have the columns before it.
 abbrev pub invocation_keys : List (List ℕ)
-invocation_keys = (1 ∷ []) ∷ (6 ∷ []) ∷ []
+invocation_keys = (1 ∷ []) ∷ (6 ∷ 1 ∷ []) ∷ []
 
 abbrev pub invocation : Table
 invocation = table_of 1 (codes "invocation") invocation_columns invocation_keys
@@ -44,9 +45,10 @@ entry_columns =
     required (codes "invocation") Text ∷ required (codes "place") Integer ∷ required (codes "kind") Integer ∷ required (codes "payload") Blob
     ∷ optional (codes "completion") Integer ∷ optional (codes "second_completion") Integer ∷ optional (codes "answered") Integer ∷ required (codes "moment") Integer ∷ []
 
--- in an invocation a place comes once, and so do a completion that is asked for and one that is answered
+-- In an invocation a place comes once. By the other keys a completion is found that is asked for, or one that is answered: they end in the
+-- place, for the same reason.
 abbrev pub entry_keys : List (List ℕ)
-entry_keys = (1 ∷ 2 ∷ []) ∷ (1 ∷ 5 ∷ []) ∷ (1 ∷ 6 ∷ []) ∷ (1 ∷ 7 ∷ []) ∷ []
+entry_keys = (1 ∷ 2 ∷ []) ∷ (1 ∷ 5 ∷ 2 ∷ []) ∷ (1 ∷ 6 ∷ 2 ∷ []) ∷ (1 ∷ 7 ∷ 2 ∷ []) ∷ []
 
 abbrev pub entry : Table
 entry = table_of 4 (codes "entry") entry_columns entry_keys

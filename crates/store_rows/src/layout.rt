@@ -55,7 +55,7 @@ fn is_invocation(table: &Table) -> bool
             required("last_completion", Kind::Integer),
             required("entries", Kind::Integer),
         ],
-        &[&[1], &[6]],
+        &[&[1], &[6, 1]],
     )
 }
 
@@ -77,7 +77,7 @@ fn is_entry(table: &Table) -> bool
             optional("answered", Kind::Integer),
             required("moment", Kind::Integer),
         ],
-        &[&[1, 2], &[1, 5], &[1, 6], &[1, 7]],
+        &[&[1, 2], &[1, 5, 2], &[1, 6, 2], &[1, 7, 2]],
     )
 }
 
@@ -129,10 +129,10 @@ fn is_first_of_invocation(index: &Index) -> bool
 }
 
 fn is_second_of_invocation(index: &Index) -> bool
-    ensures exact { IsTrue result → index.now ≡ automatic tables.invocation 1 (6 ∷ []) 3 }
-    ensures complete { index.now ≡ automatic tables.invocation 1 (6 ∷ []) 3 → IsTrue result }
+    ensures exact { IsTrue result → index.now ≡ automatic tables.invocation 1 (6 ∷ 1 ∷ []) 3 }
+    ensures complete { index.now ≡ automatic tables.invocation 1 (6 ∷ 1 ∷ []) 3 → IsTrue result }
 {
-    is_index(index, "sqlite_autoindex_invocation_2", 3, 1, &[6])
+    is_index(index, "sqlite_autoindex_invocation_2", 3, 1, &[6, 1])
 }
 
 fn is_first_of_entry(index: &Index) -> bool
@@ -143,24 +143,24 @@ fn is_first_of_entry(index: &Index) -> bool
 }
 
 fn is_second_of_entry(index: &Index) -> bool
-    ensures exact { IsTrue result → index.now ≡ automatic tables.entry 1 (1 ∷ 5 ∷ []) 6 }
-    ensures complete { index.now ≡ automatic tables.entry 1 (1 ∷ 5 ∷ []) 6 → IsTrue result }
+    ensures exact { IsTrue result → index.now ≡ automatic tables.entry 1 (1 ∷ 5 ∷ 2 ∷ []) 6 }
+    ensures complete { index.now ≡ automatic tables.entry 1 (1 ∷ 5 ∷ 2 ∷ []) 6 → IsTrue result }
 {
-    is_index(index, "sqlite_autoindex_entry_2", 6, 4, &[1, 5])
+    is_index(index, "sqlite_autoindex_entry_2", 6, 4, &[1, 5, 2])
 }
 
 fn is_third_of_entry(index: &Index) -> bool
-    ensures exact { IsTrue result → index.now ≡ automatic tables.entry 2 (1 ∷ 6 ∷ []) 7 }
-    ensures complete { index.now ≡ automatic tables.entry 2 (1 ∷ 6 ∷ []) 7 → IsTrue result }
+    ensures exact { IsTrue result → index.now ≡ automatic tables.entry 2 (1 ∷ 6 ∷ 2 ∷ []) 7 }
+    ensures complete { index.now ≡ automatic tables.entry 2 (1 ∷ 6 ∷ 2 ∷ []) 7 → IsTrue result }
 {
-    is_index(index, "sqlite_autoindex_entry_3", 7, 4, &[1, 6])
+    is_index(index, "sqlite_autoindex_entry_3", 7, 4, &[1, 6, 2])
 }
 
 fn is_fourth_of_entry(index: &Index) -> bool
-    ensures exact { IsTrue result → index.now ≡ automatic tables.entry 3 (1 ∷ 7 ∷ []) 8 }
-    ensures complete { index.now ≡ automatic tables.entry 3 (1 ∷ 7 ∷ []) 8 → IsTrue result }
+    ensures exact { IsTrue result → index.now ≡ automatic tables.entry 3 (1 ∷ 7 ∷ 2 ∷ []) 8 }
+    ensures complete { index.now ≡ automatic tables.entry 3 (1 ∷ 7 ∷ 2 ∷ []) 8 → IsTrue result }
 {
-    is_index(index, "sqlite_autoindex_entry_4", 8, 4, &[1, 7])
+    is_index(index, "sqlite_autoindex_entry_4", 8, 4, &[1, 7, 2])
 }
 
 fn is_of_state(index: &Index) -> bool
