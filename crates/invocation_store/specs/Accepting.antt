@@ -13,6 +13,7 @@ use Rattle.taken_frames.specs.declared.frame.FrameReply.{FrameReply}
 use Rattle.taken_frames.specs.Taken.{IsReply, does_end}
 use Rattle.live_attempts.specs.declared.attempt.LiveAttempt.{LiveAttempt}
 use Rattle.live_attempts.specs.Attempts.{attempt_of, IsNow, Changes, after_output}
+use Rattle.live_laws.specs.Agrees.{has_number}
 use Rattle.invocation_store.specs.declared.accept.Accepted.{Accepted}
 use Rattle.invocation_store.specs.Stands.{Stands, KeepsAll}
 use Rattle.invocation_store.specs.Attempts.{IsFirstItem, IsUnfed, TakesItem, TakesNone, RefusesItem, attempt_left, frame_of_item}
@@ -96,7 +97,8 @@ pub record KeepsStep (events : List Event) (id : Text) (number : ℕ) (attempts 
   pub kept : KeepsAll (Event.Take id number (frame_of_item attempt.version item) ∷ later) trees
 
 abbrev pub CommitsSteps : Text → ℕ → List LiveAttempt → State → Trees → Type 0
-CommitsSteps id number attempts database trees = (events : List Event) → Stands events database attempts → KeepsStep events id number attempts trees
+CommitsSteps id number attempts database trees =
+    (events : List Event) → Stands events database attempts → has_number number (attempt_of attempts id) ≡ true → KeepsStep events id number attempts trees
 
 -- once the bytes were put behind
 abbrev pub CommitsFed : Text → ℕ → Bytes → List LiveAttempt → State → Trees → Type 0

@@ -3,7 +3,7 @@ use Rattle.std.specs.Prelude.{◌≡◌, ◌⊎◌, ℕ, ◌≤◌, length, drop
 use Rattle.sqlite_trees.specs.Tree.{Trees}
 use Rattle.sqlite.specs.State.{State}
 use Rattle.sql_tables.specs.Asking.{IsKept}
-use Rattle.journal_model.specs.Notification.{Text}
+use Rattle.journal_model.specs.Notification.{Bytes, Text}
 use Rattle.journal_model.specs.Event.{Event}
 use Rattle.journal_protocol.specs.declared.decoder.RawMessage.{RawMessage}
 use Rattle.journal_protocol.specs.declared.message_type.UnknownMessageType.{UnknownMessageType}
@@ -16,7 +16,7 @@ use Rattle.store_rows.specs.Steps.{Turns}
 use Rattle.store_refusals.specs.declared.refusal.Refusal.{Refusal}
 use Rattle.taken_frames.specs.declared.frame.FrameReply.{FrameReply}
 use Rattle.live_attempts.specs.declared.attempt.LiveAttempt.{LiveAttempt}
-use Rattle.live_attempts.specs.Attempts.{after_take}
+use Rattle.live_attempts.specs.Attempts.{IsNow, after_take}
 use Rattle.invocation_store.specs.declared.step.SeenFrame.{SeenFrame}
 use Rattle.invocation_store.specs.declared.step.FirstSeen.{FirstSeen}
 use Rattle.invocation_store.specs.declared.step.FirstSeen.TheVariants as seen
@@ -43,6 +43,14 @@ abbrev pub IsFirstOf : Option LiveAttempt → FirstSeen → Type 0
 IsFirstOf None first = first ≡ seen.Partial
 IsFirstOf (Some attempt) first = IsFirstSeen attempt first
 
+-- a whole frame stands first
+abbrev pub HasMessage : LiveAttempt → Type 0
+HasMessage attempt = (it : RawMessage) × (rest : Bytes) × (item_at attempt.output ≡ Some (message it, rest))
+
+abbrev pub HasMessageOf : Option LiveAttempt → Type 0
+HasMessageOf None = ⊥
+HasMessageOf (Some attempt) = HasMessage attempt
+
 abbrev pub IsSeenOf : Option LiveAttempt → SeenFrame → Type 0
 IsSeenOf None it = ⊥
 IsSeenOf (Some attempt) it = IsSeen attempt it
@@ -63,6 +71,11 @@ LandsSome writes old trees = IsTrue old.is_open × Turns (applied_all writes) ol
 abbrev pub passed : Bool → ℕ → Option LiveAttempt → Option LiveAttempt
 passed true len found = None
 passed false len found = option_map (after_take len) found
+
+-- an attempt is over where the cause of a refusal lies in its frame
+abbrev pub IsEndedBy : Bool → Text → List LiveAttempt → List LiveAttempt → Type 0
+IsEndedBy true id old new = IsNow id None old new
+IsEndedBy false id old new = new ≡ old
 
 -- the first item is taken or refused
 abbrev pub TakesSeen : List Event → Text → ℕ → Result FrameReply Refusal → State → List LiveAttempt → List LiveAttempt → Type 0

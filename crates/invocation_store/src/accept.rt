@@ -1,5 +1,5 @@
 // All of the frames among bytes that came are taken.
-ghost use Rattle.std.specs.Prelude.{◌≡◌, false, true, List};
+ghost use Rattle.std.specs.Prelude.{◌≡◌, ◌+◌, false, true, List, IfOk, vec_len};
 ghost use Rattle.sqlite.specs.Held.{state};
 ghost use Rattle.sqlite.specs.State.{HasCleanDisk, Survives};
 ghost use Rattle.journal_model.specs.Event.{Event};
@@ -39,6 +39,7 @@ fn take_next<S: Alter>(
 ) -> Result<bool, Refusal>
     requires store { IsStore (state S.Store conn.old) }
     requires idle { (state S.Store conn.old).in_transaction ≡ false }
+    ensures len { IfOk result (λ goes_on. goes_on ≡ true → vec_len replies.new ≡ vec_len replies.old + 1) }
     ensures does { HasCleanDisk (state S.Store conn.new) → (events : List Event) → Stands events (state S.Store conn.old) live.old.attempts → has_number attempt (attempt_of live.old.attempts id.now) ≡ true → TakesNext events id.now attempt result replies.old.items replies.new.items (state S.Store conn.new) live.old.attempts live.new.attempts }
     ensures store { IsStore (state S.Store conn.new) }
     ensures idle { (state S.Store conn.new).in_transaction ≡ false }

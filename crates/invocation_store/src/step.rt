@@ -7,12 +7,12 @@ ghost use Rattle.journal_model.specs.Event.{Event};
 ghost use Rattle.sql_tables.specs.Asking.{IsKept};
 ghost use Rattle.store_rows.specs.Steps.{IsStore};
 ghost use Rattle.store_refusals.specs.Refused.{is_circumstance};
-ghost use Rattle.taken_frames.specs.Taken.{does_end};
+ghost use Rattle.taken_frames.specs.Taken.{does_end, lies_in_frame};
 ghost use Rattle.live_attempts.specs.Attempts.{IsNow, attempt_of};
 ghost use Rattle.live_laws.specs.Agrees.{has_number};
 ghost use Rattle.invocation_store.specs.Attempts.{CommitsItem, Steps};
 ghost use Rattle.invocation_store.specs.Stands.{Stands};
-ghost use Rattle.invocation_store.specs.Taking.{HasWritten, IsFirstOf, IsFirstSeen, IsSeenOf, LandsSome, TakesSeen, passed};
+ghost use Rattle.invocation_store.specs.Taking.{HasMessage, HasMessageOf, HasWritten, IsEndedBy, IsFirstOf, IsFirstSeen, IsSeenOf, LandsSome, TakesSeen, passed};
 
 use crate::attempt::{is_live, stale_refusal};
 use attempt_frames::{AttemptFrame, read_frame_at};
@@ -46,7 +46,8 @@ enum FirstSeen {
 
 /// Looks at what stands first of the bytes that an attempt wrote.
 fn first_seen(alloc: Global, attempt: &LiveAttempt) -> Result<FirstSeen, AllocError>
-    ensures { IfOk result (IsFirstSeen attempt.now) }
+    ensures seen { IfOk result (IsFirstSeen attempt.now) }
+    ensures whole { OnErr result (HasMessage attempt.now) }
 {
     match attempt.output.first() {
         FirstItem::Partial => Ok(FirstSeen::Partial),
@@ -67,7 +68,8 @@ fn first_seen(alloc: Global, attempt: &LiveAttempt) -> Result<FirstSeen, AllocEr
 
 /// What stands first of the bytes that the live attempt of an invocation wrote.
 fn first_of(alloc: Global, live: &LiveAttempts, id: &ByteStr) -> Result<FirstSeen, AllocError>
-    ensures { IfOk result (IsFirstOf (attempt_of live.now.attempts id.now)) }
+    ensures seen { IfOk result (IsFirstOf (attempt_of live.now.attempts id.now)) }
+    ensures whole { OnErr result (HasMessageOf (attempt_of live.now.attempts id.now)) }
 {
     match live.get(id) {
         Some(attempt) => first_seen(alloc, attempt),
@@ -118,7 +120,7 @@ fn take_prepared<S: Alter>(
     ensures written { HasCleanDisk (state S.Store conn.new) → OnOk result (HasWritten made.writes.items (state S.Store conn.old) (state S.Store conn.new)) }
     ensures left { OnOk result (IsNow id.now (passed (does_end made.reply) len (attempt_of live.old.attempts id.now)) live.old.attempts live.new.attempts) }
     ensures why { IfErr result (λ why. IsTrue (is_circumstance why)) }
-    ensures undone { OnErr result (IsKept (state S.Store conn.old) (state S.Store conn.new) × (live.new ≡ live.old)) }
+    ensures undone { OnErr result (IsKept (state S.Store conn.old) (state S.Store conn.new) × (live.new.attempts ≡ live.old.attempts)) }
     ensures store { IsStore (state S.Store conn.new) }
     ensures idle { (state S.Store conn.new).in_transaction ≡ false }
     ensures crash { Survives (state S.Store conn.old) (state S.Store conn.new) (LandsSome made.writes.items (state S.Store conn.old)) }
@@ -132,6 +134,15 @@ fn take_prepared<S: Alter>(
             Ok(reply)
         }
         Err(cause) => Err(Refusal::StatementRefused(cause)),
+    }
+}
+
+/// Ends the attempt whose frame was refused, where the cause lies in the frame.
+fn end_refused(live: &mut LiveAttempts, id: &ByteStr, why: Refusal)
+    ensures { IsEndedBy (lies_in_frame why) id.now live.old.attempts live.new.attempts }
+{
+    if refusal_ends_attempt(why) {
+        live.remove(id);
     }
 }
 
@@ -155,9 +166,7 @@ fn take_seen<S: Alter>(
     match prepare_frame(alloc, conn, id, facts, frame) {
         Ok(made) => take_prepared(conn, live, id, len, made),
         Err(why) => {
-            if refusal_ends_attempt(why) {
-                live.remove(id);
-            }
+            end_refused(live, id, why);
             Err(why)
         }
     }
