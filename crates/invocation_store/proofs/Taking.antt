@@ -1,5 +1,5 @@
 -- A frame is taken, or refused.
-use Rattle.std.proofs.Common.{◌≡◌, ◌⊎◌, ℕ, ◌+◌, ◌≤◌, ◌==◌, length, refl, sym, ap, subst, ◌∙◌, inl, inr, arith, drop, Bool, true, false, not, List, [], ◌∷◌, ◌++◌, Option, Some, None, option_map, is_some, Result, Ok, Err, IfOk, IfErr, OnOk, OnErr, IsTrue}
+use Rattle.std.proofs.Common.{◌≡◌, ℕ, ◌+◌, ◌≤◌, ◌==◌, length, refl, sym, ap, subst, ◌∙◌, inl, inr, arith, drop, Bool, true, false, not, List, [], ◌∷◌, Option, Some, None, option_map, Result, Ok, Err, IfOk, IfErr, OnOk, OnErr, IsTrue}
 use Rattle.sqlite_trees.specs.Tree.{Trees}
 use Rattle.sqlite.specs.State.{State, HasCleanDisk, Survives}
 use Rattle.sqlite.proofs.StateLemmas.{survives_then}
@@ -7,9 +7,9 @@ use Rattle.sql_tables.specs.Asking.{IsKept as Asked}
 use Rattle.journal_model.specs.Notification.{Bytes, Text}
 use Rattle.journal_model.specs.Request.{Request}
 use Rattle.journal_model.specs.Event.{Event, Frame}
-use Rattle.journal_model.specs.Journal.{ends_attempt, is_open}
+use Rattle.journal_model.specs.Journal.{ends_attempt}
 use Rattle.journal_model.specs.Attempt.{is_live}
-use Rattle.journal_model.specs.Cause.{Cause, FrameNotAccepted, causes_of, those_that_hold, adding_tests}
+use Rattle.journal_model.specs.Cause.{FrameNotAccepted, causes_of, those_that_hold, adding_tests}
 use Rattle.journal_protocol.specs.declared.decoder.RawMessage.{RawMessage}
 use Rattle.journal_protocol.specs.declared.message_type.UnknownMessageType.{UnknownMessageType}
 use Rattle.journal_protocol.specs.Item.{Item, unknown, message, item_at}
@@ -17,8 +17,7 @@ use Rattle.attempt_frames.specs.declared.frame.AttemptFrame.{AttemptFrame}
 use Rattle.attempt_frames.specs.Answer.{IsFrame}
 use Rattle.attempt_frames.specs.Meaning.{frame_of}
 use Rattle.store_rows.specs.declared.row.Write.{Write}
-use Rattle.store_rows.specs.Records.{applied_all}
-use Rattle.store_rows.specs.Steps.{Turns, Lands}
+use Rattle.store_rows.specs.Steps.{Lands}
 use Rattle.store_model.specs.Writes.{writes_of}
 use Rattle.store_refusals.specs.declared.refusal.Refusal.{Refusal}
 use Rattle.store_refusals.specs.declared.refusal.Refusal.TheVariants as refusal
@@ -38,10 +37,10 @@ use Rattle.live_laws.proofs.Steps.{taken, ended}
 use Rattle.live_laws.proofs.Tests.{live_is_open}
 use Rattle.invocation_store.specs.declared.step.SeenFrame.{SeenFrame}
 use Rattle.invocation_store.specs.declared.step.FirstSeen.TheVariants as firsts
-use Rattle.invocation_store.specs.Stands.{Stands, KeepsAll}
-use Rattle.invocation_store.specs.Attempts.{IsFirstItem, IsLeftBy, IsOver, IsStale, TakesItem, TakesNone, RefusesItem, CommitsItem, attempt_left, frame_of_item}
+use Rattle.invocation_store.specs.Stands.{Stands}
+use Rattle.invocation_store.specs.Attempts.{IsFirstItem, IsLeftBy, IsOver, IsStale, TakesNone, RefusesItem, CommitsItem, attempt_left}
 use Rattle.invocation_store.specs.Taking.{HasMessageOf, HasWritten, IsEndedBy, IsFirstOf, IsSeen, LandsSome, TakesSeen, passed}
-use Rattle.invocation_store.proofs.Standing.{landed, store_still, stands_after, true_or_false, unwritten, written}
+use Rattle.invocation_store.proofs.Standing.{landed, store_still, stands_after, unwritten, written}
 use Rattle.invocation_store.proofs.Quiet.{live_here, stands_stopped, this_one}
 
 -- ---- replies
@@ -191,7 +190,7 @@ module _ (id : Text) (number : ℕ) (attempts : List LiveAttempt) (attempt : Liv
   -- where a crash comes
   pub seen_lands : (old mid new : State) (writes : List Write) → Survives old mid (λ _. ⊥) → Asked old mid → Survives mid new (LandsSome writes mid)
       → (HasCleanDisk mid → (events : List Event) → Stands events old attempts
-        → (causes_of events (Event.Take id number (frame_of attempt.version seen.message_is)) ≡ []) × (writes ≡ writes_of events (Event.Take id number (frame_of attempt.version seen.message_is))))
+      → (causes_of events (Event.Take id number (frame_of attempt.version seen.message_is)) ≡ []) × (writes ≡ writes_of events (Event.Take id number (frame_of attempt.version seen.message_is))))
       → Survives old new (CommitsItem id number attempts old)
   seen_lands old mid new writes before asked lives made =
       let event : Event = Event.Take id number (frame_of attempt.version seen.message_is) in

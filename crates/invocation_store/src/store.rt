@@ -155,12 +155,7 @@ impl<S: Alter + Drop> Store<S> {
 
     /// Takes in the next bytes that the attempt wrote, and the frames among them: up to one that ends it, or one that is refused, or
     /// until none waits whole. An `Err` is a refusal of the bytes.
-    pub fn accept(
-        &mut self,
-        id: &ByteStr,
-        attempt: u32,
-        bytes: &[u8],
-    ) -> Result<Accepted, Refusal>
+    pub fn accept(&mut self, id: &ByteStr, attempt: u32, bytes: &[u8]) -> Result<Accepted, Refusal>
         ensures does { HasCleanDisk (state S.Store self.new.connection) → (events : List Event) → Stands events (state S.Store self.old.connection) self.old.live.attempts → Accepts events id.now attempt bytes.now result (state S.Store self.new.connection) self.old.live.attempts self.new.live.attempts }
         ensures crash { Survives (state S.Store self.old.connection) (state S.Store self.new.connection) (CommitsFed id.now attempt bytes.now self.old.live.attempts (state S.Store self.old.connection)) }
     {

@@ -1,4 +1,4 @@
-use Rattle.std.proofs.Common.{◌≡◌, refl, subst, arith, rules, true, false, List, Option, Some, None, Ok, Err, Bool}
+use Rattle.std.proofs.Common.{◌≡◌, refl, subst, arith, rules, true, false, List, Some, None, Ok, Bool}
 use Rattle.sqlite.specs.State.{State, HasCleanDisk}
 use Rattle.sqlite.specs.Held.{state}
 use Rattle.live_attempts.specs.declared.attempt.LiveAttempt.{LiveAttempt}

@@ -1,4 +1,4 @@
-use Rattle.std.proofs.Common.{rules, ◌≡◌, true, false}
+use Rattle.std.proofs.Common.{rules, ◌≡◌, true, false, inl}
 use Rattle.sqlite.specs.Held.{state}
 use Rattle.live_attempts.specs.Attempts.{attempt_of}
 use Rattle.live_laws.specs.Agrees.{has_number}
