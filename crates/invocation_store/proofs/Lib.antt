@@ -2,3 +2,5 @@ pub mod Standing
 pub mod Quiet
 pub mod Arriving
 pub mod Beginning
+pub mod Taking
+pub mod Accepting
