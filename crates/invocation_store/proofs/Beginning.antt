@@ -10,9 +10,8 @@ use Rattle.journal_model.specs.Notification.{Text}
 use Rattle.journal_model.specs.declared.invocation.NewInvocation.{NewInvocation}
 use Rattle.journal_model.specs.Event.{Event}
 use Rattle.journal_model.specs.Journal.{Entry, Recorded, Arrived, invocation_begun, is_open, entries_of}
-use Rattle.journal_model.specs.Cause.{Cause, Tests, UnknownInvocation, InvocationClosed, own_tests, those_that_hold, causes_of}
+use Rattle.journal_model.specs.Cause.{Tests, UnknownInvocation, InvocationClosed, own_tests, those_that_hold, causes_of}
 use Rattle.store_rows.specs.declared.row.EntryRow.{EntryRow}
-use Rattle.store_rows.specs.declared.row.InvocationRow.{InvocationRow}
 use Rattle.store_rows.specs.Records.{FitsInvocation, applied_all}
 use Rattle.store_rows.specs.Questions.{AreInPlace, has_id}
 use Rattle.store_rows.specs.Steps.{Turns}

@@ -4,3 +4,4 @@ pub mod Arriving
 pub mod Beginning
 pub mod Taking
 pub mod Accepting
+pub mod Waiting

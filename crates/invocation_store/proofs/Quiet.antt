@@ -1,5 +1,5 @@
 -- The events of a live attempt that write nothing: bytes are handed out, the input is closed, the attempt is stopped.
-use Rattle.std.proofs.Common.{◌≡◌, ◌⊎◌, ℕ, refl, sym, ap, ap₂, arith, subst, ◌∙◌, Bool, true, false, inl, inr, not, take, length, List, [], ◌∷◌, ◌++◌, Option, Some, None, option_map, Result, Ok, Err, IsTrue, ◌==◌, if◌then◌else◌}
+use Rattle.std.proofs.Common.{◌≡◌, ◌⊎◌, ℕ, refl, sym, ap, ap₂, arith, subst, ◌∙◌, Bool, true, false, inl, inr, not, take, length, List, [], ◌∷◌, Option, Some, None, option_map, IsTrue, ◌==◌}
 use Rattle.std.proofs.lemmas.Bool.{eqb-true, ne_eqb}
 use Rattle.sqlite.specs.State.{State}
 use Rattle.journal_model.specs.Notification.{Text}
@@ -7,17 +7,17 @@ use Rattle.journal_model.specs.Event.{Event}
 use Rattle.journal_model.specs.Journal.{object_of}
 use Rattle.journal_model.specs.Attempt.{is_live, input_left}
 use Rattle.journal_model.specs.Cause.{Cause, InputAlreadyClosed, InputRemains, is_empty, those_that_hold, causes_of}
-use Rattle.store_model.specs.Writes.{state_writes, writes_of}
+use Rattle.store_model.specs.Writes.{state_writes}
 use Rattle.store_refusals.specs.declared.refusal.Refusal.{Refusal}
 use Rattle.store_refusals.specs.declared.refusal.Refusal.TheVariants as refusal
 use Rattle.store_refusals.specs.Refused.{first_of, refusal_of, is_circumstance, IsRefused}
 use Rattle.live_attempts.specs.declared.attempt.LiveAttempt.{LiveAttempt}
 use Rattle.live_attempts.specs.Attempts.{attempt_of, IsNow, Changes, bytes_out, after_close, after_hand_out}
-use Rattle.live_laws.specs.Agrees.{Agrees, has_number, cause_of_stale, CausesOfLive, IsFirstCause}
-use Rattle.live_laws.proofs.Tests.{live_told, causes_told, stale_told}
+use Rattle.live_laws.specs.Agrees.{Agrees, has_number, CausesOfLive, IsFirstCause}
+use Rattle.live_laws.proofs.Tests.{live_told, causes_told}
 use Rattle.live_laws.proofs.Steps.{closed as closed_kept, handed_out, stopped}
 use Rattle.invocation_store.specs.Stands.{Stands}
-use Rattle.invocation_store.specs.Attempts.{IsStale, has_closed, has_rest}
+use Rattle.invocation_store.specs.Attempts.{has_closed, has_rest}
 use Rattle.invocation_store.proofs.Standing.{stands_after, unwritten}
 
 -- the attempt with this number

@@ -1,5 +1,5 @@
 -- A store stands for one more event.
-use Rattle.std.proofs.Common.{◌≡◌, ◌⊎◌, ℕ, ◌+◌, length, option_map, refl, sym, ap, subst, ◌∙◌, true≢false, Bool, true, false, inl, inr, List, [], ◌∷◌, Option, Some, None, bytes_eq, arith, IsTrue}
+use Rattle.std.proofs.Common.{◌≡◌, ◌⊎◌, ℕ, ◌+◌, length, option_map, refl, sym, ap, subst, ◌∙◌, Bool, true, false, inl, inr, List, [], ◌∷◌, Option, Some, None, bytes_eq, arith, IsTrue}
 use Rattle.std.proofs.lemmas.Slice.Eq.{bytes_eq-Decides}
 use Rattle.sqlite_trees.specs.Tree.{Trees}
 use Rattle.sqlite.specs.Effect.{Database}
@@ -13,9 +13,9 @@ use Rattle.journal_model.specs.Event.{Event}
 use Rattle.journal_model.specs.Journal.{invocation_of, is_tick, is_text, entries_of, version_of}
 use Rattle.journal_model.specs.Attempt.{live_attempt, acknowledged, notification_type}
 use Rattle.journal_model.specs.Cause.{causes_of, IsAccepted}
-use Rattle.store_rows.specs.Records.{Records, Holds, applied_all}
+use Rattle.store_rows.specs.Records.{Holds, applied_all}
 use Rattle.store_rows.specs.declared.row.Write.{Write}
-use Rattle.store_rows.specs.Steps.{Turns, WasOpen, Lands}
+use Rattle.store_rows.specs.Steps.{Turns, Lands}
 use Rattle.store_model.specs.Kept.{IsKept}
 use Rattle.store_model.specs.Writes.{writes_of}
 use Rattle.store_model.proofs.Keeping.{kept_after}

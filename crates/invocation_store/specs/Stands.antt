@@ -1,5 +1,5 @@
 -- When a store stands for a list of accepted events, and what a call makes of that.
-use Rattle.std.specs.Prelude.{◌≡◌, List, [], ◌∷◌, Option, Some, None, option_map, Result, Ok, Err}
+use Rattle.std.specs.Prelude.{◌≡◌, false, bytes_eq, List, [], ◌∷◌, Option, Some, None, option_map, Result, Ok, Err}
 use Rattle.sqlite_trees.specs.Tree.{Trees}
 use Rattle.sqlite.specs.State.{State}
 use Rattle.journal_model.specs.Notification.{Bytes, Text}
@@ -27,6 +27,16 @@ output_of attempts id = option_map (λ (attempt : LiveAttempt). attempt.output) 
 -- what attempts wrote waits as before
 abbrev pub KeepsOutputs : List LiveAttempt → List LiveAttempt → Type 0
 KeepsOutputs old new = (id : Text) → output_of new id ≡ output_of old id
+
+-- of one invocation these bytes wait then, if any attempt is live, and of the others what waited before
+pub record WaitsNow (id : Text) (output : Option Bytes) (old new : List LiveAttempt) : Type 0 where
+  pub own : output_of new id ≡ output
+  pub others : (other : Text) → bytes_eq id other ≡ false → output_of new other ≡ output_of old other
+
+-- so it is where a call was accepted; where it was refused, what attempts wrote waits as before
+abbrev pub WaitsAfter : {A : Type 0} → Text → Option Bytes → Result A Refusal → List LiveAttempt → List LiveAttempt → Type 0
+WaitsAfter id output (Ok answer) old new = WaitsNow id output old new
+WaitsAfter id output (Err why) old new = KeepsOutputs old new
 
 -- a live attempt is as before, but for room that was made for its input
 abbrev pub IsAsBefore : Option LiveAttempt → Option LiveAttempt → Type 0

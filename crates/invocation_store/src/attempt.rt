@@ -1,5 +1,5 @@
 // What is done to a live attempt. The database is asked only to tell why an attempt is not live.
-ghost use Rattle.std.specs.Prelude.{◌≡◌, true, false, take, List, IfErr, IfOk, OnErr, OnOk};
+ghost use Rattle.std.specs.Prelude.{◌≡◌, true, false, take, List, [], None, Some, IfErr, IfOk, OnErr, OnOk};
 ghost use Rattle.sqlite.specs.Held.{state};
 ghost use Rattle.sqlite.specs.State.{HasCleanDisk, Survives};
 ghost use Rattle.journal_model.specs.Event.{Event};
@@ -10,7 +10,7 @@ ghost use Rattle.new_invocations.specs.Rows.{IsStoreOf};
 ghost use Rattle.live_attempts.specs.Attempts.{attempt_of};
 ghost use Rattle.live_laws.specs.Agrees.{has_number};
 ghost use Rattle.invocation_store.specs.Attempts.{Feeds, IsStale, has_closed, has_rest};
-ghost use Rattle.invocation_store.specs.Stands.{Does, KeepsOutputs, Stands};
+ghost use Rattle.invocation_store.specs.Stands.{Does, KeepsOutputs, Stands, WaitsAfter};
 
 use bytes::{ByteStr, Bytes};
 use live_attempts::LiveAttempts;
@@ -84,6 +84,7 @@ pub(crate) fn stop<S: Alter>(
     requires idle { (state S.Store conn.old).in_transaction ≡ false }
     ensures does { HasCleanDisk (state S.Store conn.new) → (events : List Event) → Stands events (state S.Store conn.old) live.old.attempts → Does events (Event.Stop id.now attempt) (λ _. Unit {0}) result (state S.Store conn.new) live.new.attempts }
     ensures live { has_number attempt (attempt_of live.old.attempts id.now) ≡ true → IfErr result (λ _. ⊥) }
+    ensures waits { WaitsAfter id.now None result live.old.attempts live.new.attempts }
     ensures store { IsStore (state S.Store conn.new) }
     ensures idle { (state S.Store conn.new).in_transaction ≡ false }
     ensures crash { Survives (state S.Store conn.old) (state S.Store conn.new) (λ _. ⊥) }
@@ -130,6 +131,7 @@ pub(crate) fn hand_out<S: Alter>(
     requires store { IsStore (state S.Store conn.old) }
     requires idle { (state S.Store conn.old).in_transaction ≡ false }
     ensures does { HasCleanDisk (state S.Store conn.new) → (events : List Event) → Stands events (state S.Store conn.old) live.old.attempts → Does events (Event.HandOut id.now attempt most) (λ bytes. bytes ≡ take most (input_left events id.now)) result (state S.Store conn.new) live.new.attempts }
+    ensures waits { KeepsOutputs live.old.attempts live.new.attempts }
     ensures store { IsStore (state S.Store conn.new) }
     ensures idle { (state S.Store conn.new).in_transaction ≡ false }
     ensures crash { Survives (state S.Store conn.old) (state S.Store conn.new) (λ _. ⊥) }
@@ -155,6 +157,7 @@ pub(crate) fn close_input<S: Alter>(
     requires store { IsStore (state S.Store conn.old) }
     requires idle { (state S.Store conn.old).in_transaction ≡ false }
     ensures does { HasCleanDisk (state S.Store conn.new) → (events : List Event) → Stands events (state S.Store conn.old) live.old.attempts → Does events (Event.CloseInput id.now attempt) (λ _. Unit {0}) result (state S.Store conn.new) live.new.attempts }
+    ensures waits { KeepsOutputs live.old.attempts live.new.attempts }
     ensures store { IsStore (state S.Store conn.new) }
     ensures idle { (state S.Store conn.new).in_transaction ≡ false }
     ensures crash { Survives (state S.Store conn.old) (state S.Store conn.new) (λ _. ⊥) }

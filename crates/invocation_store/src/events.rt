@@ -1,5 +1,5 @@
 // Events that are recorded: each is made ready, and then written in one transaction.
-ghost use Rattle.std.specs.Prelude.{◌≡◌, Some, ◌+◌, ◌<◌, ◌^◌, false, length, List, IfErr, IfOk, IsTrue, OnErr, OnOk};
+ghost use Rattle.std.specs.Prelude.{◌≡◌, Some, [], ◌+◌, ◌<◌, ◌^◌, false, length, List, IfErr, IfOk, IsTrue, OnErr, OnOk};
 ghost use Rattle.sqlite.specs.Held.{state};
 ghost use Rattle.sqlite.specs.State.{HasCleanDisk, Survives};
 ghost use Rattle.journal_model.specs.Event.{Event};
@@ -11,7 +11,7 @@ ghost use Rattle.store_refusals.specs.Refused.{is_circumstance};
 ghost use Rattle.live_attempts.specs.declared.attempt.LiveAttempt.{LiveAttempt as Live};
 ghost use Rattle.live_attempts.specs.Attempts.{Changes, IsNow, after_put};
 ghost use Rattle.invocation_store.specs.Attempts.{IsBegunAttempt, IsToldAs, TakesIn, fresh};
-ghost use Rattle.invocation_store.specs.Stands.{AreAsBefore, Commits, Does, Stands};
+ghost use Rattle.invocation_store.specs.Stands.{AreAsBefore, Commits, Does, KeepsOutputs, Stands, WaitsAfter};
 
 use crate::begun::BegunAttempt;
 use begun_attempts::{AttemptFrames, JournalFrames, PreparedAttempt, prepare_begin};
@@ -98,6 +98,7 @@ pub(crate) fn record_result<S: Alter>(
     requires store { IsStore (state S.Store conn.old) }
     requires idle { (state S.Store conn.old).in_transaction ≡ false }
     ensures does { HasCleanDisk (state S.Store conn.new) → (events : List Event) → Stands events (state S.Store conn.old) live.old.attempts → Does events (Event.Complete id.now completion brought) (λ place. place ≡ 1 + length (entries_of events id.now)) result (state S.Store conn.new) live.new.attempts }
+    ensures waits { KeepsOutputs live.old.attempts live.new.attempts }
     ensures store { IsStore (state S.Store conn.new) }
     ensures idle { (state S.Store conn.new).in_transaction ≡ false }
     ensures crash { Survives (state S.Store conn.old) (state S.Store conn.new) (Commits (Event.Complete id.now completion brought) (state S.Store conn.old)) }
@@ -117,6 +118,7 @@ fn fresh_attempt(
     journal: JournalFrames,
 ) -> Result<LiveAttempt, AllocError>
     ensures invocation { IfOk result (λ attempt. attempt.invocation ≡ id.now) }
+    ensures output { IfOk result (λ attempt. attempt.output ≡ []) }
     ensures fresh { IfOk result (λ attempt. length journal.lengths.items < 2 ^ 32 → attempt ≡ fresh id.now number version journal.bytes.items journal.lengths.items) }
 {
     let JournalFrames { bytes, lengths } = journal;
@@ -188,6 +190,7 @@ fn begin_made<S: Alter>(
     requires idle { (state S.Store conn.old).in_transaction ≡ false }
     ensures written { HasCleanDisk (state S.Store conn.new) → OnOk result (IsTrue (state S.Store conn.old).is_open × Turns (applied_all writes.now) (state S.Store conn.old).now.trees (state S.Store conn.new).now.trees) }
     ensures put { OnOk result (TakesIn id.now number version journal live.old.attempts live.new.attempts) }
+    ensures waits { WaitsAfter id.now (Some []) result live.old.attempts live.new.attempts }
     ensures why { IfErr result (λ why. IsTrue (is_circumstance why)) }
     ensures undone { OnErr result (IsKept (state S.Store conn.old) (state S.Store conn.new) × (live.new.attempts ≡ live.old.attempts)) }
     ensures store { IsStore (state S.Store conn.new) }
@@ -213,6 +216,7 @@ fn begin_prepared<S: Alter>(
     ensures told { IfOk result (IsToldAs made) }
     ensures written { HasCleanDisk (state S.Store conn.new) → OnOk result (IsTrue (state S.Store conn.old).is_open × Turns (applied_all made.writes.items) (state S.Store conn.old).now.trees (state S.Store conn.new).now.trees) }
     ensures put { OnOk result (TakesIn id.now made.number made.version made.frames.journal live.old.attempts live.new.attempts) }
+    ensures waits { WaitsAfter id.now (Some []) result live.old.attempts live.new.attempts }
     ensures why { IfErr result (λ why. IsTrue (is_circumstance why)) }
     ensures undone { OnErr result (IsKept (state S.Store conn.old) (state S.Store conn.new) × (live.new.attempts ≡ live.old.attempts)) }
     ensures store { IsStore (state S.Store conn.new) }
@@ -261,6 +265,7 @@ pub(crate) fn record_begin<S: Alter>(
     requires store { IsStore (state S.Store conn.old) }
     requires idle { (state S.Store conn.old).in_transaction ≡ false }
     ensures does { HasCleanDisk (state S.Store conn.new) → (events : List Event) → Stands events (state S.Store conn.old) live.old.attempts → Does events (Event.Begin id.now now) (IsBegunAttempt events id.now now) result (state S.Store conn.new) live.new.attempts }
+    ensures waits { WaitsAfter id.now (Some []) result live.old.attempts live.new.attempts }
     ensures store { IsStore (state S.Store conn.new) }
     ensures idle { (state S.Store conn.new).in_transaction ≡ false }
     ensures crash { Survives (state S.Store conn.old) (state S.Store conn.new) (Commits (Event.Begin id.now now) (state S.Store conn.old)) }

@@ -1,5 +1,5 @@
 // The store, and what it is opened from.
-ghost use Rattle.std.specs.Prelude.{◌≡◌, true, ◌+◌, length, take, List, IfErr};
+ghost use Rattle.std.specs.Prelude.{◌≡◌, true, ◌+◌, length, take, List, [], Some, None, IfErr};
 ghost use Rattle.sqlite.specs.Held.{state};
 ghost use Rattle.sqlite.specs.State.{HasCleanDisk, Survives};
 ghost use Rattle.journal_model.specs.Event.{Event};
@@ -9,7 +9,7 @@ ghost use Rattle.live_attempts.specs.Attempts.{attempt_of};
 ghost use Rattle.live_laws.specs.Agrees.{has_number};
 ghost use Rattle.invocation_store.specs.Accepting.{Accepts, CommitsFed};
 ghost use Rattle.invocation_store.specs.Attempts.{CommitsItem, Feeds, IsBegunAttempt, Steps};
-ghost use Rattle.invocation_store.specs.Stands.{Commits, Does, Stands};
+ghost use Rattle.invocation_store.specs.Stands.{Commits, Does, KeepsOutputs, Stands, WaitsAfter};
 
 use crate::accept::{Accepted, accept};
 use crate::attempt::{close_input, feed, hand_out, stop};
@@ -74,6 +74,7 @@ impl<S: Alter + Drop> Store<S> {
         brought: NotificationResult,
     ) -> Result<u32, Refusal>
         ensures does { HasCleanDisk (state S.Store self.new.connection) → (events : List Event) → Stands events (state S.Store self.old.connection) self.old.live.attempts → Does events (Event.Complete id.now completion brought) (λ place. place ≡ 1 + length (entries_of events id.now)) result (state S.Store self.new.connection) self.new.live.attempts }
+        ensures waits { KeepsOutputs self.old.live.attempts self.new.live.attempts }
         ensures crash { Survives (state S.Store self.old.connection) (state S.Store self.new.connection) (Commits (Event.Complete id.now completion brought) (state S.Store self.old.connection)) }
     {
         record_result(
@@ -89,6 +90,7 @@ impl<S: Alter + Drop> Store<S> {
     /// Begins an attempt at this moment, in milliseconds: it is live, and an earlier one is over.
     pub fn begin(&mut self, id: &ByteStr, now: u64) -> Result<BegunAttempt, Refusal>
         ensures does { HasCleanDisk (state S.Store self.new.connection) → (events : List Event) → Stands events (state S.Store self.old.connection) self.old.live.attempts → Does events (Event.Begin id.now now) (IsBegunAttempt events id.now now) result (state S.Store self.new.connection) self.new.live.attempts }
+        ensures waits { WaitsAfter id.now (Some []) result self.old.live.attempts self.new.live.attempts }
         ensures crash { Survives (state S.Store self.old.connection) (state S.Store self.new.connection) (Commits (Event.Begin id.now now) (state S.Store self.old.connection)) }
     {
         record_begin(self.alloc, &mut self.connection, &mut self.live, id, now)
@@ -97,6 +99,7 @@ impl<S: Alter + Drop> Store<S> {
     /// The next bytes that the attempt is handed, at most so many: none only where `most` is 0 or none remain.
     pub fn next_input(&mut self, id: &ByteStr, attempt: u32, most: usize) -> Result<Bytes, Refusal>
         ensures does { HasCleanDisk (state S.Store self.new.connection) → (events : List Event) → Stands events (state S.Store self.old.connection) self.old.live.attempts → Does events (Event.HandOut id.now attempt most) (λ bytes. bytes ≡ take most (input_left events id.now)) result (state S.Store self.new.connection) self.new.live.attempts }
+        ensures waits { KeepsOutputs self.old.live.attempts self.new.live.attempts }
         ensures crash { Survives (state S.Store self.old.connection) (state S.Store self.new.connection) (λ _. ⊥) }
     {
         hand_out(
@@ -112,6 +115,7 @@ impl<S: Alter + Drop> Store<S> {
     /// No more is handed to the attempt. All of its input was.
     pub fn close_input(&mut self, id: &ByteStr, attempt: u32) -> Result<(), Refusal>
         ensures does { HasCleanDisk (state S.Store self.new.connection) → (events : List Event) → Stands events (state S.Store self.old.connection) self.old.live.attempts → Does events (Event.CloseInput id.now attempt) (λ _. Unit {0}) result (state S.Store self.new.connection) self.new.live.attempts }
+        ensures waits { KeepsOutputs self.old.live.attempts self.new.live.attempts }
         ensures crash { Survives (state S.Store self.old.connection) (state S.Store self.new.connection) (λ _. ⊥) }
     {
         close_input(
@@ -173,6 +177,7 @@ impl<S: Alter + Drop> Store<S> {
     pub fn stop(&mut self, id: &ByteStr, attempt: u32) -> Result<(), Refusal>
         ensures does { HasCleanDisk (state S.Store self.new.connection) → (events : List Event) → Stands events (state S.Store self.old.connection) self.old.live.attempts → Does events (Event.Stop id.now attempt) (λ _. Unit {0}) result (state S.Store self.new.connection) self.new.live.attempts }
         ensures live { has_number attempt (attempt_of self.old.live.attempts id.now) ≡ true → IfErr result (λ _. ⊥) }
+        ensures waits { WaitsAfter id.now None result self.old.live.attempts self.new.live.attempts }
         ensures crash { Survives (state S.Store self.old.connection) (state S.Store self.new.connection) (λ _. ⊥) }
     {
         stop(

@@ -1,16 +1,17 @@
 -- What is seen of an invocation that was just made, and of one of which an attempt was just begun.
-use Rattle.std.proofs.Common.{◌≡◌, refl, sym, ap, ap₂, subst, ◌∙◌, ℕ, suc, ◌^◌, ◌<◌, arith, Bool, true, false, ◌||◌, nat_le, if◌then◌else◌, List, [], ◌∷◌, ◌++◌, append-nil, length, filter_map, Option, Some, None, option_map, bytes_eq}
+use Rattle.std.proofs.Common.{◌≡◌, refl, sym, ap, ap₂, subst, ◌∙◌, ℕ, suc, ◌+◌, ◌-◌, ◌^◌, ◌<◌, ◌≤◌, arith, Bool, true, false, ◌||◌, nat_le, if◌then◌else◌, List, [], ◌∷◌, ◌++◌, append-nil, length, length-append, filter_map, Option, Some, None, option_map, bytes_eq}
+use Rattle.std.proofs.lemmas.Bool.{leb-false}
 use Rattle.std.proofs.lemmas.Bool.Decides.{nat_tests}
 use Rattle.std.proofs.lemmas.Slice.Eq.{bytes_eq-Decides}
 use Rattle.journal_model.specs.Notification.{Bytes, Text}
 use Rattle.journal_model.specs.Request.{Request}
-use Rattle.journal_model.specs.State.{state_after}
+use Rattle.journal_model.specs.State.{StateMap, state_after}
 use Rattle.journal_model.specs.declared.invocation.NewInvocation.{NewInvocation}
 use Rattle.journal_model.specs.Event.{Event}
 use Rattle.journal_model.specs.Spelling.{input_payload}
-use Rattle.journal_model.specs.Journal.{Entry, invoked_by, invocation_begun, starting_state, is_open, requests_in, arrivals_in, entries_of, recorded_requests, object_state}
-use Rattle.journal_model.specs.Attempt.{attempts_begun, live_attempt, journal_pieces, input_bytes, input_left}
-use Rattle.journal_model.specs.Start.{start_payload}
+use Rattle.journal_model.specs.Journal.{Entry, is_of, invoked_by, invocation_begun, starting_state, is_open, requests_in, arrivals_in, entries_of, entries_from, entries_added, recorded_requests, object_state}
+use Rattle.journal_model.specs.Attempt.{begins_attempt, attempts_begun, live_attempt, journal_pieces, input_bytes, input_left}
+use Rattle.journal_model.specs.Start.{is_some_entry, moment_begun, begun_since_entry, attempts_since_entry, since_first, start_payload}
 use Rattle.journal_model.specs.Cause.{causes_of, own_tests, tests_of, IsAccepted}
 use Rattle.journal_laws.proofs.ObjectState.{tail_of, holds-head, holds-tail, begun_before, find-passes, no_entries, open_when_accepted, state_of_open, begin_when_new, none_of}
 use Rattle.schedule_events.specs.Following.{seen_attempt, seen_as, seen_by}
@@ -98,6 +99,46 @@ start_fits events id now causes =
     let tests = tests_of events (Event.Begin id now) in
     not_long (length (start_payload events id now))
     (holds-head (tail_of (tail_of (tail_of tests))) (holds-tail (tail_of (tail_of tests)) (holds-tail (tail_of tests) (holds-tail tests causes))))
+
+-- a further attempt has a number
+pub attempts_fit : (events : List Event) (id : Text) (now : ℕ) → causes_of events (Event.Begin id now) ≡ [] → attempts_begun events id < 2 ^ 32 - 1
+attempts_fit events id now causes =
+    let tests = tests_of events (Event.Begin id now) in
+    leb-false (2 ^ 32 - 1) (attempts_begun events id) (holds-head (tail_of (tail_of tests)) (holds-tail (tail_of tests) (holds-tail tests causes)))
+
+-- no more attempts were begun since the last entry than were begun
+one_or_none : (b : Bool) (now : ℕ) → length (if b then now ∷ [] else []) ≤ (if b then 1 else 0)
+one_or_none true now = omega arith
+one_or_none false now = omega arith
+
+abbrev no_moments : List ℕ
+no_moments = []
+
+none_either_way : (b : Bool) → length (if b then no_moments else no_moments) ≤ 0
+none_either_way true = omega arith
+none_either_way false = omega arith
+
+moments_of : (event : Event) (id : Text) → length (if is_of id event then moment_begun event else []) ≤ (if begins_attempt id event then 1 else 0)
+moments_of (Event.Begin other now) id = one_or_none (bytes_eq other id) now
+moments_of event id = none_either_way (is_of id event)
+
+since_entry : (start : StateMap) (events : List Event) (id : Text) → length (begun_since_entry start events id) ≤ attempts_begun events id
+since_entry start [] id = omega arith
+since_entry start (event ∷ earlier) id =
+    by_entry (is_some_entry (entries_added start earlier id event (entries_from start earlier id))) (since_entry start earlier id)
+  where
+    by_entry : (b : Bool) → length (begun_since_entry start earlier id) ≤ attempts_begun earlier id
+        → length (if b then [] else begun_since_entry start earlier id ++ (if is_of id event then moment_begun event else [])) ≤ (if begins_attempt id event then 1 else 0) + attempts_begun earlier id
+    by_entry true before = omega arith
+    by_entry false before =
+        omega (arith, before, moments_of event id, length-append (begun_since_entry start earlier id) (if is_of id event then moment_begun event else []))
+
+pub attempts_since : (events : List Event) (id : Text) → length (attempts_since_entry events id) ≤ attempts_begun events id
+attempts_since events id = since_entry (starting_state events id) events id
+
+pub since_within : (moments : List ℕ) (now : ℕ) → since_first moments now ≤ now
+since_within [] now = omega arith
+since_within (moment ∷ moments) now = omega arith
 
 -- before anything was recorded the object's state is that at the start
 pub state_at_start : (events : List Event) (id : Text) (now : ℕ) (new : NewInvocation) → IsAccepted events → causes_of events (Event.Begin id now) ≡ []

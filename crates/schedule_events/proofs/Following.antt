@@ -1,7 +1,8 @@
 -- How what is seen of an invocation in its run may change.
-use Rattle.std.proofs.Common.{◌≡◌, ◌≢◌, ℕ, suc, List, [], ◌∷◌, ◌++◌, Option, Some, None, refl, sym, ap, subst, ◌∙◌, arith, inl, append-nil, append_assoc}
+use Rattle.std.proofs.Common.{◌≡◌, ◌≢◌, ℕ, suc, ◌-◌, ◌^◌, ◌<◌, List, [], ◌∷◌, ◌++◌, length, Option, Some, None, refl, sym, ap, subst, ◌∙◌, arith, inl, append-nil, append_assoc}
 use Rattle.std.specs.List.{AllByRecursion}
 use Rattle.journal_model.specs.Notification.{Bytes}
+use Rattle.journal_model.specs.declared.invocation.NewInvocation.{NewInvocation}
 use Rattle.journal_model.specs.Run.{Handler, run_requests}
 use Rattle.invocation_vm.specs.declared.options.VMOptions.{VMOptions}
 use Rattle.journal_model.specs.Request.{Request}
@@ -28,6 +29,8 @@ module _ {H : Type 0} (function : H → Handler) (next : Handler) (options : VMO
     coming = f.coming;
     lost = f.lost;
     fit = f.fit;
+    seed = f.seed;
+    places = f.places;
     alone = f.alone;
     requests = f.requests;
     numbered = λ n above. same n ∙ f.numbered n above;
@@ -46,6 +49,8 @@ module _ {H : Type 0} (function : H → Handler) (next : Handler) (options : VMO
     coming = f.coming;
     lost = f.lost;
     fit = f.fit;
+    seed = f.seed;
+    places = f.places;
     alone = f.alone;
     requests = f.requests;
     numbered = f.numbered;
@@ -64,6 +69,8 @@ module _ {H : Type 0} (function : H → Handler) (next : Handler) (options : VMO
     coming = [];
     lost = requests_in f.coming ++ f.lost;
     fit = tt;
+    seed = f.seed;
+    places = f.places;
     alone = f.alone;
     requests = lost_with seen.requests (requests_in f.coming) f.lost _ f.requests;
     numbered = λ n above. first_push_other (is_held id n) held h (not_held_number id n h (λ e. absurd (omega arith))) ∙ f.numbered n (omega arith);
@@ -84,6 +91,8 @@ module _ {H : Type 0} (function : H → Handler) (next : Handler) (options : VMO
     coming = f.coming;
     lost = f.lost;
     fit = f.fit;
+    seed = f.seed;
+    places = f.places;
     alone = f.alone;
     requests = f.requests;
     numbered = λ n above. f.numbered n (omega arith);
@@ -94,17 +103,19 @@ module _ {H : Type 0} (function : H → Handler) (next : Handler) (options : VMO
 
   -- the live attempt and what is recorded of its invocation have changed together
   pub flown : (held : List (HeldAttempt H)) (seen new : Seen) (live after : SeenAttempt) (h g : HeldAttempt H)
-      → new.live ≡ Some after → after.number ≡ live.number → new.attempts ≡ seen.attempts → new.arrivals ≡ seen.arrivals
+      → new.live ≡ Some after → after.number ≡ live.number → new.attempts ≡ seen.attempts → new.arrivals ≡ seen.arrivals → new.invocation ≡ seen.invocation → length new.requests < 2 ^ 32 - 1
       → held_of held id live.number ≡ Some h → g.invocation ≡ h.invocation → g.number ≡ h.number
       → (calls : ℕ) (coming : List Sent) (lost : List Request) → AllByRecursion FitsSent coming
       → (new.requests ++ requests_in coming) ++ lost ≡ run_requests next (run_given options new) [] calls
       → Flies function next options new after g.attempt calls coming lost
       → FollowsSeen function next options id held seen → FollowsSeen function next options id (with_first (is_held id live.number) held g) new
-  flown held seen new live after h g is_live number attempts arrived found invocation same_number calls coming lost fit requests flies f = record {
+  flown held seen new live after h g is_live number attempts arrived whose places found invocation same_number calls coming lost fit requests flies f = record {
     calls = calls;
     coming = coming;
     lost = lost;
     fit = fit;
+    seed = subst (λ (i : NewInvocation). i.seed < 2 ^ 64) (sym whose) f.seed;
+    places = places;
     alone = arrived ∙ f.alone;
     requests = requests;
     numbered = λ n above.
@@ -120,17 +131,19 @@ module _ {H : Type 0} (function : H → Handler) (next : Handler) (options : VMO
 
   -- what is recorded has changed, and the attempt has not
   pub recorded : (held : List (HeldAttempt H)) (seen new : Seen) (live after : SeenAttempt) (h : HeldAttempt H)
-      → new.live ≡ Some after → after.number ≡ live.number → new.attempts ≡ seen.attempts → new.arrivals ≡ seen.arrivals
+      → new.live ≡ Some after → after.number ≡ live.number → new.attempts ≡ seen.attempts → new.arrivals ≡ seen.arrivals → new.invocation ≡ seen.invocation → length new.requests < 2 ^ 32 - 1
       → held_of held id live.number ≡ Some h
       → (calls : ℕ) (coming : List Sent) (lost : List Request) → AllByRecursion FitsSent coming
       → (new.requests ++ requests_in coming) ++ lost ≡ run_requests next (run_given options new) [] calls
       → Flies function next options new after h.attempt calls coming lost
       → FollowsSeen function next options id held seen → FollowsSeen function next options id held new
-  recorded held seen new live after h is_live number attempts arrived found calls coming lost fit requests flies f = record {
+  recorded held seen new live after h is_live number attempts arrived whose places found calls coming lost fit requests flies f = record {
     calls = calls;
     coming = coming;
     lost = lost;
     fit = fit;
+    seed = subst (λ (i : NewInvocation). i.seed < 2 ^ 64) (sym whose) f.seed;
+    places = places;
     alone = arrived ∙ f.alone;
     requests = requests;
     numbered = λ n above. f.numbered n (omega (arith, attempts));
@@ -151,6 +164,8 @@ module _ {H : Type 0} (function : H → Handler) (next : Handler) (options : VMO
     coming = f.coming;
     lost = f.lost;
     fit = f.fit;
+    seed = f.seed;
+    places = f.places;
     alone = f.alone;
     requests = f.requests;
     numbered = λ m above.

@@ -1,5 +1,5 @@
 -- Each event keeps each invocation in its run.
-use Rattle.std.proofs.Common.{◌≡◌, ℕ, zero, suc, arith, Bool, true, false, ◌&&◌, List, [], ◌∷◌, ◌++◌, take, drop, Option, Some, None, Ok, is_some, option_map, refl, sym, ap, subst, ◌∙◌, inl, inr, IfSome, take-append-drop}
+use Rattle.std.proofs.Common.{◌≡◌, ℕ, zero, suc, ◌+◌, ◌-◌, ◌^◌, ◌<◌, arith, length, length-append, Bool, true, false, ◌&&◌, List, [], ◌∷◌, ◌++◌, take, drop, Option, Some, None, Ok, is_some, option_map, refl, sym, ap, subst, ◌∙◌, inl, inr, IfSome, take-append-drop}
 use Rattle.journal_model.specs.Notification.{Bytes, Text}
 use Rattle.journal_model.specs.declared.invocation.NewInvocation.{NewInvocation}
 use Rattle.journal_model.specs.Event.{Event as ModelEvent, Frame}
@@ -22,16 +22,16 @@ use Rattle.schedule_events.specs.Standing.{Standing, Stays, Adds, Leaves, Begun,
 use Rattle.std.specs.List.{AllByRecursion}
 use Rattle.schedule_events.specs.Flight.{Sent, Asks, Tells, Ends, FitsSent, stream}
 use Rattle.schedule_events.specs.Following.{Seen, SeenAttempt, seen_as, seen_by, seen_of, is_held, held_of, FollowsSeen, FollowsAt, Follows}
-use Rattle.schedule_events.specs.Schedule.{TurnDoes, FeedDoes, SendDoes, RepliesDone, Took, TakesFrames, HoldsBegun, BeginDoes, IfHeld, FeedsHeld, TurnsHeld, MovesHeld, with_attempt, Does, Brings}
+use Rattle.schedule_events.specs.Schedule.{TurnDoes, FeedDoes, SendDoes, RepliesDone, Took, TakesFrames, HoldsBegun, BeginDoes, IfHeld, FeedsHeld, TurnsHeld, MovesHeld, with_attempt, Does, Brings, FitsEvent}
 use Rattle.schedule_events.proofs.Firsts.{first_push_other}
 use Rattle.schedule_events.proofs.Holding.{some_none, found_is, held_is, held_with, held_other_invocation, not_held_invocation}
 use Rattle.schedule_events.proofs.Following.{idle, begun, begun_alone, begun_seen}
 use Rattle.schedule_events.proofs.Moving.{flight_of, flown_by, turn_flight, fed_flight, sent_flight, turned}
 use Rattle.schedule_events.proofs.Reading.{took_in, begun_unread, unread_fed, stands_fed, unread_sent, stands_sent}
-use Rattle.schedule_events.proofs.Seeing.{itself, hands_out, stops, asks_for, waits, closes, seen_more}
+use Rattle.schedule_events.proofs.Seeing.{itself, requests_alone, hands_out, stops, asks_for, waits, closes, seen_more}
 use Rattle.schedule_events.proofs.Beginning.{not_begun, entries_none, seen_invoked, seen_begun}
 use Rattle.schedule_events.proofs.Meanings.{IsFaulty, meant}
-use Rattle.schedule_events.proofs.Taking.{TakesFront, taken_front, frame_at_front, live_when, taken_live, not_faulty, is_recorded, goes_by}
+use Rattle.schedule_events.proofs.Taking.{TakesFront, taken_front, frame_at_front, live_when, taken_live, taken_room, not_faulty, is_recorded, goes_by}
 use Rattle.schedule_events.proofs.Changing.{seen_next, output_of_live, seen_live, stays, outputs_changed, changed, by_begun, bare}
 
 -- the event that was accepted had no cause against it
@@ -111,7 +111,7 @@ module _ {H : Type 0} (function : H → Handler) (next : Handler) (options : VMO
           bare function next options id (with_attempt held one attempt) old.events new' (Some most) false (new.outputs id) (Some (record live { input = left }))
           (seen_live old.events id one.number (new.outputs id) output.0 live_is (c.1.outputs id ∙ output.1) left) (old.outputs id)
           (flown_by function next options id held seen (record seen { live = Some (record live { input = left }) }) live (record live { input = left }) one (record one { attempt = attempt })
-          refl refl refl refl there refl refl
+          refl refl refl refl refl refl there refl refl
           (fed_flight function next options seen live left one.attempt attempt k.options k.output (λ on. (k.kept on).0)
           (λ invocation state known retry duration more on. unread_fed function next invocation state known retry duration input left more given one.attempt attempt (k.kept on).1 parts)
           (λ invocation calls on. stands_fed function next invocation calls given one.attempt attempt (k.kept on).1)
@@ -146,7 +146,7 @@ module _ {H : Type 0} (function : H → Handler) (next : Handler) (options : VMO
           ∙ ap (λ (l : Option SeenAttempt). Some (record seen { live = l })) (seen_live old.events id one.number (Some (c.before ++ bytes)) (c.before ++ bytes) live_is refl input)) in
           subst (λ (o : Option Seen). At id (with_attempt held one attempt) o) (sym now)
           (flown_by function next options id held seen (record seen { live = Some (record live { output = c.before ++ bytes }) }) live (record live { output = c.before ++ bytes }) one (record one { attempt = attempt })
-          refl refl refl refl there refl refl
+          refl refl refl refl refl refl there refl refl
           (sent_flight function next options seen live bytes one.attempt attempt (ap (λ (a : Attempt H). a.options) d) (ap (λ (a : Attempt H). a.over) d)
           (ap (λ (a : Attempt H). bytes ++ a.progress.output) d ∙ take-append-drop count one.attempt.progress.output)
           (λ invocation state known retry duration left more. unread_sent function next invocation state known retry duration left more count one.attempt attempt d)
@@ -183,12 +183,17 @@ module _ {H : Type 0} (function : H → Handler) (next : Handler) (options : VMO
       by_first : (first : Sent) (others : List Sent) → follows.coming ≡ first ∷ others → t.rest ++ h.attempt.progress.output ≡ stream others → FitsSent first → AllByRecursion FitsSent others
           → t.frame ≡ meant first → At id held (seen_of new id)
       by_first (Asks request) others frames bytes fits fit e =
+          let place : length (entries_of old.events id) + 1 < 2 ^ 32 - 1 =
+          taken_room old.events id n request (subst (λ (x : Frame). causes_of old.events (ModelEvent.Take id n x) ≡ []) e taken_causes) in
+          let counted : length (entries_of old.events id) ≡ length seen.requests = requests_alone (entries_of old.events id) follows.alone in
+          let longer : length (seen.requests ++ request ∷ []) ≡ length seen.requests + 1 = length-append seen.requests (request ∷ []) in
+          let room : length (seen.requests ++ request ∷ []) < 2 ^ 32 - 1 = omega (arith, place, counted, longer) in
           let now : seen_of new id ≡ Some (seen_next old.events id one None (request ∷ []) false (Some t.rest)) =
           ◌∙◌ (λ i. seen_by (event_is (Frame.Command request) e i) (waits_then (Frame.Command request) e i) id)
           (seen_more old.events (ModelEvent.Take id n (Frame.Command request)) id None (request ∷ []) false (asks_for old.events id n request fits.0) one (Some t.rest) begun) in
           subst (λ (o : Option Seen). At id held o) (sym (now ∙ ap (λ (l : Option SeenAttempt). Some (record seen { requests = seen.requests ++ request ∷ []; live = l }))
           (seen_live old.events id n (Some t.rest) t.rest live_is refl (input_left old.events id))))
-          (is_recorded function next options id held seen live h follows seen_is there request t.rest others frames bytes fit)
+          (is_recorded function next options id held seen live h follows seen_is there request t.rest others frames bytes fit room)
       by_first (Tells payload) others frames bytes fits fit e =
           let now : seen_of new id ≡ Some (seen_next old.events id one None [] false (Some t.rest)) =
           ◌∙◌ (λ i. seen_by (event_is Frame.AwaitingOn e i) (waits_then Frame.AwaitingOn e i) id)
@@ -284,9 +289,9 @@ module _ {H : Type 0} (function : H → Handler) (next : Handler) (options : VMO
           subst (λ (o : Option Seen). At id held o) (sym seen_now)
           (begun_alone function next options id held (seen_as old.events (old.outputs id) id there.0) (input_bytes (journal_pieces (Some there.0) (entries_of old.events id))) follows)
 
-  begun_held : (id : Text) (now : ℕ) (old new : Standing) (held more : List (HeldAttempt H)) (handler : H) (answer : Begun) → (id ≡ want → function handler ≡ next)
+  begun_held : (id : Text) (now : ℕ) (old new : Standing) (held more : List (HeldAttempt H)) (handler : H) (answer : Begun) → now < 2 ^ 64 → (id ≡ want → function handler ≡ next)
       → IsBegun id now answer old new → HoldsBegun options id handler answer held more → In old held → In new more
-  begun_held id now old new held more handler answer brings b h f =
+  begun_held id now old new held more handler answer moment brings b h f =
       changed function next options id want (ModelEvent.Begin id now) old new held more refl refl b.leaves.events b.leaves.others own
       (λ apart m. ap (λ (hs : List (HeldAttempt H)). held_of hs want m) h.held ∙ first_push_other (is_held want m) held (held_begun id answer.number h.attempt) (not_held_invocation want m (held_begun id answer.number h.attempt) (λ e. apart (sym e)))) f
     where
@@ -305,12 +310,12 @@ module _ {H : Type 0} (function : H → Handler) (next : Handler) (options : VMO
           subst (λ (o : Option Seen). At id more o) (sym seen_now)
           (subst (λ (hs : List (HeldAttempt H)). Sees id hs (begun_seen seen input)) (sym h.held)
           (begun function next options id held seen input (held_begun id answer.number h.attempt) refl (b.number ∙ omega arith) (k.options ∙ h.is_fresh.options_are) (k.output ∙ ap (λ p. p.output) h.is_fresh.progress)
-          (λ on. begun_unread function next options id now old new answer b there.0 handler h.fresh h.attempt there.1 follows.alone (brings (sym is)) h.is_fresh h.fed on) follows))
+          (λ on. begun_unread function next options id now old new answer b there.0 handler h.fresh h.attempt there.1 follows.alone moment follows.seed follows.places (brings (sym is)) h.is_fresh h.fed on) follows))
 
   -- ---- a new invocation
 
-  invoked : (one : NewInvocation) (old new : Standing) (held : List (HeldAttempt H)) → Adds (ModelEvent.Invoke one) old new → In old held → In new held
-  invoked one old new held a f =
+  invoked : (one : NewInvocation) (old new : Standing) (held : List (HeldAttempt H)) → one.seed < 2 ^ 64 → Adds (ModelEvent.Invoke one) old new → In old held → In new held
+  invoked one old new held seed a f =
       changed function next options one.id want (ModelEvent.Invoke one) old new held held refl refl a.events (λ other apart. a.outputs other) own (λ apart m. refl) f
     where
       causes : causes_of old.events (ModelEvent.Invoke one) ≡ []
@@ -328,6 +333,8 @@ module _ {H : Type 0} (function : H → Handler) (next : Handler) (options : VMO
             coming = [];
             lost = [];
             fit = tt;
+            seed = seed;
+            places = subst (λ (entries : List Entry). length (requests_of entries) < 2 ^ 32 - 1) (sym none) (omega arith);
             alone = ap arrivals_in none;
             requests = ap (λ (entries : List Entry). (requests_of entries ++ []) ++ []) none;
             numbered = λ n above. unheld n;
@@ -336,14 +343,14 @@ module _ {H : Type 0} (function : H → Handler) (next : Handler) (options : VMO
 
   -- ---- what an event answers
 
-  kept_invoke : (one : NewInvocation) (answer : Reply) (old new : Standing) (held : List (HeldAttempt H)) → RepliesDone (λ result. Invokes one old result new) answer → In old held → In new held
-  kept_invoke one reply.Done old new held d f = invoked one old new held d f
-  kept_invoke one (reply.Refused (refusal.Store why)) old new held d f = stands_still old new held d.stays f
-  kept_invoke one (reply.Refused refusal.AttemptNotHeld) old new held d f = absurd d
-  kept_invoke one (reply.Begun n) old new held d f = absurd d
-  kept_invoke one (reply.Fed n) old new held d f = absurd d
-  kept_invoke one (reply.Turned t) old new held d f = absurd d
-  kept_invoke one (reply.Moved b n why) old new held d f = absurd d
+  kept_invoke : (one : NewInvocation) (answer : Reply) (old new : Standing) (held : List (HeldAttempt H)) → one.seed < 2 ^ 64 → RepliesDone (λ result. Invokes one old result new) answer → In old held → In new held
+  kept_invoke one reply.Done old new held seed d f = invoked one old new held seed d f
+  kept_invoke one (reply.Refused (refusal.Store why)) old new held seed d f = stands_still old new held d.stays f
+  kept_invoke one (reply.Refused refusal.AttemptNotHeld) old new held seed d f = absurd d
+  kept_invoke one (reply.Begun n) old new held seed d f = absurd d
+  kept_invoke one (reply.Fed n) old new held seed d f = absurd d
+  kept_invoke one (reply.Turned t) old new held seed d f = absurd d
+  kept_invoke one (reply.Moved b n why) old new held seed d f = absurd d
 
   kept_stop : (id : Text) (n : ℕ) (answer : Reply) (old new : Standing) (held : List (HeldAttempt H)) → RepliesDone (λ result. Stops id n old result new) answer → In old held → In new held
   kept_stop id n reply.Done old new held d f = stopped id n old new held d f
@@ -357,19 +364,19 @@ module _ {H : Type 0} (function : H → Handler) (next : Handler) (options : VMO
   same_state : (old new : Standing) (held more : List (HeldAttempt H)) → Stays old new → more ≡ held → In old held → In new more
   same_state old new held more s g f = subst (λ (hs : List (HeldAttempt H)). In new hs) (sym g) (stands_still old new held s f)
 
-  kept_begin : (id : Text) (handler : H) (now : ℕ) (answer : Reply) (old new : Standing) (held more : List (HeldAttempt H)) → (id ≡ want → function handler ≡ next)
+  kept_begin : (id : Text) (handler : H) (now : ℕ) (answer : Reply) (old new : Standing) (held more : List (HeldAttempt H)) → now < 2 ^ 64 → (id ≡ want → function handler ≡ next)
       → BeginDoes options id handler now old held answer new more → In old held → In new more
-  kept_begin id handler now (reply.Begun n) old new held more brings d f = begun_held id now old new held more handler d.0 brings d.2 d.3 f
-  kept_begin id handler now (reply.Refused (refusal.Store why)) old new held more brings d f =
+  kept_begin id handler now (reply.Begun n) old new held more moment brings d f = begun_held id now old new held more handler d.0 moment brings d.2 d.3 f
+  kept_begin id handler now (reply.Refused (refusal.Store why)) old new held more moment brings d f =
       elim d [
         | inl r ↦ same_state old new held more r.0.stays r.1 f
         | inr u ↦ subst (λ (hs : List (HeldAttempt H)). In new hs) (sym u.3) (unbegun id now old new held u.0 u.2 f)
       ]
-  kept_begin id handler now reply.Done old new held more brings d f = absurd d
-  kept_begin id handler now (reply.Refused refusal.AttemptNotHeld) old new held more brings d f = absurd d
-  kept_begin id handler now (reply.Fed m) old new held more brings d f = absurd d
-  kept_begin id handler now (reply.Turned t) old new held more brings d f = absurd d
-  kept_begin id handler now (reply.Moved b m why) old new held more brings d f = absurd d
+  kept_begin id handler now reply.Done old new held more moment brings d f = absurd d
+  kept_begin id handler now (reply.Refused refusal.AttemptNotHeld) old new held more moment brings d f = absurd d
+  kept_begin id handler now (reply.Fed m) old new held more moment brings d f = absurd d
+  kept_begin id handler now (reply.Turned t) old new held more moment brings d f = absurd d
+  kept_begin id handler now (reply.Moved b m why) old new held more moment brings d f = absurd d
 
   kept_feed : (one : HeldAttempt H) (count : ℕ) (answer : Reply) (old new : Standing) (held more : List (HeldAttempt H)) → held_of held one.invocation one.number ≡ Some one
       → FeedsHeld one count old held answer new more → In old held → In new more
@@ -416,10 +423,10 @@ module _ {H : Type 0} (function : H → Handler) (next : Handler) (options : VMO
           own one (ap (λ (i : Text). held_of held i one.number) is.0 ∙ ap (λ (m : ℕ). held_of held id m) is.1 ∙ there) d f
 
   -- what an event does keeps the invocation in its run
-  pub keeps : (one : Event H) (answer : Reply) (old new : Standing) (held more : List (HeldAttempt H)) → Brings function want next one → Does function options one old held answer new more → In old held → In new more
-  keeps (event.Invoke one) answer old new held more brings d f = subst (λ (hs : List (HeldAttempt H)). In new hs) (sym d.1) (kept_invoke one answer old new held d.0 f)
-  keeps (event.Begin id handler now) answer old new held more brings d f = kept_begin id handler now answer old new held more brings d f
-  keeps (event.Feed id n count) answer old new held more brings d f = kept_held (λ one. FeedsHeld one count) id n answer old new held more (λ one there c g. kept_feed one count answer old new held more there c g) d f
-  keeps (event.Turn id n) answer old new held more brings d f = kept_held (λ one. TurnsHeld function one) id n answer old new held more (λ one there c g. kept_turn one answer old new held more there c g) d f
-  keeps (event.Move id n count) answer old new held more brings d f = kept_held (λ one. MovesHeld one count) id n answer old new held more (λ one there c g. kept_move one count answer old new held more there c g) d f
-  keeps (event.Stop id n) answer old new held more brings d f = subst (λ (hs : List (HeldAttempt H)). In new hs) (sym d.1) (kept_stop id n answer old new held d.0 f)
+  pub keeps : (one : Event H) (answer : Reply) (old new : Standing) (held more : List (HeldAttempt H)) → FitsEvent one → Brings function want next one → Does function options one old held answer new more → In old held → In new more
+  keeps (event.Invoke one) answer old new held more fits brings d f = subst (λ (hs : List (HeldAttempt H)). In new hs) (sym d.1) (kept_invoke one answer old new held fits d.0 f)
+  keeps (event.Begin id handler now) answer old new held more fits brings d f = kept_begin id handler now answer old new held more fits brings d f
+  keeps (event.Feed id n count) answer old new held more fits brings d f = kept_held (λ one. FeedsHeld one count) id n answer old new held more (λ one there c g. kept_feed one count answer old new held more there c g) d f
+  keeps (event.Turn id n) answer old new held more fits brings d f = kept_held (λ one. TurnsHeld function one) id n answer old new held more (λ one there c g. kept_turn one answer old new held more there c g) d f
+  keeps (event.Move id n count) answer old new held more fits brings d f = kept_held (λ one. MovesHeld one count) id n answer old new held more (λ one there c g. kept_move one count answer old new held more there c g) d f
+  keeps (event.Stop id n) answer old new held more fits brings d f = subst (λ (hs : List (HeldAttempt H)). In new hs) (sym d.1) (kept_stop id n answer old new held d.0 f)

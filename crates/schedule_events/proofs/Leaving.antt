@@ -9,7 +9,7 @@ use Rattle.schedule_events.specs.declared.event.Event.{Event}
 use Rattle.schedule_events.specs.declared.event.Reply.{Reply}
 use Rattle.schedule_events.specs.declared.held.HeldAttempt.{HeldAttempt}
 use Rattle.schedule_events.specs.Flight.{requests_in}
-use Rattle.schedule_events.specs.Schedule.{Scheduled, AppliesAll, Brings}
+use Rattle.schedule_events.specs.Schedule.{Scheduled, AppliesAll, Brings, FitsEvent}
 use Rattle.schedule_events.specs.Following.{Seen, seen_as, seen_of, FollowsSeen, FollowsAt, Follows}
 use Rattle.schedule_events.specs.Laws.{FollowsAtFirst, KeptByEach, BeginsRun, LeavesRuns}
 use Rattle.schedule_events.proofs.Keeping.{keeps}
@@ -21,7 +21,7 @@ module _ {H : Type 0} (function : H → Handler) where
       subst (λ (o : Option Seen). FollowsAt function next options id [] o) (sym unseen) (λ n. refl)
 
   pub kept_by_each : KeptByEach function
-  kept_by_each next options id one answer old new held more brings does f = keeps function next options id one answer old new held more brings does f
+  kept_by_each next options id one answer old new held more fits brings does f = keeps function next options id one answer old new held more fits brings does f
 
   pub begins_run : BeginsRun function
   begins_run next options id s held new begun f =
@@ -33,16 +33,16 @@ module _ {H : Type 0} (function : H → Handler) where
       }
 
   kept_along : (next : Handler) (options : VMOptions) (id : Text) (events : List (Event H)) (replies : List Reply) (old new : Scheduled H) → AppliesAll function options events replies old new
-      → AllByRecursion (Brings function id next) events → Follows function next options id old.standing old.held → Follows function next options id new.standing new.held
-  kept_along next options id [] [] old new p brings f = subst (λ (s : Scheduled H). Follows function next options id s.standing s.held) (sym p) f
-  kept_along next options id (one ∷ events) (answer ∷ replies) old new p brings f =
-      kept_along next options id events replies p.0 new p.2 brings.1
-      (keeps function next options id one answer old.standing p.0.standing old.held p.0.held brings.0 p.1 f)
-  kept_along next options id [] (answer ∷ replies) old new p brings f = absurd p
-  kept_along next options id (one ∷ events) [] old new p brings f = absurd p
+      → AllByRecursion FitsEvent events → AllByRecursion (Brings function id next) events → Follows function next options id old.standing old.held → Follows function next options id new.standing new.held
+  kept_along next options id [] [] old new p fits brings f = subst (λ (s : Scheduled H). Follows function next options id s.standing s.held) (sym p) f
+  kept_along next options id (one ∷ events) (answer ∷ replies) old new p fits brings f =
+      kept_along next options id events replies p.0 new p.2 fits.1 brings.1
+      (keeps function next options id one answer old.standing p.0.standing old.held p.0.held fits.0 brings.0 p.1 f)
+  kept_along next options id [] (answer ∷ replies) old new p fits brings f = absurd p
+  kept_along next options id (one ∷ events) [] old new p fits brings f = absurd p
 
   pub leaves_runs : LeavesRuns function
-  leaves_runs options events replies old new none p next id unknown brings invocation begun =
+  leaves_runs options events replies old new none p next id unknown fits brings invocation begun =
       begins_run next options id new.standing new.held invocation begun
-      (kept_along next options id events replies old new p brings
+      (kept_along next options id events replies old new p fits brings
       (subst (λ (hs : List (HeldAttempt H)). Follows function next options id old.standing hs) (sym none) (follows_at_first next options id old.standing unknown)))

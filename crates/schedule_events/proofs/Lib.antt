@@ -12,3 +12,5 @@ pub mod Taking
 pub mod Changing
 pub mod Keeping
 pub mod Leaving
+pub mod Applying
+pub mod Waiting

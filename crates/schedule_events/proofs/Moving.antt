@@ -1,8 +1,9 @@
 -- A turn, a feed and a move of the live attempt keep its invocation in the run.
-use Rattle.std.proofs.Common.{◌≡◌, ◌≢◌, ℕ, ◌+◌, ◌==◌, Bool, true, false, List, ◌++◌, length, Option, Some, None, refl, sym, ap, subst, ◌∙◌, inl, inr, append_assoc}
+use Rattle.std.proofs.Common.{◌≡◌, ◌≢◌, ℕ, ◌+◌, ◌-◌, ◌^◌, ◌<◌, ◌==◌, Bool, true, false, List, ◌++◌, length, Option, Some, None, refl, sym, ap, subst, ◌∙◌, inl, inr, append_assoc}
 use Rattle.std.proofs.lemmas.Bool.Decides.{Decides-eqb}
 use Rattle.journal_model.specs.declared.invocation.NewInvocation.{NewInvocation}
 use Rattle.journal_model.specs.State.{StateMap}
+use Rattle.journal_model.specs.Request.{Request}
 use Rattle.journal_model.specs.Run.{Handler, Invocation}
 use Rattle.schedule_events.specs.First.{with_first}
 use Rattle.invocation_vm.specs.declared.options.VMOptions.{VMOptions}
@@ -32,12 +33,12 @@ module _ {H : Type 0} (function : H → Handler) (next : Handler) (options : VMO
   }
 
   pub flown_by : (id : List ℕ) (held : List (HeldAttempt H)) (seen new : Seen) (live after : SeenAttempt) (h g : HeldAttempt H)
-      → new.live ≡ Some after → after.number ≡ live.number → new.attempts ≡ seen.attempts → new.arrivals ≡ seen.arrivals
+      → new.live ≡ Some after → after.number ≡ live.number → new.attempts ≡ seen.attempts → new.arrivals ≡ seen.arrivals → new.invocation ≡ seen.invocation → new.requests ≡ seen.requests
       → held_of held id live.number ≡ Some h → g.invocation ≡ h.invocation → g.number ≡ h.number
       → Flight function next options new after g.attempt → FollowsSeen function next options id held seen
       → FollowsSeen function next options id (with_first (is_held id live.number) held g) new
-  flown_by id held seen new live after h g is number attempts arrived found invocation same fl f =
-      flown function next options id held seen new live after h g is number attempts arrived found invocation same fl.calls fl.coming fl.lost fl.fit fl.requests fl.flies f
+  flown_by id held seen new live after h g is number attempts arrived whose recorded found invocation same fl f =
+      flown function next options id held seen new live after h g is number attempts arrived whose (subst (λ (requests : List Request). length requests < 2 ^ 32 - 1) (sym recorded) f.places) found invocation same fl.calls fl.coming fl.lost fl.fit fl.requests fl.flies f
 
   -- a turn
   pub turn_flight : (seen : Seen) (live : SeenAttempt) (old new : Attempt H) (t : Turn) → new.options ≡ old.options
@@ -117,7 +118,7 @@ module _ {H : Type 0} (function : H → Handler) (next : Handler) (options : VMO
           let same : live.number ≡ n = (Decides-eqb live.number n).0 e in
           let there : held_of held id live.number ≡ Some h = ap (λ (m : ℕ). held_of held id m) same ∙ found in
           subst (λ (m : ℕ). FollowsSeen function next options id (with_first (is_held id m) held g) seen) same
-          (flown_by id held seen seen live live h g is refl refl refl there invocation number (flies live (flight_of id held seen live h is there f)) f)
+          (flown_by id held seen seen live live h g is refl refl refl refl refl there invocation number (flies live (flight_of id held seen live h is there f)) f)
       by_number live is false e =
           not_live_now (Some live) is (λ l same equal. true_is_false (sym ((Decides-eqb live.number n).1 (ap (λ (k : SeenAttempt). k.number) (some_is live l same) ∙ equal)) ∙ e))
 

@@ -1,5 +1,5 @@
 -- What bytes that go to an attempt, and from it, leave of how it stands.
-use Rattle.std.proofs.Common.{◌≡◌, ℕ, ◌+◌, ◌<◌, ◌^◌, List, [], ◌++◌, length, map, Option, Some, None, option_map, refl, sym, ap, subst, ◌∙◌, append_assoc, inl, inr}
+use Rattle.std.proofs.Common.{◌≡◌, ℕ, ◌+◌, ◌-◌, ◌<◌, ◌^◌, arith, List, [], ◌++◌, length, map, Option, Some, None, option_map, refl, sym, ap, subst, ◌∙◌, append_assoc, inl, inr}
 use Rattle.std.specs.Prelude.{unwrap_or}
 use Rattle.journal_model.specs.Notification.{Text}
 use Rattle.journal_model.specs.declared.invocation.NewInvocation.{NewInvocation}
@@ -22,7 +22,7 @@ use Rattle.schedule_events.specs.Following.{seen_as, IsNotRead}
 use Rattle.schedule_events.specs.Schedule.{IsFresh, FeedDoes, SendDoes}
 use Rattle.schedule_events.proofs.Holding.{some_none}
 use Rattle.schedule_events.proofs.Seeing.{requests_alone}
-use Rattle.schedule_events.proofs.Beginning.{input_fits, start_fits, state_at_start}
+use Rattle.schedule_events.proofs.Beginning.{input_fits, start_fits, attempts_fit, attempts_since, since_within, state_at_start}
 use Rattle.schedule_events.proofs.Following.{live_begun, begun_seen}
 
 -- bytes that came, unless the attempt is over
@@ -96,11 +96,11 @@ module _ {H : Type 0} (function : H → Handler) (next : Handler) where
 -- an attempt that was just begun has read nothing
 module _ {H : Type 0} (function : H → Handler) (next : Handler) (options : VMOptions) where
   pub begun_unread : (id : Text) (now : ℕ) (old new : Standing) (begun : Begun) (b : IsBegun id now begun old new) (one : NewInvocation) (handler : H) (fresh attempt : Attempt H)
-      → invocation_begun old.events id ≡ Some one → recorded_arrivals old.events id ≡ []
+      → invocation_begun old.events id ≡ Some one → recorded_arrivals old.events id ≡ [] → now < 2 ^ 64 → one.seed < 2 ^ 64 → length (recorded_requests old.events id) < 2 ^ 32 - 1
       → function handler ≡ next → IsFresh begun.version options handler fresh → FeedDoes fresh begun.start attempt → attempt.over ≡ None
       → IsNotRead function next options (begun_seen (seen_as old.events (old.outputs id) id one) (input_bytes (journal_pieces (Some one) (entries_of old.events id))))
       (live_begun (seen_as old.events (old.outputs id) id one) (input_bytes (journal_pieces (Some one) (entries_of old.events id)))) attempt []
-  begun_unread id now old new begun b one handler fresh attempt there alone brings is fed on =
+  begun_unread id now old new begun b one handler fresh attempt there alone moment seed places brings is fed on =
       let events = old.events in
       let entries = entries_of events id in
       let causes : causes_of events (Event.Begin id now) ≡ [] = (subst IsAccepted b.leaves.events new.accepted).0 in
@@ -114,6 +114,9 @@ module _ {H : Type 0} (function : H → Handler) (next : Handler) (options : VMO
       let counted : 1 + length entries ≡ known = ap (λ (n : ℕ). 1 + n) (requests_alone entries alone) in
       let payload : start_payload events id now ≡ start_payload_of one shown known retry duration =
       ap (λ (o : Option NewInvocation). start_payload_for events o id now) there ∙ ap (λ (n : ℕ). start_payload_of one shown n retry duration) counted in
+      let few : 1 + length (recorded_requests old.events id) < 2 ^ 32 = omega (arith, places) in
+      let tries : length (attempts_since_entry old.events id) < 2 ^ 32 = omega (arith, attempts_since old.events id, attempts_fit old.events id now causes) in
+      let within : since_first (attempts_since_entry old.events id) now < 2 ^ 64 = omega (arith, moment, since_within (attempts_since_entry old.events id) now) in
       record {
         shown = shown;
         at_start = state_at_start events id now one old.accepted causes there;
@@ -128,10 +131,10 @@ module _ {H : Type 0} (function : H → Handler) (next : Handler) (options : VMO
                 options = refl;
               };
               fits = record {
-                entries = subst (λ (n : ℕ). n < 2 ^ 32) counted b.fits.entries;
-                attempts = b.fits.attempts;
-                time = b.fits.duration;
-                seed = b.fits.seed one there;
+                entries = few;
+                attempts = tries;
+                time = within;
+                seed = seed;
                 start = subst (λ (s : List ℕ). length s < 2 ^ 32) payload (start_fits events id now causes);
                 input = input_fits events old.accepted id one there;
               };

@@ -1,7 +1,8 @@
 -- A frame that the store takes is the first of those on their way.
-use Rattle.std.proofs.Common.{◌≡◌, true≢false, ℕ, ◌<◌, ◌^◌, true, false, List, [], ◌∷◌, ◌++◌, length, Option, Some, None, refl, sym, ap, subst, ◌∙◌, arith, inl, inr, append_assoc}
+use Rattle.std.proofs.Common.{◌≡◌, true≢false, ℕ, suc, ◌+◌, ◌-◌, ◌^◌, ◌<◌, ◌≤◌, nat_lt, true, false, map, List, [], ◌∷◌, ◌++◌, length, Option, Some, None, refl, sym, ap, subst, ◌∙◌, arith, inl, inr, append_assoc}
 use Rattle.std.specs.Prelude.{Ok}
 use Rattle.std.specs.List.{AllByRecursion}
+use Rattle.std.proofs.lemmas.Bool.{ltb-false}
 use Rattle.std.proofs.lemmas.Bool.Decides.{Decides-eqb}
 use Rattle.journal_protocol.specs.declared.decoder.RawMessage.{RawMessage}
 use Rattle.journal_protocol.specs.MessageType.{number_of, type_numbered, allows_ack, named_type}
@@ -15,6 +16,8 @@ use Rattle.journal_model.specs.Request.{Request}
 use Rattle.journal_model.specs.Run.{Handler}
 use Rattle.journal_model.specs.Spelling.{frame_bytes}
 use Rattle.journal_model.specs.Event.{Event, Frame}
+use Rattle.journal_model.specs.State.{state_after}
+use Rattle.journal_model.specs.Journal.{Arrived, entries_of, starting_state, read_answer, requests_in as requests_of}
 use Rattle.journal_model.specs.Attempt.{live_attempt, is_live}
 use Rattle.journal_model.specs.Cause.{causes_of, tests_of}
 use Rattle.journal_laws.proofs.ObjectState.{tail_of, holds-head, holds-tail, not-false}
@@ -113,6 +116,9 @@ frame_at_front version item rest output coming t = subst (λ (i : Item). Means t
 
 -- ---- what is accepted
 
+has_room : (n k : ℕ) → nat_lt (2 ^ 32 - 2) (n + suc k) ≡ false → n + 1 < 2 ^ 32 - 1
+has_room n k e = let few : n + suc k ≤ 2 ^ 32 - 2 = ltb-false (2 ^ 32 - 2) (n + suc k) e in omega (arith, few)
+
 -- an attempt of which an event is accepted is live
 pub live_when : (events : List Event) (id : Text) (n : ℕ) → is_live events id n ≡ true → live_attempt events id ≡ Some n
 live_when events id n e = by_live (live_attempt events id) refl
@@ -125,6 +131,15 @@ pub taken_live : (events : List Event) (id : Text) (n : ℕ) (frame : Frame) →
 taken_live events id n frame causes =
     let tests = tests_of events (Event.Take id n frame) in
     live_when events id n (not-false (is_live events id n) (holds-head (tail_of (tail_of tests)) (holds-tail (tail_of tests) (holds-tail tests causes))))
+
+-- a request that is accepted has a place
+pub taken_room : (events : List Event) (id : Text) (n : ℕ) (request : Request) → causes_of events (Event.Take id n (Frame.Command request)) ≡ [] → length (entries_of events id) + 1 < 2 ^ 32 - 1
+taken_room events id n request causes =
+    let tests = tests_of events (Event.Take id n (Frame.Command request)) in
+    let from_frame = holds-tail (tail_of (tail_of tests)) (holds-tail (tail_of tests) (holds-tail tests causes)) in
+    let from_places = holds-tail (tail_of (tail_of (tail_of (tail_of tests)))) (holds-tail (tail_of (tail_of (tail_of tests))) from_frame) in
+    has_room (length (entries_of events id)) (length (map Arrived (read_answer (state_after (requests_of (entries_of events id)) (starting_state events id)) request)))
+    (holds-head (tail_of (tail_of (tail_of (tail_of (tail_of tests))))) from_places)
 
 -- a faulty frame is not
 pub not_faulty : (events : List Event) (id : Text) (n : ℕ) (frame : Frame) → causes_of events (Event.Take id n frame) ≡ [] → IsFaulty frame → ⊥
@@ -151,12 +166,12 @@ module _ {H : Type 0} (function : H → Handler) (next : Handler) (options : VMO
 
   -- a request is recorded
   pub is_recorded : (f : Follow seen) → seen.live ≡ Some live → held_of held id live.number ≡ Some h → (request : Request) (rest : Bytes) (others : List Sent)
-      → f.coming ≡ Asks request ∷ others → rest ++ h.attempt.progress.output ≡ stream others → AllByRecursion FitsSent others
+      → f.coming ≡ Asks request ∷ others → rest ++ h.attempt.progress.output ≡ stream others → AllByRecursion FitsSent others → length (seen.requests ++ request ∷ []) < 2 ^ 32 - 1
       → Follow (record seen { requests = seen.requests ++ request ∷ []; live = Some (record live { output = rest }) })
-  is_recorded f is there request rest others frames bytes fit =
+  is_recorded f is there request rest others frames bytes fit room =
       let F = f.flies live is h there in
       go_on function next options id held seen (record seen { requests = seen.requests ++ request ∷ []; live = Some (record live { output = rest }) }) live (record live { output = rest }) h
-      refl refl refl refl there f.calls others f.lost fit
+      refl refl refl refl refl room there f.calls others f.lost fit
       (recorded_more seen.requests (requests_in others) f.lost _ request (ap (λ (s : List Sent). (seen.requests ++ requests_in s) ++ f.lost) (sym frames) ∙ f.requests))
       (record {
         chosen = F.chosen;
@@ -175,7 +190,7 @@ module _ {H : Type 0} (function : H → Handler) (next : Handler) (options : VMO
   goes_by f is there payload rest others frames bytes fit =
       let F = f.flies live is h there in
       go_on function next options id held seen (record seen { live = Some (record live { output = rest }) }) live (record live { output = rest }) h
-      refl refl refl refl there f.calls others f.lost fit
+      refl refl refl refl refl f.places there f.calls others f.lost fit
       (ap (λ (s : List Sent). (seen.requests ++ requests_in s) ++ f.lost) (sym frames) ∙ f.requests)
       (record {
         chosen = F.chosen;

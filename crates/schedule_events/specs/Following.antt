@@ -1,5 +1,5 @@
 -- What is recorded of an invocation, and what is still on its way, are its run's requests so far.
-use Rattle.std.specs.Prelude.{◌≡◌, ◌⊎◌, ℕ, ◌+◌, ◌<◌, ◌==◌, ◌&&◌, Bool, bytes_eq, List, [], ◌++◌, length, Option, Some, None, option_map}
+use Rattle.std.specs.Prelude.{◌≡◌, ◌⊎◌, ℕ, ◌+◌, ◌-◌, ◌^◌, ◌<◌, ◌==◌, ◌&&◌, Bool, bytes_eq, List, [], ◌++◌, length, Option, Some, None, option_map}
 use Rattle.std.specs.List.{AllByRecursion, find}
 use Rattle.journal_model.specs.Notification.{Bytes, Text, Arrival}
 use Rattle.journal_model.specs.State.{StateMap}
@@ -103,6 +103,8 @@ module _ {H : Type 0} (function : H → Handler) (next : Handler) (options : VMO
     pub coming : List Sent
     pub lost : List Request
     pub fit : AllByRecursion FitsSent coming
+    pub seed : seen.invocation.seed < 2 ^ 64
+    pub places : length seen.requests < 2 ^ 32 - 1
     pub alone : seen.arrivals ≡ []
     pub requests : (seen.requests ++ requests_in coming) ++ lost ≡ run_requests next (run_given options seen) [] calls
     pub numbered : (number : ℕ) → seen.attempts < number → held_of held id number ≡ None

@@ -1,6 +1,6 @@
 -- What schedules keep, and what they leave.
-use Rattle.std.specs.Prelude.{◌≡◌, List, [], Some, None}
-use Rattle.std.specs.List.{AllByRecursion}
+use Rattle.std.specs.Prelude.{◌≡◌, ◌<◌, ℕ, Bool, List, [], ◌∷◌, ◌++◌, get_or, Some, None, slice_set}
+use Rattle.std.specs.List.{AllByRecursion, position}
 use Rattle.journal_model.specs.Notification.{Text}
 use Rattle.journal_model.specs.declared.invocation.NewInvocation.{NewInvocation}
 use Rattle.journal_model.specs.Run.{Handler}
@@ -8,11 +8,51 @@ use Rattle.journal_model.specs.Journal.{invocation_begun, starting_state, record
 use Rattle.invocation_vm.specs.declared.options.VMOptions.{VMOptions}
 use Rattle.invocation_vm.specs.First.{given_by}
 use Rattle.schedule_events.specs.declared.event.Event.{Event}
+use Rattle.invocation_vm.specs.declared.attempt.Attempt.{Attempt}
+use Rattle.invocation_vm.specs.declared.progress.Turn.{Turn}
 use Rattle.schedule_events.specs.declared.event.Reply.{Reply}
+use Rattle.schedule_events.specs.declared.event.Reply.TheVariants as reply
+use Rattle.schedule_events.specs.declared.event.Refusal.TheVariants as refusal
 use Rattle.schedule_events.specs.declared.held.HeldAttempt.{HeldAttempt}
-use Rattle.schedule_events.specs.Standing.{Standing}
-use Rattle.schedule_events.specs.Schedule.{Does, Scheduled, AppliesAll, Brings}
-use Rattle.schedule_events.specs.Following.{Follows, IsBeginningOfRun}
+use Rattle.schedule_events.specs.Standing.{Standing, TakesFrame, bytes_waiting}
+use Rattle.schedule_events.specs.Schedule.{IfHeld, FeedsOne, FeedsHeld, MovesOne, MovesHeld, TurnDoes, TurnsHeld, Does, Scheduled, Applies, AppliesAll, Brings, FitsEvent}
+use Rattle.schedule_events.specs.Following.{is_held, held_of, Follows, IsBeginningOfRun}
+
+-- ---- of the calls
+
+-- each frame that is taken leaves fewer bytes that wait
+abbrev pub FramesShrink : Type 0
+FramesShrink = (id : Text) (attempt : ℕ) (does_end : Bool) (old new : Standing) → TakesFrame id attempt does_end old new → bytes_waiting new id < bytes_waiting old id
+
+module _ (H : Type 0) where
+  -- an attempt that stands at no place is not held
+  abbrev pub NoneHeld : Type 0
+  NoneHeld = (id : Text) (n : ℕ) (held : List (HeldAttempt H)) → position (is_held id n) held ≡ None → held_of held id n ≡ None
+
+  -- what is done to the attempt at its place is done among all that are held
+  abbrev pub FeedsReach : Type 0
+  FeedsReach = (id : Text) (n count : ℕ) (held : List (HeldAttempt H)) (place : ℕ) (one changed : HeldAttempt H) (old new : Standing) (answer : Reply)
+      → position (is_held id n) held ≡ Some place → one ≡ get_or held place one → FeedsOne one count old answer new changed
+      → IfHeld (λ one. FeedsHeld one count) (held_of held id n) old held answer new (slice_set held place changed)
+
+  abbrev pub MovesReach : Type 0
+  MovesReach = (id : Text) (n count : ℕ) (held : List (HeldAttempt H)) (place : ℕ) (one changed : HeldAttempt H) (old new : Standing) (answer : Reply)
+      → position (is_held id n) held ≡ Some place → one ≡ get_or held place one → MovesOne one count old answer new changed
+      → IfHeld (λ one. MovesHeld one count) (held_of held id n) old held answer new (slice_set held place changed)
+
+module _ {H : Type 0} (function : H → Handler) where
+  abbrev pub TurnsReach : Type 0
+  TurnsReach = (id : Text) (n : ℕ) (held : List (HeldAttempt H)) (place : ℕ) (one : HeldAttempt H) (attempt : Attempt H) (s : Standing) (t : Turn)
+      → position (is_held id n) held ≡ Some place → one ≡ get_or held place one → TurnDoes function one.attempt t attempt
+      → IfHeld (TurnsHeld function) (held_of held id n) s held (reply.Turned t) s (slice_set held place (record one { attempt = attempt }))
+
+  -- one more event behind a schedule's
+  abbrev pub SchedulesGrow : Type 0
+  SchedulesGrow = (options : VMOptions) (events : List (Event H)) (replies : List Reply) (old between new : Scheduled H) (one : Event H) (answer : Reply)
+      → AppliesAll function options events replies old between → Applies function options one answer between new
+      → AppliesAll function options (events ++ one ∷ []) (replies ++ answer ∷ []) old new
+
+-- ---- of schedules
 
 module _ {H : Type 0} (function : H → Handler) where
   -- where nothing is held, an invocation that was not begun follows its run
@@ -22,7 +62,7 @@ module _ {H : Type 0} (function : H → Handler) where
   -- what an event does keeps an invocation in its run, if begins of it bring the run's function
   abbrev pub KeptByEach : Type 0
   KeptByEach = (next : Handler) (options : VMOptions) (id : Text) (one : Event H) (answer : Reply) (old new : Standing) (held more : List (HeldAttempt H))
-      → Brings function id next one → Does function options one old held answer new more → Follows function next options id old held → Follows function next options id new more
+      → FitsEvent one → Brings function id next one → Does function options one old held answer new more → Follows function next options id old held → Follows function next options id new more
 
   -- what is recorded of an invocation in its run are the run's first requests
   abbrev pub BeginsRun : Type 0
@@ -33,6 +73,6 @@ module _ {H : Type 0} (function : H → Handler) where
   -- requests are the first requests of the one uninterrupted run of that function.
   abbrev pub LeavesRuns : Type 0
   LeavesRuns = (options : VMOptions) (events : List (Event H)) (replies : List Reply) (old new : Scheduled H) → old.held ≡ [] → AppliesAll function options events replies old new
-      → (next : Handler) (id : Text) → invocation_begun old.standing.events id ≡ None → AllByRecursion (Brings function id next) events
+      → (next : Handler) (id : Text) → invocation_begun old.standing.events id ≡ None → AllByRecursion FitsEvent events → AllByRecursion (Brings function id next) events
       → (invocation : NewInvocation) → invocation_begun new.standing.events id ≡ Some invocation
       → IsBeginningOfRun next (given_by options invocation (starting_state new.standing.events id)) (recorded_requests new.standing.events id)

@@ -1,5 +1,5 @@
 -- What each event answers and leaves, and what a list of events does one after another.
-use Rattle.std.specs.Prelude.{◌≡◌, ◌⊎◌, ℕ, suc, zero, min, List, [], ◌∷◌, ◌++◌, length, take, drop, true, false, Option, Some, None, IfSome, Result, Ok, Err}
+use Rattle.std.specs.Prelude.{◌≡◌, ◌⊎◌, ◌<◌, ◌^◌, ℕ, suc, zero, min, List, [], ◌∷◌, ◌++◌, length, take, drop, true, false, Option, Some, None, IfSome, Result, Ok, Err}
 use Rattle.journal_model.specs.Notification.{Bytes, Text}
 use Rattle.journal_model.specs.State.{StateMap}
 use Rattle.journal_model.specs.declared.invocation.NewInvocation.{NewInvocation}
@@ -109,7 +109,25 @@ module _ {H : Type 0} where
   abbrev pub with_attempt : List (HeldAttempt H) → HeldAttempt H → Attempt H → List (HeldAttempt H)
   with_attempt held one attempt = with_first (is_held one.invocation one.number) held (record one { attempt = attempt })
 
-  -- the next bytes go from the store to an attempt that is held, so many at most
+  -- the next bytes go from the store to an attempt, so many at most
+  abbrev pub FeedsOne : HeldAttempt H → ℕ → Standing → Reply → Standing → HeldAttempt H → Type 0
+  FeedsOne one count old (reply.Fed bytes) new changed =
+      (given : Bytes) × (attempt : Attempt H) × (bytes ≡ length given) × HandsOut one.invocation one.number count old (Ok given) new
+      × FeedDoes one.attempt given attempt × (changed ≡ record one { attempt = attempt })
+  FeedsOne one count old (reply.Refused (refusal.Store why)) new changed = HandsOut one.invocation one.number count old (Err why) new × (changed ≡ one)
+  FeedsOne one count old _ new changed = ⊥
+
+  -- the next bytes go from an attempt to the store, so many at most, and whole frames are taken; bytes that the store refuses stay first in line
+  abbrev pub MovesOne : HeldAttempt H → ℕ → Standing → Reply → Standing → HeldAttempt H → Type 0
+  MovesOne one count old (reply.Moved bytes frames why) new changed =
+      (fed : Standing) × (attempt : Attempt H) × (bytes ≡ min count (length one.attempt.progress.output))
+      × Feeds one.invocation one.number (take bytes one.attempt.progress.output) old (Ok tt) fed
+      × SendDoes one.attempt bytes attempt × (changed ≡ record one { attempt = attempt }) × TakesFrames one.invocation one.number frames why fed new
+  MovesOne one count old (reply.Refused (refusal.Store why)) new changed =
+      Feeds one.invocation one.number (take (min count (length one.attempt.progress.output)) one.attempt.progress.output) old (Err why) new × (changed ≡ one)
+  MovesOne one count old _ new changed = ⊥
+
+  -- the same of one that is held
   abbrev pub FeedsHeld : HeldAttempt H → ℕ → Standing → List (HeldAttempt H) → Reply → Standing → List (HeldAttempt H) → Type 0
   FeedsHeld one count old held (reply.Fed bytes) new more =
       (given : Bytes) × (attempt : Attempt H) × (bytes ≡ length given) × HandsOut one.invocation one.number count old (Ok given) new
@@ -123,7 +141,6 @@ module _ {H : Type 0} where
       (attempt : Attempt H) × TurnDoes function one.attempt turn attempt × Stays old new × (more ≡ with_attempt held one attempt)
   TurnsHeld function one old held _ new more = ⊥
 
-  -- the next bytes go from the attempt to the store, so many at most, and whole frames are taken; bytes that the store refuses stay first in line
   abbrev pub MovesHeld : HeldAttempt H → ℕ → Standing → List (HeldAttempt H) → Reply → Standing → List (HeldAttempt H) → Type 0
   MovesHeld one count old held (reply.Moved bytes frames why) new more =
       (fed : Standing) × (attempt : Attempt H) × (bytes ≡ min count (length one.attempt.progress.output))
@@ -164,3 +181,9 @@ module _ {H : Type 0} where
   abbrev pub Brings : (H → Handler) → Text → Handler → Event H → Type 0
   Brings function id next (event.Begin invocation handler now) = invocation ≡ id → function handler ≡ next
   Brings function id next _ = Unit {0}
+
+  -- the numbers of an event are within their types
+  abbrev pub FitsEvent : Event H → Type 0
+  FitsEvent (event.Invoke one) = one.seed < 2 ^ 64
+  FitsEvent (event.Begin invocation handler now) = now < 2 ^ 64
+  FitsEvent _ = Unit {0}

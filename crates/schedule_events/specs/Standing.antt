@@ -1,12 +1,12 @@
 -- What a store stands for, and what each of its calls answers and leaves.
-use Rattle.std.specs.Prelude.{◌≡◌, ◌⊎◌, ◌+◌, ◌<◌, ◌^◌, ℕ, Bool, true, false, List, [], ◌∷◌, ◌++◌, length, take, Option, Some, None, is_some, Result, Ok, Err, bytes_eq}
+use Rattle.std.specs.Prelude.{◌≡◌, ◌⊎◌, ◌+◌, ℕ, Bool, true, false, List, [], ◌∷◌, ◌++◌, length, take, Option, Some, None, is_some, unwrap_or, Result, Ok, Err, bytes_eq}
 use Rattle.journal_model.specs.Notification.{Bytes, Text}
 use Rattle.journal_model.specs.declared.invocation.NewInvocation.{NewInvocation}
 use Rattle.journal_model.specs.Event.{Event, Frame}
 use Rattle.journal_model.specs.Spelling.{frame_bytes}
-use Rattle.journal_model.specs.Journal.{version_of, entries_of, invocation_begun, ends_attempt}
+use Rattle.journal_model.specs.Journal.{version_of, ends_attempt}
 use Rattle.journal_model.specs.Attempt.{attempts_begun, live_attempt, is_live, input_left}
-use Rattle.journal_model.specs.Start.{start_payload, attempts_since_entry, since_first}
+use Rattle.journal_model.specs.Start.{start_payload}
 use Rattle.journal_model.specs.Cause.{Cause, causes_of, is_of_frame, IsAccepted}
 use Rattle.journal_protocol.specs.Item.{Item, unknown, message, item_at}
 use Rattle.attempt_frames.specs.Meaning.{frame_of}
@@ -57,18 +57,10 @@ pub record Begun : Type 0 where
   pub version : ℕ
   pub start : Bytes
 
--- the numbers that a start frame shows are within their types
-pub record FitsStart (events : List Event) (id : Text) (now : ℕ) : Type 0 where
-  pub entries : 1 + length (entries_of events id) < 2 ^ 32
-  pub attempts : length (attempts_since_entry events id) < 2 ^ 32
-  pub duration : since_first (attempts_since_entry events id) now < 2 ^ 64
-  pub seed : (one : NewInvocation) → invocation_begun events id ≡ Some one → one.seed < 2 ^ 64
-
 pub record IsBegun (id : Text) (now : ℕ) (begun : Begun) (old new : Standing) : Type 0 where
   pub number : begun.number ≡ 1 + attempts_begun old.events id
   pub version : begun.version ≡ version_of old.events id
   pub start : begun.start ≡ frame_bytes 0x0000 (start_payload old.events id now)
-  pub fits : FitsStart old.events id now
   pub leaves : Leaves (Event.Begin id now) id (Some []) old new
 
 abbrev pub Begins : Text → ℕ → Standing → Result Begun Refusal → Standing → Type 0
@@ -145,14 +137,22 @@ pub record StopsAtFrame (id : Text) (attempt : ℕ) (why : Refusal) (old new : S
   pub of_frame : is_of_frame cause ≡ true
   pub leaves : Leaves (Event.Stop id attempt) id None old new
 
--- a frame is refused for another cause, or for a circumstance: it waits still
+-- a frame is refused for another cause: it waits still
 pub record WaitsStill (id : Text) (attempt : ℕ) (why : Refusal) (old new : Standing) : Type 0 where
   pub frame : Frame
   pub rest : Bytes
   pub next : IsNext id old frame rest
-  pub cause : IsRefused (causes_of old.events (Event.Take id attempt frame)) why
+  pub cause : Cause
+  pub others : List Cause
+  pub causes : causes_of old.events (Event.Take id attempt frame) ≡ cause ∷ others
+  pub why_is : why ≡ refusal_of cause
+  pub of_store : is_of_frame cause ≡ false
   pub stays : Stays old new
 
--- an attempt that is not live has no frames; a circumstance may be met before any is looked at
+-- an attempt that is not live has no frames; a circumstance may be met before any is looked at, and then nothing changes
 abbrev pub RefusesFrame : Text → (attempt : ℕ) → Refusal → Standing → Standing → Type 0
 RefusesFrame id attempt why old new = StopsAtFrame id attempt why old new ⊎ (WaitsStill id attempt why old new ⊎ Refuses (Event.Stop id attempt) why old new)
+
+-- how many bytes wait
+abbrev pub bytes_waiting : Standing → Text → ℕ
+bytes_waiting s id = length (unwrap_or (s.outputs id) [])

@@ -1,5 +1,5 @@
 //! Laws of schedules. The functions do nothing: their contracts are the laws.
-ghost use Rattle.schedule_events.specs.Laws.{BeginsRun, FollowsAtFirst, KeptByEach, LeavesRuns};
+ghost use Rattle.schedule_events.specs.Laws.{BeginsRun, FeedsReach, FollowsAtFirst, FramesShrink, KeptByEach, LeavesRuns, MovesReach, NoneHeld, SchedulesGrow, TurnsReach};
 
 use journal_model::Handler;
 
@@ -10,4 +10,22 @@ pub fn schedules_follow_runs<H: Handler>()
     ensures each { KeptByEach H.next_call }
     ensures begins { BeginsRun H.next_call }
     ensures leaves { LeavesRuns H.next_call }
+{}
+
+/// A schedule has as many replies as events, each for its own.
+pub fn schedules_grow<H: Handler>()
+    ensures { SchedulesGrow H.next_call }
+{}
+
+/// Each frame that is taken leaves fewer bytes that wait.
+pub fn frames_shrink()
+    ensures { FramesShrink }
+{}
+
+/// What is done to an attempt at its place among those that are held is what the definitions of the events say.
+pub fn attempts_are_held<H: Handler>()
+    ensures none { NoneHeld H }
+    ensures feeds { FeedsReach H }
+    ensures moves { MovesReach H }
+    ensures turns { TurnsReach H.next_call }
 {}

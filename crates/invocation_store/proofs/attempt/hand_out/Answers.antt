@@ -1,9 +1,10 @@
-use Rattle.std.proofs.Common.{rules, ◌≡◌, true, false, inl}
+use Rattle.std.proofs.Common.{rules, ◌≡◌, true, false}
 use Rattle.sqlite.specs.Held.{state}
 use Rattle.live_attempts.specs.Attempts.{attempt_of}
 use Rattle.live_laws.specs.Agrees.{has_number}
 use Rattle.invocation_store.specs.Attempts.{has_closed}
 use Rattle.invocation_store.proofs.Quiet.{hand_out_closed, stands_handed}
+use Rattle.invocation_store.proofs.Waiting.{handed_waits}
 use Rattle.invocation_store.proofs.attempt.hand_out.Goals as goal
 
 pub returns-then-is_closed-clause-does : goal.returns-then-is_closed-clause-does
@@ -18,3 +19,6 @@ returns-clause-does g c clean events stands =
     let opened : has_closed (attempt_of c.args.live.now.attempts c.args.id.now) ≡ false = search rules in
     stands_handed events (state g.S.Store c.args.conn.now) c.args.live.now.attempts c.hand_out.new.self.attempts c.args.id.now c.args.attempt c.args.most c.in_ok-bytes.bytes stands here opened
     c.in_ok-bytes.ensures.bytes c.in_ok-bytes.ensures.rest
+
+pub returns-clause-waits : goal.returns-clause-waits
+returns-clause-waits g c = handed_waits c.args.id.now c.args.most c.args.live.now.attempts c.hand_out.new.self.attempts c.in_ok-bytes.ensures.rest
