@@ -3,3 +3,5 @@ pub mod Quiet
 pub mod Arriving
 pub mod Beginning
 pub mod Waiting
+pub mod Taking
+pub mod Accepting

@@ -1,5 +1,6 @@
 -- What the calls on an attempt answer.
 use Rattle.std.specs.Prelude.{◌≡◌, ◌⊎◌, ℕ, ◌+◌, ◌<◌, ◌^◌, length, not, ◌==◌, Bool, true, false, List, [], ◌∷◌, Option, Some, None, Result, Ok, Err, IsTrue}
+use Rattle.sqlite_trees.specs.Tree.{Trees}
 use Rattle.sqlite.specs.State.{State}
 use Rattle.journal_model.specs.Notification.{Bytes, Text}
 use Rattle.journal_model.specs.Spelling.{frame_bytes}
@@ -22,7 +23,7 @@ use Rattle.live_attempts.specs.Input.{journal_left}
 use Rattle.live_attempts.specs.Attempts.{attempt_of, IsNow, Changes, after_output}
 use Rattle.live_laws.specs.Agrees.{cause_of_stale}
 use Rattle.invocation_store.specs.declared.begun.BegunAttempt.{BegunAttempt}
-use Rattle.invocation_store.specs.Stands.{Stands}
+use Rattle.invocation_store.specs.Stands.{Stands, KeepsAll}
 
 -- a call on an attempt that is not live: the invocation is unknown, or closed, or the attempt is over; or a circumstance
 abbrev pub IsStale : List Event → Text → Refusal → Type 0
@@ -137,3 +138,13 @@ abbrev pub Steps : List Event → Text → ℕ → Result (Option FrameReply) Re
 Steps events id number (Ok None) database old new = TakesNone events id number database old new
 Steps events id number (Ok (Some reply)) database old new = TakesItem events id number reply database old new
 Steps events id number (Err why) database old new = IsOver events id number why database old new ⊎ RefusesItem events id number why database old new
+
+-- What the one commit of a step leaves, also where a crash comes before the step is over: of whatever events the store stood for,
+-- the frame that stands first is accepted, and the tables keep it too.
+pub record CommitsItem (id : Text) (number : ℕ) (attempts : List LiveAttempt) (database : State) (trees : Trees) : Type 0 where
+  pub attempt : LiveAttempt
+  pub item : Item
+  pub rest : Bytes
+  pub is_first : IsFirstItem id number attempts attempt item rest
+  pub commits : (events : List Event) → Stands events database attempts
+      → (causes_of events (Event.Take id number (frame_of_item attempt.version item)) ≡ []) × KeepsAll (Event.Take id number (frame_of_item attempt.version item) ∷ events) trees

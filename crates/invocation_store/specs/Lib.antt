@@ -1,3 +1,5 @@
 pub mod Stored
 pub mod Stands
 pub mod Attempts
+pub mod Taking
+pub mod Accepting

@@ -4,10 +4,14 @@
 //! store then stands for it too, or it is refused for the least of its causes and the store stands as before.
 #![tactic(auto)]
 
+mod accept;
 mod attempt;
 mod begun;
 mod events;
+mod step;
 mod store;
 
+pub use accept::Accepted;
 pub use begun::BegunAttempt;
 pub use store::Store;
+pub use taken_frames::FrameReply;

@@ -7,12 +7,15 @@ ghost use Rattle.journal_model.specs.Journal.{entries_of};
 ghost use Rattle.journal_model.specs.Attempt.{input_left};
 ghost use Rattle.live_attempts.specs.Attempts.{attempt_of};
 ghost use Rattle.live_laws.specs.Agrees.{has_number};
-ghost use Rattle.invocation_store.specs.Attempts.{Feeds, IsBegunAttempt};
+ghost use Rattle.invocation_store.specs.Accepting.{Accepts, CommitsFed};
+ghost use Rattle.invocation_store.specs.Attempts.{CommitsItem, Feeds, IsBegunAttempt, Steps};
 ghost use Rattle.invocation_store.specs.Stands.{Commits, Does, KeepsOutputs, Stands, WaitsAfter};
 
+use crate::accept::{Accepted, accept};
 use crate::attempt::{close_input, feed, hand_out, stop};
 use crate::begun::BegunAttempt;
 use crate::events::{record_begin, record_new, record_result};
+use crate::step::step;
 use bytes::{ByteStr, Bytes};
 use journal_model::{NewInvocation, NotificationResult};
 use live_attempts::LiveAttempts;
@@ -20,6 +23,7 @@ use sqlite::{Alter, Connection};
 use std::alloc::Global;
 use std::marker::Model;
 use store_refusals::Refusal;
+use taken_frames::FrameReply;
 
 /// What is recorded of invocations, and the attempts that are live.
 #[derive(Drop)]
@@ -129,6 +133,37 @@ impl<S: Alter + Drop> Store<S> {
         ensures crash { Survives (state S.Store self.old.connection) (state S.Store self.new.connection) (λ _. ⊥) }
     {
         feed(
+            self.alloc,
+            &mut self.connection,
+            &mut self.live,
+            id,
+            attempt,
+            bytes,
+        )
+    }
+
+    /// Takes the next frame of the attempt, if a whole one waits: what it asks for is recorded, and its answer is told. A frame that
+    /// is refused for a cause of its own ends the attempt; refused for want of memory or of numbers it waits, and is taken again.
+    pub fn step(&mut self, id: &ByteStr, attempt: u32) -> Result<Option<FrameReply>, Refusal>
+        ensures does { HasCleanDisk (state S.Store self.new.connection) → (events : List Event) → Stands events (state S.Store self.old.connection) self.old.live.attempts → Steps events id.now attempt result (state S.Store self.new.connection) self.old.live.attempts self.new.live.attempts }
+        ensures crash { Survives (state S.Store self.old.connection) (state S.Store self.new.connection) (CommitsItem id.now attempt self.old.live.attempts (state S.Store self.old.connection)) }
+    {
+        step(
+            self.alloc,
+            &mut self.connection,
+            &mut self.live,
+            id,
+            attempt,
+        )
+    }
+
+    /// Takes in the next bytes that the attempt wrote, and the frames among them: up to one that ends it, or one that is refused, or
+    /// until none waits whole. An `Err` is a refusal of the bytes.
+    pub fn accept(&mut self, id: &ByteStr, attempt: u32, bytes: &[u8]) -> Result<Accepted, Refusal>
+        ensures does { HasCleanDisk (state S.Store self.new.connection) → (events : List Event) → Stands events (state S.Store self.old.connection) self.old.live.attempts → Accepts events id.now attempt bytes.now result (state S.Store self.new.connection) self.old.live.attempts self.new.live.attempts }
+        ensures crash { Survives (state S.Store self.old.connection) (state S.Store self.new.connection) (CommitsFed id.now attempt bytes.now self.old.live.attempts (state S.Store self.old.connection)) }
+    {
+        accept(
             self.alloc,
             &mut self.connection,
             &mut self.live,
