@@ -1,3 +1,4 @@
 pub mod Stored
 pub mod Stands
 pub mod Attempts
+pub mod Opened

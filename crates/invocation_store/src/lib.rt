@@ -7,7 +7,10 @@
 mod attempt;
 mod begun;
 mod events;
+mod open;
+mod read;
 mod store;
 
 pub use begun::BegunAttempt;
+pub use open::NotOpened;
 pub use store::Store;
