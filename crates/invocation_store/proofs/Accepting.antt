@@ -101,16 +101,6 @@ refused_so events id number before database next old now new accepted why done i
   rests = subst (λ (o : Option Refusal). Rests done.later id number o next now new) (sym is) it.1;
 }
 
--- ---- one step
-
-pub next_refused : (events : List Event) (id : Text) (number : ℕ) (why : Refusal) (old_state database : State) (old new : List LiveAttempt) → Stands events old_state old
-    → has_number number (attempt_of old id) ≡ true → Steps events id number (Err why) database old new → Rests events id number (Some why) database old new
-next_refused events id number why old_state database old new stands here (inl over) =
-    let live : is_live events id number ≡ true = live_here events old_state old id number stands ∙ here in
-    let dead = over.dead in
-    cc
-next_refused events id number why old_state database old new stands here (inr refuses) = inr refuses
-
 -- ---- crashes
 
 pub keeps_step : (events : List Event) (id : Text) (number : ℕ) (replies : List FrameReply) (database : State) (old now : List LiveAttempt) (trees : Trees)
@@ -140,19 +130,6 @@ steps_commit id number replies start now next old attempts taken before lives =
     let early : HasCleanDisk now = omega (arith, lives.clean, clean) in
     keeps_step events id number replies now old attempts db (taken early events stands here) it)
     before lives
-
-flipped : (a b : Bool) → a ≡ not b → b ≡ not a
-flipped true true e = cc
-flipped true false e = refl
-flipped false true e = refl
-flipped false false e = cc
-
--- a frame was taken, and its answer put behind the others
-pub next_taken : (events : List Event) (id : Text) (number : ℕ) (reply : FrameReply) (before after : List FrameReply) (database : State) (old new : List LiveAttempt) (goes_on : Bool)
-    → goes_on ≡ not (does_end reply) → after ≡ before ++ reply ∷ [] → TakesItem events id number reply database old new
-    → TakesNext events id number (Ok goes_on) before after database old new
-next_taken events id number reply before after database old new true e is it = (reply, flipped true (does_end reply) e, is, it)
-next_taken events id number reply before after database old new false e is it = inl (reply, flipped false (does_end reply) e, is, it)
 
 -- at first none was taken
 pub none_passed : (events : List Event) (id : Text) (number : ℕ) (replies : List FrameReply) (database : State) (attempts : List LiveAttempt) → replies ≡ [] → Stands events database attempts

@@ -232,18 +232,14 @@ unknown_refused events database attempts left id number attempt ty rest stands f
   left = left_by events id number database attempts left here stands true now;
 }
 
--- no memory to read it
-pub unread : (events : List Event) (database : State) (attempts : List LiveAttempt) (id : Text) (number : ℕ) (attempt : LiveAttempt) (item : Item) (rest : Bytes)
-    → Stands events database attempts → attempt_of attempts id ≡ Some attempt → attempt.number ≡ number → item_at attempt.output ≡ Some (item, rest)
-    → RefusesItem events id number refusal.OutOfMemory database attempts attempts
-unread events database attempts id number attempt item rest stands found numbered first = record {
-  attempt = attempt;
-  item = item;
-  rest = rest;
-  is_first = record { found = found; is_this = numbered; first = first };
-  refused = inr refl;
-  left = (stands, refl);
-}
+-- an unknown header that was seen
+pub header_refused : (events : List Event) (database : State) (attempts left : List LiveAttempt) (id : Text) (number : ℕ) → has_number number (attempt_of attempts id) ≡ true
+    → IsFirstOf (attempt_of attempts id) firsts.Unknown → IsNow id None attempts left → Stands events database attempts
+    → RefusesItem events id number refusal.FrameNotAccepted database attempts left
+header_refused events database attempts left id number here first now stands =
+    let it = this_one number (attempt_of attempts id) here in
+    let unknown_is = subst (λ (o : Option LiveAttempt). IsFirstOf o firsts.Unknown) it.is first in
+    unknown_refused events database attempts left id number it.attempt unknown_is.0 (drop 8 it.attempt.output) stands it.is it.numbered here unknown_is.1 now
 
 -- ---- writes
 
@@ -261,46 +257,6 @@ lands_some old new writes some lives = record {
   ];
 }
 
--- ---- the ways out of a step
-
--- the attempt is not live
-pub is_over : (events : List Event) (old new : State) (P : Trees → Type 0) (attempts : List LiveAttempt) (id : Text) (number : ℕ) (why : Refusal) → Survives old new P → Asked old new
-    → has_number number (attempt_of attempts id) ≡ false → IsStale events id why → Stands events old attempts → IsOver events id number why new attempts attempts
-is_over events old new P attempts id number why lives asked other stale stands = record {
-  dead = live_here events old attempts id number stands ∙ other;
-  stale = stale;
-  stands = record { kept = store_still events old new P lives asked stands.kept; live = stands.live };
-  same = refl;
-}
-
-pub none_waits : (events : List Event) (database : State) (attempts : List LiveAttempt) (id : Text) (number : ℕ) → has_number number (attempt_of attempts id) ≡ true
-    → IsFirstOf (attempt_of attempts id) firsts.Partial → Stands events database attempts → TakesNone events id number database attempts attempts
-none_waits events database attempts id number here first stands =
-    let it = this_one number (attempt_of attempts id) here in
-    record {
-      attempt = it.attempt;
-      found = it.is;
-      is_this = it.numbered;
-      none = subst (λ (o : Option LiveAttempt). IsFirstOf o firsts.Partial) it.is first;
-      stands = stands;
-      same = refl;
-    }
-
-pub header_refused : (events : List Event) (database : State) (attempts left : List LiveAttempt) (id : Text) (number : ℕ) → has_number number (attempt_of attempts id) ≡ true
-    → IsFirstOf (attempt_of attempts id) firsts.Unknown → IsNow id None attempts left → Stands events database attempts
-    → RefusesItem events id number refusal.FrameNotAccepted database attempts left
-header_refused events database attempts left id number here first now stands =
-    let it = this_one number (attempt_of attempts id) here in
-    let unknown_is = subst (λ (o : Option LiveAttempt). IsFirstOf o firsts.Unknown) it.is first in
-    unknown_refused events database attempts left id number it.attempt unknown_is.0 (drop 8 it.attempt.output) stands it.is it.numbered here unknown_is.1 now
-
-pub no_memory : (events : List Event) (database : State) (attempts : List LiveAttempt) (id : Text) (number : ℕ) → has_number number (attempt_of attempts id) ≡ true
-    → HasMessageOf (attempt_of attempts id) → Stands events database attempts → RefusesItem events id number refusal.OutOfMemory database attempts attempts
-no_memory events database attempts id number here whole stands =
-    let it = this_one number (attempt_of attempts id) here in
-    let one = subst HasMessageOf it.is whole in
-    unread events database attempts id number it.attempt (message one.0) one.1 stands it.is it.numbered one.2
-
 -- nothing lands at all
 pub nothing_lands : (old new : State) (P : Trees → Type 0) → Survives old new (λ _. ⊥) → Survives old new P
 nothing_lands old new P lives = record {
@@ -310,21 +266,6 @@ nothing_lands old new P lives = record {
   limit = lives.limit;
   closes = lives.closes;
   crash = λ clean db may. elim (lives.crash clean db may) [ inl earlier ↦ inl earlier | inr none ↦ absurd none ];
-}
-
--- ---- what is seen
-
-pub frame_seen : (attempt : LiveAttempt) (m : RawMessage) (it : SeenFrame)
-    → (8 + length m.payload ≤ length attempt.output) × (item_at attempt.output ≡ Some (message m, drop (8 + length m.payload) attempt.output))
-    → it.len ≡ 8 + length m.payload → IsFrame (frame_of attempt.version m) it.frame → it.facts.handed ≡ attempt.input.handed → it.facts.is_input_closed ≡ attempt.is_input_closed
-    → IsSeen attempt it
-frame_seen attempt m it first len read handed closed = record {
-  message_is = m;
-  first = first.1 ∙ ap (λ (n : ℕ). Some (message m, drop n attempt.output)) (sym len);
-  within = let room = first.0 in omega (arith, len, room);
-  read = read;
-  handed = handed;
-  closed = closed;
 }
 
 -- writes that are some
