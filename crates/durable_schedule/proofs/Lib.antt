@@ -1,11 +1,6 @@
-pub mod Holding
-pub mod Following
-pub mod Frames
-pub mod Turning
+pub mod Standing
+pub mod Stepping
+pub mod Growing
+pub mod Enduring
 pub mod Taking
-pub mod Moving
-pub mod Rows
-pub mod Reading
-pub mod Keeping
-pub mod Applying
-pub mod Waiting
+pub mod Scheduling

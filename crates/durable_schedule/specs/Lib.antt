@@ -1,4 +1,1 @@
-pub mod Flight
-pub mod Following
-pub mod Names
-pub mod Schedule
+pub mod Scheduled

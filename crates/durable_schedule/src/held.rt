@@ -1,21 +1,16 @@
-//! The attempts that a scheduler holds, and the ways of the bytes between one of them and the store.
-ghost use Rattle.std.specs.Prelude.{◌≡◌, ◌<◌, ◌≤◌, ◌+◌, None, IfSome, IfNone, length, slice_index_or, min, position};
-ghost use Rattle.durable_schedule.specs.Following.{is_held, held_of};
-ghost use Rattle.durable_schedule.specs.Schedule.{FeedsOne, MovesOne, TakesFrames};
+//! The ways of the bytes between an attempt that is held and the store.
+ghost use Rattle.std.specs.Prelude.{◌≡◌, position};
+ghost use Rattle.sqlite.specs.Held.{state};
+ghost use Rattle.sqlite.specs.State.{Survives};
+ghost use Rattle.schedule_events.specs.Following.{is_held};
+ghost use Rattle.schedule_events.specs.Schedule.{FeedsOne, MovesOne, TakesFrames};
+ghost use Rattle.durable_schedule.specs.Scheduled.{Endures, Leads};
 
-use crate::event::{Refusal, Reply};
 use bytes::ByteStr;
-use invocation_vm::Attempt;
+use invocation_store::Store;
 use journal_model::Handler;
-use journal_store::{FrameReply, Store};
-
-/// An attempt that the scheduler began, by its invocation and its number.
-#[derive(Drop)]
-pub struct HeldAttempt<H> {
-    pub invocation: ByteStr,
-    pub number: u32,
-    pub attempt: Attempt<H>,
-}
+use schedule_events::{HeldAttempt, Refusal, Reply};
+use sqlite::Alter;
 
 /// Whether it is this attempt.
 fn is_this<H>(held: &HeldAttempt<H>, invocation: &ByteStr, number: u32) -> bool
@@ -36,12 +31,13 @@ pub(crate) fn place_of<H>(
 }
 
 /// Hands the next bytes of its input to an attempt, at most so many.
-pub(crate) fn hand_out<H: Handler>(
-    store: &mut Store,
+pub(crate) fn hand_out<H: Handler, S: Alter + Drop>(
+    store: &mut Store<S>,
     one: &mut HeldAttempt<H>,
     count: usize,
 ) -> Reply
-    ensures { FeedsOne one.old count store.old result store.new one.new }
+    ensures does { Leads S.Store (λ s t. FeedsOne one.old count s result t one.new) store.old store.new }
+    ensures crash { Survives (state S.Store store.old.connection) (state S.Store store.new.connection) (λ _. ⊥) }
 {
     match store.next_input(&one.invocation, one.number, count) {
         Ok(bytes) => {
@@ -52,33 +48,38 @@ pub(crate) fn hand_out<H: Handler>(
     }
 }
 
-/// Takes the whole frames that came from a live attempt: how many, and why no further one, where it was refused.
-fn take_frames(
-    store: &mut Store,
+/// Takes the whole frames that came from a live attempt: how many, and why no further one, where it was refused. Where there are
+/// more of them than can be counted, the next one waits.
+fn take_frames<S: Alter + Drop>(
+    store: &mut Store<S>,
     invocation: &ByteStr,
     number: u32,
-) -> (usize, Option<journal_store::Refusal>)
-    ensures { TakesFrames invocation.now number result.0 result.1 store.old store.new }
+) -> (usize, Option<store_refusals::Refusal>)
+    ensures does { Leads S.Store (TakesFrames invocation.now number result.0 result.1) store.old store.new }
+    ensures crash { Endures S.Store store.old store.new }
 {
-    let bytes = store.waiting(invocation);
-    let mut frames = 0usize;
-    loop {
+    for frames in 0..usize::MAX {
         match store.step(invocation, number) {
             Ok(None) => return (frames, None),
-            Ok(Some(FrameReply::Ended)) => return (frames + 1, None),
-            Ok(Some(_)) => frames += 1,
+            Ok(Some(reply)) => {
+                if reply.ends_attempt() {
+                    return (frames + 1, None);
+                }
+            }
             Err(refusal) => return (frames, Some(refusal)),
         }
     }
+    (usize::MAX, Some(store_refusals::Refusal::OutOfMemory))
 }
 
 /// Moves the next bytes of its output from an attempt to the store, at most so many, and takes the whole frames.
-pub(crate) fn take_in<H: Handler>(
-    store: &mut Store,
+pub(crate) fn take_in<H: Handler, S: Alter + Drop>(
+    store: &mut Store<S>,
     one: &mut HeldAttempt<H>,
     count: usize,
 ) -> Reply
-    ensures { MovesOne one.old count store.old result store.new one.new }
+    ensures does { Leads S.Store (λ s t. MovesOne one.old count s result t one.new) store.old store.new }
+    ensures crash { Endures S.Store store.old store.new }
 {
     let bytes = count.min(one.attempt.output().len());
     match store.feed(&one.invocation, one.number, &one.attempt.output()[..bytes]) {

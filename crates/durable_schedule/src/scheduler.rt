@@ -1,34 +1,41 @@
 //! The scheduler: a store, and the attempts that were begun.
-ghost use Rattle.std.specs.Prelude.{◌≡◌, ◌<◌, ◌≤◌, ◌+◌, ℕ, List, [], ◌∷◌, ◌++◌, IfOk, IfErr, None, Some, not, vec_len, vec_capacity};
-ghost use Rattle.std.specs.List.{AllByRecursion};
-ghost use Rattle.journal_store.specs.declared.row.StoredInvocation.{StoredInvocation};
-ghost use Rattle.journal_model.specs.Run.{Handler as Calls};
-ghost use Rattle.journal_store.specs.Rows.{row_of};
-ghost use Rattle.durable_schedule.specs.Following.{held_of, Follows, run_given, IsBeginningOfRun};
-ghost use Rattle.durable_schedule.specs.Schedule.{RepliesDone, BeginDoes, IfHeld, FeedsHeld, TurnsHeld, MovesHeld, Applies, AppliesAll, IsNew, Brings};
-ghost use Rattle.journal_store.specs.Invoke.{Invokes};
-ghost use Rattle.journal_store.specs.Live.{Stops};
-ghost use Rattle.journal_store.specs.Read.{Reads, AnswersWith};
+ghost use Rattle.std.specs.Prelude.{◌≡◌, ◌<◌, ◌≤◌, ◌+◌, ◌^◌, List, [], ◌∷◌, ◌++◌, IfOk, IfErr, map, vec_len, vec_capacity};
+ghost use Rattle.sqlite.specs.Held.{state};
+ghost use Rattle.sqlite.specs.State.{HasCleanDisk, Survives};
+ghost use Rattle.journal_model.specs.Event.{Event as Accepted};
+ghost use Rattle.journal_model.specs.Journal.{entries_of, is_open as is_open_after, recorded_arrivals, recorded_requests};
+ghost use Rattle.store_model.specs.Progress.{last_error_of};
+ghost use Rattle.new_invocations.specs.Rows.{Decides, known_tests};
+ghost use Rattle.invocation_reads.specs.Told.{arrival_told, request_told};
+ghost use Rattle.invocation_reads.specs.Answered.{Answers};
+ghost use Rattle.invocation_store.specs.Stands.{Stands};
+ghost use Rattle.schedule_events.specs.Standing.{Invokes, Standing, Stops};
+ghost use Rattle.schedule_events.specs.Following.{held_of};
+ghost use Rattle.schedule_events.specs.Schedule.{RepliesDone, BeginDoes, IfHeld, FeedsHeld, TurnsHeld, MovesHeld, Applies, AppliesAll, FitsEvent, Scheduled};
+ghost use Rattle.durable_schedule.specs.Scheduled.{Endures, FollowRuns, IsScheduled, IsStanding, Leads, at_first};
 
-use crate::event::{Event, Refusal, Reply};
-use crate::held::{HeldAttempt, hand_out, place_of, take_in};
+use crate::held::{hand_out, place_of, take_in};
 use bytes::ByteStr;
+use invocation_reads::RecordedFrame;
+use invocation_store::Store;
 use invocation_vm::{Attempt, VMOptions};
 use journal_model::{Handler, NewInvocation, NonEmptyValue};
-use journal_store::{RecordedRequest, Store};
+use schedule_events::{Event, HeldAttempt, Refusal, Reply};
+use sqlite::Alter;
 use std::alloc::Global;
+use store_rows::LastError;
 
 /// A store, and the attempts that were begun: one that was stopped or overtaken can still make turns, and its bytes are refused.
 #[derive(Drop)]
-pub struct Scheduler<H> {
+pub struct Scheduler<H, S: Alter> {
     pub alloc: Global,
-    pub store: Store,
+    pub store: Store<S>,
     pub options: VMOptions,
     pub held: Vec<HeldAttempt<H>>,
 }
 
-impl<H: Handler + Drop> Scheduler<H> {
-    pub fn new(alloc: Global, store: Store, options: VMOptions) -> Scheduler<H>
+impl<H: Handler + Drop, S: Alter + Drop> Scheduler<H, S> {
+    pub fn new(alloc: Global, store: Store<S>, options: VMOptions) -> Scheduler<H, S>
         ensures store { result.store ≡ store }
         ensures options { result.options ≡ options }
         ensures held { result.held.items ≡ [] }
@@ -43,8 +50,10 @@ impl<H: Handler + Drop> Scheduler<H> {
 
     /// An invocation is made.
     fn invoke(&mut self, new: NewInvocation) -> Reply
-        ensures does { RepliesDone (λ answer. Invokes new self.old.store answer self.new.store) result }
+        ensures does { Leads S.Store (λ s t. RepliesDone (λ answer. Invokes new s answer t) result) self.old.store self.new.store }
         ensures kept { self.new ≡ record self.old { store = self.new.store } }
+        ensures seed { new.seed < 2 ^ 64 }
+        ensures crash { Endures S.Store self.old.store self.new.store }
     {
         match self.store.invoke(new) {
             Ok(()) => Reply::Done,
@@ -54,8 +63,9 @@ impl<H: Handler + Drop> Scheduler<H> {
 
     /// An attempt is stopped.
     fn stop(&mut self, invocation: &ByteStr, number: u32) -> Reply
-        ensures does { RepliesDone (λ answer. Stops invocation.now number self.old.store answer self.new.store) result }
+        ensures does { Leads S.Store (λ s t. RepliesDone (λ answer. Stops invocation.now number s answer t) result) self.old.store self.new.store }
         ensures kept { self.new ≡ record self.old { store = self.new.store } }
+        ensures crash { Endures S.Store self.old.store self.new.store }
     {
         match self.store.stop(invocation, number) {
             Ok(()) => Reply::Done,
@@ -65,8 +75,10 @@ impl<H: Handler + Drop> Scheduler<H> {
 
     /// An attempt is begun, and held. Where memory is refused for that, it stays begun, and nobody holds it.
     fn begin(&mut self, invocation: ByteStr, handler: H, now: u64) -> Reply
-        ensures does { BeginDoes self.old.options invocation handler now self.old.store self.old.held.items result self.new.store self.new.held.items }
+        ensures does { Leads S.Store (λ s t. BeginDoes self.old.options invocation handler now s self.old.held.items result t self.new.held.items) self.old.store self.new.store }
         ensures options { self.new.options ≡ self.old.options }
+        ensures moment { now < 2 ^ 64 }
+        ensures crash { Endures S.Store self.old.store self.new.store }
     {
         let begun = match self.store.begin(&invocation, now) {
             Ok(begun) => begun,
@@ -81,14 +93,15 @@ impl<H: Handler + Drop> Scheduler<H> {
             attempt,
         }) {
             Ok(()) => Reply::Begun(number),
-            Err(_) => Reply::Refused(Refusal::Store(journal_store::Refusal::OutOfMemory)),
+            Err(_) => Reply::Refused(Refusal::Store(store_refusals::Refusal::OutOfMemory)),
         }
     }
 
     /// Bytes of its input go to an attempt.
     fn feed(&mut self, invocation: &ByteStr, number: u32, count: usize) -> Reply
-        ensures does { IfHeld (λ one. FeedsHeld one count) (held_of self.old.held.items invocation.now number) self.old.store self.old.held.items result self.new.store self.new.held.items }
+        ensures does { Leads S.Store (λ s t. IfHeld (λ one. FeedsHeld one count) (held_of self.old.held.items invocation.now number) s self.old.held.items result t self.new.held.items) self.old.store self.new.store }
         ensures options { self.new.options ≡ self.old.options }
+        ensures crash { Endures S.Store self.old.store self.new.store }
     {
         match place_of(&self.held, invocation, number) {
             None => Reply::Refused(Refusal::AttemptNotHeld),
@@ -98,7 +111,8 @@ impl<H: Handler + Drop> Scheduler<H> {
 
     /// An attempt makes a turn.
     fn turn(&mut self, invocation: &ByteStr, number: u32) -> Reply
-        ensures does { IfHeld (TurnsHeld H.next_call) (held_of self.old.held.items invocation.now number) self.old.store self.old.held.items result self.new.store self.new.held.items }
+        ensures does { Leads S.Store (λ s t. IfHeld (TurnsHeld H.next_call) (held_of self.old.held.items invocation.now number) s self.old.held.items result t self.new.held.items) self.old.store self.new.store }
+        ensures store { self.new.store ≡ self.old.store }
         ensures options { self.new.options ≡ self.old.options }
     {
         match place_of(&self.held, invocation, number) {
@@ -112,8 +126,9 @@ impl<H: Handler + Drop> Scheduler<H> {
 
     /// Bytes of its output go from an attempt to the store.
     fn transfer(&mut self, invocation: &ByteStr, number: u32, count: usize) -> Reply
-        ensures does { IfHeld (λ one. MovesHeld one count) (held_of self.old.held.items invocation.now number) self.old.store self.old.held.items result self.new.store self.new.held.items }
+        ensures does { Leads S.Store (λ s t. IfHeld (λ one. MovesHeld one count) (held_of self.old.held.items invocation.now number) s self.old.held.items result t self.new.held.items) self.old.store self.new.store }
         ensures options { self.new.options ≡ self.old.options }
+        ensures crash { Endures S.Store self.old.store self.new.store }
     {
         match place_of(&self.held, invocation, number) {
             None => Reply::Refused(Refusal::AttemptNotHeld),
@@ -123,7 +138,10 @@ impl<H: Handler + Drop> Scheduler<H> {
 
     /// One event. A refused one is used up too.
     pub fn apply(&mut self, event: Event<H>) -> Reply
-        ensures { Applies H.next_call event result self.old self.new }
+        ensures does { HasCleanDisk (state S.Store self.new.store.connection) → (old : Scheduled H) → IsScheduled S.Store old self.old → (new : Scheduled H) × IsScheduled S.Store new self.new × Applies H.next_call self.old.options event result old new }
+        ensures options { self.new.options ≡ self.old.options }
+        ensures fits { FitsEvent event }
+        ensures crash { Endures S.Store self.old.store self.new.store }
     {
         match event {
             Event::Invoke(new) => self.invoke(new),
@@ -155,34 +173,60 @@ impl<H: Handler + Drop> Scheduler<H> {
 
     /// One turn of an attempt: what `apply` does for `Event::Turn`, for a caller that keeps the id.
     pub fn take_turn(&mut self, invocation: &ByteStr, attempt: u32) -> Reply
-        ensures { Applies H.next_call (Event.Turn invocation.now attempt) result self.old self.new }
+        ensures does { HasCleanDisk (state S.Store self.new.store.connection) → (old : Scheduled H) → IsScheduled S.Store old self.old → (new : Scheduled H) × IsScheduled S.Store new self.new × Applies H.next_call self.old.options (Event.Turn invocation.now attempt) result old new }
+        ensures store { self.new.store ≡ self.old.store }
+        ensures options { self.new.options ≡ self.old.options }
     {
         self.turn(invocation, attempt)
     }
 
-    /// The recorded requests of an invocation, by place from 1.
-    pub fn requests(&self, id: &ByteStr) -> Result<&[RecordedRequest], journal_store::Refusal>
-        ensures { Reads (λ requests row. requests.now ≡ row.requests) id.now self.now.store result }
+    /// The recorded requests of an invocation, by place, each as the frame that its attempt wrote.
+    pub fn requests(&mut self, id: &ByteStr) -> Result<Vec<RecordedFrame>, store_refusals::Refusal>
+        ensures told { HasCleanDisk (state S.Store self.new.store.connection) → (s : Scheduled H) → IsScheduled S.Store s self.old → Decides (known_tests s.standing.events id.now) (λ frames. frames.items ≡ map request_told (recorded_requests s.standing.events id.now)) result × IsScheduled S.Store s self.new }
+        ensures kept { self.new ≡ record self.old { store = self.new.store } }
+        ensures crash { Survives (state S.Store self.old.store.connection) (state S.Store self.new.store.connection) (λ _. ⊥) }
     {
         self.store.requests(id)
     }
 
+    /// The recorded arrivals of an invocation, by place, each as a frame of the type by which its request is completed.
+    pub fn arrivals(&mut self, id: &ByteStr) -> Result<Vec<RecordedFrame>, store_refusals::Refusal>
+        ensures told { HasCleanDisk (state S.Store self.new.store.connection) → (s : Scheduled H) → IsScheduled S.Store s self.old → Decides (known_tests s.standing.events id.now) (λ frames. frames.items ≡ map (arrival_told (entries_of s.standing.events id.now)) (recorded_arrivals s.standing.events id.now)) result × IsScheduled S.Store s self.new }
+        ensures kept { self.new ≡ record self.old { store = self.new.store } }
+        ensures crash { Survives (state S.Store self.old.store.connection) (state S.Store self.new.store.connection) (λ _. ⊥) }
+    {
+        self.store.arrivals(id)
+    }
+
     /// What a closed invocation answers.
-    pub fn answer(&self, id: &ByteStr) -> Result<Option<NonEmptyValue>, journal_store::Refusal>
-        ensures { AnswersWith id.now self.now.store result }
+    pub fn answer(&mut self, id: &ByteStr) -> Result<Option<NonEmptyValue>, store_refusals::Refusal>
+        ensures told { HasCleanDisk (state S.Store self.new.store.connection) → (s : Scheduled H) → IsScheduled S.Store s self.old → Answers s.standing.events id.now result × IsScheduled S.Store s self.new }
+        ensures kept { self.new ≡ record self.old { store = self.new.store } }
+        ensures crash { Survives (state S.Store self.old.store.connection) (state S.Store self.new.store.connection) (λ _. ⊥) }
     {
         self.store.answer(id)
     }
 
+    /// The last error that an attempt of an invocation told.
+    pub fn failure(&mut self, id: &ByteStr) -> Result<Option<LastError>, store_refusals::Refusal>
+        ensures told { HasCleanDisk (state S.Store self.new.store.connection) → (s : Scheduled H) → IsScheduled S.Store s self.old → Decides (known_tests s.standing.events id.now) (λ error. error ≡ last_error_of s.standing.events id.now) result × IsScheduled S.Store s self.new }
+        ensures kept { self.new ≡ record self.old { store = self.new.store } }
+        ensures crash { Survives (state S.Store self.old.store.connection) (state S.Store self.new.store.connection) (λ _. ⊥) }
+    {
+        self.store.failure(id)
+    }
+
     /// Whether an invocation is open.
-    pub fn is_open(&self, id: &ByteStr) -> Result<bool, journal_store::Refusal>
-        ensures { Reads (λ is_open row. is_open ≡ not row.is_closed) id.now self.now.store result }
+    pub fn is_open(&mut self, id: &ByteStr) -> Result<bool, store_refusals::Refusal>
+        ensures told { HasCleanDisk (state S.Store self.new.store.connection) → (s : Scheduled H) → IsScheduled S.Store s self.old → Decides (known_tests s.standing.events id.now) (λ is_open. is_open ≡ is_open_after s.standing.events id.now) result × IsScheduled S.Store s self.new }
+        ensures kept { self.new ≡ record self.old { store = self.new.store } }
+        ensures crash { Survives (state S.Store self.old.store.connection) (state S.Store self.new.store.connection) (λ _. ⊥) }
     {
         self.store.is_open(id)
     }
 
     /// The store, whose attempts nobody holds any more.
-    pub fn into_store(self) -> Store
+    pub fn into_store(self) -> Store<S>
         ensures { result ≡ self.store }
     {
         let Scheduler { store, .. } = self;
@@ -201,27 +245,28 @@ fn put(replies: &mut Vec<Reply>, reply: Reply)
 }
 
 /// Memory was refused for the replies, and nothing was applied.
-#[derive(Debug, Drop)]
-pub struct NoRoom {
+#[derive(Drop)]
+pub struct NoRoom<S: Alter> {
     /// As it was handed in.
-    pub store: Store,
+    pub store: Store<S>,
 }
 
 /// Applies events in order, and answers the scheduler and the replies. Room for all replies is made first: where memory is
 /// refused for that (S20), nothing is applied and the store comes back.
-pub fn run_schedule<H: Handler + Drop>(
+pub fn run_schedule<H: Handler + Drop, S: Alter + Drop>(
     alloc: Global,
-    store: Store,
+    store: Store<S>,
     options: VMOptions,
     events: Vec<Event<H>>,
-) -> Result<(Scheduler<H>, Vec<Reply>), NoRoom>
+) -> Result<(Scheduler<H, S>, Vec<Reply>), NoRoom<S>>
     // What is recorded of an invocation are the first requests of the one uninterrupted run of its handler.
-    ensures headline { IfOk result (λ done. (id : List ℕ) (next : Calls) → row_of store id ≡ None →
-        AllByRecursion (Brings H.next_call id next) events.items →
-        (invocation : StoredInvocation) → row_of done.0.store id ≡ Some invocation →
-        IsBeginningOfRun next (run_given options invocation) invocation.requests) }
+    ensures headline { IfOk result (λ done. HasCleanDisk (state S.Store done.0.store.connection) → (before : List Accepted) → Stands before (state S.Store store.connection) store.live.attempts →
+        (after : List Accepted) × Stands after (state S.Store done.0.store.connection) done.0.store.live.attempts × FollowRuns H.next_call options events.items before after) }
     // What each event answers and leaves.
-    ensures applies { IfOk result (λ done. (start : Scheduler H) × IsNew store options start × AppliesAll H.next_call events.items done.1.items start done.0) }
+    ensures applies { IfOk result (λ done. HasCleanDisk (state S.Store done.0.store.connection) → (s : Standing) → IsStanding S.Store s store →
+        (new : Scheduled H) × IsScheduled S.Store new done.0 × AppliesAll H.next_call options events.items done.1.items (at_first s) new) }
+    ensures options { IfOk result (λ done. done.0.options ≡ options) }
+    ensures crash { IfOk result (λ done. Endures S.Store store done.0.store) }
     ensures err { IfErr result (λ refused. refused.store ≡ store) }
 {
     let Ok(mut replies) = Vec::with_capacity(alloc, events.len()) else {

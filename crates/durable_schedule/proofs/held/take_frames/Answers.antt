@@ -1,42 +1,69 @@
-use Rattle.std.proofs.Common.{◌≡◌, ◌<◌, ◌≤◌, ◌+◌, Option, Some, Ok, arith, sym, subst, add-one}
-use Rattle.journal_store.specs.declared.row.FrameReply.{FrameReply}
-use Rattle.journal_store.specs.Live.{bytes_waiting}
-use Rattle.journal_store.specs.Step.{Steps}
-use Rattle.durable_schedule.proofs.Waiting.{waits_less}
+use Rattle.std.proofs.Common.{◌≡◌, ℕ, arith, sym, subst, ◌∙◌, Bool, Option, Ok}
+use Rattle.taken_frames.specs.declared.frame.FrameReply.{FrameReply}
+use Rattle.taken_frames.specs.Taken.{TellsEnd}
+use Rattle.schedule_events.specs.Schedule.{Took}
+use Rattle.durable_schedule.specs.Scheduled.{Leads}
+use Rattle.durable_schedule.proofs.Enduring.{same_endures}
+use Rattle.durable_schedule.proofs.Taking.{Stepped, took_all, took_end, took_more, took_until, took_many, took_none, step_more}
 use Rattle.durable_schedule.proofs.held.take_frames.Goals as goal
 
-pub overflow_add-result : goal.overflow_add-result
-overflow_add-result c =
-    let step = subst (λ (o : Option FrameReply). Steps c.args.invocation.now c.args.number c.loop-frames.store (Ok o) c.step.new.self) c.in-Ok-Some-Ended.field-0-is c.in-Ok-Some-Ended.ensures in
-    let less : bytes_waiting c.step.new.self c.args.invocation.now < bytes_waiting c.loop-frames.store c.args.invocation.now =
-    waits_less c.args.invocation.now c.args.number c.in-Ok-Some-Ended.field-0-0 c.loop-frames.store c.step.new.self step in
-    let room = c.loop-frames.invariant.room in
-    let all = c.waiting-bytes.ensures in
-    let fits = c.waiting-bytes.type_inv in
-    omega arith
-
-pub overflow_add-frames : goal.overflow_add-frames
-overflow_add-frames c =
-    let step = subst (λ (o : Option FrameReply). Steps c.args.invocation.now c.args.number c.loop-frames.store (Ok o) c.step.new.self) c.in-Ok-Some.field-0-is c.in-Ok-Some.ensures in
-    let less : bytes_waiting c.step.new.self c.args.invocation.now < bytes_waiting c.loop-frames.store c.args.invocation.now =
-    waits_less c.args.invocation.now c.args.number c.in-Ok-Some.field-0-0 c.loop-frames.store c.step.new.self step in
-    let room = c.loop-frames.invariant.room in
-    let all = c.waiting-bytes.ensures in
-    let fits = c.waiting-bytes.type_inv in
-    omega arith
-
-pub loop-frames-smaller : goal.loop-frames-smaller
-loop-frames-smaller c =
-    waits_less c.args.invocation.now c.args.number c.in-Ok-Some.field-0-0 c.loop-frames.store c.step.new.self
-    (subst (λ (o : Option FrameReply). Steps c.args.invocation.now c.args.number c.loop-frames.store (Ok o) c.step.new.self) c.in-Ok-Some.field-0-is c.in-Ok-Some.ensures)
+pub loop-frames-init : goal.loop-frames-init
+loop-frames-init g c = record {
+  took = took_none g.S.Store c.args.invocation.now c.args.number 0 c.args.store.now c.args.store.now;
+  crash = same_endures g.S.Store c.args.store.now;
+}
 
 pub loop-frames-preserved : goal.loop-frames-preserved
-loop-frames-preserved c =
-    let step = subst (λ (o : Option FrameReply). Steps c.args.invocation.now c.args.number c.loop-frames.store (Ok o) c.step.new.self) c.in-Ok-Some.field-0-is c.in-Ok-Some.ensures in
-    let less : bytes_waiting c.step.new.self c.args.invocation.now < bytes_waiting c.loop-frames.store c.args.invocation.now =
-    waits_less c.args.invocation.now c.args.number c.in-Ok-Some.field-0-0 c.loop-frames.store c.step.new.self step in
-    let room = c.loop-frames.invariant.room in
+loop-frames-preserved g c =
+    let first = c.args.store.now in
+    let old = c.loop-frames.store in
+    let new = c.step.new.self in
+    let reply = c.in-Ok-Some.reply in
+    let ends = c.ends_attempt.ensures in
+    let does = subst (λ (o : Option FrameReply). Stepped g.S.Store c.args.invocation.now c.args.number c.loop-frames.frames first old new (Ok o)) c.in-Ok-Some.field-0-is c.in-Ok-Some.ensures.does in
     record {
-      took = rw add-one (c.loop-frames.store, c.in-Ok-Some.field-0-0, c.loop-frames.invariant.took, step);
-      room = omega arith;
+      took = took_more g.S.Store c.args.invocation.now c.args.number c.loop-frames.frames first old new c.loop-frames.invariant.took c.step.ensures.crash reply
+          (subst (λ (b : Bool). TellsEnd reply b) ends.value ends.frame) (sym ends.value ∙ c.if-ends_attempt.false) does;
+      crash = step_more g.S.Store c.args.invocation.now c.args.number c.loop-frames.frames first old new c.loop-frames.invariant.took c.loop-frames.invariant.crash c.step.ensures.crash;
     }
+
+pub returns-in-Ok-None-clause-does : goal.returns-in-Ok-None-clause-does
+returns-in-Ok-None-clause-does g c =
+    let first = c.args.store.now in
+    let old = c.loop-frames.store in
+    let new = c.step.new.self in
+    let does = subst (λ (o : Option FrameReply). Stepped g.S.Store c.args.invocation.now c.args.number c.loop-frames.frames first old new (Ok o)) c.in-Ok-None.field-0-is c.in-Ok-None.ensures.does in
+    took_all g.S.Store c.args.invocation.now c.args.number c.loop-frames.frames first old new c.loop-frames.invariant.took c.step.ensures.crash does
+
+pub returns-in-Ok-None-clause-crash : goal.returns-in-Ok-None-clause-crash
+returns-in-Ok-None-clause-crash g c =
+    step_more g.S.Store c.args.invocation.now c.args.number c.loop-frames.frames c.args.store.now c.loop-frames.store c.step.new.self c.loop-frames.invariant.took c.loop-frames.invariant.crash c.step.ensures.crash
+
+pub returns-in-Err-clause-does : goal.returns-in-Err-clause-does
+returns-in-Err-clause-does g c =
+    took_until g.S.Store c.args.invocation.now c.args.number c.loop-frames.frames c.args.store.now c.loop-frames.store c.step.new.self c.in-Err.refusal c.loop-frames.invariant.took c.step.ensures.crash c.in-Err.ensures.does
+
+pub returns-in-Err-clause-crash : goal.returns-in-Err-clause-crash
+returns-in-Err-clause-crash g c =
+    step_more g.S.Store c.args.invocation.now c.args.number c.loop-frames.frames c.args.store.now c.loop-frames.store c.step.new.self c.loop-frames.invariant.took c.loop-frames.invariant.crash c.step.ensures.crash
+
+pub returns-then-ends_attempt-clause-does : goal.returns-then-ends_attempt-clause-does
+returns-then-ends_attempt-clause-does g c =
+    let first = c.args.store.now in
+    let old = c.loop-frames.store in
+    let new = c.step.new.self in
+    let reply = c.in-Ok-Some.reply in
+    let ends = c.ends_attempt.ensures in
+    let does = subst (λ (o : Option FrameReply). Stepped g.S.Store c.args.invocation.now c.args.number c.loop-frames.frames first old new (Ok o)) c.in-Ok-Some.field-0-is c.in-Ok-Some.ensures.does in
+    took_end g.S.Store c.args.invocation.now c.args.number c.loop-frames.frames first old new c.loop-frames.invariant.took c.step.ensures.crash reply
+    (subst (λ (b : Bool). TellsEnd reply b) ends.value ends.frame) (sym ends.value ∙ c.if-ends_attempt.true) does
+
+pub returns-then-ends_attempt-clause-crash : goal.returns-then-ends_attempt-clause-crash
+returns-then-ends_attempt-clause-crash g c =
+    step_more g.S.Store c.args.invocation.now c.args.number c.loop-frames.frames c.args.store.now c.loop-frames.store c.step.new.self c.loop-frames.invariant.took c.loop-frames.invariant.crash c.step.ensures.crash
+
+pub returns-clause-does : goal.returns-clause-does
+returns-clause-does g c =
+    let many : c.loop-frames.frames ≡ 18446744073709551615 = omega (arith, c.loop-frames-test.false, c.loop-frames.auto.frames-end) in
+    took_many g.S.Store c.args.invocation.now c.args.number 18446744073709551615 c.args.store.now c.loop-frames.store
+    (subst (λ (frames : ℕ). Leads g.S.Store (Took c.args.invocation.now c.args.number frames) c.args.store.now c.loop-frames.store) many c.loop-frames.invariant.took)

@@ -1,13 +1,9 @@
-use Rattle.std.proofs.Common.{◌+◌, ◌-◌, ◌≤◌}
-use Rattle.journal_store.specs.Live.{bytes_waiting}
-use Rattle.durable_schedule.specs.Schedule.{Took}
+use Rattle.schedule_events.specs.Schedule.{Took}
+use Rattle.durable_schedule.specs.Scheduled.{Leads, Endures}
 use Rattle.durable_schedule.proofs.held.take_frames.Given as goal
 
 abbrev pub invariant-loop-frames : goal.invariant-loop-frames
-invariant-loop-frames l = record {
-  took : Took l.invocation l.number l.frames l.fn.store l.store;
-  room : l.frames + bytes_waiting l.store l.invocation ≤ bytes_waiting l.fn.store l.invocation;
+invariant-loop-frames g l = record {
+  took : Leads g.S.Store (Took l.invocation l.number l.frames) l.fn.store l.store;
+  crash : Endures g.S.Store l.fn.store l.store;
 }
-
-abbrev pub decreases-loop-frames : goal.decreases-loop-frames
-decreases-loop-frames l = bytes_waiting l.store l.invocation

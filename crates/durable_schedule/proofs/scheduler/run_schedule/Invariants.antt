@@ -1,18 +1,19 @@
-use Rattle.std.proofs.Common.{◌≡◌, ℕ, ◌≤◌, List, None, length, vec_len, vec_capacity}
+use Rattle.std.proofs.Common.{◌≡◌, ◌≤◌, length, vec_len, vec_capacity}
 use Rattle.std.specs.List.{AllByRecursion}
-use Rattle.journal_model.specs.Run.{Handler}
-use Rattle.journal_store.specs.Rows.{row_of}
-use Rattle.durable_schedule.specs.declared.scheduler.Scheduler.{Scheduler}
-use Rattle.durable_schedule.specs.Following.{Follows}
-use Rattle.durable_schedule.specs.Schedule.{AppliesAll, IsNew, Brings}
+use Rattle.sqlite.specs.Held.{state}
+use Rattle.sqlite.specs.State.{HasCleanDisk}
+use Rattle.schedule_events.specs.Standing.{Standing}
+use Rattle.schedule_events.specs.Schedule.{Scheduled, AppliesAll, FitsEvent}
+use Rattle.durable_schedule.specs.Scheduled.{IsStanding, IsScheduled, Endures, at_first}
 use Rattle.durable_schedule.proofs.scheduler.run_schedule.Given as goal
 
 abbrev pub invariant-loop-event : goal.invariant-loop-event
 invariant-loop-event g l = record {
-  follows : (id : List ℕ) (next : Handler) → row_of l.fn.store id ≡ None → AllByRecursion (Brings g.H.Handler.next_call id next) l.yielded
-      → Follows g.H.Handler.next_call next l.fn.options id l.scheduler.store l.scheduler.held.items;
+  applies : HasCleanDisk (state g.S.Store l.scheduler.store.connection) → (s : Standing) → IsStanding g.S.Store s l.fn.store
+      → (new : Scheduled g.row.H.Denot) × IsScheduled g.S.Store new l.scheduler × AppliesAll g.H.Handler.next_call l.fn.options l.yielded l.replies.items (at_first s) new;
+  fits : AllByRecursion FitsEvent l.yielded;
+  crash : Endures g.S.Store l.fn.store l.scheduler.store;
   options : l.scheduler.options ≡ l.fn.options;
-  applies : (start : Scheduler g.row.H.Denot) × IsNew l.fn.store l.fn.options start × AppliesAll g.H.Handler.next_call l.yielded l.replies.items start l.scheduler;
   count : vec_len l.replies ≡ length l.yielded;
   room : length l.fn.events.items ≤ vec_capacity l.replies;
 }

@@ -1,26 +1,56 @@
-use Rattle.std.proofs.Common.{◌≡◌, List, ℕ, refl, subst}
-use Rattle.durable_schedule.specs.Schedule.{FeedDoes}
+use Rattle.std.proofs.Common.{List, ℕ, refl, subst, inl, inr}
+use Rattle.journal_model.specs.Event.{Event}
+use Rattle.schedule_events.specs.Schedule.{FeedDoes}
+use Rattle.durable_schedule.proofs.Standing.{begins, refused, as_begun}
+use Rattle.durable_schedule.proofs.Enduring.{event_endures}
 use Rattle.durable_schedule.proofs.scheduler.Scheduler.begin.Goals as goal
 
+pub returns-in-Err-clause-does : goal.returns-in-Err-clause-does
+returns-in-Err-clause-does g c clean s is =
+    let does = c.in-Err.ensures.does clean s.events is.stands in
+    let it = refused g.S.Store s c.args.self.now.store c.begin.new.self is (Event.Begin c.args.invocation c.args.now) c.in-Err.refusal does.0 does.1 c.in-Err.ensures.waits in
+    (it.0, it.1, inl (it.2, refl))
+
+pub returns-in-Err-clause-crash : goal.returns-in-Err-clause-crash
+returns-in-Err-clause-crash g c = event_endures g.S.Store (Event.Begin c.args.invocation c.args.now) c.args.self.now.store c.begin.new.self c.begin.ensures.crash
+
 pub returns-in-Ok-push-clause-does : goal.returns-in-Ok-push-clause-does
-returns-in-Ok-push-clause-does g c = (
-  c.in-Ok.begun,
-  refl,
-  c.in-Ok.ensures,
-  record {
-    fresh = c.new-attempt.result;
-    attempt = c.feed.new.self;
-    is_fresh = record {
-      handler_is = c.new-attempt.ensures.handler;
-      version_is = c.new-attempt.ensures.version;
-      options_are = c.new-attempt.ensures.options;
-      decoder = c.new-attempt.ensures.decoder;
-      start = c.new-attempt.ensures.start;
-      input = c.new-attempt.ensures.input;
-      progress = c.new-attempt.ensures.progress;
-      over = c.new-attempt.ensures.over;
-    };
-    fed = subst (λ (b : List ℕ). FeedDoes c.new-attempt.result b c.feed.new.self) c.deref.ensures c.feed.ensures;
-    held = c.in-Ok-push.ensures.items;
-  },
-)
+returns-in-Ok-push-clause-does g c clean s is =
+    let does = c.in-Ok.ensures.does clean s.events is.stands in
+    let it = begins g.S.Store s c.args.self.now.store c.begin.new.self is c.args.invocation c.args.now c.in-Ok.begun does.1 does.2 c.in-Ok.ensures.waits in (
+      it.0,
+      it.1,
+      (
+        as_begun c.in-Ok.begun,
+        refl,
+        it.2,
+        record {
+          fresh = c.new-attempt.result;
+          attempt = c.feed.new.self;
+          is_fresh = record {
+            handler_is = c.new-attempt.ensures.handler;
+            version_is = c.new-attempt.ensures.version;
+            options_are = c.new-attempt.ensures.options;
+            decoder = c.new-attempt.ensures.decoder;
+            start = c.new-attempt.ensures.start;
+            input = c.new-attempt.ensures.input;
+            progress = c.new-attempt.ensures.progress;
+            over = c.new-attempt.ensures.over;
+          };
+          fed = subst (λ (b : List ℕ). FeedDoes c.new-attempt.result b c.feed.new.self) c.deref.ensures c.feed.ensures;
+          held = c.in-Ok-push.ensures.items;
+        },
+      ),
+    )
+
+pub returns-in-Ok-push-clause-crash : goal.returns-in-Ok-push-clause-crash
+returns-in-Ok-push-clause-crash g c = event_endures g.S.Store (Event.Begin c.args.invocation c.args.now) c.args.self.now.store c.begin.new.self c.begin.ensures.crash
+
+pub returns-clause-does : goal.returns-clause-does
+returns-clause-does g c clean s is =
+    let does = c.in-Ok.ensures.does clean s.events is.stands in
+    let it = begins g.S.Store s c.args.self.now.store c.begin.new.self is c.args.invocation c.args.now c.in-Ok.begun does.1 does.2 c.in-Ok.ensures.waits in
+    (it.0, it.1, inr (as_begun c.in-Ok.begun, refl, it.2, c.in-Err-push.ensures.items))
+
+pub returns-clause-crash : goal.returns-clause-crash
+returns-clause-crash g c = event_endures g.S.Store (Event.Begin c.args.invocation c.args.now) c.args.self.now.store c.begin.new.self c.begin.ensures.crash
