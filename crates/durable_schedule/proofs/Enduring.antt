@@ -8,9 +8,9 @@ use Rattle.sqlite.proofs.StateLemmas.{survives_then, survives_weaker}
 use Rattle.journal_model.specs.Notification.{Text}
 use Rattle.journal_model.specs.Event.{Event}
 use Rattle.journal_model.specs.Cause.{IsAccepted}
-use Rattle.invocation_store.specs.Stored.{Stored}
-use Rattle.invocation_store.specs.Stands.{KeepsAll, Commits}
-use Rattle.invocation_store.specs.Attempts.{frame_of_item, CommitsItem}
+use Rattle.journal_store.specs.Stored.{Stored}
+use Rattle.journal_store.specs.Stands.{KeepsAll, Commits}
+use Rattle.journal_store.specs.Attempts.{frame_of_item, CommitsItem}
 use Rattle.schedule_events.specs.Standing.{Standing}
 use Rattle.durable_schedule.specs.Scheduled.{KeepsMore, Extends, Endures, IsStanding}
 use Rattle.durable_schedule.proofs.Standing.{stood}

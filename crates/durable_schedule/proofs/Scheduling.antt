@@ -7,7 +7,7 @@ use Rattle.sqlite.specs.State.{HasCleanDisk}
 use Rattle.journal_model.specs.Run.{Handler}
 use Rattle.invocation_vm.specs.declared.options.VMOptions.{VMOptions}
 use Rattle.live_attempts.specs.Attempts.{Attempts}
-use Rattle.invocation_store.specs.Stands.{Stands, output_of}
+use Rattle.journal_store.specs.Stands.{Stands, output_of}
 use Rattle.schedule_events.specs.declared.event.Event.{Event}
 use Rattle.schedule_events.specs.declared.event.Reply.{Reply}
 use Rattle.schedule_events.specs.declared.held.HeldAttempt.{HeldAttempt}

@@ -13,11 +13,11 @@ use Rattle.live_attempts.specs.declared.attempt.LiveAttempt.{LiveAttempt}
 use Rattle.live_attempts.specs.Attempts.{attempt_of, after_output}
 use Rattle.live_laws.specs.Agrees.{Agrees, has_number, cause_of_stale}
 use Rattle.live_laws.proofs.Tests.{live_told, stale_told}
-use Rattle.invocation_store.specs.declared.begun.BegunAttempt.{BegunAttempt}
-use Rattle.invocation_store.specs.Stored.{Stored}
-use Rattle.invocation_store.specs.Stands.{Stands, Does, output_of, KeepsOutputs, WaitsNow, WaitsAfter}
-use Rattle.invocation_store.specs.Attempts.{IsBegunAttempt, IsStale, IsUnfed, Feeds as FeedsStore}
-use Rattle.invocation_store.proofs.Quiet.{stale_refused}
+use Rattle.journal_store.specs.declared.begun.BegunAttempt.{BegunAttempt}
+use Rattle.journal_store.specs.Stored.{Stored}
+use Rattle.journal_store.specs.Stands.{Stands, Does, output_of, KeepsOutputs, WaitsNow, WaitsAfter}
+use Rattle.journal_store.specs.Attempts.{IsBegunAttempt, IsStale, IsUnfed, Feeds as FeedsStore}
+use Rattle.journal_store.proofs.Quiet.{stale_refused}
 use Rattle.schedule_events.specs.Standing.{Standing, Stays, Adds, Leaves, Refuses, Invokes, Begun, IsBegun, HandsOut, Feeds, Stops}
 use Rattle.schedule_events.proofs.Taking.{live_when}
 use Rattle.durable_schedule.specs.Scheduled.{IsStanding}

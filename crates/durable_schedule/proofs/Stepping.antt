@@ -18,9 +18,9 @@ use Rattle.live_attempts.specs.declared.attempt.LiveAttempt.{LiveAttempt}
 use Rattle.live_attempts.specs.Attempts.{attempt_of, IsNow}
 use Rattle.live_laws.specs.Agrees.{IsKeptLive, Agrees, has_number}
 use Rattle.live_laws.proofs.Tests.{live_told}
-use Rattle.invocation_store.specs.Stored.{Stored}
-use Rattle.invocation_store.specs.Stands.{WaitsNow}
-use Rattle.invocation_store.specs.Attempts.{frame_of_item, attempt_left, IsFirstItem, IsLeftBy, TakesItem, RefusesItem, IsOver, TakesNone as NoneWaits, Steps}
+use Rattle.journal_store.specs.Stored.{Stored}
+use Rattle.journal_store.specs.Stands.{WaitsNow}
+use Rattle.journal_store.specs.Attempts.{frame_of_item, attempt_left, IsFirstItem, IsLeftBy, TakesItem, RefusesItem, IsOver, TakesNone as NoneWaits, Steps}
 use Rattle.schedule_events.specs.Standing.{Standing, frame_in, rest_after, IsNext, TakesFrame, TakesNone, RefusesFrame}
 use Rattle.durable_schedule.specs.Scheduled.{IsStanding}
 use Rattle.durable_schedule.proofs.Standing.{output_in, stood, Then, stays, leaves, refused, stale, same_outputs}

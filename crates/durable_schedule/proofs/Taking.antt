@@ -9,9 +9,9 @@ use Rattle.store_refusals.specs.declared.refusal.Refusal.{Refusal}
 use Rattle.store_refusals.specs.declared.refusal.Refusal.TheVariants.{OutOfMemory}
 use Rattle.taken_frames.specs.declared.frame.FrameReply.{FrameReply}
 use Rattle.taken_frames.specs.Taken.{does_end, TellsEnd}
-use Rattle.invocation_store.specs.Stored.{Stored}
-use Rattle.invocation_store.specs.Stands.{Stands}
-use Rattle.invocation_store.specs.Attempts.{CommitsItem, Steps}
+use Rattle.journal_store.specs.Stored.{Stored}
+use Rattle.journal_store.specs.Stands.{Stands}
+use Rattle.journal_store.specs.Attempts.{CommitsItem, Steps}
 use Rattle.schedule_events.specs.Standing.{TakesFrame}
 use Rattle.schedule_events.specs.Schedule.{Took, TakesFrames}
 use Rattle.durable_schedule.specs.Scheduled.{Leads, Endures}

@@ -13,8 +13,8 @@ use Rattle.journal_model.specs.Journal.{invocation_begun, starting_state, record
 use Rattle.journal_model.specs.Run.{Handler}
 use Rattle.invocation_vm.specs.declared.options.VMOptions.{VMOptions}
 use Rattle.invocation_vm.specs.First.{given_by}
-use Rattle.invocation_store.specs.Stored.{Stored}
-use Rattle.invocation_store.specs.Stands.{Stands, KeepsAll, output_of}
+use Rattle.journal_store.specs.Stored.{Stored}
+use Rattle.journal_store.specs.Stands.{Stands, KeepsAll, output_of}
 use Rattle.schedule_events.specs.declared.event.Event as scheduled
 use Rattle.schedule_events.specs.Standing.{Standing}
 use Rattle.schedule_events.specs.Schedule.{Scheduled, Brings}

@@ -7,8 +7,8 @@ ghost use Rattle.schedule_events.specs.Schedule.{FeedsOne, MovesOne, TakesFrames
 ghost use Rattle.durable_schedule.specs.Scheduled.{Endures, Leads};
 
 use bytes::ByteStr;
-use invocation_store::Store;
 use journal_model::Handler;
+use journal_store::Store;
 use schedule_events::{HeldAttempt, Refusal, Reply};
 use sqlite::Alter;
 

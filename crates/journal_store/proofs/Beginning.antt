@@ -1,85 +1,154 @@
--- Why an invocation, and an attempt, are refused; and what is written of a list of messages.
-use Rattle.std.proofs.Common.{◌≡◌, ◌≢◌, ℕ, ◌+◌, ◌≤◌, ◌^◌, Bool, true, false, List, [], ◌∷◌, ◌++◌, length, map, take, Option, Some, None, Result, Ok, Err, refl, sym, ap, ◌∙◌, ◌⊎◌, inl, inr}
-use Rattle.std.specs.Prelude.{if◌then◌else◌, ◌||◌}
-use Rattle.std.specs.List.{list_any}
+-- An attempt is begun.
+use Rattle.std.proofs.Common.{◌≡◌, ℕ, suc, ◌+◌, ◌++◌, ◌<◌, ◌^◌, refl, sym, ap, ap₂, subst, ◌∙◌, length, map, filter, inr, Bool, true, false, not, ◌&&◌, is_some, if◌then◌else◌, List, [], ◌∷◌, Option, Some, None, option_map, Result, Ok, Err, IfErr, IfOk, OnOk, OnErr, IsTrue, arith}
+use Rattle.std.proofs.lemmas.List.{length-map}
+use Rattle.std.specs.List.{AllByRecursion}
+use Rattle.std.specs.Option.{option_to_list}
+use Rattle.sqlite_trees.specs.Tree.{Trees}
+use Rattle.sqlite.specs.State.{State, HasCleanDisk, Survives}
+use Rattle.sql_tables.specs.Asking.{IsKept as Asked}
+use Rattle.journal_model.specs.Notification.{Text}
 use Rattle.journal_model.specs.declared.invocation.NewInvocation.{NewInvocation}
-use Rattle.journal_protocol.specs.declared.decoder.RawMessage.{RawMessage}
-use Rattle.journal_store.specs.declared.row.StoredInvocation.{StoredInvocation}
-use Rattle.journal_store.specs.declared.refusal.Refusal.{Refusal}
-use Rattle.journal_store.specs.declared.refusal.Refusal.TheVariants.{InvocationClosed, NumbersUsedUp, PayloadTooLong}
-use Rattle.journal_store.specs.Rows.{Rows, row_of}
-use Rattle.journal_store.specs.Causes.{Tests, first_cause, IsRefusal}
-use Rattle.journal_store.specs.Invoke.{is_too_long, name_tests, invoke_tests, SpellsInput}
-use Rattle.journal_model.specs.Spelling.{input_payload}
-use Rattle.journal_store.specs.Begin.{attempt_tests, begin_tests, start_message, journal_messages, is_long, are_used_up}
-use Rattle.journal_store.specs.Writes.{Writes}
-use Rattle.journal_store.proofs.CauseLemmas.{cause_before, cause_behind}
+use Rattle.journal_model.specs.Event.{Event}
+use Rattle.journal_model.specs.Journal.{Entry, Recorded, Arrived, invocation_begun, is_open, entries_of}
+use Rattle.journal_model.specs.Cause.{Tests, UnknownInvocation, InvocationClosed, own_tests, those_that_hold, causes_of}
+use Rattle.store_rows.specs.declared.row.EntryRow.{EntryRow}
+use Rattle.store_rows.specs.Records.{FitsInvocation, applied_all}
+use Rattle.store_rows.specs.Questions.{AreInPlace, has_id}
+use Rattle.store_rows.specs.Steps.{Turns}
+use Rattle.store_model.specs.Kept.{rows_from, rows_of_journal, journal_rows, invocation_row}
+use Rattle.store_lookups.specs.Lookups.{row_frame}
+use Rattle.store_lookups.proofs.Finding.{all_found}
+use Rattle.store_refusals.specs.declared.refusal.Refusal.{Refusal}
+use Rattle.store_refusals.specs.Refused.{is_circumstance}
+use Rattle.store_refusals.specs.Prepared.{Keeps}
+use Rattle.new_invocations.proofs.Opened.{begun_named}
+use Rattle.begun_attempts.specs.declared.attempt.PreparedAttempt.{PreparedAttempt}
+use Rattle.begun_attempts.specs.declared.frames.JournalFrames.{JournalFrames}
+use Rattle.begun_attempts.specs.Begun.{IsBegun}
+use Rattle.live_attempts.specs.declared.input.PieceLeft.{PieceLeft}
+use Rattle.live_attempts.specs.declared.attempt.LiveAttempt.{LiveAttempt}
+use Rattle.live_attempts.specs.Input.{pieces_from}
+use Rattle.live_attempts.specs.Attempts.{attempt_of, IsNow}
+use Rattle.live_laws.specs.Agrees.{Agrees, IsBegunAs, row_piece}
+use Rattle.live_laws.proofs.Begun.{begun}
+use Rattle.journal_store.specs.declared.begun.BegunAttempt.{BegunAttempt}
+use Rattle.journal_store.specs.Stands.{Stands, Does}
+use Rattle.journal_store.specs.Attempts.{IsBegunAttempt, IsToldAs, TakesIn, fresh}
+use Rattle.journal_store.proofs.Standing.{store_still, stands_after, written}
 
--- ---- a new invocation
+-- ---- how many rows a journal has
 
-abbrev input_tests : NewInvocation → Tests
-input_tests new = (is_too_long (input_payload new.headers new.input), PayloadTooLong) ∷ []
+abbrev first_or : {A : Type 0} → A → List A → A
+first_or x [] = x
+first_or x (y ∷ ys) = y
 
-pub refused_by_name : (rows : Rows) (new : NewInvocation) (refusal : Refusal) → first_cause (name_tests rows new) ≡ Some refusal → IsRefusal (invoke_tests rows new) refusal
-refused_by_name rows new refusal e = inl (cause_before (name_tests rows new) (input_tests new) refusal e)
+found_passes : {A : Type 0} (P : A → Type 0) (test : A → Bool) (xs : List A) (y : A) → AllByRecursion P xs → filter test xs ≡ y ∷ [] → P y
+found_passes P test [] y all e = cc
+found_passes P test (x ∷ xs) y all e = by_test (test x) (found_passes P test xs y all.1) e
+  where
+    by_test : (b : Bool) → (filter test xs ≡ y ∷ [] → P y) → (if b then x ∷ filter test xs else filter test xs) ≡ y ∷ [] → P y
+    by_test true later e = subst P (ap (first_or x) e) all.0
+    by_test false later e = later e
 
-pub refused_by_input : (rows : Rows) (new : NewInvocation) (refusal : Refusal) → first_cause (name_tests rows new) ≡ None → SpellsInput new (Err refusal) → IsRefusal (invoke_tests rows new) refusal
-refused_by_input rows new refusal e s = elim s [
-  | inl memory ↦ inr memory
-  | inr long ↦ inl (cause_behind (name_tests rows new) (input_tests new) e ∙ (let test = long.1 in rw test (ap (λ (r : Refusal). Some r) (sym long.0))))
-]
+-- a row holds how many there are
+rows_fit : (events : List Event) (id : Text) (new : NewInvocation) (s : State) → Keeps events s → invocation_begun events id ≡ Some new
+    → 1 + length (entries_of events id) < 2 ^ 32
+rows_fit events id new s k begun_so =
+    let found = (all_found events k.records k.accepted k.kept).invocation id in
+    let only = found ∙ ap (λ (o : Option NewInvocation). option_to_list (option_map (invocation_row events) o)) begun_so in
+    let fits = found_passes FitsInvocation (has_id id) k.records.invocations (invocation_row events new) k.held.fit_invocations only in
+    subst (λ (one : Text). 1 + length (entries_of events one) < 2 ^ 32) (begun_named events id new begun_so) fits.progress.entries
 
-pub invoked_without_cause : (rows : Rows) (new : NewInvocation) (payload : List ℕ) → first_cause (name_tests rows new) ≡ None → SpellsInput new (Ok payload) → first_cause (invoke_tests rows new) ≡ None
-invoked_without_cause rows new payload e s = cause_behind (name_tests rows new) (input_tests new) e ∙ (let test = s.1 in rw test refl)
+rows_counted : (id : Text) (before : List Entry) (place : ℕ) (entries : List Entry) → length (rows_from id before place entries) ≡ length entries
+rows_counted id before place [] = refl
+rows_counted id before place (Recorded request ∷ entries) = ap suc (rows_counted id (before ++ Recorded request ∷ []) (place + 1) entries)
+rows_counted id before place (Arrived arrival ∷ entries) = ap suc (rows_counted id (before ++ Arrived arrival ∷ []) (place + 1) entries)
 
--- ---- an attempt
+journal_counted : (events : List Event) (id : Text) (new : NewInvocation) → invocation_begun events id ≡ Some new → length (journal_rows events id) ≡ suc (length (entries_of events id))
+journal_counted events id new begun_so =
+    ap (λ (o : Option NewInvocation). length (rows_of_journal o id (entries_of events id))) begun_so ∙ ap suc (rows_counted id [] 1 (entries_of events id))
 
-some_long : (a b : Bool) → (a || false) ≡ true → (a || b) ≡ true
-some_long true b e = refl
-some_long false b e = absurd cc
+-- ---- where they stand
 
-other_long : (a b : Bool) → b ≡ true → (a || b) ≡ true
-other_long true b e = refl
-other_long false b e = e
+rows_in_place : (id : Text) (before : List Entry) (place : ℕ) (entries : List Entry) → AreInPlace place (rows_from id before place entries)
+rows_in_place id before place [] = tt
+rows_in_place id before place (Recorded request ∷ entries) = (refl, rows_in_place id (before ++ Recorded request ∷ []) (place + 1) entries)
+rows_in_place id before place (Arrived arrival ∷ entries) = (refl, rows_in_place id (before ++ Arrived arrival ∷ []) (place + 1) entries)
 
-none_long : (a b : Bool) → (a || false) ≡ false → b ≡ false → (a || b) ≡ false
-none_long true b e f = absurd cc
-none_long false b e f = f
+journal_in_place : (new : Option NewInvocation) (id : Text) (entries : List Entry) → AreInPlace 0 (rows_of_journal new id entries)
+journal_in_place None id entries = tt
+journal_in_place (Some new) id entries = (refl, rows_in_place id [] 1 entries)
 
-too_long : (row : StoredInvocation) (now : ℕ) (refusal : Refusal) → are_used_up row ≡ false → refusal ≡ PayloadTooLong → (is_long (start_message row now) || list_any is_long (journal_messages row)) ≡ true → IsRefusal (attempt_tests now row) refusal
-too_long row now refusal used e long = inl (rw (used, long) (ap (λ (r : Refusal). Some r) (sym e)))
+pieces_are : (n : ℕ) (rows : List EntryRow) → AreInPlace n rows → pieces_from n (map (λ (row : EntryRow). length (row_frame row)) rows) ≡ map row_piece rows
+pieces_are n [] at = refl
+pieces_are n (row ∷ []) at = ap (λ (place : ℕ). record { behind = place + 1; len = length (row_frame row) } ∷ []) (sym at.0)
+pieces_are n (row ∷ next ∷ rows) at =
+    ap₂ (λ (place : ℕ) (others : List PieceLeft). record { behind = place + 1; len = length (row_frame row) } ∷ others) (sym at.0) (pieces_are (n + 1) (next ∷ rows) at.1)
 
-module _ {A : Type 0} (Written : A → Type 0) (row : StoredInvocation) (now : ℕ) (used : are_used_up row ≡ false) where
-  pub refused_by_start : (refusal : Refusal) → Writes (start_message row now ∷ []) Written (Err refusal) → IsRefusal (attempt_tests now row) refusal
-  refused_by_start refusal w = elim w [
-    | inl memory ↦ inr memory
-    | inr long ↦ too_long row now refusal used long.0 (some_long (is_long (start_message row now)) (list_any is_long (journal_messages row)) long.1)
-  ]
+-- ---- the attempt
 
-  pub refused_by_journal : (refusal : Refusal) → Writes (journal_messages row) Written (Err refusal) → IsRefusal (attempt_tests now row) refusal
-  refused_by_journal refusal w = elim w [
-    | inl memory ↦ inr memory
-    | inr long ↦ too_long row now refusal used long.0 (other_long (is_long (start_message row now)) (list_any is_long (journal_messages row)) long.1)
-  ]
+begun_as : (events : List Event) (id : Text) (now : ℕ) (made : PreparedAttempt) → IsBegun events id now made
+    → IsBegunAs events id (fresh id made.number made.version made.frames.journal.bytes.items made.frames.journal.lengths.items)
+begun_as events id now made is = record {
+  invocation = refl;
+  number = is.number;
+  version = is.version;
+  bytes = is.journal.0;
+  pieces = ap (pieces_from 0) is.journal.1 ∙ pieces_are 0 (journal_rows events id) (journal_in_place (invocation_begun events id) id (entries_of events id));
+  handed = refl;
+  closed = refl;
+}
 
-pub begun_without_cause : (row : StoredInvocation) (now : ℕ) → are_used_up row ≡ false → list_any is_long (start_message row now ∷ []) ≡ false → list_any is_long (journal_messages row) ≡ false → first_cause (attempt_tests now row) ≡ None
-begun_without_cause row now used start journal =
-    let none = none_long (is_long (start_message row now)) (list_any is_long (journal_messages row)) start journal in
-    rw (used, none) refl
+-- the tests of a begin behind the first one
+abbrev pub other_tests : List Event → Text → ℕ → Tests
+other_tests events id now = (is_some (invocation_begun events id) && not (is_open events id), InvocationClosed) ∷ own_tests events (Event.Begin id now)
 
-pub refused_by_number : (row : StoredInvocation) (now : ℕ) → are_used_up row ≡ true → IsRefusal (attempt_tests now row) NumbersUsedUp
-refused_by_number row now used = inl (rw used refl)
+-- an accepted begin is one of an invocation that is there
+begun_some : (o : Option NewInvocation) (more : Tests) → those_that_hold ((not (is_some o), UnknownInvocation) ∷ more) ≡ [] → (new : NewInvocation) × (o ≡ Some new)
+begun_some None more e = cc
+begun_some (Some new) more e = (new, refl)
 
--- ---- what is known where no cause holds
+fits_here : (events : List Event) (id : Text) (now : ℕ) (s : State) (made : PreparedAttempt) (more : Tests) → Keeps events s
+    → those_that_hold ((not (is_some (invocation_begun events id)), UnknownInvocation) ∷ more) ≡ [] → IsBegun events id now made → length made.frames.journal.lengths.items < 2 ^ 32
+fits_here events id now s made more k accepted is =
+    let some = begun_some (invocation_begun events id) more accepted in
+    let rows = journal_rows events id in
+    let counted : length made.frames.journal.lengths.items ≡ suc (length (entries_of events id)) =
+    ap length is.journal.1 ∙ length-map rows (λ (row : EntryRow). length (row_frame row)) ∙ journal_counted events id some.0 some.1 in
+    let fits = rows_fit events id some.0 s k some.1 in
+    omega (arith, counted, fits)
 
-no_test_holds : (a b c : Bool) (x y z : Refusal) → first_cause ((a, x) ∷ (b, y) ∷ (c, z) ∷ []) ≡ None → (a ≡ false) × (b ≡ false) × (c ≡ false)
-no_test_holds true b c x y z e = absurd cc
-no_test_holds false true c x y z e = absurd cc
-no_test_holds false false true x y z e = absurd cc
-no_test_holds false false false x y z e = (refl, refl, refl)
+-- what was made ready of a begin was written, and the attempt is taken in; or nothing was done
+pub begin_recorded : (events : List Event) (id : Text) (now : ℕ) (old mid new : State) (P Q : Trees → Type 0) (attempts left : List LiveAttempt) (made : PreparedAttempt)
+    (more : Tests) (result : Result BegunAttempt Refusal)
+    → causes_of events (Event.Begin id now) ≡ those_that_hold ((not (is_some (invocation_begun events id)), UnknownInvocation) ∷ more)
+    → Survives old mid P → Asked old mid → Survives mid new Q → HasCleanDisk new → (causes_of events (Event.Begin id now) ≡ []) × IsBegun events id now made
+    → IfOk result (IsToldAs made) → OnOk result (IsTrue mid.is_open × Turns (applied_all made.writes.items) mid.now.trees new.now.trees)
+    → OnOk result (TakesIn id made.number made.version made.frames.journal attempts left) → IfErr result (λ why. IsTrue (is_circumstance why)) → OnErr result (Asked mid new × (left ≡ attempts))
+    → Stands events old attempts → Does events (Event.Begin id now) (IsBegunAttempt events id now) result new left
+begin_recorded events id now old mid new P Q attempts left made more (Ok told) tests before asked lives clean ready is wrote put why undone stands =
+    let early : HasCleanDisk mid = omega (arith, lives.clean, clean) in
+    let store = store_still events old mid P before asked stands.kept in
+    let after = written events (Event.Begin id now) mid new made.writes.items store early ready.0 ready.1.writes wrote.0 wrote.1 in
+    let fits = fits_here events id now mid made more (store.keeps early wrote.0) (sym tests ∙ ready.0) ready.1 in
+    let agrees = begun events id now _ stands.kept.accepted (begun_as events id now made ready.1) in (
+      ready.0,
+      record { number = is.0 ∙ ready.1.number; version = is.1 ∙ ready.1.version; start = is.2 ∙ ready.1.start },
+      stands_after events (Event.Begin id now) id (Some _) new attempts left refl refl after agrees (put fits) stands.live,
+    )
+begin_recorded events id now old mid new P Q attempts left made more (Err why) tests before asked lives clean ready is wrote put circumstance undone stands =
+    let store = store_still events old mid P before asked stands.kept in (
+      inr circumstance,
+      record {
+        kept = store_still events mid new Q lives undone.0 store;
+        live = subst (λ (all : List LiveAttempt). (one : Text) → Agrees events one (attempt_of all one)) (sym undone.1) stands.live;
+      },
+    )
 
--- The row of an attempt that was begun: open, with numbers left, and each message that it is handed short enough.
-pub begun_open : (rows : Rows) (id : List ℕ) (now : ℕ) (row : StoredInvocation) → row_of rows id ≡ Some row → first_cause (begin_tests rows id now) ≡ None
-    → (row.is_closed ≡ false) × (are_used_up row ≡ false) × ((is_long (start_message row now) || list_any is_long (journal_messages row)) ≡ false)
-begun_open rows id now row found e =
-    no_test_holds row.is_closed (are_used_up row) (is_long (start_message row now) || list_any is_long (journal_messages row)) InvocationClosed NumbersUsedUp PayloadTooLong (rw found at e)
+-- the attempt that was made is the one that is taken in
+pub taken_in : {A E : Type 0} (id : Text) (number version : ℕ) (journal : JournalFrames) (attempt : LiveAttempt) (attempts left : List LiveAttempt) (result : Result A E)
+    → attempt.invocation ≡ id → (length journal.lengths.items < 2 ^ 32 → attempt ≡ fresh id number version journal.bytes.items journal.lengths.items)
+    → OnOk result (IsNow attempt.invocation (Some attempt) attempts left) → OnOk result (TakesIn id number version journal attempts left)
+taken_in id number version journal attempt attempts left (Ok x) named is_fresh put = λ fits.
+    subst (λ (one : LiveAttempt). IsNow id (Some one) attempts left) (is_fresh fits) (subst (λ (one : Text). IsNow one (Some attempt) attempts left) named put)
+taken_in id number version journal attempt attempts left (Err e) named is_fresh put = tt

@@ -1,7 +1,8 @@
+pub mod Standing
+pub mod Quiet
+pub mod Arriving
 pub mod Beginning
-pub mod Calls
-pub mod CauseLemmas
-pub mod Firsts
-pub mod Found
-pub mod Payloads
-pub mod Stepping
+pub mod Taking
+pub mod Accepting
+pub mod Waiting
+pub mod Opening

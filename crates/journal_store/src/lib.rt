@@ -1,17 +1,20 @@
-//! What is recorded of invocations: who began them, which requests their attempts made, and what each attempt has still to
-//! be handed and to be taken from it.
+//! What is recorded of invocations, in a database, and which attempts are live, in memory: the store.
+//!
+//! A store stands for a list of accepted events, and each call says what it makes of that list: an event is accepted, and the
+//! store then stands for it too, or it is refused for the least of its causes and the store stands as before.
 #![tactic(auto)]
 
+mod accept;
 mod attempt;
-mod begin;
-mod output;
+mod begun;
+mod events;
+mod open;
 mod read;
-mod refusal;
-mod row;
+mod step;
 mod store;
 
-pub use attempt::FrameKind;
-pub use output::AttemptOutput;
-pub use refusal::Refusal;
-pub use row::{BegunAttempt, FrameReply, LiveAttempt, RecordedRequest, StoredInvocation};
+pub use accept::Accepted;
+pub use begun::BegunAttempt;
+pub use open::NotOpened;
 pub use store::Store;
+pub use taken_frames::FrameReply;

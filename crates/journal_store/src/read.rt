@@ -1,106 +1,67 @@
-// What is read of an invocation.
-ghost use Rattle.std.specs.Prelude.{◌≡◌, None, map, IfOk, option_map};
-ghost use Rattle.journal_store.specs.Read.{code_of as the_code_of, pair_of, value_of_result, output_in, is_output_kind, last_output as the_last_output, answer_of};
-ghost use Rattle.journal_store.specs.Step.{accepted as the_accepted};
+// What a store tells of an invocation.
+ghost use Rattle.std.specs.Prelude.{◌≡◌, map, List};
+ghost use Rattle.sqlite.specs.Held.{state};
+ghost use Rattle.sqlite.specs.State.{HasCleanDisk, Survives};
+ghost use Rattle.journal_model.specs.Event.{Event};
+ghost use Rattle.journal_model.specs.Journal.{entries_of, is_open as is_open_after, recorded_arrivals, recorded_requests};
+ghost use Rattle.store_model.specs.Progress.{last_error_of};
+ghost use Rattle.new_invocations.specs.Rows.{Decides, known_tests};
+ghost use Rattle.invocation_reads.specs.Told.{arrival_told, request_told};
+ghost use Rattle.invocation_reads.specs.Answered.{Answers};
+ghost use Rattle.journal_store.specs.Stands.{Stands};
 
-use crate::attempt::{FrameKind, accepted};
-use crate::row::{RecordedRequest, StoredInvocation};
-use bytes::{ByteStr, Bytes};
-use journal_model::{NonEmptyValue, TerminalFailure};
-use protocol_records::{Failure, FailureMetadata, OutputCommandMessage, OutputCommandResult};
-use protocol_wire::{DecodeError, decode};
-use sequence::Sequence;
-use std::alloc::{AllocError, Global};
+use crate::store::Store;
+use bytes::ByteStr;
+use invocation_reads::{RecordedFrame, answer, arrivals, failure, is_open, requests};
+use journal_model::NonEmptyValue;
+use sqlite::Alter;
+use store_refusals::Refusal;
+use store_rows::LastError;
 
-/// What a failure answers for a code that does not fit sixteen bits.
-const UNREADABLE_CODE: u16 = 500;
-
-fn code_of(code: u32) -> u16
-    ensures { result ≡ the_code_of code }
-{
-    u16::try_from(code).unwrap_or(UNREADABLE_CODE)
-}
-
-/// The pairs of a failure.
-fn pairs_of(
-    alloc: Global,
-    pairs: &[FailureMetadata],
-) -> Result<Sequence<(ByteStr, ByteStr)>, AllocError>
-    ensures { IfOk result (λ all. all ≡ map pair_of pairs.now) }
-{
-    let mut all = Sequence::new(alloc);
-    for pair in pairs {
-        all.push((pair.key.clone()?, pair.value.clone()?))?;
+impl<S: Alter + Drop> Store<S> {
+    /// The recorded requests, by place, each as the frame that its attempt wrote.
+    pub fn requests(&mut self, id: &ByteStr) -> Result<Vec<RecordedFrame>, Refusal>
+        ensures told { HasCleanDisk (state S.Store self.new.connection) → (events : List Event) → Stands events (state S.Store self.old.connection) self.old.live.attempts → Decides (known_tests events id.now) (λ frames. frames.items ≡ map request_told (recorded_requests events id.now)) result × Stands events (state S.Store self.new.connection) self.new.live.attempts }
+        ensures live { self.new.live ≡ self.old.live }
+        ensures crash { Survives (state S.Store self.old.connection) (state S.Store self.new.connection) (λ _. ⊥) }
+    {
+        requests(self.alloc, &mut self.connection, id)
     }
-    Ok(all)
-}
 
-/// What an output's result stands for.
-fn value_of(alloc: Global, output: OutputCommandResult) -> Result<NonEmptyValue, AllocError>
-    ensures { IfOk result (λ value. value ≡ value_of_result output) }
-{
-    match output {
-        OutputCommandResult::Value(value) => Ok(NonEmptyValue::Success(value.content)),
-        OutputCommandResult::Failure(failure) => Ok(NonEmptyValue::Failure(TerminalFailure {
-            code: code_of(failure.code),
-            metadata: pairs_of(alloc, failure.metadata.as_slice())?,
-            message: failure.message,
-        })),
+    /// The recorded arrivals, by place, each as a frame of the type by which its request is completed.
+    pub fn arrivals(&mut self, id: &ByteStr) -> Result<Vec<RecordedFrame>, Refusal>
+        ensures told { HasCleanDisk (state S.Store self.new.connection) → (events : List Event) → Stands events (state S.Store self.old.connection) self.old.live.attempts → Decides (known_tests events id.now) (λ frames. frames.items ≡ map (arrival_told (entries_of events id.now)) (recorded_arrivals events id.now)) result × Stands events (state S.Store self.new.connection) self.new.live.attempts }
+        ensures live { self.new.live ≡ self.old.live }
+        ensures crash { Survives (state S.Store self.old.connection) (state S.Store self.new.connection) (λ _. ⊥) }
+    {
+        arrivals(self.alloc, &mut self.connection, id)
     }
-}
 
-/// What an output puts out.
-fn output_of(alloc: Global, payload: &[u8]) -> Result<Option<NonEmptyValue>, AllocError>
-    ensures { IfOk result (λ value. value ≡ output_in payload.now) }
-{
-    match decode(alloc, payload) {
-        Ok(output) => {
-            let OutputCommandMessage {
-                name: _name,
-                result,
-            } = output;
-            match result {
-                Some(value) => Ok(Some(value_of(alloc, value)?)),
-                None => Ok(None),
-            }
-        }
-        Err(DecodeError::Fault(_)) => Ok(None),
-        Err(DecodeError::Memory) => Err(AllocError),
+    /// What a closed invocation answers: what its last output put out, or the failure that closed it. Nothing where it is open, and
+    /// where it ended with no output.
+    pub fn answer(&mut self, id: &ByteStr) -> Result<Option<NonEmptyValue>, Refusal>
+        ensures told { HasCleanDisk (state S.Store self.new.connection) → (events : List Event) → Stands events (state S.Store self.old.connection) self.old.live.attempts → Answers events id.now result × Stands events (state S.Store self.new.connection) self.new.live.attempts }
+        ensures live { self.new.live ≡ self.old.live }
+        ensures crash { Survives (state S.Store self.old.connection) (state S.Store self.new.connection) (λ _. ⊥) }
+    {
+        answer(self.alloc, &mut self.connection, id)
     }
-}
 
-/// Whether a request is an output.
-fn is_output(request: &RecordedRequest) -> bool
-    ensures { result ≡ is_output_kind (the_accepted request.now.ty) }
-{
-    matches!(accepted(request.ty), Some(FrameKind::Output))
-}
-
-/// The payload of the last output among requests.
-fn last_output(requests: &[RecordedRequest]) -> Option<&Bytes>
-    ensures { option_map (λ payload. payload.now) result ≡ the_last_output None requests.now }
-{
-    let mut last = None;
-    for request in requests {
-        if is_output(request) {
-            last = Some(&request.payload);
-        }
+    /// The last error that an attempt told: its code, what was to be done, its delay and its message.
+    pub fn failure(&mut self, id: &ByteStr) -> Result<Option<LastError>, Refusal>
+        ensures told { HasCleanDisk (state S.Store self.new.connection) → (events : List Event) → Stands events (state S.Store self.old.connection) self.old.live.attempts → Decides (known_tests events id.now) (λ error. error ≡ last_error_of events id.now) result × Stands events (state S.Store self.new.connection) self.new.live.attempts }
+        ensures live { self.new.live ≡ self.old.live }
+        ensures crash { Survives (state S.Store self.old.connection) (state S.Store self.new.connection) (λ _. ⊥) }
+    {
+        failure(self.alloc, &mut self.connection, id)
     }
-    last
-}
 
-/// What a closed invocation answers.
-pub(crate) fn answer(
-    alloc: Global,
-    row: &StoredInvocation,
-) -> Result<Option<NonEmptyValue>, AllocError>
-    ensures { IfOk result (λ answer. answer ≡ answer_of row.now) }
-{
-    if !row.is_closed {
-        return Ok(None);
-    }
-    match last_output(row.requests.as_slice()) {
-        Some(payload) => output_of(alloc, payload.as_slice()),
-        None => Ok(None),
+    /// Whether an invocation is open.
+    pub fn is_open(&mut self, id: &ByteStr) -> Result<bool, Refusal>
+        ensures told { HasCleanDisk (state S.Store self.new.connection) → (events : List Event) → Stands events (state S.Store self.old.connection) self.old.live.attempts → Decides (known_tests events id.now) (λ answer. answer ≡ is_open_after events id.now) result × Stands events (state S.Store self.new.connection) self.new.live.attempts }
+        ensures live { self.new.live ≡ self.old.live }
+        ensures crash { Survives (state S.Store self.old.connection) (state S.Store self.new.connection) (λ _. ⊥) }
+    {
+        is_open(self.alloc, &mut self.connection, id)
     }
 }

@@ -1,258 +1,191 @@
-// Invocations by their id.
-ghost use Rattle.std.specs.Prelude.{◌≡◌, [], Some, not, is_some, IfOk, IfErr, position};
-ghost use Rattle.journal_store.specs.Causes.{Tests, first_cause, open_tests_of};
-ghost use Rattle.journal_store.specs.declared.row.StoredInvocation.{StoredInvocation as Row};
-ghost use Rattle.journal_store.specs.Rows.{has_id, row_of, IsKnownAt, IsOpenAt, IsLiveAt};
-ghost use Rattle.journal_store.specs.Invoke.{is_busy, is_nameless as is_nameless_name, is_supported as is_supported_version, name_tests, Invokes};
-ghost use Rattle.journal_store.specs.Begin.{Begins};
-ghost use Rattle.journal_store.specs.Live.{live_tests, NextInput, Feeds, Stops, waiting_in, bytes_waiting};
-ghost use Rattle.journal_store.specs.Step.{Steps};
-ghost use Rattle.journal_store.specs.Read.{IsUnknown, Reads, AnswersWith};
+// The store, and what it is opened from.
+ghost use Rattle.std.specs.Prelude.{◌≡◌, true, ◌+◌, length, take, List, [], Some, None, IfErr};
+ghost use Rattle.sqlite.specs.Held.{state};
+ghost use Rattle.sqlite.specs.State.{HasCleanDisk, Survives};
+ghost use Rattle.journal_model.specs.Event.{Event};
+ghost use Rattle.journal_model.specs.Journal.{entries_of};
+ghost use Rattle.journal_model.specs.Attempt.{input_left};
+ghost use Rattle.live_attempts.specs.Attempts.{attempt_of};
+ghost use Rattle.live_laws.specs.Agrees.{has_number};
+ghost use Rattle.journal_store.specs.Accepting.{Accepts, CommitsFed};
+ghost use Rattle.journal_store.specs.Attempts.{CommitsItem, Feeds, IsBegunAttempt, Steps};
+ghost use Rattle.journal_store.specs.Stands.{Commits, Does, KeepsOutputs, Stands, WaitsAfter};
 
-use crate::attempt::{hand_out, put_behind, step};
-use crate::begin::{begin, input_payload};
-use crate::read::answer;
-use crate::refusal::Refusal;
-use crate::row::{BegunAttempt, FrameReply, RecordedRequest, StoredInvocation};
+use crate::accept::{Accepted, accept};
+use crate::attempt::{close_input, feed, hand_out, stop};
+use crate::begun::BegunAttempt;
+use crate::events::{record_begin, record_new, record_result};
+use crate::step::step;
 use bytes::{ByteStr, Bytes};
-use journal_model::{NewInvocation, NonEmptyValue};
-use sequence::Sequence;
+use journal_model::{NewInvocation, NotificationResult};
+use live_attempts::LiveAttempts;
+use sqlite::{Alter, Connection};
 use std::alloc::Global;
 use std::marker::Model;
+use store_refusals::Refusal;
+use taken_frames::FrameReply;
 
-// The versions of the protocol that are supported.
-const OLDEST_VERSION: u32 = 5;
-
-const NEWEST_VERSION: u32 = 8;
-
-/// What is recorded of each invocation, and the attempts that are live.
-#[derive(Debug, Drop)]
-pub struct Store {
-    invocations: Vec<StoredInvocation>,
+/// What is recorded of invocations, and the attempts that are live.
+#[derive(Drop)]
+pub struct Store<S: Alter> {
+    pub(crate) alloc: Global,
+    pub(crate) connection: Connection<S>,
+    pub(crate) live: LiveAttempts,
 }
 
-impl Model for Store {
-    ghost use Rattle.std.specs.Prelude.{List};
-    ghost use Rattle.journal_store.specs.declared.row.StoredInvocation.{StoredInvocation};
+impl<S: Alter> Model for Store<S> {
+    ghost use Rattle.std.specs.Prelude.{◌≡◌, false};
+    ghost use Rattle.sqlite.specs.Held.{state};
+    ghost use Rattle.store_rows.specs.Steps.{IsStore};
+    ghost use Rattle.journal_store.specs.Stored.{Stored, stored_code};
 
-    ghost Value = { List StoredInvocation };
+    ghost Value = { Stored S };
 
-    ghost view = { λ store. store.invocations.items };
+    ghost coded = { stored_code S.code };
+
+    ghost view = { λ store. record { connection = store.connection; live = store.live } };
+
+    ghost invariant = { λ store. IsStore (state S.Store store.connection) × ((state S.Store store.connection).in_transaction ≡ false) };
 }
 
-/// Whether the id or the object key of an invocation is empty.
-fn is_nameless(new: &NewInvocation) -> bool
-    ensures { result ≡ is_nameless_name new.now }
-{
-    new.id.is_empty() || new.object.is_empty()
-}
-
-/// Whether attempts may speak this version of the protocol.
-fn is_supported(version: u32) -> bool
-    ensures { result ≡ is_supported_version version }
-{
-    OLDEST_VERSION <= version && version <= NEWEST_VERSION
-}
-
-/// How many bytes of the live attempt wait to be taken.
-fn bytes_in(row: &StoredInvocation) -> usize
-    ensures { result ≡ waiting_in row.now.live }
-{
-    match &row.live {
-        Some(live) => live.output.len(),
-        None => 0,
-    }
-}
-
-impl Store {
-    /// The store of no invocation.
-    pub fn new(alloc: Global) -> Store
-        ensures { result ≡ [] }
+impl<S: Alter + Drop> Store<S> {
+    /// The connection. All attempts are over.
+    pub fn into_connection(self) -> Connection<S>
+        ensures { result ≡ self.connection }
     {
-        Store {
-            invocations: Vec::new(alloc),
-        }
+        let Store { connection, .. } = self;
+        connection
     }
 
-    /// Where the invocation with this id stands.
-    fn place_of(&self, id: &ByteStr) -> Option<usize>
-        ensures { result ≡ position (has_id id.now) self.now }
-    {
-        self.invocations
-            .iter()
-            .position(|row| row.invocation.id == *id)
-    }
-
-    /// Where the row of a known invocation stands.
-    fn known_place(&self, id: &ByteStr) -> Result<usize, Refusal>
-        ensures ok { IfOk result (IsKnownAt self.now id.now) }
-        ensures err { IfErr result (IsUnknown self.now id.now) }
-    {
-        match self.place_of(id) {
-            Some(place) => Ok(place),
-            None => Err(Refusal::UnknownInvocation),
-        }
-    }
-
-    /// Where the row of an open invocation stands.
-    fn open_place(&self, id: &ByteStr) -> Result<usize, Refusal>
-        ensures ok { IfOk result (IsOpenAt self.now id.now) }
-        ensures err { IfErr result (λ refusal. (own : Row → Tests) → first_cause (open_tests_of (row_of self.now id.now) own) ≡ Some refusal) }
-    {
-        let place = self.known_place(id)?;
-        if self.invocations[place].is_closed {
-            return Err(Refusal::InvocationClosed);
-        }
-        Ok(place)
-    }
-
-    /// Where the open invocation with this id and this live attempt stands.
-    fn live_place(&self, id: &ByteStr, attempt: u32) -> Result<usize, Refusal>
-        ensures ok { IfOk result (IsLiveAt self.now id.now attempt) }
-        ensures err { IfErr result (λ refusal. first_cause (live_tests self.now id.now attempt) ≡ Some refusal) }
-    {
-        let place = self.open_place(id)?;
-        if self.invocations[place].is_live(attempt) {
-            Ok(place)
-        } else {
-            Err(Refusal::AttemptNotLive)
-        }
-    }
-
-    /// Whether an open invocation is one of this object.
-    fn is_busy(&self, object: &ByteStr) -> bool
-        ensures { result ≡ is_busy object.now self.now }
-    {
-        self.invocations
-            .iter()
-            .any(|row| row.invocation.object == *object && !row.is_closed)
-    }
-
-    /// Whether an invocation has this id.
-    fn is_known(&self, id: &ByteStr) -> bool
-        ensures { result ≡ is_some (row_of self.now id.now) }
-    {
-        self.place_of(id).is_some()
-    }
-
-    /// Why a new invocation is refused for its names or its version.
-    fn name_refusal(&self, new: &NewInvocation) -> Option<Refusal>
-        ensures { result ≡ first_cause (name_tests self.now new.now) }
-    {
-        if self.is_busy(&new.object) {
-            return Some(Refusal::ObjectBusy);
-        }
-        if is_nameless(new) {
-            return Some(Refusal::EmptyName);
-        }
-        if self.is_known(&new.id) {
-            return Some(Refusal::IdUsed);
-        }
-        if !is_supported(new.version) {
-            return Some(Refusal::UnsupportedVersion);
-        }
-        None
-    }
-
-    /// Accepts a new invocation. Its object may have others, but none that is open.
+    /// A new invocation. Its object may have had others, but none of them is open.
     pub fn invoke(&mut self, new: NewInvocation) -> Result<(), Refusal>
-        ensures { Invokes new self.old result self.new }
+        ensures does { HasCleanDisk (state S.Store self.new.connection) → (events : List Event) → Stands events (state S.Store self.old.connection) self.old.live.attempts → Does events (Event.Invoke new) (λ _. Unit {0}) result (state S.Store self.new.connection) self.new.live.attempts }
+        ensures live { self.new.live ≡ self.old.live }
+        ensures crash { Survives (state S.Store self.old.connection) (state S.Store self.new.connection) (Commits (Event.Invoke new) (state S.Store self.old.connection)) }
     {
-        if let Some(refusal) = self.name_refusal(&new) {
-            return Err(refusal);
-        }
-        let alloc = *self.invocations.allocator();
-        let input = input_payload(alloc, &new)?;
-        self.invocations.push(StoredInvocation {
-            invocation: new,
-            input,
-            requests: Sequence::new(alloc),
-            last_completion: 0,
-            is_closed: false,
-            attempts: 0,
-            attempts_at_entry: 0,
-            first_moment: 0,
-            live: None,
-        })?;
-        Ok(())
+        record_new(self.alloc, &mut self.connection, new)
+    }
+
+    /// The result of a request, for its completion. Answers the place that it takes in the journal.
+    pub fn result(
+        &mut self,
+        id: &ByteStr,
+        completion: u32,
+        brought: NotificationResult,
+    ) -> Result<u32, Refusal>
+        ensures does { HasCleanDisk (state S.Store self.new.connection) → (events : List Event) → Stands events (state S.Store self.old.connection) self.old.live.attempts → Does events (Event.Complete id.now completion brought) (λ place. place ≡ 1 + length (entries_of events id.now)) result (state S.Store self.new.connection) self.new.live.attempts }
+        ensures waits { KeepsOutputs self.old.live.attempts self.new.live.attempts }
+        ensures crash { Survives (state S.Store self.old.connection) (state S.Store self.new.connection) (Commits (Event.Complete id.now completion brought) (state S.Store self.old.connection)) }
+    {
+        record_result(
+            self.alloc,
+            &mut self.connection,
+            &mut self.live,
+            id,
+            completion,
+            brought,
+        )
     }
 
     /// Begins an attempt at this moment, in milliseconds: it is live, and an earlier one is over.
     pub fn begin(&mut self, id: &ByteStr, now: u64) -> Result<BegunAttempt, Refusal>
-        ensures { Begins id.now now self.old result self.new }
+        ensures does { HasCleanDisk (state S.Store self.new.connection) → (events : List Event) → Stands events (state S.Store self.old.connection) self.old.live.attempts → Does events (Event.Begin id.now now) (IsBegunAttempt events id.now now) result (state S.Store self.new.connection) self.new.live.attempts }
+        ensures waits { WaitsAfter id.now (Some []) result self.old.live.attempts self.new.live.attempts }
+        ensures crash { Survives (state S.Store self.old.connection) (state S.Store self.new.connection) (Commits (Event.Begin id.now now) (state S.Store self.old.connection)) }
     {
-        let alloc = *self.invocations.allocator();
-        let place = self.open_place(id)?;
-        begin(alloc, &mut self.invocations[place], now)
+        record_begin(self.alloc, &mut self.connection, &mut self.live, id, now)
     }
 
-    /// The next bytes that the attempt is handed, at most so many: none only where `most` is 0 or all were handed out.
+    /// The next bytes that the attempt is handed, at most so many: none only where `most` is 0 or none remain.
     pub fn next_input(&mut self, id: &ByteStr, attempt: u32, most: usize) -> Result<Bytes, Refusal>
-        ensures { NextInput id.now attempt most self.old result self.new }
+        ensures does { HasCleanDisk (state S.Store self.new.connection) → (events : List Event) → Stands events (state S.Store self.old.connection) self.old.live.attempts → Does events (Event.HandOut id.now attempt most) (λ bytes. bytes ≡ take most (input_left events id.now)) result (state S.Store self.new.connection) self.new.live.attempts }
+        ensures waits { KeepsOutputs self.old.live.attempts self.new.live.attempts }
+        ensures crash { Survives (state S.Store self.old.connection) (state S.Store self.new.connection) (λ _. ⊥) }
     {
-        let place = self.live_place(id, attempt)?;
-        hand_out(&mut self.invocations[place], most)
+        hand_out(
+            self.alloc,
+            &mut self.connection,
+            &mut self.live,
+            id,
+            attempt,
+            most,
+        )
     }
 
-    /// Takes in the next bytes that the attempt has written. `step` then takes the frames among them.
+    /// No more is handed to the attempt. All of its input was.
+    pub fn close_input(&mut self, id: &ByteStr, attempt: u32) -> Result<(), Refusal>
+        ensures does { HasCleanDisk (state S.Store self.new.connection) → (events : List Event) → Stands events (state S.Store self.old.connection) self.old.live.attempts → Does events (Event.CloseInput id.now attempt) (λ _. Unit {0}) result (state S.Store self.new.connection) self.new.live.attempts }
+        ensures waits { KeepsOutputs self.old.live.attempts self.new.live.attempts }
+        ensures crash { Survives (state S.Store self.old.connection) (state S.Store self.new.connection) (λ _. ⊥) }
+    {
+        close_input(
+            self.alloc,
+            &mut self.connection,
+            &mut self.live,
+            id,
+            attempt,
+        )
+    }
+
+    /// Takes in the next bytes that the attempt wrote. `step` then takes the frames among them.
     pub fn feed(&mut self, id: &ByteStr, attempt: u32, bytes: &[u8]) -> Result<(), Refusal>
-        ensures { Feeds id.now attempt bytes.now self.old result self.new }
+        ensures does { HasCleanDisk (state S.Store self.new.connection) → (events : List Event) → Stands events (state S.Store self.old.connection) self.old.live.attempts → Feeds events id.now attempt bytes.now result (state S.Store self.new.connection) self.old.live.attempts self.new.live.attempts }
+        ensures crash { Survives (state S.Store self.old.connection) (state S.Store self.new.connection) (λ _. ⊥) }
     {
-        let place = self.live_place(id, attempt)?;
-        put_behind(&mut self.invocations[place], bytes)
+        feed(
+            self.alloc,
+            &mut self.connection,
+            &mut self.live,
+            id,
+            attempt,
+            bytes,
+        )
     }
 
-    /// Takes the first frame that the attempt has written; `None` where no whole frame waits.
+    /// Takes the next frame of the attempt, if a whole one waits: what it asks for is recorded, and its answer is told. A frame that
+    /// is refused for a cause of its own ends the attempt; refused for want of memory or of numbers it waits, and is taken again.
     pub fn step(&mut self, id: &ByteStr, attempt: u32) -> Result<Option<FrameReply>, Refusal>
-        ensures { Steps id.now attempt self.old result self.new }
+        ensures does { HasCleanDisk (state S.Store self.new.connection) → (events : List Event) → Stands events (state S.Store self.old.connection) self.old.live.attempts → Steps events id.now attempt result (state S.Store self.new.connection) self.old.live.attempts self.new.live.attempts }
+        ensures crash { Survives (state S.Store self.old.connection) (state S.Store self.new.connection) (CommitsItem id.now attempt self.old.live.attempts (state S.Store self.old.connection)) }
     {
-        let alloc = *self.invocations.allocator();
-        let place = self.live_place(id, attempt)?;
-        step(alloc, &mut self.invocations[place])
+        step(
+            self.alloc,
+            &mut self.connection,
+            &mut self.live,
+            id,
+            attempt,
+        )
     }
 
-    /// How many bytes of the invocation's live attempt came and were not taken: 0 where none is live.
-    pub fn waiting(&self, id: &ByteStr) -> usize
-        ensures { result ≡ bytes_waiting self.now id.now }
+    /// Takes in the next bytes that the attempt wrote, and the frames among them: up to one that ends it, or one that is refused, or
+    /// until none waits whole. An `Err` is a refusal of the bytes.
+    pub fn accept(&mut self, id: &ByteStr, attempt: u32, bytes: &[u8]) -> Result<Accepted, Refusal>
+        ensures does { HasCleanDisk (state S.Store self.new.connection) → (events : List Event) → Stands events (state S.Store self.old.connection) self.old.live.attempts → Accepts events id.now attempt bytes.now result (state S.Store self.new.connection) self.old.live.attempts self.new.live.attempts }
+        ensures crash { Survives (state S.Store self.old.connection) (state S.Store self.new.connection) (CommitsFed id.now attempt bytes.now self.old.live.attempts (state S.Store self.old.connection)) }
     {
-        match self.place_of(id) {
-            Some(place) => bytes_in(&self.invocations[place]),
-            None => 0,
-        }
+        accept(
+            self.alloc,
+            &mut self.connection,
+            &mut self.live,
+            id,
+            attempt,
+            bytes,
+        )
     }
 
-    /// Ends the attempt: what it writes from now on is refused.
+    /// Ends the attempt: what it writes from now on is refused. Of a live attempt it always succeeds.
     pub fn stop(&mut self, id: &ByteStr, attempt: u32) -> Result<(), Refusal>
-        ensures { Stops id.now attempt self.old result self.new }
+        ensures does { HasCleanDisk (state S.Store self.new.connection) → (events : List Event) → Stands events (state S.Store self.old.connection) self.old.live.attempts → Does events (Event.Stop id.now attempt) (λ _. Unit {0}) result (state S.Store self.new.connection) self.new.live.attempts }
+        ensures live { has_number attempt (attempt_of self.old.live.attempts id.now) ≡ true → IfErr result (λ _. ⊥) }
+        ensures waits { WaitsAfter id.now None result self.old.live.attempts self.new.live.attempts }
+        ensures crash { Survives (state S.Store self.old.connection) (state S.Store self.new.connection) (λ _. ⊥) }
     {
-        let place = self.live_place(id, attempt)?;
-        let row = &mut self.invocations[place];
-        row.live = None;
-        Ok(())
-    }
-
-    /// Its recorded requests: the first has place 1.
-    pub fn requests(&self, id: &ByteStr) -> Result<&[RecordedRequest], Refusal>
-        ensures { Reads (λ requests row. requests.now ≡ row.requests) id.now self.now result }
-    {
-        let place = self.known_place(id)?;
-        Ok(self.invocations[place].requests.as_slice())
-    }
-
-    /// Whether no end frame has closed it.
-    pub fn is_open(&self, id: &ByteStr) -> Result<bool, Refusal>
-        ensures { Reads (λ is_open row. is_open ≡ not row.is_closed) id.now self.now result }
-    {
-        let place = self.known_place(id)?;
-        Ok(!self.invocations[place].is_closed)
-    }
-
-    /// What it has put out last, once it is closed.
-    pub fn answer(&self, id: &ByteStr) -> Result<Option<NonEmptyValue>, Refusal>
-        ensures { AnswersWith id.now self.now result }
-    {
-        let place = self.known_place(id)?;
-        let alloc = *self.invocations.allocator();
-        Ok(answer(alloc, &self.invocations[place])?)
+        stop(
+            self.alloc,
+            &mut self.connection,
+            &mut self.live,
+            id,
+            attempt,
+        )
     }
 }

@@ -4,7 +4,7 @@ use Rattle.std.proofs.lemmas.Iterator.Adapters.{YieldsList-from_vec}
 use Rattle.sqlite.specs.Held.{state}
 use Rattle.sqlite.specs.State.{HasCleanDisk}
 use Rattle.journal_model.specs.Event.{Event as Accepted}
-use Rattle.invocation_store.specs.Stored.{Stored}
+use Rattle.journal_store.specs.Stored.{Stored}
 use Rattle.invocation_vm.specs.declared.options.VMOptions.{VMOptions}
 use Rattle.schedule_events.specs.declared.event.Event.{Event}
 use Rattle.schedule_events.specs.declared.event.Reply.{Reply}

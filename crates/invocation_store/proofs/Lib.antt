@@ -1,8 +1,0 @@
-pub mod Standing
-pub mod Quiet
-pub mod Arriving
-pub mod Beginning
-pub mod Taking
-pub mod Accepting
-pub mod Waiting
-pub mod Opening

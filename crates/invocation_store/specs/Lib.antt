@@ -1,6 +1,0 @@
-pub mod Stored
-pub mod Stands
-pub mod Attempts
-pub mod Taking
-pub mod Accepting
-pub mod Opened

@@ -1,0 +1,193 @@
+-- A store stands for one more event.
+use Rattle.std.proofs.Common.{◌≡◌, ◌⊎◌, ℕ, ◌+◌, length, option_map, refl, sym, ap, subst, ◌∙◌, Bool, true, false, inl, inr, List, [], ◌∷◌, Option, Some, None, bytes_eq, arith, IsTrue}
+use Rattle.std.proofs.lemmas.Slice.Eq.{bytes_eq-Decides}
+use Rattle.sqlite_trees.specs.Tree.{Trees}
+use Rattle.sqlite.specs.Effect.{Database}
+use Rattle.sqlite.specs.State.{State, HasCleanDisk, Survives}
+use Rattle.sqlite.proofs.StateLemmas.{survives_then}
+use Rattle.sql_tables.specs.Asking.{IsKept as Asked}
+use Rattle.journal_model.specs.Notification.{Bytes, Text, Arrival}
+use Rattle.journal_model.specs.Spelling.{frame_bytes, notification_payload}
+use Rattle.journal_model.specs.declared.invocation.NewInvocation.{NewInvocation}
+use Rattle.journal_model.specs.Event.{Event}
+use Rattle.journal_model.specs.Journal.{invocation_of, is_tick, is_text, entries_of, version_of}
+use Rattle.journal_model.specs.Attempt.{live_attempt, acknowledged, notification_type}
+use Rattle.journal_model.specs.Cause.{causes_of, IsAccepted}
+use Rattle.store_rows.specs.Records.{Holds, applied_all}
+use Rattle.store_rows.specs.declared.row.Write.{Write}
+use Rattle.store_rows.specs.Steps.{Turns, Lands}
+use Rattle.store_model.specs.Kept.{IsKept}
+use Rattle.store_model.specs.Writes.{writes_of}
+use Rattle.store_model.proofs.Keeping.{kept_after}
+use Rattle.store_refusals.specs.Prepared.{Keeps}
+use Rattle.new_invocations.specs.Rows.{IsStoreOf}
+use Rattle.new_invocations.proofs.Standing.{store_kept}
+use Rattle.live_attempts.specs.declared.attempt.LiveAttempt.{LiveAttempt}
+use Rattle.live_attempts.specs.Attempts.{attempt_of, IsNow, Changes, after_put, after_reserve}
+use Rattle.live_laws.specs.Agrees.{Agrees, Brings}
+use Rattle.live_laws.proofs.Steps.{arrived, elsewhere}
+use Rattle.live_laws.proofs.Begun.{invoked}
+use Rattle.journal_store.specs.Stands.{Stands, KeepsAll, Commits, IsAsBefore, AreAsBefore}
+
+pub true_or_false : (b : Bool) → (b ≡ true) ⊎ (b ≡ false)
+true_or_false true = inl refl
+true_or_false false = inr refl
+
+-- ---- records
+
+all_kept : (events : List Event) (event : Event) (s : State) (writes : List Write) (trees : Trees) → Keeps events s → causes_of events event ≡ []
+    → writes ≡ writes_of events event → Turns (applied_all writes) s.now.trees trees → KeepsAll (event ∷ events) trees
+all_kept events event s writes trees k accepted are turns = record {
+  records = applied_all writes k.records;
+  held = turns k.records k.held;
+  kept = subst (λ (ws : List Write). IsKept (event ∷ events) (applied_all ws k.records)) (sym are) (kept_after events event k.records k.accepted accepted k.kept);
+}
+
+-- what was made ready of an event was written
+pub written : (events : List Event) (event : Event) (old new : State) (writes : List Write) → IsStoreOf events old → HasCleanDisk old → causes_of events event ≡ []
+    → writes ≡ writes_of events event → IsTrue old.is_open → Turns (applied_all writes) old.now.trees new.now.trees → IsStoreOf (event ∷ events) new
+written events event old new writes store clean accepted are is_open turns =
+    let k = store.keeps clean is_open in
+    let all = all_kept events event old writes new.now.trees k accepted are turns in
+    record {
+      accepted = (accepted, store.accepted);
+      keeps = λ _ _. record { accepted = (accepted, store.accepted); records = all.records; held = all.held; kept = all.kept };
+    }
+
+-- and so it is where a crash comes
+pub landed : (events : List Event) (event : Event) (old : State) (writes : List Write) (trees : Trees) → IsStoreOf events old → HasCleanDisk old → causes_of events event ≡ []
+    → writes ≡ writes_of events event → IsTrue old.is_open → Turns (applied_all writes) old.now.trees trees → KeepsAll (event ∷ events) trees
+landed events event old writes trees store clean accepted are is_open turns = all_kept events event old writes trees (store.keeps clean is_open) accepted are turns
+
+-- an event that writes nothing
+pub unwritten : (events : List Event) (event : Event) (s : State) → IsStoreOf events s → causes_of events event ≡ [] → writes_of events event ≡ [] → IsStoreOf (event ∷ events) s
+unwritten events event s store accepted none = record {
+  accepted = (accepted, store.accepted);
+  keeps = λ clean is_open.
+      let k = store.keeps clean is_open in
+      record {
+        accepted = (accepted, store.accepted);
+        records = k.records;
+        held = k.held;
+        kept = subst (λ (ws : List Write). IsKept (event ∷ events) (applied_all ws k.records)) none (kept_after events event k.records k.accepted accepted k.kept);
+      };
+}
+
+-- ---- attempts
+
+-- of one invocation the attempt is as the event leaves it, and of the others it is as before
+pub stands_after : (events : List Event) (event : Event) (id : Text) (after : Option LiveAttempt) (database : State) (old new : List LiveAttempt)
+    → invocation_of event ≡ Some id → is_tick event ≡ false → IsStoreOf (event ∷ events) database → Agrees (event ∷ events) id after → IsNow id after old new
+    → ((other : Text) → Agrees events other (attempt_of old other)) → Stands (event ∷ events) database new
+stands_after events event id after database old new of_it no_tick kept agrees now live = record {
+  kept = kept;
+  live = λ other. elim (true_or_false (bytes_eq id other)) [
+    | inl same ↦ subst (λ (o : Text). Agrees (event ∷ events) o (attempt_of new o)) ((bytes_eq-Decides id other).0 same)
+        (subst (Agrees (event ∷ events) id) (sym now.own) agrees)
+    | inr apart ↦ subst (Agrees (event ∷ events) other) (sym (now.others other apart))
+        (elsewhere events event other (attempt_of old other) (ap (is_text other) of_it ∙ apart) no_tick (live other))
+  ];
+}
+
+-- an arrival is put behind the input of the attempt
+pub stands_arrived : (events : List Event) (event : Event) (id : Text) (arrival : Arrival) (place : ℕ) (frame : Bytes) (database : State) (old new : List LiveAttempt)
+    → invocation_of event ≡ Some id → is_tick event ≡ false → Brings id event arrival → acknowledged (version_of events id) id event ≡ None
+    → IsAccepted events → causes_of events event ≡ [] → IsStoreOf (event ∷ events) database → place ≡ 1 + length (entries_of events id)
+    → frame ≡ frame_bytes (notification_type (entries_of events id) arrival.id) (notification_payload arrival)
+    → Changes id (after_put place frame) old new → ((other : Text) → Agrees events other (attempt_of old other)) → Stands (event ∷ events) database new
+stands_arrived events event id arrival place frame database old new of_it no_tick brings plain accepted none kept place_is frame_is changed live =
+    stands_after events event id (option_map (after_put place frame) (attempt_of old id)) database old new of_it no_tick kept
+    (subst (λ (n : ℕ). Agrees (event ∷ events) id (option_map (after_put n frame) (attempt_of old id))) (sym place_is)
+    (subst (λ (bytes : Bytes). Agrees (event ∷ events) id (option_map (after_put (1 + length (entries_of events id)) bytes) (attempt_of old id))) (sym frame_is)
+    (arrived events event id arrival (attempt_of old id) brings plain accepted none (live id)))) changed live
+
+-- ---- room
+
+-- room that was made for a frame is used up when it is put
+pub put_in_room : (id : Text) (len place : ℕ) (frame : Bytes) (old mid new : List LiveAttempt) → Changes id (after_reserve len) old mid → Changes id (after_put place frame) mid new
+    → Changes id (after_put place frame) old new
+put_in_room id len place frame old mid new room put = record {
+  own = put.own ∙ ap (option_map (after_put place frame)) room.own ∙ same (attempt_of old id);
+  others = λ other apart. put.others other apart ∙ room.others other apart;
+}
+  where
+    same : (o : Option LiveAttempt) → option_map (after_put place frame) (option_map (after_reserve len) o) ≡ option_map (after_put place frame) o
+    same None = refl
+    same (Some attempt) = refl
+
+pub as_it_is : (o : Option LiveAttempt) → IsAsBefore o o
+as_it_is None = tt
+as_it_is (Some attempt) = refl
+
+with_room_only : (len : ℕ) (o : Option LiveAttempt) → IsAsBefore o (option_map (after_reserve len) o)
+with_room_only len None = tt
+with_room_only len (Some attempt) = refl
+
+pub room_only : (id : Text) (len : ℕ) (old new : List LiveAttempt) → Changes id (after_reserve len) old new → AreAsBefore old new
+room_only id len old new room other = elim (true_or_false (bytes_eq id other)) [
+  | inl same ↦ subst (λ (o : Text). IsAsBefore (attempt_of old o) (attempt_of new o)) ((bytes_eq-Decides id other).0 same)
+      (subst (IsAsBefore (attempt_of old id)) (sym room.own) (with_room_only len (attempt_of old id)))
+  | inr apart ↦ subst (IsAsBefore (attempt_of old other)) (sym (room.others other apart)) (as_it_is (attempt_of old other))
+]
+
+agrees_still : (events : List Event) (id : Text) (one other : Option LiveAttempt) → IsAsBefore one other → Agrees events id one → Agrees events id other
+agrees_still events id None None same agrees = agrees
+agrees_still events id (Some one) (Some other) same agrees = subst (λ (o : LiveAttempt). Agrees events id (Some o)) (sym same)
+    (record { invocation = agrees.invocation; number = agrees.number; version = agrees.version; bytes = agrees.bytes; pieces = agrees.pieces; handed = agrees.handed; closed = agrees.closed })
+agrees_still events id None (Some other) same agrees = absurd same
+agrees_still events id (Some one) None same agrees = absurd same
+
+-- the tables keep the same records where nothing was changed
+keeps_now : (events : List Event) (old new : State) → new.now ≡ old.now → Keeps events old → Keeps events new
+keeps_now events old new same k = record {
+  accepted = k.accepted;
+  records = k.records;
+  held = subst (λ (d : Database). Holds d.trees k.records) (sym same) k.held;
+  kept = k.kept;
+}
+
+pub store_still : (events : List Event) (old new : State) (P : Trees → Type 0) → Survives old new P → Asked old new → IsStoreOf events old → IsStoreOf events new
+store_still events old new P lives asked store = record {
+  accepted = store.accepted;
+  keeps = λ clean is_open.
+      let early : HasCleanDisk old = omega (arith, lives.clean, clean) in
+      let it = asked clean is_open in
+      keeps_now events old new it.1 (store.keeps early it.0);
+}
+
+-- a store stands as before
+pub stands_still : (events : List Event) (old new : State) (P : Trees → Type 0) (attempts left : List LiveAttempt) → Survives old new P → Asked old new → AreAsBefore attempts left
+    → Stands events old attempts → Stands events new left
+stands_still events old new P attempts left lives asked same stands = record {
+  kept = store_still events old new P lives asked stands.kept;
+  live = λ id. agrees_still events id (attempt_of attempts id) (attempt_of left id) (same id) (stands.live id);
+}
+
+-- of a new invocation no attempt is live, before and after
+none_live : (events : List Event) (id : Text) (o : Option LiveAttempt) → live_attempt events id ≡ None → Agrees events id o → o ≡ None
+none_live events id None none agrees = refl
+none_live events id (Some attempt) none agrees = cc
+
+pub stands_invoked : (events : List Event) (new : NewInvocation) (database : State) (attempts : List LiveAttempt) → causes_of events (Event.Invoke new) ≡ []
+    → IsAccepted events → IsStoreOf (Event.Invoke new ∷ events) database → ((id : Text) → Agrees events id (attempt_of attempts id)) → Stands (Event.Invoke new ∷ events) database attempts
+stands_invoked events new database attempts accepted before kept live =
+    let both = invoked events new before accepted in
+    stands_after events (Event.Invoke new) new.id None database attempts attempts refl refl kept both.1
+    (record { own = none_live events new.id (attempt_of attempts new.id) both.0 (live new.id); others = λ other apart. refl }) live
+
+-- ---- crashes
+
+-- what one transaction of an event leaves where a crash comes, if what it writes was made ready before
+pub commits_after : (old mid new : State) (event : Event) (writes : List Write)
+    → Survives old mid (λ _. ⊥) → Asked old mid → Survives mid new (Lands writes mid)
+    → (HasCleanDisk mid → (events : List Event) → IsStoreOf events old → (causes_of events event ≡ []) × (writes ≡ writes_of events event))
+    → ((events : List Event) → writes_of events event ≡ [] → ⊥) → Survives old new (Commits event old)
+commits_after old mid new event writes before asked lives made some =
+    survives_then old mid new (λ _. ⊥) (Lands writes mid) (Commits event old) (λ _ db none. absurd none)
+    (λ clean db lands events kept.
+    let early : HasCleanDisk mid = omega (arith, lives.clean, clean) in
+    let is = made early events kept in
+    let store = store_kept events old mid before asked kept in
+    let is_open : IsTrue mid.is_open = elim lands.0 [ inl none ↦ absurd (some events (sym is.1 ∙ none)) | inr still ↦ still ] in
+    (is.0, landed events event mid writes db store early is.0 is.1 is_open lands.1))
+    before lives

@@ -1,0 +1,83 @@
+-- How a frame is taken: what is seen of it first, what is written, and what is left of its attempt.
+use Rattle.std.specs.Prelude.{◌≡◌, ◌⊎◌, ℕ, ◌≤◌, length, drop, Bool, true, false, List, [], Option, Some, None, option_map, Result, Ok, Err, IsTrue}
+use Rattle.sqlite_trees.specs.Tree.{Trees}
+use Rattle.sqlite.specs.State.{State}
+use Rattle.sql_tables.specs.Asking.{IsKept}
+use Rattle.journal_model.specs.Notification.{Bytes, Text}
+use Rattle.journal_model.specs.Event.{Event}
+use Rattle.journal_protocol.specs.declared.decoder.RawMessage.{RawMessage}
+use Rattle.journal_protocol.specs.declared.message_type.UnknownMessageType.{UnknownMessageType}
+use Rattle.journal_protocol.specs.Item.{unknown, message, item_at}
+use Rattle.attempt_frames.specs.Answer.{IsFrame}
+use Rattle.attempt_frames.specs.Meaning.{frame_of}
+use Rattle.store_rows.specs.declared.row.Write.{Write}
+use Rattle.store_rows.specs.Records.{applied_all}
+use Rattle.store_rows.specs.Steps.{Turns}
+use Rattle.store_refusals.specs.declared.refusal.Refusal.{Refusal}
+use Rattle.taken_frames.specs.declared.frame.FrameReply.{FrameReply}
+use Rattle.live_attempts.specs.declared.attempt.LiveAttempt.{LiveAttempt}
+use Rattle.live_attempts.specs.Attempts.{IsNow, after_take}
+use Rattle.journal_store.specs.declared.step.SeenFrame.{SeenFrame}
+use Rattle.journal_store.specs.declared.step.FirstSeen.{FirstSeen}
+use Rattle.journal_store.specs.declared.step.FirstSeen.TheVariants as seen
+use Rattle.journal_store.specs.Attempts.{TakesItem, RefusesItem}
+
+-- ---- what stands first
+
+-- a whole frame of the attempt, what it is read as, and what is known of the attempt
+pub record IsSeen (attempt : LiveAttempt) (it : SeenFrame) : Type 0 where
+  pub message_is : RawMessage
+  pub first : item_at attempt.output ≡ Some (message message_is, drop it.len attempt.output)
+  pub within : it.len ≤ length attempt.output
+  pub read : IsFrame (frame_of attempt.version message_is) it.frame
+  pub handed : it.facts.handed ≡ attempt.input.handed
+  pub closed : it.facts.is_input_closed ≡ attempt.is_input_closed
+
+abbrev pub IsFirstSeen : LiveAttempt → FirstSeen → Type 0
+IsFirstSeen attempt seen.Partial = item_at attempt.output ≡ None
+IsFirstSeen attempt seen.Unknown = (ty : UnknownMessageType) × (item_at attempt.output ≡ Some (unknown ty, drop 8 attempt.output))
+IsFirstSeen attempt (seen.Frame it) = IsSeen attempt it
+
+-- of the live attempt, if one is live
+abbrev pub IsFirstOf : Option LiveAttempt → FirstSeen → Type 0
+IsFirstOf None first = first ≡ seen.Partial
+IsFirstOf (Some attempt) first = IsFirstSeen attempt first
+
+-- a whole frame stands first
+abbrev pub HasMessage : LiveAttempt → Type 0
+HasMessage attempt = (it : RawMessage) × (rest : Bytes) × (item_at attempt.output ≡ Some (message it, rest))
+
+abbrev pub HasMessageOf : Option LiveAttempt → Type 0
+HasMessageOf None = ⊥
+HasMessageOf (Some attempt) = HasMessage attempt
+
+abbrev pub IsSeenOf : Option LiveAttempt → SeenFrame → Type 0
+IsSeenOf None it = ⊥
+IsSeenOf (Some attempt) it = IsSeen attempt it
+
+-- ---- what is written
+
+-- nothing was to be written, or all was
+abbrev pub HasWritten : List Write → State → State → Type 0
+HasWritten writes old new = ((writes ≡ []) × IsKept old new) ⊎ (IsTrue old.is_open × Turns (applied_all writes) old.now.trees new.now.trees)
+
+-- where a crash comes
+abbrev pub LandsSome : List Write → State → Trees → Type 0
+LandsSome writes old trees = IsTrue old.is_open × Turns (applied_all writes) old.now.trees trees
+
+-- ---- what is left
+
+-- the attempt behind its first bytes, or no more
+abbrev pub passed : Bool → ℕ → Option LiveAttempt → Option LiveAttempt
+passed true len found = None
+passed false len found = option_map (after_take len) found
+
+-- an attempt is over where the cause of a refusal lies in its frame
+abbrev pub IsEndedBy : Bool → Text → List LiveAttempt → List LiveAttempt → Type 0
+IsEndedBy true id old new = IsNow id None old new
+IsEndedBy false id old new = new ≡ old
+
+-- the first item is taken or refused
+abbrev pub TakesSeen : List Event → Text → ℕ → Result FrameReply Refusal → State → List LiveAttempt → List LiveAttempt → Type 0
+TakesSeen events id number (Ok reply) database old new = TakesItem events id number reply database old new
+TakesSeen events id number (Err why) database old new = RefusesItem events id number why database old new
