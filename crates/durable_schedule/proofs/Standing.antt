@@ -85,9 +85,6 @@ module _ {S : Type 0} (g : Ghosts S) (s : Standing) (old new : Stored S) (is : I
       let it = stood g s.events new stands in
       (it.0, it.1.standing, record { cause = cause; stays = stays it.0 it.1 keeps })
 
-  pub unchanged : (same : new ≡ old) → Then (Stays s)
-  unchanged same = (s, subst (λ (store : Stored S). IsStanding g s store) (sym same) is, record { events = refl; outputs = λ id. refl })
-
   -- ---- the calls
 
   pub invokes : (one : NewInvocation) (result : Result (Unit {0}) Refusal) → Does s.events (Event.Invoke one) (λ _. Unit {0}) result (state g new.connection) new.live.attempts
