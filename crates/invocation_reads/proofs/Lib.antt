@@ -1,2 +1,4 @@
 pub mod Telling
 pub mod Rows
+pub mod Closing
+pub mod Putting

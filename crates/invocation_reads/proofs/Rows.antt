@@ -1,5 +1,6 @@
 -- The rows of a journal, told apart by their kinds.
-use Rattle.std.proofs.Common.{◌≡◌, refl, sym, ap, ap₂, ◌∙◌, append_assoc, ℕ, ◌+◌, ◌==◌, Bool, true, false, if◌then◌else◌, List, [], ◌∷◌, ◌++◌, map, filter, Option, Some, None, IsTrue}
+use Rattle.std.proofs.Common.{◌≡◌, refl, sym, ap, ap₂, ◌∙◌, append_assoc, arith, inl, length, not, is_some, ℕ, ◌+◌, ◌==◌, Bool, true, false, if◌then◌else◌, List, [], ◌∷◌, ◌++◌, map, filter, Option, Some, None, IsTrue}
+use Rattle.std.proofs.lemmas.Bool.{eqb-true}
 use Rattle.sqlite.specs.State.{State}
 use Rattle.journal_model.specs.Notification.{Bytes, Text}
 use Rattle.journal_model.specs.declared.notification.NotificationId.{NotificationId}
@@ -10,7 +11,7 @@ use Rattle.journal_model.specs.Spelling.{request_type, completion_type, notifica
 use Rattle.journal_model.specs.Event.{Event}
 use Rattle.journal_model.specs.Journal.{Entry, Recorded, Arrived, arrivals_in, requests_in, request_asking, entries_of, invocation_begun, recorded_arrivals, recorded_requests, starting_state}
 use Rattle.journal_model.specs.Attempt.{notification_type, type_of_completion}
-use Rattle.journal_model.specs.Cause.{IsAccepted}
+use Rattle.journal_model.specs.Cause.{Cause, IsAccepted, those_that_hold}
 use Rattle.journal_laws.proofs.ObjectState.{no_entries}
 use Rattle.sql_tables.specs.declared.read.ReadError.{ReadError}
 use Rattle.sql_tables.specs.declared.read.ReadError.TheVariants.{Refused, Foreign, OutOfMemory}
@@ -19,8 +20,10 @@ use Rattle.store_rows.specs.Questions.{IsJournal, IsNoJournal}
 use Rattle.store_model.specs.Kept.{entry_row, journal_rows, rows_from, rows_of_journal}
 use Rattle.store_lookups.proofs.Finding.{all_found}
 use Rattle.store_lookups.proofs.Framing.{AreAskedBefore, all_asked_before, kind_stays}
-use Rattle.store_refusals.specs.Refused.{is_circumstance, reading_refusal}
+use Rattle.store_refusals.specs.declared.refusal.Refusal.TheVariants.{UnknownInvocation}
+use Rattle.store_refusals.specs.Refused.{IsRefused, is_circumstance, reading_refusal}
 use Rattle.store_refusals.specs.Prepared.{Keeps}
+use Rattle.new_invocations.specs.Rows.{known_tests}
 use Rattle.invocation_reads.specs.declared.entries.RecordedFrame.{RecordedFrame}
 use Rattle.invocation_reads.specs.Told.{arrival_told, frame_told, is_arrival, is_request, is_row_of_arrival, is_row_of_request, request_told}
 
@@ -128,3 +131,23 @@ arrivals_all events id accepted = by_begun (invocation_begun events id) refl
         → map frame_told (filter is_row_of_arrival (rows_of_journal o id (entries_of events id))) ≡ map (arrival_told (entries_of events id)) (recorded_arrivals events id)
     by_begun None is = sym (ap (λ (entries : List Entry). map (arrival_told (entries_of events id)) (arrivals_in entries)) (no_entries (starting_state events id) events accepted id is))
     by_begun (Some new) is = arrivals_told id [] 1 (entries_of events id) (entries_of events id) (all_asked_before id events accepted) refl
+
+-- ---- an invocation that was begun has rows
+
+begun_rows : (o : Option NewInvocation) (id : Text) (entries : List Entry) → (length (rows_of_journal o id entries) == 0) ≡ false → those_that_hold ((not (is_some o), Cause.UnknownInvocation) ∷ []) ≡ []
+begun_rows None id entries e = cc
+begun_rows (Some new) id entries e = refl
+
+pub known_with_rows : (events : List Event) (id : Text) (rows : List EntryRow) → rows ≡ journal_rows events id → (length rows == 0) ≡ false → those_that_hold (known_tests events id) ≡ []
+known_with_rows events id rows are some =
+    begun_rows (invocation_begun events id) id (entries_of events id) (ap (λ (all : List EntryRow). length all == 0) (sym are) ∙ some)
+
+no_rows : (o : Option NewInvocation) (id : Text) (entries : List Entry) → (length (rows_of_journal o id entries) == 0) ≡ true
+    → IsRefused (those_that_hold ((not (is_some o), Cause.UnknownInvocation) ∷ [])) UnknownInvocation
+no_rows None id entries e = inl refl
+no_rows (Some new) id entries e = absurd (let zero = eqb-true (length (rows_of_journal (Some new) id entries)) 0 e in omega (arith, zero))
+
+pub unknown_without : (events : List Event) (id : Text) (rows : List EntryRow) → rows ≡ journal_rows events id → (length rows == 0) ≡ true
+    → IsRefused (those_that_hold (known_tests events id)) UnknownInvocation
+unknown_without events id rows are none =
+    no_rows (invocation_begun events id) id (entries_of events id) (ap (λ (all : List EntryRow). length all == 0) (sym are) ∙ none)

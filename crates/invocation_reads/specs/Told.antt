@@ -1,22 +1,12 @@
 -- What is told of an invocation.
-use Rattle.std.specs.Prelude.{ℕ, nat_lt, nat_le, Bool, false, not, ◌&&◌, ◌||◌, List, Option, Some, None, is_some}
+use Rattle.std.specs.Prelude.{ℕ, nat_lt, nat_le, Bool, ◌&&◌, ◌||◌, List}
 use Rattle.journal_model.specs.Notification.{Arrival}
 use Rattle.journal_model.specs.Request.{Request}
 use Rattle.journal_model.specs.Spelling.{request_type, request_payload, notification_payload}
 use Rattle.journal_model.specs.Journal.{Entry}
 use Rattle.journal_model.specs.Attempt.{notification_type}
-use Rattle.store_rows.specs.declared.row.InvocationRow.{InvocationRow}
 use Rattle.store_rows.specs.declared.row.EntryRow.{EntryRow}
-use Rattle.store_rows.specs.declared.row.LastError.{LastError}
 use Rattle.invocation_reads.specs.declared.entries.RecordedFrame.{RecordedFrame}
-
-abbrev pub open_by : Option InvocationRow → Bool
-open_by None = false
-open_by (Some row) = not (is_some row.progress.closing)
-
-abbrev pub error_by : Option InvocationRow → Option LastError
-error_by None = None
-error_by (Some row) = row.progress.last_error
 
 -- the numbers of the types of requests, and those of arrivals; an input's is neither
 abbrev pub is_request : ℕ → Bool

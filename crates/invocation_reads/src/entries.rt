@@ -8,8 +8,7 @@ ghost use Rattle.journal_model.specs.Journal.{entries_of, recorded_arrivals, rec
 ghost use Rattle.sql_tables.specs.Asking.{IsKept};
 ghost use Rattle.store_rows.specs.Steps.{IsStore};
 ghost use Rattle.store_model.specs.Kept.{journal_rows};
-ghost use Rattle.store_refusals.specs.Prepared.{Tells};
-ghost use Rattle.new_invocations.specs.Rows.{IsStoreOf};
+ghost use Rattle.new_invocations.specs.Rows.{Decides, IsStoreOf, known_tests};
 ghost use Rattle.invocation_reads.specs.Told.{arrival_told, frame_told, is_arrival, is_request, is_row_of_arrival, is_row_of_request, request_told};
 
 use bytes::{ByteStr, Bytes};
@@ -76,7 +75,7 @@ fn arrivals_among(alloc: Global, rows: &[EntryRow]) -> Result<Vec<RecordedFrame>
     Ok(frames)
 }
 
-/// The rows of a journal, the input's first.
+/// The rows of a journal, the input's first. An invocation that was begun has that one at least.
 fn rows_of<S: Alter>(
     alloc: Global,
     conn: &mut Connection<S>,
@@ -84,13 +83,17 @@ fn rows_of<S: Alter>(
 ) -> Result<Vec<EntryRow>, Refusal>
     requires store { IsStore (state S.Store conn.old) }
     requires idle { (state S.Store conn.old).in_transaction ≡ false }
-    ensures told { HasCleanDisk (state S.Store conn.new) → (events : List Event) → IsStoreOf events (state S.Store conn.old) → Tells (λ rows. rows.items ≡ journal_rows events id.now) result }
+    ensures told { HasCleanDisk (state S.Store conn.new) → (events : List Event) → IsStoreOf events (state S.Store conn.old) → Decides (known_tests events id.now) (λ rows. rows.items ≡ journal_rows events id.now) result }
     ensures kept { IsKept (state S.Store conn.old) (state S.Store conn.new) }
     ensures store { IsStore (state S.Store conn.new) }
     ensures idle { (state S.Store conn.new).in_transaction ≡ false }
     ensures crash { Survives (state S.Store conn.old) (state S.Store conn.new) (λ _. ⊥) }
 {
     let rows = journal(alloc, conn, id)?;
+    if rows.as_slice().is_empty() {
+        drop(rows);
+        return Err(Refusal::UnknownInvocation);
+    }
     Ok(rows)
 }
 
@@ -102,7 +105,7 @@ pub fn requests<S: Alter>(
 ) -> Result<Vec<RecordedFrame>, Refusal>
     requires store { IsStore (state S.Store conn.old) }
     requires idle { (state S.Store conn.old).in_transaction ≡ false }
-    ensures told { HasCleanDisk (state S.Store conn.new) → (events : List Event) → IsStoreOf events (state S.Store conn.old) → Tells (λ frames. frames.items ≡ map request_told (recorded_requests events id.now)) result }
+    ensures told { HasCleanDisk (state S.Store conn.new) → (events : List Event) → IsStoreOf events (state S.Store conn.old) → Decides (known_tests events id.now) (λ frames. frames.items ≡ map request_told (recorded_requests events id.now)) result }
     ensures kept { IsKept (state S.Store conn.old) (state S.Store conn.new) }
     ensures store { IsStore (state S.Store conn.new) }
     ensures idle { (state S.Store conn.new).in_transaction ≡ false }
@@ -123,7 +126,7 @@ pub fn arrivals<S: Alter>(
 ) -> Result<Vec<RecordedFrame>, Refusal>
     requires store { IsStore (state S.Store conn.old) }
     requires idle { (state S.Store conn.old).in_transaction ≡ false }
-    ensures told { HasCleanDisk (state S.Store conn.new) → (events : List Event) → IsStoreOf events (state S.Store conn.old) → Tells (λ frames. frames.items ≡ map (arrival_told (entries_of events id.now)) (recorded_arrivals events id.now)) result }
+    ensures told { HasCleanDisk (state S.Store conn.new) → (events : List Event) → IsStoreOf events (state S.Store conn.old) → Decides (known_tests events id.now) (λ frames. frames.items ≡ map (arrival_told (entries_of events id.now)) (recorded_arrivals events id.now)) result }
     ensures kept { IsKept (state S.Store conn.old) (state S.Store conn.new) }
     ensures store { IsStore (state S.Store conn.new) }
     ensures idle { (state S.Store conn.new).in_transaction ≡ false }

@@ -1,9 +1,11 @@
-//! What a store tells of an invocation: whether it is open, its requests, its arrivals, and the last error that an attempt of it
-//! told. Of an id that no invocation has there is nothing to tell.
+//! What a store tells of an invocation: whether it is open, its requests, its arrivals, what it answers once it is closed, and the
+//! last error that an attempt of it told. An id that no invocation has is refused.
 #![tactic(auto)]
 
+mod answering;
 mod entries;
 mod progress;
 
+pub use answering::answer;
 pub use entries::{RecordedFrame, arrivals, requests};
 pub use progress::{failure, is_open};

@@ -8,39 +8,23 @@ ghost use Rattle.journal_model.specs.Journal.{is_open as is_open_after};
 ghost use Rattle.sql_tables.specs.Asking.{IsKept};
 ghost use Rattle.store_rows.specs.Steps.{IsStore};
 ghost use Rattle.store_model.specs.Progress.{last_error_of};
-ghost use Rattle.store_refusals.specs.Prepared.{Tells};
-ghost use Rattle.new_invocations.specs.Rows.{IsStoreOf};
-ghost use Rattle.invocation_reads.specs.Told.{error_by, open_by};
+ghost use Rattle.new_invocations.specs.Rows.{Decides, IsStoreOf, known_tests};
 
 use bytes::ByteStr;
-use new_invocations::row_of;
+use new_invocations::known_row;
 use sqlite::{Alter, Connection};
 use std::alloc::Global;
 use store_refusals::Refusal;
 use store_rows::{InvocationRow, LastError};
 
-fn is_open_by(found: &Option<InvocationRow>) -> bool
-    ensures { result ≡ open_by found.now }
+fn error_of(row: InvocationRow) -> Option<LastError>
+    ensures { result ≡ row.progress.last_error }
 {
-    match found {
-        Some(row) => row.progress.closing.is_none(),
-        None => false,
-    }
+    let progress = row.progress;
+    progress.last_error
 }
 
-fn error_of(found: Option<InvocationRow>) -> Option<LastError>
-    ensures { result ≡ error_by found }
-{
-    match found {
-        Some(row) => {
-            let progress = row.progress;
-            progress.last_error
-        }
-        None => None,
-    }
-}
-
-/// Whether an invocation was begun and is not closed.
+/// Whether an invocation is not closed.
 pub fn is_open<S: Alter>(
     alloc: Global,
     conn: &mut Connection<S>,
@@ -48,15 +32,15 @@ pub fn is_open<S: Alter>(
 ) -> Result<bool, Refusal>
     requires store { IsStore (state S.Store conn.old) }
     requires idle { (state S.Store conn.old).in_transaction ≡ false }
-    ensures told { HasCleanDisk (state S.Store conn.new) → (events : List Event) → IsStoreOf events (state S.Store conn.old) → Tells (λ answer. answer ≡ is_open_after events id.now) result }
+    ensures told { HasCleanDisk (state S.Store conn.new) → (events : List Event) → IsStoreOf events (state S.Store conn.old) → Decides (known_tests events id.now) (λ answer. answer ≡ is_open_after events id.now) result }
     ensures kept { IsKept (state S.Store conn.old) (state S.Store conn.new) }
     ensures store { IsStore (state S.Store conn.new) }
     ensures idle { (state S.Store conn.new).in_transaction ≡ false }
     ensures crash { Survives (state S.Store conn.old) (state S.Store conn.new) (λ _. ⊥) }
 {
-    let found = row_of(alloc, conn, id)?;
-    let open = is_open_by(&found);
-    drop(found);
+    let row = known_row(alloc, conn, id)?;
+    let open = row.progress.closing.is_none();
+    drop(row);
     Ok(open)
 }
 
@@ -68,12 +52,12 @@ pub fn failure<S: Alter>(
 ) -> Result<Option<LastError>, Refusal>
     requires store { IsStore (state S.Store conn.old) }
     requires idle { (state S.Store conn.old).in_transaction ≡ false }
-    ensures told { HasCleanDisk (state S.Store conn.new) → (events : List Event) → IsStoreOf events (state S.Store conn.old) → Tells (λ error. error ≡ last_error_of events id.now) result }
+    ensures told { HasCleanDisk (state S.Store conn.new) → (events : List Event) → IsStoreOf events (state S.Store conn.old) → Decides (known_tests events id.now) (λ error. error ≡ last_error_of events id.now) result }
     ensures kept { IsKept (state S.Store conn.old) (state S.Store conn.new) }
     ensures store { IsStore (state S.Store conn.new) }
     ensures idle { (state S.Store conn.new).in_transaction ≡ false }
     ensures crash { Survives (state S.Store conn.old) (state S.Store conn.new) (λ _. ⊥) }
 {
-    let found = row_of(alloc, conn, id)?;
-    Ok(error_of(found))
+    let row = known_row(alloc, conn, id)?;
+    Ok(error_of(row))
 }

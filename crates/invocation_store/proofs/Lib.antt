@@ -5,3 +5,4 @@ pub mod Beginning
 pub mod Waiting
 pub mod Taking
 pub mod Accepting
+pub mod Opening

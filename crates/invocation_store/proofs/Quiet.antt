@@ -36,7 +36,7 @@ pub live_here : (events : List Event) (database : State) (attempts : List LiveAt
 live_here events database attempts id number stands = live_told events id number (attempt_of attempts id) (stands.live id)
 
 -- nothing is written of a request that is none
-none_written : (object : Option Text) → state_writes object [] ≡ []
+pub none_written : (object : Option Text) → state_writes object [] ≡ []
 none_written None = refl
 none_written (Some object) = refl
 

@@ -3,3 +3,4 @@ pub mod Stands
 pub mod Attempts
 pub mod Taking
 pub mod Accepting
+pub mod Opened

@@ -8,10 +8,13 @@ mod accept;
 mod attempt;
 mod begun;
 mod events;
+mod open;
+mod read;
 mod step;
 mod store;
 
 pub use accept::Accepted;
 pub use begun::BegunAttempt;
+pub use open::NotOpened;
 pub use store::Store;
 pub use taken_frames::FrameReply;

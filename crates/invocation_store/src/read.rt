@@ -1,0 +1,67 @@
+// What a store tells of an invocation.
+ghost use Rattle.std.specs.Prelude.{◌≡◌, map, List};
+ghost use Rattle.sqlite.specs.Held.{state};
+ghost use Rattle.sqlite.specs.State.{HasCleanDisk, Survives};
+ghost use Rattle.journal_model.specs.Event.{Event};
+ghost use Rattle.journal_model.specs.Journal.{entries_of, is_open as is_open_after, recorded_arrivals, recorded_requests};
+ghost use Rattle.store_model.specs.Progress.{last_error_of};
+ghost use Rattle.new_invocations.specs.Rows.{Decides, known_tests};
+ghost use Rattle.invocation_reads.specs.Told.{arrival_told, request_told};
+ghost use Rattle.invocation_reads.specs.Answered.{Answers};
+ghost use Rattle.invocation_store.specs.Stands.{Stands};
+
+use crate::store::Store;
+use bytes::ByteStr;
+use invocation_reads::{RecordedFrame, answer, arrivals, failure, is_open, requests};
+use journal_model::NonEmptyValue;
+use sqlite::Alter;
+use store_refusals::Refusal;
+use store_rows::LastError;
+
+impl<S: Alter + Drop> Store<S> {
+    /// The recorded requests, by place, each as the frame that its attempt wrote.
+    pub fn requests(&mut self, id: &ByteStr) -> Result<Vec<RecordedFrame>, Refusal>
+        ensures told { HasCleanDisk (state S.Store self.new.connection) → (events : List Event) → Stands events (state S.Store self.old.connection) self.old.live.attempts → Decides (known_tests events id.now) (λ frames. frames.items ≡ map request_told (recorded_requests events id.now)) result × Stands events (state S.Store self.new.connection) self.new.live.attempts }
+        ensures live { self.new.live ≡ self.old.live }
+        ensures crash { Survives (state S.Store self.old.connection) (state S.Store self.new.connection) (λ _. ⊥) }
+    {
+        requests(self.alloc, &mut self.connection, id)
+    }
+
+    /// The recorded arrivals, by place, each as a frame of the type by which its request is completed.
+    pub fn arrivals(&mut self, id: &ByteStr) -> Result<Vec<RecordedFrame>, Refusal>
+        ensures told { HasCleanDisk (state S.Store self.new.connection) → (events : List Event) → Stands events (state S.Store self.old.connection) self.old.live.attempts → Decides (known_tests events id.now) (λ frames. frames.items ≡ map (arrival_told (entries_of events id.now)) (recorded_arrivals events id.now)) result × Stands events (state S.Store self.new.connection) self.new.live.attempts }
+        ensures live { self.new.live ≡ self.old.live }
+        ensures crash { Survives (state S.Store self.old.connection) (state S.Store self.new.connection) (λ _. ⊥) }
+    {
+        arrivals(self.alloc, &mut self.connection, id)
+    }
+
+    /// What a closed invocation answers: what its last output put out, or the failure that closed it. Nothing where it is open, and
+    /// where it ended with no output.
+    pub fn answer(&mut self, id: &ByteStr) -> Result<Option<NonEmptyValue>, Refusal>
+        ensures told { HasCleanDisk (state S.Store self.new.connection) → (events : List Event) → Stands events (state S.Store self.old.connection) self.old.live.attempts → Answers events id.now result × Stands events (state S.Store self.new.connection) self.new.live.attempts }
+        ensures live { self.new.live ≡ self.old.live }
+        ensures crash { Survives (state S.Store self.old.connection) (state S.Store self.new.connection) (λ _. ⊥) }
+    {
+        answer(self.alloc, &mut self.connection, id)
+    }
+
+    /// The last error that an attempt told: its code, what was to be done, its delay and its message.
+    pub fn failure(&mut self, id: &ByteStr) -> Result<Option<LastError>, Refusal>
+        ensures told { HasCleanDisk (state S.Store self.new.connection) → (events : List Event) → Stands events (state S.Store self.old.connection) self.old.live.attempts → Decides (known_tests events id.now) (λ error. error ≡ last_error_of events id.now) result × Stands events (state S.Store self.new.connection) self.new.live.attempts }
+        ensures live { self.new.live ≡ self.old.live }
+        ensures crash { Survives (state S.Store self.old.connection) (state S.Store self.new.connection) (λ _. ⊥) }
+    {
+        failure(self.alloc, &mut self.connection, id)
+    }
+
+    /// Whether an invocation is open.
+    pub fn is_open(&mut self, id: &ByteStr) -> Result<bool, Refusal>
+        ensures told { HasCleanDisk (state S.Store self.new.connection) → (events : List Event) → Stands events (state S.Store self.old.connection) self.old.live.attempts → Decides (known_tests events id.now) (λ answer. answer ≡ is_open_after events id.now) result × Stands events (state S.Store self.new.connection) self.new.live.attempts }
+        ensures live { self.new.live ≡ self.old.live }
+        ensures crash { Survives (state S.Store self.old.connection) (state S.Store self.new.connection) (λ _. ⊥) }
+    {
+        is_open(self.alloc, &mut self.connection, id)
+    }
+}
