@@ -1,8 +1,6 @@
-//! What proofs do not show of the store and of the machine, as tests: that their calls succeed with ample memory, and worked
-//! values. A crate with tests of its own would be proved twice.
+//! What proofs do not show of the machine, as tests: that its calls succeed with ample memory, and worked values. A crate with
+//! tests of its own would be proved twice.
 #![tactic(auto)]
 
 #[cfg(test)]
 mod attempts;
-#[cfg(test)]
-mod store;
