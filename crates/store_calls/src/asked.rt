@@ -1,8 +1,8 @@
 //! A store in memory, and what it is asked of the invocation `i1`.
 use bytes::{ByteStr, Bytes};
 use invocation_reads::RecordedFrame;
-use journal_store::{FrameReply, NotOpened, Store};
 use journal_model::{NewInvocation, NonEmptyValue, NotificationResult, StateMode};
+use journal_store::{FrameReply, NotOpened, Store};
 use sequence::Sequence;
 use sqlite::{Connection, MemStore};
 use std::alloc::Global;

@@ -1,8 +1,8 @@
 //! Frames that an attempt wrote.
 use crate::asked::{Asked, begun};
 use bytes::{ByteStr, Bytes};
-use journal_store::FrameReply;
 use journal_model::{NonEmptyValue, TerminalFailure};
+use journal_store::FrameReply;
 use sequence::Sequence;
 use std::alloc::Global;
 use std::test::Fail;

@@ -1,8 +1,8 @@
 //! Results that come from outside.
 use crate::asked::begun;
 use bytes::{ByteStr, Bytes};
-use journal_store::FrameReply;
 use journal_model::{Failure, NotificationResult};
+use journal_store::FrameReply;
 use sequence::Sequence;
 use std::alloc::Global;
 use std::test::Fail;
