@@ -3,11 +3,16 @@
 
 mod fault;
 
-ghost use Rattle.std.specs.Prelude.{◌≡◌, ◌≢◌, [], codes, IfOk, IfErr};
+ghost use Rattle.std.specs.Prelude.{◌≡◌, [], codes, IfOk, IfErr};
+ghost use Rattle.sqlite.specs.Held.{state};
+ghost use Rattle.sqlite.specs.State.{HasCleanDisk};
+ghost use Rattle.sqlite.specs.Steps.{over_memory};
+ghost use Rattle.invocation_store.specs.Stands.{Stands};
 
-use durable_script::{ScriptFault, run_script};
+use durable_script::{ScriptEnd, ScriptFault, run_script};
 use fault::ProgramFault;
-use journal_store::Store;
+use invocation_store::Store;
+use sqlite::{Connection, MemStore};
 use std::alloc::Global;
 use std::fs::File;
 use std::process::ExitCode;
@@ -39,13 +44,31 @@ fn read_words<R: Env + AllocGlobal>(rt: &R) -> Result<Words, ProgramFault> {
     Ok(Words { script, database })
 }
 
+/// The store of no invocation, in memory.
+fn open_memory(alloc: Global) -> Result<Store<MemStore>, ProgramFault>
+    ensures ok { IfOk result (λ store. HasCleanDisk (state over_memory store.connection) → Stands [] (state over_memory store.connection) store.live.attempts) }
+    ensures err { IfErr result (λ fault. fault ≡ ProgramFault.DatabaseRefused) }
+{
+    let Ok(connection) = Connection::open_in_memory(alloc) else {
+        return Err(ProgramFault::DatabaseRefused);
+    };
+    match Store::open(alloc, connection) {
+        Ok(store) => Ok(store),
+        Err(left) => {
+            drop(left);
+            Err(ProgramFault::DatabaseRefused)
+        }
+    }
+}
+
 /// The store that a database holds.
-fn open_store(alloc: Global, database: &str) -> Result<Store, ProgramFault>
-    ensures ok { IfOk result (λ store. (database.now ≡ codes ":memory:") × (store ≡ [])) }
-    ensures err { IfErr result (λ fault. (fault ≡ ProgramFault.DatabaseRefused) × (database.now ≢ codes ":memory:")) }
+fn open_store(alloc: Global, database: &str) -> Result<Store<MemStore>, ProgramFault>
+    ensures named { IfOk result (λ _. database.now ≡ codes ":memory:") }
+    ensures ok { IfOk result (λ store. HasCleanDisk (state over_memory store.connection) → Stands [] (state over_memory store.connection) store.live.attempts) }
+    ensures err { IfErr result (λ fault. fault ≡ ProgramFault.DatabaseRefused) }
 {
     if database == ":memory:" {
-        Ok(Store::new(alloc))
+        open_memory(alloc)
     } else {
         Err(ProgramFault::DatabaseRefused)
     }
@@ -59,7 +82,9 @@ fn run<R: Files + Env + Print + AllocGlobal>(rt: &R) -> Result<(), ProgramFault>
     let store = open_store(rt.alloc(), words.database.as_str())?;
     let mut output = io::writer(rt);
     let end = run_script(rt.alloc(), &mut script, &mut output, store);
-    end.result?;
+    let ScriptEnd { store, result } = end;
+    drop(store);
+    result?;
     Ok(())
 }
 

@@ -1,11 +1,15 @@
 //! A schedule, from its events to its replies.
+use crate::memory::open_memory;
 use built_in_handlers::handlers::Nap;
 use bytes::{ByteStr, Bytes};
-use durable_schedule::{Event, Refusal, Reply, Scheduler, run_schedule};
+use durable_schedule::{Scheduler, run_schedule};
+use invocation_reads::RecordedFrame;
+use invocation_store::Store;
 use invocation_vm::{Turn, VMOptions};
 use journal_model::{NewInvocation, StateMode};
-use journal_store::Store;
+use schedule_events::{Event, Refusal, Reply};
 use sequence::Sequence;
+use sqlite::MemStore;
 use std::alloc::{AllocError, Global};
 use std::test::Fail;
 
@@ -92,11 +96,53 @@ fn events(alloc: Global) -> Result<Vec<Event<Nap>>, AllocError> {
 }
 
 /// What the events leave, and their replies. It promises nothing, so that a test stays short to prove.
-fn ran(alloc: Global) -> Result<(Scheduler<Nap>, Vec<Reply>), Fail> {
-    let store = Store::new(alloc);
+fn ran(alloc: Global) -> Result<(Scheduler<Nap, MemStore>, Vec<Reply>), Fail> {
+    let store = open_memory(alloc).ok_or("no store")?;
     match run_schedule(alloc, store, VMOptions::default(), events(alloc)?) {
         Ok(done) => Ok(done),
         Err(_refused) => Err(Fail::from("no room for the replies")),
+    }
+}
+
+/// The store that the events leave.
+fn left(alloc: Global) -> Result<Store<MemStore>, Fail> {
+    let (scheduler, replies) = ran(alloc)?;
+    drop(replies);
+    Ok(scheduler.into_store())
+}
+
+/// Whether this is the one request of a nap.
+fn is_sleep(requests: &[RecordedFrame]) -> bool {
+    match requests {
+        [sleep] => {
+            sleep.kind == 0x040c
+                && sleep.payload.as_slice() == [0x08, 0x0a, 0x58, 0x01].as_slice()
+        }
+        _ => false,
+    }
+}
+
+/// Whether a scheduler tells of it.
+fn tells_sleep(scheduler: &mut Scheduler<Nap, MemStore>) -> bool {
+    match scheduler.requests(&i1()) {
+        Ok(requests) => {
+            let is_so = is_sleep(requests.as_slice());
+            drop(requests);
+            is_so
+        }
+        Err(_) => false,
+    }
+}
+
+/// Whether a store tells of it.
+fn keeps_sleep(store: &mut Store<MemStore>) -> bool {
+    match store.requests(&i1()) {
+        Ok(requests) => {
+            let is_so = is_sleep(requests.as_slice());
+            drop(requests);
+            is_so
+        }
+        Err(_) => false,
     }
 }
 
@@ -109,26 +155,17 @@ fn replies_of_a_nap(rt: HostRuntime) -> Result<(), Fail> {
 
 #[test]
 fn records_of_a_nap(rt: HostRuntime) -> Result<(), Fail> {
-    let (scheduler, _replies) = ran(rt.alloc())?;
+    let (mut scheduler, _replies) = ran(rt.alloc())?;
     assert_eq!(rt; scheduler.is_open(&i1()), Ok(true));
     assert_eq!(rt; scheduler.answer(&i1()), Ok(None));
-    assert_eq!(rt;
-        scheduler.requests(&i1()).map(|requests| requests.len()),
-        Ok(1)
-    );
+    assert!(rt; tells_sleep(&mut scheduler));
     Ok(())
 }
 
 #[test]
 fn store_of_a_nap(rt: HostRuntime) -> Result<(), Fail> {
-    let (scheduler, _replies) = ran(rt.alloc())?;
-    let store = scheduler.into_store();
-    let requests = store.requests(&i1()).ok().ok_or("no invocation")?;
-    let first = requests.first().ok_or("no request")?;
-    assert_eq!(rt;
-        first.payload.as_slice(),
-        [0x08, 0x0a, 0x58, 0x01].as_slice()
-    );
+    let mut store = left(rt.alloc())?;
+    assert!(rt; keeps_sleep(&mut store));
     Ok(())
 }
 
@@ -136,7 +173,7 @@ fn store_of_a_nap(rt: HostRuntime) -> Result<(), Fail> {
 fn names_of_refusals(rt: HostRuntime) {
     assert_eq!(rt; Refusal::AttemptNotHeld.name(), "X2");
     assert_eq!(rt;
-        Refusal::Store(journal_store::Refusal::AttemptNotLive).name(),
+        Refusal::Store(store_refusals::Refusal::AttemptNotLive).name(),
         "S9"
     );
 }

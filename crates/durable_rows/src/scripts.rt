@@ -1,12 +1,13 @@
 //! Scripts, run over a store in memory: what they print, and how they end.
+use crate::memory::{ending, run};
 use bytes::ByteStr;
-use durable_script::{ScriptFault, run_script};
-use journal_store::Store;
+use durable_script::ScriptFault;
 use std::alloc::Global;
 use std::io;
 use std::io::{ErrorKind, Read, Write};
 use std::process::Abort;
 use std::test::Fail;
+use store_refusals::Refusal;
 
 /// Runs a script over an empty store, and compares what it prints and how it ends.
 fn check(
@@ -14,12 +15,12 @@ fn check(
     alloc: Global,
     script: &str,
     wanted: &str,
-    ending: Result<(), ScriptFault>,
+    wanted_ending: Result<(), ScriptFault>,
 ) {
     let mut reader = script.as_bytes();
     let mut printed = Vec::new(alloc);
-    let end = run_script(alloc, &mut reader, &mut printed, Store::new(alloc));
-    assert_eq!(rt; end.result, ending);
+    let ending = ending(alloc, &mut reader, &mut printed);
+    assert_eq!(rt; ending, Some(wanted_ending));
     assert_eq!(rt; printed.as_slice(), wanted.as_bytes());
 }
 
@@ -154,8 +155,8 @@ where
     R: Drop,
 {
     let mut printed = Vec::new(alloc);
-    let end = run_script(alloc, &mut reader, &mut printed, Store::new(alloc));
-    end.result == Err(ScriptFault::ScriptUnreadable) && printed.is_empty()
+    let ending = ending(alloc, &mut reader, &mut printed);
+    ending == Some(Err(ScriptFault::ScriptUnreadable)) && printed.is_empty()
 }
 
 #[test]
@@ -196,6 +197,18 @@ impl Write for Failing {
     }
 }
 
+/// Runs three lines, of which an invocation and an attempt are begun: how that ended, and whether the invocation is open.
+fn three_lines(
+    alloc: Global,
+    writer: &mut Failing,
+) -> Option<(Result<(), ScriptFault>, Result<bool, Refusal>)> {
+    let mut reader: &[u8] = b"invoke i1 o 7 whole 1 -\nbegin i1 nap 0\nstop i1 1\n";
+    let (result, mut store) = run(alloc, &mut reader, writer)?;
+    let is_open = store.is_open(&ByteStr::from_static("i1"));
+    drop(store);
+    Some((result, is_open))
+}
+
 /// What is done is written before the next line is done, and the line whose text is not taken is done.
 #[test]
 fn failing_writers(rt: HostRuntime) {
@@ -210,15 +223,13 @@ fn failing_writers(rt: HostRuntime) {
         (5, "ok\nattempt 1\nok\n", Ok(())),
     ];
     for (left, taken, ending) in rows {
-        let mut reader: &[u8] = b"invoke i1 o 7 whole 1 -\nbegin i1 nap 0\nstop i1 1\n";
         let mut writer = Failing {
             taken: Vec::new(alloc),
             left,
         };
-        let end = run_script(alloc, &mut reader, &mut writer, Store::new(alloc));
-        assert_eq!(rt; end.result, ending);
+        let done = three_lines(alloc, &mut writer);
+        assert_eq!(rt; done, Some((ending, Ok(true))));
         assert_eq!(rt; writer.taken.as_slice(), taken.as_bytes());
-        assert_eq!(rt; end.store.is_open(&ByteStr::from_static("i1")), Ok(true));
     }
 }
 

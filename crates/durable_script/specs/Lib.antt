@@ -1,4 +1,5 @@
 pub mod Fault
+pub mod Reaching
 pub mod Printed
 pub mod Shown
 pub mod Line

@@ -1,4 +1,4 @@
--- What a line does to the scheduler, and its text with the line feed.
+-- What a line does to what the scheduler stands for, and its text with the line feed.
 use Rattle.std.specs.Prelude.{◌≡◌, ℕ, Bool, true, false, suc, zero, ◌+◌, ◌≤◌, List, [], ◌∷◌, ◌++◌}
 use Rattle.std.specs.declared.alloc.Global.{Global}
 use Rattle.built_in_handlers.specs.declared.handlers.Nap.{Nap}
@@ -8,18 +8,18 @@ use Rattle.journal_model.specs.declared.invocation.NewInvocation.{NewInvocation}
 use Rattle.journal_model.specs.declared.invocation.StateMode as model
 use Rattle.journal_model.specs.declared.invocation.StateMode.TheVariants as mode
 use Rattle.invocation_vm.specs.declared.progress.Turn.TheVariants.{Answered}
-use Rattle.durable_schedule.specs.declared.event.Event.{Event}
-use Rattle.durable_schedule.specs.declared.event.Event.TheVariants as event
-use Rattle.durable_schedule.specs.declared.event.Reply.{Reply}
-use Rattle.durable_schedule.specs.declared.event.Reply.TheVariants.{Turned}
-use Rattle.durable_schedule.specs.declared.scheduler.Scheduler.{Scheduler}
-use Rattle.durable_schedule.specs.Schedule.{Applies}
+use Rattle.invocation_vm.specs.Options.{default_options}
+use Rattle.schedule_events.specs.declared.event.Event.{Event}
+use Rattle.schedule_events.specs.declared.event.Event.TheVariants as event
+use Rattle.schedule_events.specs.declared.event.Reply.{Reply}
+use Rattle.schedule_events.specs.declared.event.Reply.TheVariants.{Turned}
+use Rattle.schedule_events.specs.Schedule.{Scheduled, Applies}
 use Rattle.script_lines.specs.declared.line.Line.{Line}
 use Rattle.script_lines.specs.declared.line.Line.TheVariants.{Invoke, Begin, Feed, Turn, Move, Stop, Show}
 use Rattle.script_lines.specs.declared.word.StateMode.{StateMode}
 use Rattle.script_lines.specs.declared.word.StateMode.TheVariants.{Whole, Hidden}
 use Rattle.durable_script.specs.Printed.{printed}
-use Rattle.durable_script.specs.Shown.{Shows}
+use Rattle.durable_script.specs.Shown.{Looks, Shows}
 
 -- the next-call function of the handler `nap`
 abbrev pub nap_function : Nap → Handler
@@ -39,9 +39,9 @@ new_invocation id object version state seed input =
     record { id = id; object = object; input = input; headers = []; version = version; seed = seed; state = state_mode state }
 
 -- one event is applied, and its reply printed
-pub record DoesEvent (one : Event Nap) (text : List ℕ) (old new : Scheduler Nap) : Type 0 where
+pub record DoesEvent (one : Event Nap) (text : List ℕ) (old new : Scheduled Nap) : Type 0 where
   pub reply : Reply
-  pub applied : Applies nap_function one reply old new
+  pub applied : Applies nap_function default_options one reply old new
   pub text_is : text ≡ printed 1 reply ++ 10 ∷ []
 
 -- whether a reply is that of a turn that was answered
@@ -50,33 +50,33 @@ was_answered (Turned Answered) = true
 was_answered _ = false
 
 -- so many turns, each of which is answered
-abbrev pub AnsweredTurns : List ℕ → ℕ → ℕ → Scheduler Nap → Scheduler Nap → Type 0
+abbrev pub AnsweredTurns : List ℕ → ℕ → ℕ → Scheduled Nap → Scheduled Nap → Type 0
 AnsweredTurns id attempt zero old new = new ≡ old
 AnsweredTurns id attempt (suc turns) old new =
-    (between : Scheduler Nap) × AnsweredTurns id attempt turns old between × Applies nap_function (event.Turn id attempt) (Turned Answered) between new
+    (between : Scheduled Nap) × AnsweredTurns id attempt turns old between × Applies nap_function default_options (event.Turn id attempt) (Turned Answered) between new
 
 -- so many turns were taken, of as many as were asked for: behind the first that is not answered there is none
-pub record TookTurns (id : List ℕ) (attempt asked taken : ℕ) (last : Reply) (old new : Scheduler Nap) : Type 0 where
+pub record TookTurns (id : List ℕ) (attempt asked taken : ℕ) (last : Reply) (old new : Scheduled Nap) : Type 0 where
   pub before : ℕ
-  pub between : Scheduler Nap
+  pub between : Scheduled Nap
   pub answered : AnsweredTurns id attempt before old between
-  pub applied : Applies nap_function (event.Turn id attempt) last between new
+  pub applied : Applies nap_function default_options (event.Turn id attempt) last between new
   pub taken_are : taken ≡ before + 1
   pub within : taken ≤ asked
   pub all : was_answered last ≡ true → taken ≡ asked
 
-pub record TakesTurns (id : List ℕ) (attempt asked : ℕ) (text : List ℕ) (old new : Scheduler Nap) : Type 0 where
+pub record TakesTurns (id : List ℕ) (attempt asked : ℕ) (text : List ℕ) (old new : Scheduled Nap) : Type 0 where
   pub taken : ℕ
   pub last : Reply
   pub took : TookTurns id attempt asked taken last old new
   pub text_is : text ≡ printed taken last ++ 10 ∷ []
 
 -- Each line is one event, but for the turns, and for what is shown, which changes nothing.
-abbrev pub DoesLine : Line → List ℕ → Scheduler Nap → Scheduler Nap → Type 0
+abbrev pub DoesLine : Line → List ℕ → Scheduled Nap → Scheduled Nap → Type 0
 DoesLine (Invoke id object version state seed input) text old new = DoesEvent (event.Invoke (new_invocation id object version state seed input)) text old new
-DoesLine (Begin id handler now) text old new = DoesEvent (event.Begin id (nap old.alloc) now) text old new
+DoesLine (Begin id handler now) text old new = (alloc : Global) × DoesEvent (event.Begin id (nap alloc) now) text old new
 DoesLine (Feed id attempt count) text old new = DoesEvent (event.Feed id attempt count) text old new
 DoesLine (Turn id attempt count) text old new = TakesTurns id attempt count text old new
 DoesLine (Move id attempt count) text old new = DoesEvent (event.Move id attempt count) text old new
 DoesLine (Stop id attempt) text old new = DoesEvent (event.Stop id attempt) text old new
-DoesLine (Show id) text old new = Shows id old.store text × (new ≡ old)
+DoesLine (Show id) text old new = Looks (Shows id text) old new

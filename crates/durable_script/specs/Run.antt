@@ -1,14 +1,23 @@
 -- What the lines of a script do, one after another, and what is written of them.
 use Rattle.std.specs.Prelude.{◌≡◌, ◌⊎◌, ℕ, ◌<◌, ◌≤◌, false, List, [], ◌∷◌, ◌++◌, length, take, Option, Some, None, IfSome, Result, Ok, Err}
 use Rattle.std.specs.Io.KnownBytes.{Appends, Keeps, IsAtEnd}
+use Rattle.sqlite_trees.specs.declared.store.Store.{Ghosts}
+use Rattle.sqlite.specs.State.{HasCleanDisk}
+use Rattle.sqlite.specs.Held.{state}
 use Rattle.built_in_handlers.specs.declared.handlers.Nap.{Nap}
 use Rattle.built_in_handlers.specs.Handlers.{nap_until}
-use Rattle.journal_store.specs.declared.row.StoredInvocation.{StoredInvocation}
-use Rattle.journal_store.specs.Rows.{Rows, row_of}
+use Rattle.journal_model.specs.Notification.{Text}
+use Rattle.journal_model.specs.declared.invocation.NewInvocation.{NewInvocation}
+use Rattle.journal_model.specs.Event.{Event}
+use Rattle.journal_model.specs.Journal.{invocation_begun, starting_state, recorded_requests}
 use Rattle.invocation_vm.specs.Options.{default_options}
-use Rattle.durable_schedule.specs.declared.scheduler.Scheduler.{Scheduler}
-use Rattle.durable_schedule.specs.Following.{run_given, IsBeginningOfRun}
-use Rattle.durable_schedule.specs.Schedule.{IsNew}
+use Rattle.invocation_vm.specs.First.{given_by}
+use Rattle.invocation_store.specs.Stored.{Stored}
+use Rattle.invocation_store.specs.Stands.{Stands}
+use Rattle.schedule_events.specs.Standing.{Standing}
+use Rattle.schedule_events.specs.Following.{IsBeginningOfRun}
+use Rattle.schedule_events.specs.Schedule.{Scheduled}
+use Rattle.durable_schedule.specs.Scheduled.{IsStanding, at_first}
 use Rattle.script_lines.specs.declared.line.Line.{Line}
 use Rattle.script_lines.specs.Line.{spelled, IsLine}
 use Rattle.script_lines.specs.Script.{numbered_lines}
@@ -37,100 +46,117 @@ abbrev pub asked_by : List DoneLine → Asked
 asked_by [] = none_asked
 asked_by (one ∷ before) = asked_after (asked_by before) one.line
 
+-- each line is understood behind those before it
+abbrev pub AreUnderstood : List DoneLine → Type 0
+AreUnderstood [] = Unit {0}
+AreUnderstood (one ∷ before) = AreUnderstood before × IsLine one.line × (is_second (asked_by before) one.line ≡ false)
+
 -- each line was done on what those before it left
-abbrev pub DoesAll : List DoneLine → Scheduler Nap → Scheduler Nap → Type 0
+abbrev pub DoesAll : List DoneLine → Scheduled Nap → Scheduled Nap → Type 0
 DoesAll [] old new = new ≡ old
-DoesAll (one ∷ before) old new =
-    (between : Scheduler Nap) × DoesAll before old between × IsLine one.line × (is_second (asked_by before) one.line ≡ false) × DoesLine one.line one.text between new
+DoesAll (one ∷ before) old new = (between : Scheduled Nap) × DoesAll before old between × DoesLine one.line one.text between new
 
--- the first lines of a script were done, and these come behind them
-pub record HasDone (lines : List (ℕ × List ℕ)) (old new : Scheduler Nap) (done : List DoneLine) (rest : List (ℕ × List ℕ)) : Type 0 where
-  pub lines_are : lines ≡ lines_of done ++ rest
-  pub does : DoesAll done old new
+-- What was done is all that `Does` tells of.
+module _ (lines : List (ℕ × List ℕ)) (Does : List DoneLine → Type 0) where
+  -- the first lines of a script were done, and these come behind them
+  pub record HasDone (done : List DoneLine) (rest : List (ℕ × List ℕ)) : Type 0 where
+    pub lines_are : lines ≡ lines_of done ++ rest
+    pub understood : AreUnderstood done
+    pub does : Does done
 
-module _ (lines : List (ℕ × List ℕ)) (old new : Scheduler Nap) (output : List ℕ) where
   -- all lines were done and written
-  pub record DoesWhole : Type 0 where
+  pub record DoesWhole (output : List ℕ) : Type 0 where
     pub done : List DoneLine
-    pub has_done : HasDone lines old new done []
+    pub has_done : HasDone done []
     pub written : output ≡ texts_of done
 
   -- those before the line of this number were, and that line is not understood
-  pub record StopsBefore (number : ℕ) : Type 0 where
+  pub record StopsBefore (output : List ℕ) (number : ℕ) : Type 0 where
     pub done : List DoneLine
     pub bytes : List ℕ
     pub rest : List (ℕ × List ℕ)
-    pub has_done : HasDone lines old new done ((number, bytes) ∷ rest)
+    pub has_done : HasDone done ((number, bytes) ∷ rest)
     pub unknown : IsNotUnderstood (asked_by done) bytes
     pub written : output ≡ texts_of done
 
   -- those before some line were, and there is no memory to read that line
-  pub record ReadsNoMore : Type 0 where
+  pub record ReadsNoMore (output : List ℕ) : Type 0 where
     pub done : List DoneLine
     pub next : ℕ × List ℕ
     pub rest : List (ℕ × List ℕ)
-    pub has_done : HasDone lines old new done (next ∷ rest)
+    pub has_done : HasDone done (next ∷ rest)
     pub written : output ≡ texts_of done
 
   -- some line was done, only those before it were written, and there is no memory for its text
-  pub record HasNoText : Type 0 where
+  pub record HasNoText (output : List ℕ) : Type 0 where
     pub last : DoneLine
     pub before : List DoneLine
     pub rest : List (ℕ × List ℕ)
-    pub has_done : HasDone lines old new (last ∷ before) rest
+    pub has_done : HasDone (last ∷ before) rest
     pub written : output ≡ texts_of before
 
   -- some line was done, and of its text the writer took a part
-  pub record WritesPart : Type 0 where
+  pub record WritesPart (output : List ℕ) : Type 0 where
     pub last : DoneLine
     pub before : List DoneLine
     pub rest : List (ℕ × List ℕ)
-    pub has_done : HasDone lines old new (last ∷ before) rest
+    pub has_done : HasDone (last ∷ before) rest
     pub taken : ℕ
     pub part : taken < length last.text
     pub written : output ≡ texts_of before ++ take taken last.text
 
-  abbrev pub ComesTo : Result (Unit {0}) ScriptFault → Type 0
-  ComesTo (Ok done) = DoesWhole
-  ComesTo (Err (LineNotUnderstood number)) = StopsBefore number
-  ComesTo (Err OutOfMemory) = ReadsNoMore ⊎ HasNoText
-  ComesTo (Err OutputUnwritable) = WritesPart
-  ComesTo (Err ScriptUnreadable) = ⊥
+  abbrev pub ComesTo : List ℕ → Result (Unit {0}) ScriptFault → Type 0
+  ComesTo output (Ok done) = DoesWhole output
+  ComesTo output (Err (LineNotUnderstood number)) = StopsBefore output number
+  ComesTo output (Err OutOfMemory) = ReadsNoMore output ⊎ HasNoText output
+  ComesTo output (Err OutputUnwritable) = WritesPart output
+  ComesTo output (Err ScriptUnreadable) = ⊥
 
--- the lines were done in order, and this was written
-pub record DoesLines (lines : List (ℕ × List ℕ)) (old new : Scheduler Nap) (had has : Option (List ℕ)) (result : Result (Unit {0}) ScriptFault) : Type 0 where
-  pub output : List ℕ
-  pub appended : Appends had has output
-  pub comes_to : ComesTo lines old new output result
+  -- the lines were done in order, and this was written
+  pub record DoesLines (had has : Option (List ℕ)) (result : Result (Unit {0}) ScriptFault) : Type 0 where
+    pub output : List ℕ
+    pub appended : Appends had has output
+    pub comes_to : ComesTo output result
 
 -- the last call of the writer may fail too
 abbrev pub EndsWith : Result (Unit {0}) ScriptFault → Result (Unit {0}) ScriptFault → Type 0
 EndsWith reached result = (result ≡ reached) ⊎ (result ≡ Err OutputUnwritable)
 
--- the script was read whole, and its lines were done on a new scheduler over the store
-pub record RunsLines (input left had has : Option (List ℕ)) (store after : Rows) (result : Result (Unit {0}) ScriptFault) : Type 0 where
-  pub script : List ℕ
-  pub known : IfSome input (λ bytes. script ≡ bytes)
-  pub at_end : IsAtEnd left
-  pub small : length script ≤ 16777216
-  pub start : Scheduler Nap
-  pub end : Scheduler Nap
-  pub is_new : IsNew store default_options start
-  pub reached : Result (Unit {0}) ScriptFault
-  pub does : DoesLines (numbered_lines script) start end had has reached
-  pub store_is : after ≡ end.store
-  pub ends : EndsWith reached result
+module _ {S : Type 0} (g : Ghosts S) where
+  -- Whatever a store stood for, unless the disk failed: these lines were done on it by a new scheduler, and what they came to is
+  -- what the store that is left stands for.
+  abbrev pub LeadsAll : Stored S → Stored S → List DoneLine → Type 0
+  LeadsAll store after done =
+      HasCleanDisk (state g after.connection) → (s : Standing) → IsStanding g s store
+      → (end : Scheduled Nap) × IsStanding g end.standing after × DoesAll done (at_first s) end
 
--- A script that cannot be read does nothing.
-abbrev pub RunsScript : Option (List ℕ) → Option (List ℕ) → Option (List ℕ) → Option (List ℕ) → Rows → Rows → Result (Unit {0}) ScriptFault → Type 0
-RunsScript input left had has store after result =
-    ((result ≡ Err ScriptUnreadable) × (after ≡ store) × Keeps had has) ⊎ RunsLines input left had has store after result
+  -- the script was read whole, and its lines were done
+  pub record RunsLines (input left had has : Option (List ℕ)) (store after : Stored S) (result : Result (Unit {0}) ScriptFault) : Type 0 where
+    pub script : List ℕ
+    pub known : IfSome input (λ bytes. script ≡ bytes)
+    pub at_end : IsAtEnd left
+    pub small : length script ≤ 16777216
+    pub reached : Result (Unit {0}) ScriptFault
+    pub does : DoesLines (numbered_lines script) (LeadsAll store after) had has reached
+    pub ends : EndsWith reached result
 
--- What is recorded of each invocation that a store did not know are the first requests of the run of `nap`.
-abbrev pub FollowsNap : Rows → Rows → Type 0
-FollowsNap store after = (id : List ℕ) → row_of store id ≡ None → (invocation : StoredInvocation) → row_of after id ≡ Some invocation
-    → IsBeginningOfRun (nap_until 10) (run_given default_options invocation) invocation.requests
+  -- A script that cannot be read does nothing.
+  abbrev pub RunsScript : Option (List ℕ) → Option (List ℕ) → Option (List ℕ) → Option (List ℕ) → Stored S → Stored S → Result (Unit {0}) ScriptFault → Type 0
+  RunsScript input left had has store after result =
+      ((result ≡ Err ScriptUnreadable) × (after ≡ store) × Keeps had has) ⊎ RunsLines input left had has store after result
+
+-- What is recorded of each invocation that was not begun before are the first requests of the run of `nap`.
+abbrev pub FollowsNap : List Event → List Event → Type 0
+FollowsNap before after = (id : Text) → invocation_begun before id ≡ None → (invocation : NewInvocation) → invocation_begun after id ≡ Some invocation
+    → IsBeginningOfRun (nap_until 10) (given_by default_options invocation (starting_state after id)) (recorded_requests after id)
+
+-- Whatever events a store stood for, the one that is left stands for such, unless the disk failed.
+abbrev pub LeavesRuns : {S : Type 0} → Ghosts S → Stored S → Stored S → Type 0
+LeavesRuns g store after =
+    HasCleanDisk (state g after.connection) → (before : List Event) → Stands before (state g store.connection) store.live.attempts
+    → (events : List Event) × Stands events (state g after.connection) after.live.attempts × FollowsNap before events
 
 -- It holds behind each line.
 abbrev pub LinesFollow : Type 0
-LinesFollow = (store : Rows) (start end : Scheduler Nap) (done : List DoneLine) → IsNew store default_options start → DoesAll done start end → FollowsNap store end.store
+LinesFollow = (start end : Scheduled Nap) (done : List DoneLine) → start.held ≡ [] → AreUnderstood done → DoesAll done start end
+    → FollowsNap start.standing.events end.standing.events

@@ -1,22 +1,25 @@
 -- What doing a line comes to.
 use Rattle.std.specs.Prelude.{◌≡◌, ◌⊎◌, ℕ, List}
+use Rattle.sqlite_trees.specs.declared.store.Store.{Ghosts}
 use Rattle.script_lines.specs.declared.line.Line.{Line}
 use Rattle.durable_script.specs.declared.fault.ScriptFault.{ScriptFault}
 use Rattle.durable_script.specs.declared.fault.ScriptFault.TheVariants.{LineNotUnderstood, ScriptUnreadable, OutOfMemory, OutputUnwritable}
 use Rattle.durable_script.specs.declared.runner.Runner.{Runner}
+use Rattle.durable_script.specs.Reaching.{Reaches}
 use Rattle.durable_script.specs.Line.{DoesLine}
 use Rattle.durable_script.specs.Asked.{asked_after, IsUnderstood, IsNotUnderstood}
 
--- the line is understood and done
-pub record DoesNext (bytes text : List ℕ) (old new : Runner) : Type 0 where
-  pub line : Line
-  pub understood : IsUnderstood old.asked bytes line
-  pub does : DoesLine line text old.scheduler new.scheduler
-  pub asked : new.asked ≡ asked_after old.asked line
+module _ {S : Type 0} (g : Ghosts S) where
+  -- the line is understood and done
+  pub record DoesNext (bytes text : List ℕ) (old new : Runner S) : Type 0 where
+    pub line : Line
+    pub understood : IsUnderstood old.asked bytes line
+    pub does : Reaches g (DoesLine line text) old.scheduler new.scheduler
+    pub asked : new.asked ≡ asked_after old.asked line
 
--- the line is not understood; or memory was refused, before it was done or for its text
-abbrev pub StopsAt : ℕ → List ℕ → ScriptFault → Runner → Runner → Type 0
-StopsAt number bytes (LineNotUnderstood n) old new = (n ≡ number) × IsNotUnderstood old.asked bytes × (new.scheduler ≡ old.scheduler)
-StopsAt number bytes OutOfMemory old new = (new.scheduler ≡ old.scheduler) ⊎ ((text : List ℕ) × DoesNext bytes text old new)
-StopsAt number bytes ScriptUnreadable old new = ⊥
-StopsAt number bytes OutputUnwritable old new = ⊥
+  -- the line is not understood; or memory was refused, before it was done or for its text
+  abbrev pub StopsAt : ℕ → List ℕ → ScriptFault → Runner S → Runner S → Type 0
+  StopsAt number bytes (LineNotUnderstood n) old new = (n ≡ number) × IsNotUnderstood old.asked bytes × (new.scheduler ≡ old.scheduler)
+  StopsAt number bytes OutOfMemory old new = (new.scheduler ≡ old.scheduler) ⊎ ((text : List ℕ) × DoesNext bytes text old new)
+  StopsAt number bytes ScriptUnreadable old new = ⊥
+  StopsAt number bytes OutputUnwritable old new = ⊥

@@ -3,8 +3,8 @@ ghost use Rattle.std.specs.Prelude.{◌≡◌, ◌∷◌, [], ◌++◌, IfOk, st
 ghost use Rattle.script_lines.specs.Text.{reply_text};
 ghost use Rattle.durable_script.specs.Printed.{word_of, printed};
 
-use durable_schedule::Reply;
 use invocation_vm::Turn;
+use schedule_events::Reply;
 use script_lines::text::{LastTurn, LineReply};
 use std::alloc::{AllocError, Global};
 

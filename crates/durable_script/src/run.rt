@@ -3,30 +3,36 @@ ghost use Rattle.std.specs.Prelude.{◌≡◌, Err};
 ghost use Rattle.std.specs.Io.KnownBytes.{Keeps};
 ghost use Rattle.script_lines.specs.Script.{numbered_lines};
 ghost use Rattle.durable_script.specs.Asked.{none_asked};
-ghost use Rattle.durable_script.specs.Run.{DoesLines, EndsWith, RunsScript, FollowsNap};
+ghost use Rattle.durable_script.specs.Reaching.{Reaches};
+ghost use Rattle.durable_script.specs.Run.{DoesAll, DoesLines, EndsWith, LeavesRuns, RunsScript};
 
 use crate::fault::ScriptFault;
 use crate::output::write_text;
 use crate::runner::Runner;
-use journal_store::Store;
+use invocation_store::Store;
 use script_lines::reading::read_script;
 use script_lines::script::ScriptLines;
+use sqlite::Alter;
 use std::alloc::Global;
 use std::io::{Read, Write};
 
 /// What a script leaves.
-#[derive(Debug, Drop)]
-pub struct ScriptEnd {
+#[derive(Drop)]
+pub struct ScriptEnd<S: Alter> {
     /// The store, changed by the lines that were done.
-    pub store: Store,
+    pub store: Store<S>,
     /// Why not all lines were done and written.
     pub result: Result<(), ScriptFault>,
 }
 
 /// Does the lines of a script in order, and writes the text of each when it is done.
-fn do_lines<W: Write>(runner: &mut Runner, script: &[u8], writer: &mut W) -> Result<(), ScriptFault>
+fn do_lines<W: Write, S: Alter + Drop>(
+    runner: &mut Runner<S>,
+    script: &[u8],
+    writer: &mut W,
+) -> Result<(), ScriptFault>
     requires { runner.old.asked ≡ none_asked }
-    ensures { DoesLines (numbered_lines script.now) runner.old.scheduler runner.new.scheduler (W.contents writer.old) (W.contents writer.new) result }
+    ensures { DoesLines (numbered_lines script.now) (λ done. Reaches S.Store (DoesAll done) runner.old.scheduler runner.new.scheduler) (W.contents writer.old) (W.contents writer.new) result }
 {
     for line in ScriptLines::new(script) {
         let text = runner.do_line(line.number, line.bytes)?;
@@ -52,17 +58,17 @@ fn finish<W: Write>(writer: &mut W, reached: Result<(), ScriptFault>) -> Result<
 /// Runs a script: reads it whole, then does its lines in order on a new scheduler over the store, and writes what each
 /// prints. It ends behind the last line, at a line that is not understood, where there is no memory, or where the writer
 /// fails. Nothing is known of what a flush that fails has written.
-pub fn run_script<R: Read, W: Write>(
+pub fn run_script<R: Read, W: Write, S: Alter + Drop>(
     alloc: Global,
     reader: &mut R,
     writer: &mut W,
-    store: Store,
-) -> ScriptEnd
+    store: Store<S>,
+) -> ScriptEnd<S>
     // What was done and written, and why no more.
-    ensures runs { RunsScript (R.remaining reader.old) (R.remaining reader.new) (W.contents writer.old) (W.contents writer.new) store result.store result.result }
+    ensures runs { RunsScript S.Store (R.remaining reader.old) (R.remaining reader.new) (W.contents writer.old) (W.contents writer.new) store result.store result.result }
     ensures unread { result.result ≡ Err ScriptFault.ScriptUnreadable → writer.new ≡ writer.old }
     // What is recorded of an invocation are the first requests of the one uninterrupted run of its handler.
-    ensures headline { FollowsNap store result.store }
+    ensures headline { LeavesRuns S.Store store result.store }
 {
     let Ok(script) = read_script(alloc, reader) else {
         let result = Err(ScriptFault::ScriptUnreadable);

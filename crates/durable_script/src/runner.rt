@@ -2,7 +2,7 @@
 ghost use Rattle.std.specs.Prelude.{◌≡◌, ◌<◌, ◌≤◌, ◌+◌, ◌∷◌, [], ◌++◌, List, ℕ, not, IfOk, IfErr, OnErr, string_bytes};
 ghost use Rattle.script_lines.specs.Line.{IsLine};
 ghost use Rattle.invocation_vm.specs.Options.{default_options};
-ghost use Rattle.durable_schedule.specs.Schedule.{IsNew};
+ghost use Rattle.durable_script.specs.Reaching.{Reaches};
 ghost use Rattle.durable_script.specs.Line.{new_invocation, nap, was_answered, DoesEvent, TakesTurns, TookTurns, DoesLine};
 ghost use Rattle.durable_script.specs.Asked.{none_asked, is_second, asked_after, Understands};
 ghost use Rattle.durable_script.specs.Runner.{DoesNext, StopsAt};
@@ -12,14 +12,16 @@ use crate::reply::{line_reply, reply_line};
 use crate::show::show;
 use built_in_handlers::handlers::Nap;
 use bytes::{ByteStr, Bytes};
-use durable_schedule::{Event, Reply, Scheduler};
+use durable_schedule::Scheduler;
+use invocation_store::Store;
 use invocation_vm::{Turn, VMOptions};
 use journal_model::NewInvocation;
-use journal_store::Store;
+use schedule_events::{Event, Reply};
 use script_lines::line::{Line, parse_line};
 use script_lines::text::LineReply;
 use script_lines::word::{HandlerName, StateMode};
 use sequence::Sequence;
+use sqlite::Alter;
 use std::alloc::{AllocError, Global};
 use std::mem;
 
@@ -37,8 +39,8 @@ pub(crate) struct Asked {
 
 /// A scheduler that the lines of a script are done on.
 #[derive(Drop)]
-pub(crate) struct Runner {
-    pub scheduler: Scheduler<Nap>,
+pub(crate) struct Runner<S: Alter> {
+    pub scheduler: Scheduler<Nap, S>,
     pub asked: Asked,
 }
 
@@ -82,9 +84,12 @@ fn begin(alloc: Global, invocation: ByteStr, now: u64) -> Event<Nap>
 }
 
 /// Applies one event.
-fn do_event(scheduler: &mut Scheduler<Nap>, event: Event<Nap>) -> Result<String, AllocError>
-    ensures ok { IfOk result (λ text. DoesEvent event (string_bytes text) scheduler.old scheduler.new) }
-    ensures err { OnErr result ((text : List ℕ) × DoesEvent event text scheduler.old scheduler.new) }
+fn do_event<S: Alter + Drop>(
+    scheduler: &mut Scheduler<Nap, S>,
+    event: Event<Nap>,
+) -> Result<String, AllocError>
+    ensures ok { IfOk result (λ text. Reaches S.Store (DoesEvent event (string_bytes text)) scheduler.old scheduler.new) }
+    ensures err { OnErr result ((text : List ℕ) × Reaches S.Store (DoesEvent event text) scheduler.old scheduler.new) }
 {
     let reply = scheduler.apply(event);
     reply_line(scheduler.alloc, line_reply(1, reply))
@@ -98,14 +103,14 @@ fn was_answered(reply: Reply) -> bool
 }
 
 /// Takes up to so many turns, and answers how many, and the last reply.
-fn take_turns(
-    scheduler: &mut Scheduler<Nap>,
+fn take_turns<S: Alter + Drop>(
+    scheduler: &mut Scheduler<Nap, S>,
     id: &ByteStr,
     attempt: u32,
     count: u32,
 ) -> (u32, Reply)
     requires { 1 ≤ count }
-    ensures { TookTurns id.now attempt count result.0 result.1 scheduler.old scheduler.new }
+    ensures { Reaches S.Store (TookTurns id.now attempt count result.0 result.1) scheduler.old scheduler.new }
 {
     let mut taken = 1u32;
     loop {
@@ -118,25 +123,28 @@ fn take_turns(
 }
 
 /// Takes up to so many turns, and makes their text.
-fn do_turns(
-    scheduler: &mut Scheduler<Nap>,
+fn do_turns<S: Alter + Drop>(
+    scheduler: &mut Scheduler<Nap, S>,
     id: &ByteStr,
     attempt: u32,
     count: u32,
 ) -> Result<String, AllocError>
     requires { 1 ≤ count }
-    ensures ok { IfOk result (λ text. TakesTurns id.now attempt count (string_bytes text) scheduler.old scheduler.new) }
-    ensures err { OnErr result ((text : List ℕ) × TakesTurns id.now attempt count text scheduler.old scheduler.new) }
+    ensures ok { IfOk result (λ text. Reaches S.Store (TakesTurns id.now attempt count (string_bytes text)) scheduler.old scheduler.new) }
+    ensures err { OnErr result ((text : List ℕ) × Reaches S.Store (TakesTurns id.now attempt count text) scheduler.old scheduler.new) }
 {
     let (taken, reply) = take_turns(scheduler, id, attempt, count);
     reply_line(scheduler.alloc, line_reply(taken, reply))
 }
 
 /// Does what a line says, and makes its text.
-fn carry_out(scheduler: &mut Scheduler<Nap>, line: Line) -> Result<String, AllocError>
+fn carry_out<S: Alter + Drop>(
+    scheduler: &mut Scheduler<Nap, S>,
+    line: Line,
+) -> Result<String, AllocError>
     requires { IsLine line }
-    ensures ok { IfOk result (λ text. DoesLine line (string_bytes text) scheduler.old scheduler.new) }
-    ensures err { OnErr result ((text : List ℕ) × DoesLine line text scheduler.old scheduler.new) }
+    ensures ok { IfOk result (λ text. Reaches S.Store (DoesLine line (string_bytes text)) scheduler.old scheduler.new) }
+    ensures err { OnErr result ((text : List ℕ) × Reaches S.Store (DoesLine line text) scheduler.old scheduler.new) }
 {
     let alloc = scheduler.alloc;
     match line {
@@ -215,10 +223,12 @@ fn understand(alloc: Global, asked: &mut Asked, bytes: &[u8]) -> Result<Option<L
     Ok(None)
 }
 
-impl Runner {
+impl<S: Alter + Drop> Runner<S> {
     /// A new scheduler over a store.
-    pub fn new(alloc: Global, store: Store) -> Runner
-        ensures scheduler { IsNew store default_options result.scheduler }
+    pub fn new(alloc: Global, store: Store<S>) -> Runner<S>
+        ensures store { result.scheduler.store ≡ store }
+        ensures options { result.scheduler.options ≡ default_options }
+        ensures held { result.scheduler.held.items ≡ [] }
         ensures asked { result.asked ≡ none_asked }
     {
         Runner {
@@ -232,8 +242,8 @@ impl Runner {
 
     /// Does a line, and answers what is to be written.
     pub fn do_line(&mut self, number: usize, bytes: &[u8]) -> Result<String, ScriptFault>
-        ensures ok { IfOk result (λ text. DoesNext bytes.now (string_bytes text) self.old self.new) }
-        ensures err { IfErr result (λ fault. StopsAt number bytes.now fault self.old self.new) }
+        ensures ok { IfOk result (λ text. DoesNext S.Store bytes.now (string_bytes text) self.old self.new) }
+        ensures err { IfErr result (λ fault. StopsAt S.Store number bytes.now fault self.old self.new) }
     {
         let alloc = self.scheduler.alloc;
         match understand(alloc, &mut self.asked, bytes)? {

@@ -1,36 +1,36 @@
 //! What is recorded of an invocation, as a line shows it.
-ghost use Rattle.std.specs.Prelude.{◌≡◌, ◌∷◌, [], ◌++◌, Some, not, IfOk, IfErr, string_bytes};
-ghost use Rattle.script_lines.specs.Text.{request_text, answer_text};
-ghost use Rattle.durable_script.specs.Shown.{shown_text, answer_line, Shows, ShowsRow, ShowsRefusal, RefusesShow};
-ghost use Rattle.journal_protocol.specs.MessageType.{number_of};
-ghost use Rattle.journal_store.specs.Read.{ReadsRow, answer_of};
-ghost use Rattle.script_lines.specs.Text.{request_line};
+ghost use Rattle.std.specs.Prelude.{◌≡◌, ◌∷◌, [], ◌++◌, ℕ, List, Some, IfOk, IfErr, OnErr, string_bytes};
+ghost use Rattle.script_lines.specs.Text.{request_line, request_text, answer_text};
+ghost use Rattle.durable_script.specs.Reaching.{Reaches};
+ghost use Rattle.durable_script.specs.Shown.{shown_text, answer_line, Looks, RefusesShow, HasRecords, Shows};
 
 use crate::reply::reply_line;
 use built_in_handlers::handlers::Nap;
 use bytes::ByteStr;
 use durable_schedule::Scheduler;
+use invocation_reads::RecordedFrame;
 use journal_model::NonEmptyValue;
-use journal_store::{RecordedRequest, Refusal};
 use script_lines::text::{LineReply, ShownAnswer, ShownOpenness, ShownRequest};
+use sqlite::Alter;
 use std::alloc::AllocError;
 use std::fmt;
+use store_refusals::Refusal;
 
 /// What is recorded of an invocation: everything that is asked for before a line is printed.
 #[derive(Debug, Drop)]
-struct ShownInvocation<'a> {
-    requests: &'a [RecordedRequest],
+struct ShownInvocation {
+    requests: Vec<RecordedFrame>,
     answer: Option<NonEmptyValue>,
     is_open: bool,
 }
 
 /// A request at its place.
-fn shown_request(place: usize, request: &RecordedRequest) -> ShownRequest<'_>
-    ensures { request_text result ≡ request_line place (number_of request.now.ty) request.now.payload }
+fn shown_request(place: usize, request: &RecordedFrame) -> ShownRequest<'_>
+    ensures { request_text result ≡ request_line place request.now.kind request.now.payload }
 {
     ShownRequest {
         place,
-        ty: u16::from(request.ty),
+        ty: request.kind,
         payload: request.payload.as_slice(),
     }
 }
@@ -48,8 +48,8 @@ fn shown_answer(answer: &Option<NonEmptyValue>) -> ShownAnswer<'_>
     }
 }
 
-impl fmt::Display for ShownInvocation<'_> {
-    ghost output = { λ shown. Some (shown_text shown.requests.now shown.answer shown.is_open) };
+impl fmt::Display for ShownInvocation {
+    ghost output = { λ shown. Some (shown_text shown.requests.items shown.answer shown.is_open) };
 
     fn fmt<W: fmt::Write>(&self, f: &mut fmt::Formatter<W>) -> fmt::Result {
         for (index, request) in self.requests.iter().enumerate() {
@@ -63,26 +63,43 @@ impl fmt::Display for ShownInvocation<'_> {
 }
 
 /// What the store holds of an invocation.
-fn shown<'a>(scheduler: &'a Scheduler<Nap>, id: &ByteStr) -> Result<ShownInvocation<'a>, Refusal>
-    ensures ok { IfOk result (λ shown. ReadsRow (λ row. (shown.requests.now ≡ row.requests) × (shown.answer ≡ answer_of row) × (shown.is_open ≡ not row.is_closed)) id.now scheduler.now.store) }
-    ensures err { IfErr result (RefusesShow id.now scheduler.now.store) }
+fn shown<S: Alter + Drop>(
+    scheduler: &mut Scheduler<Nap, S>,
+    id: &ByteStr,
+) -> Result<ShownInvocation, Refusal>
+    ensures ok { IfOk result (λ shown. Reaches S.Store (Looks (HasRecords id.now shown.requests.items shown.answer shown.is_open)) scheduler.old scheduler.new) }
+    ensures err { IfErr result (λ refusal. Reaches S.Store (Looks (RefusesShow id.now refusal)) scheduler.old scheduler.new) }
 {
-    let requests = scheduler.requests(id)?;
-    let answer = scheduler.answer(id)?;
     let is_open = scheduler.is_open(id)?;
-    Ok(ShownInvocation {
-        requests,
-        answer,
-        is_open,
-    })
+    let answer = scheduler.answer(id)?;
+    match scheduler.requests(id) {
+        Ok(requests) => Ok(ShownInvocation {
+            requests,
+            answer,
+            is_open,
+        }),
+        Err(refusal) => {
+            drop(answer);
+            Err(refusal)
+        }
+    }
 }
 
 /// What a line that shows an invocation prints.
-pub(crate) fn show(scheduler: &Scheduler<Nap>, id: &ByteStr) -> Result<String, AllocError>
-    ensures { IfOk result (λ text. Shows id.now scheduler.now.store (string_bytes text)) }
+pub(crate) fn show<S: Alter + Drop>(
+    scheduler: &mut Scheduler<Nap, S>,
+    id: &ByteStr,
+) -> Result<String, AllocError>
+    ensures ok { IfOk result (λ text. Reaches S.Store (Looks (Shows id.now (string_bytes text))) scheduler.old scheduler.new) }
+    ensures err { OnErr result ((text : List ℕ) × Reaches S.Store (Looks (Shows id.now text)) scheduler.old scheduler.new) }
 {
+    let alloc = scheduler.alloc;
     match shown(scheduler, id) {
-        Ok(shown) => format!(in scheduler.alloc; "{shown}"),
-        Err(refusal) => reply_line(scheduler.alloc, LineReply::Refused(refusal.name())),
+        Ok(shown) => {
+            let text = format!(in alloc; "{shown}");
+            drop(shown);
+            text
+        }
+        Err(refusal) => reply_line(alloc, LineReply::Refused(refusal.name())),
     }
 }

@@ -1,6 +1,7 @@
 //! What the lines of a script print, each without its line feed.
 
-ghost use Rattle.std.specs.Prelude.{Some};
+ghost use Rattle.std.specs.Prelude.{◌≡◌, Some};
+ghost use Rattle.std.specs.Int.{to_be_bytes, w16};
 
 use std::fmt;
 
@@ -118,11 +119,19 @@ impl fmt::Display for LineReply {
     }
 }
 
-/// A recorded request: its place, counted from 1, the number of its frame's type, and its payload.
+/// The lowest two bytes of a number, the higher one first.
+fn low_bytes(number: u32) -> [u8; 2]
+    ensures { result ≡ to_be_bytes w16 number }
+{
+    let [_, _, high, low] = number.to_be_bytes();
+    [high, low]
+}
+
+/// A recorded request: its place, counted from 1, the number of its frame's type, which has sixteen bits, and its payload.
 #[derive(Clone, Copy, Debug)]
 pub struct ShownRequest<'a> {
     pub place: usize,
-    pub ty: u16,
+    pub ty: u32,
     pub payload: &'a [u8],
 }
 
@@ -133,7 +142,7 @@ impl fmt::Display for ShownRequest<'_> {
 
     fn fmt<W: fmt::Write>(&self, f: &mut fmt::Formatter<W>) -> fmt::Result {
         let place = self.place;
-        let ty = self.ty.to_be_bytes();
+        let ty = low_bytes(self.ty);
         let ty = Hex(&ty);
         let payload = Hex(self.payload);
         write!(f, "{place} request {ty} {payload}")
