@@ -7,11 +7,11 @@ ghost use Rattle.std.specs.Prelude.{◌≡◌, [], codes, IfOk, IfErr};
 ghost use Rattle.sqlite.specs.Held.{state};
 ghost use Rattle.sqlite.specs.State.{HasCleanDisk};
 ghost use Rattle.sqlite.specs.Steps.{over_memory};
-ghost use Rattle.invocation_store.specs.Stands.{Stands};
+ghost use Rattle.journal_store.specs.Stands.{Stands};
 
 use durable_script::{ScriptEnd, ScriptFault, run_script};
 use fault::ProgramFault;
-use invocation_store::Store;
+use journal_store::Store;
 use sqlite::{Connection, MemStore};
 use std::alloc::Global;
 use std::fs::File;

@@ -1,6 +1,6 @@
 //! Stores in memory. What stands here promises nothing, so that the tests stay short to prove.
 use durable_script::{ScriptFault, run_script};
-use invocation_store::Store;
+use journal_store::Store;
 use sqlite::{Connection, MemStore};
 use std::alloc::Global;
 use std::io::{Read, Write};

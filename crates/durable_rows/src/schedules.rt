@@ -4,9 +4,9 @@ use built_in_handlers::handlers::Nap;
 use bytes::{ByteStr, Bytes};
 use durable_schedule::{Scheduler, run_schedule};
 use invocation_reads::RecordedFrame;
-use invocation_store::Store;
 use invocation_vm::{Turn, VMOptions};
 use journal_model::{NewInvocation, StateMode};
+use journal_store::Store;
 use schedule_events::{Event, Refusal, Reply};
 use sequence::Sequence;
 use sqlite::MemStore;
@@ -115,8 +115,7 @@ fn left(alloc: Global) -> Result<Store<MemStore>, Fail> {
 fn is_sleep(requests: &[RecordedFrame]) -> bool {
     match requests {
         [sleep] => {
-            sleep.kind == 0x040c
-                && sleep.payload.as_slice() == [0x08, 0x0a, 0x58, 0x01].as_slice()
+            sleep.kind == 0x040c && sleep.payload.as_slice() == [0x08, 0x0a, 0x58, 0x01].as_slice()
         }
         _ => false,
     }

@@ -12,8 +12,8 @@ use Rattle.live_attempts.specs.declared.attempt.LiveAttempt.{LiveAttempt}
 use Rattle.live_attempts.specs.Attempts.{attempt_of}
 use Rattle.live_laws.specs.Agrees.{Agrees}
 use Rattle.invocation_vm.specs.Options.{default_options}
-use Rattle.invocation_store.specs.Stored.{Stored}
-use Rattle.invocation_store.specs.Stands.{Stands, output_of}
+use Rattle.journal_store.specs.Stored.{Stored}
+use Rattle.journal_store.specs.Stands.{Stands, output_of}
 use Rattle.schedule_events.specs.Standing.{Standing}
 use Rattle.schedule_events.specs.Schedule.{Scheduled}
 use Rattle.durable_schedule.specs.declared.scheduler.Scheduler.{Scheduler}

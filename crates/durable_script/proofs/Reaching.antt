@@ -8,7 +8,7 @@ use Rattle.journal_model.specs.Event as model
 use Rattle.journal_model.specs.Run.{Handler}
 use Rattle.invocation_vm.specs.declared.options.VMOptions.{VMOptions}
 use Rattle.invocation_vm.specs.Options.{default_options}
-use Rattle.invocation_store.specs.Stored.{Stored}
+use Rattle.journal_store.specs.Stored.{Stored}
 use Rattle.schedule_events.specs.declared.event.Event.{Event}
 use Rattle.schedule_events.specs.declared.event.Reply.{Reply}
 use Rattle.schedule_events.specs.Schedule.{Scheduled, Applies}

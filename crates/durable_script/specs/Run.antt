@@ -12,8 +12,8 @@ use Rattle.journal_model.specs.Event.{Event}
 use Rattle.journal_model.specs.Journal.{invocation_begun, starting_state, recorded_requests}
 use Rattle.invocation_vm.specs.Options.{default_options}
 use Rattle.invocation_vm.specs.First.{given_by}
-use Rattle.invocation_store.specs.Stored.{Stored}
-use Rattle.invocation_store.specs.Stands.{Stands}
+use Rattle.journal_store.specs.Stored.{Stored}
+use Rattle.journal_store.specs.Stands.{Stands}
 use Rattle.schedule_events.specs.Standing.{Standing}
 use Rattle.schedule_events.specs.Following.{IsBeginningOfRun}
 use Rattle.schedule_events.specs.Schedule.{Scheduled}

@@ -9,7 +9,7 @@ ghost use Rattle.durable_script.specs.Run.{DoesAll, DoesLines, EndsWith, LeavesR
 use crate::fault::ScriptFault;
 use crate::output::write_text;
 use crate::runner::Runner;
-use invocation_store::Store;
+use journal_store::Store;
 use script_lines::reading::read_script;
 use script_lines::script::ScriptLines;
 use sqlite::Alter;
