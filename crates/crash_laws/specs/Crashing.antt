@@ -7,8 +7,8 @@ use Rattle.sqlite.specs.State.{State, HasCleanDisk, Survives}
 use Rattle.journal_model.specs.Event.{Event}
 use Rattle.journal_model.specs.Cause.{IsAccepted}
 use Rattle.new_invocations.specs.Rows.{IsStoreOf}
-use Rattle.invocation_store.specs.Stands.{Commits, KeepsAll}
-use Rattle.invocation_store.specs.Opened.{MakesTables}
+use Rattle.journal_store.specs.Stands.{Commits, KeepsAll}
+use Rattle.journal_store.specs.Opened.{MakesTables}
 
 abbrev pub IsAmong : List Event → List (List Event) → Type 0
 IsAmong events [] = ⊥
