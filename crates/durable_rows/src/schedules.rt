@@ -115,8 +115,7 @@ fn left(alloc: Global) -> Result<Store<MemStore>, Fail> {
 fn is_sleep(requests: &[RecordedFrame]) -> bool {
     match requests {
         [sleep] => {
-            sleep.kind == 0x040c
-                && sleep.payload.as_slice() == [0x08, 0x0a, 0x58, 0x01].as_slice()
+            sleep.kind == 0x040c && sleep.payload.as_slice() == [0x08, 0x0a, 0x58, 0x01].as_slice()
         }
         _ => false,
     }

@@ -76,8 +76,7 @@ module _ {S : Type 0} (g : Ghosts S) (id : Text) (old new : Scheduler Nap S) whe
       → Reaches g (Looks (Shows id (shown_text requests answer now))) old new
   records_printed requests answer now has =
       reaches_so g (Looks (HasRecords id requests answer now)) (Looks (Shows id (shown_text requests answer now))) old new
-      (λ x y p.
-      (
+      (λ x y p. (
         inl (record {
           answer = answer;
           answer_is = p.0.answer_is;

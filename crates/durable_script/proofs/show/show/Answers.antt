@@ -21,8 +21,7 @@ returns-in-Ok-clause-ok g c =
 pub returns-in-Ok-clause-err : goal.returns-in-Ok-clause-err
 returns-in-Ok-clause-err g c =
     let shown = c.in-Ok.shown in
-    on_err c.format-text.result
-    (
+    on_err c.format-text.result (
       shown_text shown.requests.items shown.answer shown.is_open,
       records_printed g.S.Store c.args.id.now c.args.scheduler.now c.shown.new.scheduler shown.requests.items shown.answer shown.is_open c.in-Ok.ensures.ok,
     )
