@@ -4,13 +4,10 @@ use Rattle.sqlite_trees.specs.declared.store.Store.{Ghosts}
 use Rattle.sqlite.specs.State.{HasCleanDisk}
 use Rattle.sqlite.specs.Held.{state}
 use Rattle.built_in_handlers.specs.declared.handlers.Nap.{Nap}
-use Rattle.journal_model.specs.Notification.{Text}
 use Rattle.journal_model.specs.Event.{Event}
 use Rattle.journal_model.specs.Journal.{invocation_begun}
 use Rattle.invocation_vm.specs.Options.{default_options}
 use Rattle.invocation_store.specs.Stored.{Stored}
-use Rattle.invocation_store.specs.Stands.{Stands}
-use Rattle.schedule_events.specs.Standing.{Standing}
 use Rattle.schedule_events.specs.Schedule.{Scheduled}
 use Rattle.durable_schedule.specs.declared.scheduler.Scheduler.{Scheduler}
 use Rattle.durable_schedule.specs.Scheduled.{Endures, IsStanding, at_first}

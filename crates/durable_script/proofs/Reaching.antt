@@ -16,7 +16,7 @@ use Rattle.durable_schedule.specs.declared.scheduler.Scheduler.{Scheduler}
 use Rattle.durable_schedule.specs.Scheduled.{Endures, IsScheduled}
 use Rattle.durable_schedule.proofs.Growing.{grows_on, does_grow}
 use Rattle.durable_schedule.proofs.Enduring.{endures_on, same_endures, quiet_endures}
-use Rattle.durable_script.specs.Reaching.{IsAt, Reaches}
+use Rattle.durable_script.specs.Reaching.{Reaches}
 use Rattle.durable_script.specs.Shown.{Looks}
 
 module _ {S : Type 0} (g : Ghosts S) where

@@ -1,4 +1,4 @@
-use Rattle.std.proofs.Common.{ℕ, List, sym, subst, inr}
+use Rattle.std.proofs.Common.{ℕ, List, subst, inr}
 use Rattle.script_lines.specs.Script.{numbered_lines}
 use Rattle.durable_script.specs.Reaching.{Reaches}
 use Rattle.durable_script.specs.Run.{DoneLine, DoesAll, DoesLines, LeadsAll}
