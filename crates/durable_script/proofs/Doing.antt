@@ -4,7 +4,6 @@ use Rattle.std.specs.Io.KnownBytes.{Appends}
 use Rattle.std.proofs.KnownBytes.{Appends-trans}
 use Rattle.sqlite_trees.specs.declared.store.Store.{Ghosts}
 use Rattle.built_in_handlers.specs.declared.handlers.Nap.{Nap}
-use Rattle.schedule_events.specs.Schedule.{Scheduled}
 use Rattle.durable_schedule.specs.declared.scheduler.Scheduler.{Scheduler}
 use Rattle.script_lines.specs.Line.{spelled}
 use Rattle.durable_script.specs.declared.fault.ScriptFault.{ScriptFault}

@@ -1,5 +1,5 @@
 -- Each line keeps each invocation in the run of `nap`.
-use Rattle.std.proofs.Common.{◌≡◌, ℕ, suc, zero, List, [], ◌∷◌, None, Result, Ok, Err, OnErr, refl, sym, subst}
+use Rattle.std.proofs.Common.{ℕ, suc, zero, List, [], ◌∷◌, Result, Ok, Err, OnErr, refl, sym, subst}
 use Rattle.built_in_handlers.specs.declared.handlers.Nap.{Nap}
 use Rattle.built_in_handlers.specs.Handlers.{nap_until}
 use Rattle.journal_model.specs.Notification.{Text}

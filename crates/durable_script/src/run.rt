@@ -1,6 +1,7 @@
 //! A whole script, from a reader to a writer.
 ghost use Rattle.std.specs.Prelude.{◌≡◌, Err};
 ghost use Rattle.std.specs.Io.KnownBytes.{Keeps};
+ghost use Rattle.durable_schedule.specs.Scheduled.{Endures};
 ghost use Rattle.script_lines.specs.Script.{numbered_lines};
 ghost use Rattle.durable_script.specs.Asked.{none_asked};
 ghost use Rattle.durable_script.specs.Reaching.{Reaches};
@@ -69,6 +70,8 @@ pub fn run_script<R: Read, W: Write, S: Alter + Drop>(
     ensures unread { result.result ≡ Err ScriptFault.ScriptUnreadable → writer.new ≡ writer.old }
     // What is recorded of an invocation are the first requests of the one uninterrupted run of its handler.
     ensures headline { LeavesRuns S.Store store result.store }
+    // What a crash leaves is what it left before, or has some of the events that were accepted since.
+    ensures crash { Endures S.Store store result.store }
 {
     let Ok(script) = read_script(alloc, reader) else {
         let result = Err(ScriptFault::ScriptUnreadable);

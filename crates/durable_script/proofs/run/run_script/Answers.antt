@@ -1,9 +1,9 @@
-use Rattle.std.proofs.Common.{ℕ, List, sym, subst, inr}
+use Rattle.std.proofs.Common.{ℕ, List, subst, inr}
 use Rattle.script_lines.specs.Script.{numbered_lines}
 use Rattle.durable_script.specs.Reaching.{Reaches}
 use Rattle.durable_script.specs.Run.{DoneLine, DoesAll, DoesLines, LeadsAll}
 use Rattle.durable_script.proofs.Doing.{comes_so, some_done}
-use Rattle.durable_script.proofs.Leaving.{leads_all, leaves_runs}
+use Rattle.durable_script.proofs.Leaving.{endures_all, leads_all, leaves_runs}
 use Rattle.durable_script.proofs.Writing.{appends_kept}
 use Rattle.durable_script.proofs.run.run_script.Goals as goal
 
@@ -46,3 +46,11 @@ returns-clause-headline g c =
     let done = some_done _ (λ (done : List DoneLine). Reaches g.S.Store (DoesAll done) start end) d.output c.do_lines-reached.result d.comes_to in
     leaves_runs g.S.Store store after done.0 done.1
     (leads_all g.S.Store store after start end done.0 c.new-runner.ensures.store c.new-runner.ensures.options c.new-runner.ensures.held c.into_store-store.ensures done.2)
+
+pub returns-clause-crash : goal.returns-clause-crash
+returns-clause-crash g c =
+    let start = c.new-runner.result.scheduler in
+    let end = c.do_lines-reached.new.runner.scheduler in
+    let d = c.do_lines-reached.ensures in
+    let done = some_done _ (λ (done : List DoneLine). Reaches g.S.Store (DoesAll done) start end) d.output c.do_lines-reached.result d.comes_to in
+    endures_all g.S.Store c.args.store c.into_store-store.result (DoesAll done.0) start end c.new-runner.ensures.store c.into_store-store.ensures done.2

@@ -1,4 +1,4 @@
-use Rattle.std.proofs.Common.{◌≡◌, ℕ, List, ◌∷◌, [], ◌++◌, refl, subst}
+use Rattle.std.proofs.Common.{◌≡◌, ℕ, List, ◌∷◌, [], ◌++◌, subst}
 use Rattle.std.specs.Prelude.{string_bytes, IfOk}
 use Rattle.store_refusals.specs.Names.{name_of}
 use Rattle.script_lines.specs.Text.{refused_text}
