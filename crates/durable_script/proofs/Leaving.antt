@@ -7,13 +7,7 @@ use Rattle.built_in_handlers.specs.declared.handlers.Nap.{Nap}
 use Rattle.journal_model.specs.Event.{Event}
 use Rattle.journal_model.specs.Journal.{invocation_begun}
 use Rattle.invocation_vm.specs.Options.{default_options}
-<<<<<<< HEAD
 use Rattle.journal_store.specs.Stored.{Stored}
-use Rattle.journal_store.specs.Stands.{Stands, output_of}
-use Rattle.schedule_events.specs.Standing.{Standing}
-=======
-use Rattle.journal_store.specs.Stored.{Stored}
->>>>>>> b608c487b869b6b2b8a37a2a8e3b62128970b92d
 use Rattle.schedule_events.specs.Schedule.{Scheduled}
 use Rattle.durable_schedule.specs.declared.scheduler.Scheduler.{Scheduler}
 use Rattle.durable_schedule.specs.Scheduled.{Endures, IsStanding, at_first}
