@@ -279,12 +279,14 @@ static void time_round(uint32_t len, uint32_t events, struct times *times) {
     struct progress p;
     invoke(&p, 0);
     begin(&p);
-    for (uint32_t i = 0; i < events; i++) step_call(&p);
-    while (p.entries < len) step_sleep(&p);
+    for (uint32_t i = 0; i <= events; i++) step_call(&p);
+    while (p.entries + 1 < len) step_sleep(&p);
+    result(&p, 2);
+    begin(&p);
     double start = now();
     for (uint32_t i = 0; i < events; i++) step_sleep(&p);
     double stepped = now();
-    for (uint32_t i = 1; i <= events; i++) result(&p, 2 * i);
+    for (uint32_t i = 0; i < events; i++) result(&p, 2 * i + 4);
     double completed = now();
     for (uint32_t i = 0; i < events; i++) begin(&p);
     double begun = now();

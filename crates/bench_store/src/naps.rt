@@ -1,0 +1,38 @@
+// Naps, each recorded to its suspension.
+use crate::frames::{NAP, NAP_FRAMES};
+use crate::micros::Micros;
+use crate::stores::{Memory, accept, begin, close_input, empty_store, invoke, next_input};
+use anyhow::{Result, bail};
+use bytes::ByteStr;
+use std::alloc::Global;
+use std::time::CpuClock;
+
+/// How many events are accepted of each: it is made and begun, its input is handed out and closed, and its frames are taken.
+const EVENTS: u32 = 7;
+
+fn record_nap(alloc: Global, store: &mut Memory, which: u32) -> Result<()> {
+    let name = format!(in alloc; "inv-{which}")?;
+    let id = ByteStr::copy_from_str(alloc, name.as_str())?;
+    invoke(alloc, store, &id)?;
+    let attempt = begin(store, &id)?;
+    next_input(store, &id, attempt, 4096)?;
+    close_input(store, &id, attempt)?;
+    if accept(store, &id, attempt, &NAP)? != NAP_FRAMES {
+        bail!("a frame of a nap was not taken");
+    }
+    Ok(())
+}
+
+/// Prints the line of so many naps.
+pub fn time_naps<R: CpuClock + Print + AllocGlobal>(rt: &R, count: u32) -> Result<()> {
+    let alloc = rt.alloc();
+    let mut store = empty_store(alloc)?;
+    let start = rt.thread_cpu_time()?;
+    for which in 0..count {
+        record_nap(alloc, &mut store, which)?;
+    }
+    let end = rt.thread_cpu_time()?;
+    let event = Micros::each(end.saturating_sub(start), count.saturating_mul(EVENTS));
+    println!(rt; "naps {count} event {event}")?;
+    Ok(())
+}
