@@ -1,8 +1,8 @@
 // Calls of a store, each with the refusal as an error.
 use anyhow::{Result, bail};
 use bytes::{ByteStr, Bytes};
-use invocation_store::Store;
 use journal_model::{NewInvocation, NotificationResult, StateMode};
+use journal_store::Store;
 use sequence::Sequence;
 use sqlite::{Connection, MemStore};
 use std::alloc::Global;
