@@ -18,15 +18,20 @@ use std::marker::Model;
 #[derive(Debug, Drop)]
 pub struct LiveAttempts {
     attempts: IndexMap<ByteStr, LiveAttempt>,
+    /// For how many more attempts room was made. The map may have room for more, also where a call failed.
+    room: usize,
 }
 
 impl Model for LiveAttempts {
+    ghost use Rattle.std.specs.Prelude.{◌≤◌};
     ghost use Rattle.indexmap.specs.IndexMap.{spare};
     ghost use Rattle.live_attempts.specs.Attempts.{Attempts};
 
     ghost Value = { Attempts };
 
-    ghost view = { λ live. record { attempts = live.attempts.entries; room = spare live.attempts } };
+    ghost view = { λ live. record { attempts = live.attempts.entries; room = live.room } };
+
+    ghost invariant = { λ live. live.room ≤ spare live.attempts };
 }
 
 impl LiveAttempts {
@@ -36,6 +41,7 @@ impl LiveAttempts {
     {
         LiveAttempts {
             attempts: IndexMap::new(alloc),
+            room: 0,
         }
     }
 
@@ -50,9 +56,11 @@ impl LiveAttempts {
     pub fn reserve_one(&mut self) -> Result<(), AllocError>
         ensures kept { self.new.attempts ≡ self.old.attempts }
         ensures room { OnOk result (0 < self.new.room) }
-        ensures room_kept { self.old.room ≤ self.new.room }
+        ensures err { OnErr result (self.new ≡ self.old) }
     {
-        self.attempts.reserve(1)
+        self.attempts.reserve(1)?;
+        self.room = self.room.max(1);
+        Ok(())
     }
 
     /// Takes in an attempt that was begun, by the id of its invocation: an earlier one is over. Room was made for it.
@@ -61,6 +69,7 @@ impl LiveAttempts {
         ensures { IsNow id (Some attempt) self.old.attempts self.new.attempts }
     {
         drop(self.attempts.insert(id, attempt).unwrap());
+        self.room -= 1;
     }
 
     /// The attempt of an invocation is over.
