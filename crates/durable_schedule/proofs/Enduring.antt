@@ -1,7 +1,6 @@
 -- What crashes leave of calls one after another.
-use Rattle.std.proofs.Common.{◌≡◌, refl, sym, subst, ℕ, suc, Bool, true, false, List, [], ◌∷◌, Some, None, Ok, inl, inr, arith}
+use Rattle.std.proofs.Common.{refl, sym, subst, ℕ, suc, Bool, true, false, List, Some, None, Ok, inl, inr, arith}
 use Rattle.sqlite_trees.specs.declared.store.Store.{Ghosts}
-use Rattle.sqlite_trees.specs.Tree.{Trees}
 use Rattle.sqlite.specs.Held.{state}
 use Rattle.sqlite.specs.State.{HasCleanDisk, Survives}
 use Rattle.sqlite.proofs.StateLemmas.{survives_then, survives_weaker}
@@ -15,7 +14,7 @@ use Rattle.journal_store.specs.Stands.{KeepsAll, Commits}
 use Rattle.journal_store.specs.Attempts.{frame_of_item, CommitsItem}
 use Rattle.schedule_events.specs.Standing.{Standing, Adds, Begun, Begins, TakesFrame}
 use Rattle.schedule_events.specs.Schedule.{Took}
-use Rattle.durable_schedule.specs.Scheduled.{IsStanding, Leads, Keeps, Endures, TakesSome}
+use Rattle.durable_schedule.specs.Scheduled.{Leads, Keeps, Endures, TakesSome}
 use Rattle.durable_schedule.proofs.Landing.{invoked, begun, taken}
 use Rattle.durable_schedule.proofs.Stepping.{next_item}
 

@@ -1,5 +1,5 @@
 -- What an event whose commit has landed makes of what a store stood for, also where no answer was given.
-use Rattle.std.proofs.Common.{◌≡◌, refl, sym, ap, subst, ◌∙◌, ℕ, ◌+◌, Bool, true, false, ◌&&◌, if◌then◌else◌, bytes_eq, List, [], ◌∷◌, Option, Some, None, is_some, Ok}
+use Rattle.std.proofs.Common.{◌≡◌, refl, sym, ap, subst, ℕ, ◌+◌, Bool, true, false, ◌&&◌, if◌then◌else◌, bytes_eq, [], ◌∷◌, Option, Some, None, is_some, Ok}
 use Rattle.journal_model.specs.Notification.{Bytes, Text}
 use Rattle.journal_model.specs.declared.invocation.NewInvocation.{NewInvocation}
 use Rattle.journal_model.specs.Event.{Event, Frame}
@@ -8,7 +8,7 @@ use Rattle.journal_model.specs.Spelling.{frame_bytes}
 use Rattle.journal_model.specs.Start.{start_payload}
 use Rattle.journal_model.specs.Attempt.{attempts_begun, live_attempt}
 use Rattle.journal_model.specs.Cause.{causes_of}
-use Rattle.schedule_events.specs.Standing.{Standing, Adds, Begun, Begins, Leaves, IsNext, TakesFrame, rest_after}
+use Rattle.schedule_events.specs.Standing.{Standing, Adds, Begun, Begins, IsNext, TakesFrame, rest_after}
 use Rattle.schedule_events.proofs.Holding.{same_bytes, bytes_are}
 use Rattle.schedule_events.proofs.Taking.{taken_live}
 

@@ -36,8 +36,7 @@ returns-in-Ok-clause-crash g c =
     let bytes = take c.min-bytes.result c.output-2.result.now in
     endures_on g.S.Store (MovesSome one count) (λ s fed. Feeds one.invocation one.number bytes s (Ok tt) fed) (TakesSome one.invocation one.number) (MovesSome one count) before mid c.take_frames-frames.new.store
     (λ s t it. it)
-    (λ s fed t feeds takes.
-    (
+    (λ s fed t feeds takes. (
       reply.Moved c.min-bytes.result takes.0 takes.1,
       _,
       (
