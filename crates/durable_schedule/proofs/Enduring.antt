@@ -1,49 +1,54 @@
 -- What crashes leave of calls one after another.
-use Rattle.std.proofs.Common.{◌≡◌, refl, sym, ap, subst, ◌∙◌, ℕ, ◌++◌, append_assoc, List, [], ◌∷◌, inl, arith}
+use Rattle.std.proofs.Common.{refl, sym, subst, ℕ, suc, Bool, true, false, List, Some, None, Ok, inl, inr, arith}
 use Rattle.sqlite_trees.specs.declared.store.Store.{Ghosts}
-use Rattle.sqlite_trees.specs.Tree.{Trees}
 use Rattle.sqlite.specs.Held.{state}
 use Rattle.sqlite.specs.State.{HasCleanDisk, Survives}
 use Rattle.sqlite.proofs.StateLemmas.{survives_then, survives_weaker}
 use Rattle.journal_model.specs.Notification.{Text}
-use Rattle.journal_model.specs.Event.{Event}
-use Rattle.journal_model.specs.Cause.{IsAccepted}
+use Rattle.journal_model.specs.declared.invocation.NewInvocation.{NewInvocation}
+use Rattle.journal_model.specs.Event.{Event, Frame}
+use Rattle.journal_model.specs.Journal.{ends_attempt}
+use Rattle.store_refusals.specs.declared.refusal.Refusal.TheVariants.{OutOfMemory}
 use Rattle.journal_store.specs.Stored.{Stored}
 use Rattle.journal_store.specs.Stands.{KeepsAll, Commits}
 use Rattle.journal_store.specs.Attempts.{frame_of_item, CommitsItem}
-use Rattle.schedule_events.specs.Standing.{Standing}
-use Rattle.durable_schedule.specs.Scheduled.{KeepsMore, Extends, Endures, IsStanding}
-use Rattle.durable_schedule.proofs.Standing.{stood}
-use Rattle.durable_schedule.proofs.Growing.{Grows}
+use Rattle.schedule_events.specs.Standing.{Standing, Adds, Begun, Begins, TakesFrame}
+use Rattle.schedule_events.specs.Schedule.{Took}
+use Rattle.durable_schedule.specs.Scheduled.{Leads, Keeps, Endures, TakesSome}
+use Rattle.durable_schedule.proofs.Landing.{invoked, begun, taken}
+use Rattle.durable_schedule.proofs.Stepping.{next_item}
 
--- tables that keep more than the later events keep more than the earlier ones
-more_kept : (before later more : List Event) (trees : Trees) → later ≡ more ++ before → KeepsMore later trees → KeepsMore before trees
-more_kept before later more trees grown k =
-    let all : k.more ++ later ≡ (k.more ++ more) ++ before = ap (λ (events : List Event). k.more ++ events) grown ∙ sym (append_assoc k.more more before) in
-    record {
-      more = k.more ++ more;
-      accepted = subst (λ (events : List Event). IsAccepted events) all k.accepted;
-      kept = subst (λ (events : List Event). KeepsAll events trees) all k.kept;
-    }
+-- an attempt is begun
+abbrev pub BeginsSome : Text → ℕ → Standing → Standing → Type 0
+BeginsSome id now s t = (told : Begun) × Begins id now s (Ok told) t
+
+-- one frame is taken
+abbrev pub TakesOne : Text → ℕ → Standing → Standing → Type 0
+TakesOne id n s t = (does_end : Bool) × TakesFrame id n does_end s t
 
 module _ {S : Type 0} (g : Ghosts S) where
-  -- the store stands for more then
-  abbrev pub Further : Stored S → Stored S → Type 0
-  Further old new = HasCleanDisk (state g new.connection) → (s : Standing) → IsStanding g s old → (t : Standing) × IsStanding g t new × Grows s t
+  -- It is said in another way.
+  pub endures_so : (P Q : Standing → Standing → Type 0) (a b : Stored S) → ((s t : Standing) → P s t → Q s t) → Endures g P a b → Endures g Q a b
+  endures_so P Q a b so lives =
+      survives_weaker (state g a.connection) (state g b.connection) (Keeps g P a) (Keeps g Q a)
+      (λ clean db it s is. let kept = it s is in (kept.0, so s kept.0 kept.1, kept.2)) lives
 
-  pub endures_on : (a b c : Stored S) → Endures g a b → Further a b → Endures g b c → Endures g a c
-  endures_on a b c first further second =
-      survives_then (state g a.connection) (state g b.connection) (state g c.connection) (Extends g a) (Extends g b) (Extends g a) (λ clean db it. it)
-      (λ clean db it events stands.
+  -- one behind another, from what the store stands for between them
+  pub endures_on : (P M Q R : Standing → Standing → Type 0) (a b c : Stored S) → ((s t : Standing) → P s t → R s t) → ((s m t : Standing) → M s m → Q m t → R s t)
+      → Endures g P a b → Leads g M a b → Endures g Q b c → Endures g R a c
+  endures_on P M Q R a b c before behind first leads second =
+      survives_then (state g a.connection) (state g b.connection) (state g c.connection) (Keeps g P a) (Keeps g Q b) (Keeps g R a)
+      (λ clean db it s is. let kept = it s is in (kept.0, before s kept.0 kept.1, kept.2))
+      (λ clean db it s is.
       let early : HasCleanDisk (state g b.connection) = omega (arith, second.clean, clean) in
-      let from = stood g events a stands in
-      let to = further early from.0 from.1.standing in
-      more_kept events to.0.events to.2.0 db (to.2.1 ∙ ap (λ (es : List Event). to.2.0 ++ es) from.1.same) (it to.0.events to.1.stands))
+      let mid = leads early s is in
+      let kept = it mid.0 mid.1 in
+      (kept.0, behind s mid.0 kept.0 mid.2 kept.1, kept.2))
       first second
 
   -- nothing was done
-  pub same_endures : (store : Stored S) → Endures g store store
-  same_endures store = record {
+  pub same_endures : (P : Standing → Standing → Type 0) (store : Stored S) → Endures g P store store
+  same_endures P store = record {
     clean = omega arith;
     shield = λ it. it;
     counts = omega arith;
@@ -53,24 +58,50 @@ module _ {S : Type 0} (g : Ghosts S) where
   }
 
   -- a call that commits nothing
-  pub quiet_endures : (old new : Stored S) → Survives (state g old.connection) (state g new.connection) (λ _. ⊥) → Endures g old new
-  quiet_endures old new lives = survives_weaker (state g old.connection) (state g new.connection) (λ _. ⊥) (Extends g old) (λ clean db none. absurd none) lives
+  pub quiet_endures : (P : Standing → Standing → Type 0) (old new : Stored S) → Survives (state g old.connection) (state g new.connection) (λ _. ⊥) → Endures g P old new
+  quiet_endures P old new lives = survives_weaker (state g old.connection) (state g new.connection) (λ _. ⊥) (Keeps g P old) (λ clean db none. absurd none) lives
 
-  -- the one commit of an event
-  pub event_endures : (event : Event) (old new : Stored S) → Survives (state g old.connection) (state g new.connection) (Commits event (state g old.connection)) → Endures g old new
-  event_endures event old new lives =
-      survives_weaker (state g old.connection) (state g new.connection) (Commits event (state g old.connection)) (Extends g old)
-      (λ clean db commits events stands.
-      let it = commits events stands.kept in
-      record { more = event ∷ []; accepted = (it.0, stands.kept.accepted); kept = it.1 })
+  -- ---- the one commit of a call
+
+  pub invoke_endures : (one : NewInvocation) (old new : Stored S) → Survives (state g old.connection) (state g new.connection) (Commits (Event.Invoke one) (state g old.connection))
+      → Endures g (Adds (Event.Invoke one)) old new
+  invoke_endures one old new lives =
+      survives_weaker (state g old.connection) (state g new.connection) (Commits (Event.Invoke one) (state g old.connection)) (Keeps g (Adds (Event.Invoke one)) old)
+      (λ clean db commits s is.
+      let it = commits s.events is.stands.kept in
+      let to = invoked s one it.0 in
+      (to.0, to.1, subst (λ (events : List Event). KeepsAll events db) (sym to.1.events) it.1))
       lives
 
-  -- the one commit of a step
+  pub begin_endures : (id : Text) (now : ℕ) (old new : Stored S) → Survives (state g old.connection) (state g new.connection) (Commits (Event.Begin id now) (state g old.connection))
+      → Endures g (BeginsSome id now) old new
+  begin_endures id now old new lives =
+      survives_weaker (state g old.connection) (state g new.connection) (Commits (Event.Begin id now) (state g old.connection)) (Keeps g (BeginsSome id now) old)
+      (λ clean db commits s is.
+      let it = commits s.events is.stands.kept in
+      let to = begun s id now it.0 in
+      (to.0, (to.1, to.2), subst (λ (events : List Event). KeepsAll events db) (sym to.2.leaves.events) it.1))
+      lives
+
   pub step_endures : (id : Text) (n : ℕ) (old new : Stored S) → Survives (state g old.connection) (state g new.connection) (CommitsItem id n old.live.attempts (state g old.connection))
-      → Endures g old new
+      → Endures g (TakesOne id n) old new
   step_endures id n old new lives =
-      survives_weaker (state g old.connection) (state g new.connection) (CommitsItem id n old.live.attempts (state g old.connection)) (Extends g old)
-      (λ clean db commits events stands.
-      let it = commits.commits events stands in
-      record { more = Event.Take id n (frame_of_item commits.attempt.version commits.item) ∷ []; accepted = (it.0, stands.kept.accepted); kept = it.1 })
+      survives_weaker (state g old.connection) (state g new.connection) (CommitsItem id n old.live.attempts (state g old.connection)) (Keeps g (TakesOne id n) old)
+      (λ clean db commits s is.
+      let frame : Frame = frame_of_item commits.attempt.version commits.item in
+      let it = commits.commits s.events is.stands in
+      let to = taken s id n frame commits.rest (next_item g s old new is id n commits.attempt commits.item commits.rest commits.is_first) it.0 in
+      (to.0, (ends_attempt frame, to.2), subst (λ (events : List Event). KeepsAll events db) (sym to.1) it.1))
       lives
+
+-- frames and one more are some frames
+pub took_some : (id : Text) (n frames : ℕ) (s m t : Standing) → Took id n frames s m → TakesOne id n m t → TakesSome id n s t
+took_some id n frames s m t took one = by_end one.0 one.1
+  where
+    by_end : (does_end : Bool) → TakesFrame id n does_end m t → TakesSome id n s t
+    by_end true last = (suc frames, None, inr (record { before = frames; between = m; frames_are = refl; took = took; ended = last }))
+    by_end false more = (
+      suc frames,
+      Some OutOfMemory,
+      record { between = t; took = (m, took, more); refused = inr (inr (record { cause = inr refl; stays = record { events = refl; outputs = λ other. refl } })) },
+    )

@@ -10,7 +10,7 @@ use Rattle.journal_model.specs.Cause.{causes_of}
 use Rattle.store_refusals.specs.declared.refusal.Refusal.{Refusal}
 use Rattle.store_refusals.specs.Refused.{is_circumstance, IsRefused}
 use Rattle.live_attempts.specs.declared.attempt.LiveAttempt.{LiveAttempt}
-use Rattle.live_attempts.specs.Attempts.{attempt_of, after_output}
+use Rattle.live_attempts.specs.Attempts.{ByInvocation, attempt_of, after_output}
 use Rattle.live_laws.specs.Agrees.{Agrees, has_number, cause_of_stale}
 use Rattle.live_laws.proofs.Tests.{live_told, stale_told}
 use Rattle.journal_store.specs.declared.begun.BegunAttempt.{BegunAttempt}
@@ -118,7 +118,7 @@ module _ {S : Type 0} (g : Ghosts S) (s : Standing) (old new : Stored S) (is : I
   -- ---- bytes that an attempt wrote
 
   pub same_outputs : new.live.attempts ≡ old.live.attempts → KeepsOutputs old.live.attempts new.live.attempts
-  same_outputs same id = ap (λ (all : List LiveAttempt). output_of all id) same
+  same_outputs same id = ap (λ (all : ByInvocation). output_of all id) same
 
   -- an attempt that is live is kept
   kept_attempt : (id : Text) (n : ℕ) (o : Option LiveAttempt) → Agrees s.events id o → live_attempt s.events id ≡ Some n → (attempt : LiveAttempt) × (o ≡ Some attempt)

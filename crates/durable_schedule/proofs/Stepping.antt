@@ -97,7 +97,8 @@ least why [] e = cc
 least why (c ∷ others) e = record { cause = c; others = others; causes_are = refl; why_is = cc }
 
 module _ {S : Type 0} (g : Ghosts S) (s : Standing) (old new : Stored S) (is : IsStanding g s old) where
-  next_item : (id : Text) (n : ℕ) (attempt : LiveAttempt) (item : Item) (rest : Bytes) → IsFirstItem id n old.live.attempts attempt item rest → IsNext id s (frame_of_item attempt.version item) rest
+  -- the first item is the next frame
+  pub next_item : (id : Text) (n : ℕ) (attempt : LiveAttempt) (item : Item) (rest : Bytes) → IsFirstItem id n old.live.attempts attempt item rest → IsNext id s (frame_of_item attempt.version item) rest
   next_item id n attempt item rest first =
       let kept : IsKeptLive s.events id attempt = subst (Agrees s.events id) first.found (is.stands.live id) in
       record {

@@ -14,11 +14,10 @@ use Rattle.journal_store.specs.Stands.{Stands}
 use Rattle.journal_store.specs.Attempts.{CommitsItem, Steps}
 use Rattle.schedule_events.specs.Standing.{TakesFrame}
 use Rattle.schedule_events.specs.Schedule.{Took, TakesFrames}
-use Rattle.durable_schedule.specs.Scheduled.{Leads, Endures}
+use Rattle.durable_schedule.specs.Scheduled.{Leads, Endures, TakesSome}
 use Rattle.durable_schedule.proofs.Standing.{same_standing}
 use Rattle.durable_schedule.proofs.Stepping.{took, none_left, refuses}
-use Rattle.durable_schedule.proofs.Growing.{took_grows}
-use Rattle.durable_schedule.proofs.Enduring.{step_endures, endures_on}
+use Rattle.durable_schedule.proofs.Enduring.{TakesOne, step_endures, endures_on, took_some}
 
 module _ {S : Type 0} (g : Ghosts S) (id : Text) (n frames : ℕ) (first old new : Stored S) where
   -- what a step says that has answered so
@@ -74,9 +73,10 @@ module _ {S : Type 0} (g : Ghosts S) (id : Text) (n frames : ℕ) (first old new
       (it.0, it.1, record { between = before.0; took = before.2; refused = it.2 })
 
   -- where a crash comes
-  pub step_more : Leads g (Took id n frames) first old → Endures g first old → Lives → Endures g first new
+  pub step_more : Leads g (Took id n frames) first old → Endures g (TakesSome id n) first old → Lives → Endures g (TakesSome id n) first new
   step_more so_far before lives =
-      endures_on g first old new before (λ clean s is. let it = so_far clean s is in (it.0, it.1, took_grows id n frames s it.0 it.2)) (step_endures g id n old new lives)
+      endures_on g (TakesSome id n) (Took id n frames) (TakesOne id n) (TakesSome id n) first old new (λ s t it. it) (λ s m t took one. took_some id n frames s m t took one)
+      before so_far (step_endures g id n old new lives)
 
 module _ {S : Type 0} (g : Ghosts S) (id : Text) (n frames : ℕ) (first old : Stored S) where
   -- no further one is tried

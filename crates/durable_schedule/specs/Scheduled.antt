@@ -1,5 +1,5 @@
 -- What a scheduler stands for, and what its calls make of that.
-use Rattle.std.specs.Prelude.{◌≡◌, List, [], ◌++◌, Some, None}
+use Rattle.std.specs.Prelude.{◌≡◌, ℕ, List, [], ◌++◌, Option, Some, None}
 use Rattle.std.specs.List.{AllByRecursion}
 use Rattle.sqlite_trees.specs.declared.store.Store.{Ghosts}
 use Rattle.sqlite_trees.specs.Tree.{Trees}
@@ -15,29 +15,16 @@ use Rattle.invocation_vm.specs.declared.options.VMOptions.{VMOptions}
 use Rattle.invocation_vm.specs.First.{given_by}
 use Rattle.journal_store.specs.Stored.{Stored}
 use Rattle.journal_store.specs.Stands.{Stands, KeepsAll, output_of}
+use Rattle.store_refusals.specs.declared.refusal.Refusal.{Refusal}
 use Rattle.schedule_events.specs.declared.event.Event as scheduled
+use Rattle.schedule_events.specs.declared.event.Reply.{Reply}
+use Rattle.schedule_events.specs.declared.held.HeldAttempt.{HeldAttempt}
 use Rattle.schedule_events.specs.Standing.{Standing}
-use Rattle.schedule_events.specs.Schedule.{Scheduled, Brings}
+use Rattle.schedule_events.specs.Schedule.{Scheduled, TakesFrames, MovesOne, Does, AppliesAll, Brings}
 use Rattle.schedule_events.specs.Following.{IsBeginningOfRun}
 use Rattle.durable_schedule.specs.declared.scheduler.Scheduler.{Scheduler}
 
--- ---- what a crash leaves
-
--- the tables keep these events and further ones, all of which were accepted
-pub record KeepsMore (events : List Event) (trees : Trees) : Type 0 where
-  pub more : List Event
-  pub accepted : IsAccepted (more ++ events)
-  pub kept : KeepsAll (more ++ events) trees
-
 module _ {S : Type 0} (g : Ghosts S) where
-  -- whatever events the store stood for
-  abbrev pub Extends : Stored S → Trees → Type 0
-  Extends store trees = (events : List Event) → Stands events (state g store.connection) store.live.attempts → KeepsMore events trees
-
-  -- What a crash leaves after some calls: what it left before them, or the tables with some of the events that were accepted since.
-  abbrev pub Endures : Stored S → Stored S → Type 0
-  Endures old new = Survives (state g old.connection) (state g new.connection) (Extends old)
-
   -- ---- what a store stands for
 
   -- the accepted events, and what waits of each live attempt
@@ -49,6 +36,55 @@ module _ {S : Type 0} (g : Ghosts S) where
   abbrev pub Leads : (Standing → Standing → Type 0) → Stored S → Stored S → Type 0
   Leads Relation old new = HasCleanDisk (state g new.connection) → (s : Standing) → IsStanding s old → (t : Standing) × IsStanding t new × Relation s t
 
+  -- ---- what a crash leaves
+
+  -- the tables keep the events of something in this relation to what the store stood for, whatever that was
+  abbrev pub Keeps : (Standing → Standing → Type 0) → Stored S → Trees → Type 0
+  Keeps Relation store trees = (s : Standing) → IsStanding s store → (t : Standing) × Relation s t × KeepsAll t.events trees
+
+  -- What a crash leaves after some calls: what it could leave before them, or such tables.
+  abbrev pub Endures : (Standing → Standing → Type 0) → Stored S → Stored S → Type 0
+  Endures Relation old new = Survives (state g old.connection) (state g new.connection) (Keeps Relation old)
+
+-- the tables keep these events and further ones in front of them, all of which were accepted, in this relation to those from before
+pub record KeepsMore (Relation : List Event → List Event → Type 0) (events : List Event) (trees : Trees) : Type 0 where
+  pub more : List Event
+  pub accepted : IsAccepted (more ++ events)
+  pub related : Relation events (more ++ events)
+  pub kept : KeepsAll (more ++ events) trees
+
+-- What a crash leaves after some calls: what it could leave before them, or such tables, whatever events the store stood for.
+abbrev pub Extends : {S : Type 0} → Ghosts S → (List Event → List Event → Type 0) → Stored S → Stored S → Type 0
+Extends g Relation old new =
+    Survives (state g old.connection) (state g new.connection)
+    (λ trees. (events : List Event) → Stands events (state g old.connection) old.live.attempts → KeepsMore Relation events trees)
+
+-- some frames were taken, with some end
+abbrev pub TakesSome : Text → (number : ℕ) → Standing → Standing → Type 0
+TakesSome id number s t = (frames : ℕ) × (why : Option Refusal) × TakesFrames id number frames why s t
+
+-- so many bytes at most were moved, with some answer
+abbrev pub MovesSome : {H : Type 0} → HeldAttempt H → (count : ℕ) → Standing → Standing → Type 0
+MovesSome {H} one count s t = (answer : Reply) × (changed : HeldAttempt H) × MovesOne one count s answer t changed
+
+-- no attempts are held yet
+abbrev pub at_first : {H : Type 0} → Standing → Scheduled H
+at_first s = record { standing = s; held = [] }
+
+module _ {H : Type 0} (function : H → Handler) (options : VMOptions) where
+  -- an event is applied, with some answer
+  abbrev pub AppliesWith : scheduled.Event H → (held : List (HeldAttempt H)) → Standing → Standing → Type 0
+  AppliesWith one held s t = (answer : Reply) × (more : List (HeldAttempt H)) × Does function options one s held answer t more
+
+  -- the first of these events are applied one after another, with some answers
+  pub record AppliesFirst (events : List (scheduled.Event H)) (s t : Standing) : Type 0 where
+    pub first : List (scheduled.Event H)
+    pub rest : List (scheduled.Event H)
+    pub beginning : events ≡ first ++ rest
+    pub answers : List Reply
+    pub held : List (HeldAttempt H)
+    pub applies : AppliesAll function options first answers (at_first s) (record { standing = t; held = held })
+
 -- ---- what a scheduler stands for
 
 module _ {H S : Type 0} (g : Ghosts S) where
@@ -56,10 +92,6 @@ module _ {H S : Type 0} (g : Ghosts S) where
   pub record IsScheduled (s : Scheduled H) (scheduler : Scheduler H S) : Type 0 where
     pub standing : IsStanding g s.standing scheduler.store
     pub held : s.held ≡ scheduler.held.items
-
--- it holds no attempts yet
-abbrev pub at_first : {H : Type 0} → Standing → Scheduled H
-at_first s = record { standing = s; held = [] }
 
 -- Of each invocation that was not begun before a schedule, and whose begins in it all bring one function, the requests that are
 -- recorded behind it are the first requests of the one uninterrupted run of that function.

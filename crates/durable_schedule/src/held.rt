@@ -4,7 +4,7 @@ ghost use Rattle.sqlite.specs.Held.{state};
 ghost use Rattle.sqlite.specs.State.{Survives};
 ghost use Rattle.schedule_events.specs.Following.{is_held};
 ghost use Rattle.schedule_events.specs.Schedule.{FeedsOne, MovesOne, TakesFrames};
-ghost use Rattle.durable_schedule.specs.Scheduled.{Endures, Leads};
+ghost use Rattle.durable_schedule.specs.Scheduled.{Endures, Leads, MovesSome, TakesSome};
 
 use bytes::ByteStr;
 use journal_model::Handler;
@@ -56,7 +56,7 @@ fn take_frames<S: Alter + Drop>(
     number: u32,
 ) -> (usize, Option<store_refusals::Refusal>)
     ensures does { Leads S.Store (TakesFrames invocation.now number result.0 result.1) store.old store.new }
-    ensures crash { Endures S.Store store.old store.new }
+    ensures crash { Endures S.Store (TakesSome invocation.now number) store.old store.new }
 {
     for frames in 0..usize::MAX {
         match store.step(invocation, number) {
@@ -79,7 +79,7 @@ pub(crate) fn take_in<H: Handler, S: Alter + Drop>(
     count: usize,
 ) -> Reply
     ensures does { Leads S.Store (λ s t. MovesOne one.old count s result t one.new) store.old store.new }
-    ensures crash { Endures S.Store store.old store.new }
+    ensures crash { Endures S.Store (MovesSome one.old count) store.old store.new }
 {
     let bytes = count.min(one.attempt.output().len());
     match store.feed(&one.invocation, one.number, &one.attempt.output()[..bytes]) {

@@ -1,5 +1,5 @@
 //! The scheduler: a store, and the attempts that were begun.
-ghost use Rattle.std.specs.Prelude.{◌≡◌, ◌<◌, ◌≤◌, ◌+◌, ◌^◌, List, [], ◌∷◌, ◌++◌, IfOk, IfErr, map, vec_len, vec_capacity};
+ghost use Rattle.std.specs.Prelude.{◌≡◌, ◌<◌, ◌≤◌, ◌+◌, ◌^◌, List, [], ◌∷◌, ◌++◌, Ok, IfOk, IfErr, map, vec_len, vec_capacity};
 ghost use Rattle.sqlite.specs.Held.{state};
 ghost use Rattle.sqlite.specs.State.{HasCleanDisk, Survives};
 ghost use Rattle.journal_model.specs.Event.{Event as Accepted};
@@ -9,10 +9,10 @@ ghost use Rattle.new_invocations.specs.Rows.{Decides, known_tests};
 ghost use Rattle.invocation_reads.specs.Told.{arrival_told, request_told};
 ghost use Rattle.invocation_reads.specs.Answered.{Answers};
 ghost use Rattle.journal_store.specs.Stands.{Stands};
-ghost use Rattle.schedule_events.specs.Standing.{Invokes, Standing, Stops};
+ghost use Rattle.schedule_events.specs.Standing.{Adds, Begins, Begun, Invokes, Standing, Stops};
 ghost use Rattle.schedule_events.specs.Following.{held_of};
 ghost use Rattle.schedule_events.specs.Schedule.{RepliesDone, BeginDoes, IfHeld, FeedsHeld, TurnsHeld, MovesHeld, Applies, AppliesAll, FitsEvent, Scheduled};
-ghost use Rattle.durable_schedule.specs.Scheduled.{Endures, FollowRuns, IsScheduled, IsStanding, Leads, at_first};
+ghost use Rattle.durable_schedule.specs.Scheduled.{AppliesFirst, AppliesWith, Endures, Extends, FollowRuns, IsScheduled, IsStanding, Leads, at_first};
 
 use crate::held::{hand_out, place_of, take_in};
 use bytes::ByteStr;
@@ -53,7 +53,7 @@ impl<H: Handler + Drop, S: Alter + Drop> Scheduler<H, S> {
         ensures does { Leads S.Store (λ s t. RepliesDone (λ answer. Invokes new s answer t) result) self.old.store self.new.store }
         ensures kept { self.new ≡ record self.old { store = self.new.store } }
         ensures seed { new.seed < 2 ^ 64 }
-        ensures crash { Endures S.Store self.old.store self.new.store }
+        ensures crash { Endures S.Store (Adds (Accepted.Invoke new)) self.old.store self.new.store }
     {
         match self.store.invoke(new) {
             Ok(()) => Reply::Done,
@@ -65,7 +65,7 @@ impl<H: Handler + Drop, S: Alter + Drop> Scheduler<H, S> {
     fn stop(&mut self, invocation: &ByteStr, number: u32) -> Reply
         ensures does { Leads S.Store (λ s t. RepliesDone (λ answer. Stops invocation.now number s answer t) result) self.old.store self.new.store }
         ensures kept { self.new ≡ record self.old { store = self.new.store } }
-        ensures crash { Endures S.Store self.old.store self.new.store }
+        ensures crash { Survives (state S.Store self.old.store.connection) (state S.Store self.new.store.connection) (λ _. ⊥) }
     {
         match self.store.stop(invocation, number) {
             Ok(()) => Reply::Done,
@@ -78,7 +78,7 @@ impl<H: Handler + Drop, S: Alter + Drop> Scheduler<H, S> {
         ensures does { Leads S.Store (λ s t. BeginDoes self.old.options invocation handler now s self.old.held.items result t self.new.held.items) self.old.store self.new.store }
         ensures options { self.new.options ≡ self.old.options }
         ensures moment { now < 2 ^ 64 }
-        ensures crash { Endures S.Store self.old.store self.new.store }
+        ensures crash { Endures S.Store (λ s t. (begun : Begun) × Begins invocation now s (Ok begun) t) self.old.store self.new.store }
     {
         let begun = match self.store.begin(&invocation, now) {
             Ok(begun) => begun,
@@ -101,7 +101,7 @@ impl<H: Handler + Drop, S: Alter + Drop> Scheduler<H, S> {
     fn feed(&mut self, invocation: &ByteStr, number: u32, count: usize) -> Reply
         ensures does { Leads S.Store (λ s t. IfHeld (λ one. FeedsHeld one count) (held_of self.old.held.items invocation.now number) s self.old.held.items result t self.new.held.items) self.old.store self.new.store }
         ensures options { self.new.options ≡ self.old.options }
-        ensures crash { Endures S.Store self.old.store self.new.store }
+        ensures crash { Survives (state S.Store self.old.store.connection) (state S.Store self.new.store.connection) (λ _. ⊥) }
     {
         match place_of(&self.held, invocation, number) {
             None => Reply::Refused(Refusal::AttemptNotHeld),
@@ -128,7 +128,7 @@ impl<H: Handler + Drop, S: Alter + Drop> Scheduler<H, S> {
     fn transfer(&mut self, invocation: &ByteStr, number: u32, count: usize) -> Reply
         ensures does { Leads S.Store (λ s t. IfHeld (λ one. MovesHeld one count) (held_of self.old.held.items invocation.now number) s self.old.held.items result t self.new.held.items) self.old.store self.new.store }
         ensures options { self.new.options ≡ self.old.options }
-        ensures crash { Endures S.Store self.old.store self.new.store }
+        ensures crash { Endures S.Store (AppliesWith H.next_call self.old.options (Event.Move invocation.now number count) self.old.held.items) self.old.store self.new.store }
     {
         match place_of(&self.held, invocation, number) {
             None => Reply::Refused(Refusal::AttemptNotHeld),
@@ -141,7 +141,7 @@ impl<H: Handler + Drop, S: Alter + Drop> Scheduler<H, S> {
         ensures does { HasCleanDisk (state S.Store self.new.store.connection) → (old : Scheduled H) → IsScheduled S.Store old self.old → (new : Scheduled H) × IsScheduled S.Store new self.new × Applies H.next_call self.old.options event result old new }
         ensures options { self.new.options ≡ self.old.options }
         ensures fits { FitsEvent event }
-        ensures crash { Endures S.Store self.old.store self.new.store }
+        ensures crash { Endures S.Store (AppliesWith H.next_call self.old.options event self.old.held.items) self.old.store self.new.store }
     {
         match event {
             Event::Invoke(new) => self.invoke(new),
@@ -266,7 +266,10 @@ pub fn run_schedule<H: Handler + Drop, S: Alter + Drop>(
     ensures applies { IfOk result (λ done. HasCleanDisk (state S.Store done.0.store.connection) → (s : Standing) → IsStanding S.Store s store →
         (new : Scheduled H) × IsScheduled S.Store new done.0 × AppliesAll H.next_call options events.items done.1.items (at_first s) new) }
     ensures options { IfOk result (λ done. done.0.options ≡ options) }
-    ensures crash { IfOk result (λ done. Endures S.Store store done.0.store) }
+    // What a crash anywhere in it leaves is what it could leave before, or what the first of the events leave.
+    ensures crash { IfOk result (λ done. Endures S.Store (AppliesFirst H.next_call options events.items) store done.0.store) }
+    // So the headline holds of what a crash leaves too.
+    ensures crash_headline { IfOk result (λ done. Extends S.Store (FollowRuns H.next_call options events.items) store done.0.store) }
     ensures err { IfErr result (λ refused. refused.store ≡ store) }
 {
     let Ok(mut replies) = Vec::with_capacity(alloc, events.len()) else {

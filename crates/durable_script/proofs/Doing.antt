@@ -11,16 +11,16 @@ use Rattle.durable_script.specs.declared.fault.ScriptFault.TheVariants.{LineNotU
 use Rattle.durable_script.specs.declared.runner.Asked.{Asked}
 use Rattle.durable_script.specs.declared.runner.Runner.{Runner}
 use Rattle.durable_script.specs.Asked.{is_second, asked_after, IsNotUnderstood}
-use Rattle.durable_script.specs.Line.{DoesLine}
+use Rattle.durable_script.specs.Line.{DoesLine, DoesSomeLine}
 use Rattle.durable_script.specs.Reaching.{Reaches}
 use Rattle.durable_script.specs.Runner.{DoesNext, StopsAt}
-use Rattle.durable_script.specs.Run.{DoneLine, lines_of, texts_of, asked_by, AreUnderstood, DoesAll, HasDone, DoesLines, ComesTo}
+use Rattle.durable_script.specs.Run.{DoneLine, lines_of, texts_of, asked_by, AreUnderstood, DoesAll, DoesSome, HasDone, DoesLines, ComesTo}
 use Rattle.durable_script.proofs.Reaching.{reaches_then}
 
 module _ {S : Type 0} (g : Ghosts S) (lines : List (ℕ × List ℕ)) (start : Scheduler Nap S) where
   -- a scheduler that came from the start by these lines
   abbrev pub Did : Scheduler Nap S → List DoneLine → Type 0
-  Did now done = Reaches g (DoesAll done) start now
+  Did now done = Reaches g DoesSome (DoesAll done) start now
 
   module _ (done : List DoneLine) where
     -- the line that was done next
@@ -36,7 +36,13 @@ module _ {S : Type 0} (g : Ghosts S) (lines : List (ℕ × List ℕ)) (start : S
           ∙ ap (λ (ls : List (ℕ × List ℕ)). lines_of done ++ ls) (e ∙ ap (λ (bs : List ℕ). (number, bs) ∷ after) d.understood.spelling)
           ∙ sym (append_assoc (lines_of done) ((number, spelled d.line) ∷ []) after);
       understood = (h.understood, d.understood.is_line, subst (λ (a : Asked). is_second a d.line ≡ false) asked d.understood.first);
-      does = reaches_then g (DoesAll done) (DoesLine d.line text) (DoesAll (next_line number bytes text old new d ∷ done)) start old.scheduler new.scheduler
+      does = reaches_then g DoesSome (DoesSomeLine d.line) DoesSome (DoesAll done) (DoesLine d.line text) (DoesAll (next_line number bytes text old new d ∷ done)) start old.scheduler new.scheduler
+          (λ x y some. some)
+          (λ x y z p q. (
+            record { number = number; line = d.line; text = q.0 } ∷ done,
+            (h.understood, d.understood.is_line, subst (λ (a : Asked). is_second a d.line ≡ false) asked d.understood.first),
+            (y, p, q.1),
+          ))
           (λ x y z p q. (y, p, q)) h.does d.does;
     }
 

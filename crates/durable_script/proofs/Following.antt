@@ -1,5 +1,5 @@
 -- Each line keeps each invocation in the run of `nap`.
-use Rattle.std.proofs.Common.{ℕ, suc, zero, List, [], ◌∷◌, Result, Ok, Err, OnErr, refl, sym, subst}
+use Rattle.std.proofs.Common.{◌≡◌, ℕ, suc, zero, List, [], ◌∷◌, Result, Ok, Err, OnErr, refl, sym, ap, subst}
 use Rattle.built_in_handlers.specs.declared.handlers.Nap.{Nap}
 use Rattle.built_in_handlers.specs.Handlers.{nap_until}
 use Rattle.journal_model.specs.Notification.{Text}
@@ -13,6 +13,7 @@ use Rattle.schedule_events.specs.declared.held.HeldAttempt.{HeldAttempt}
 use Rattle.schedule_events.specs.Following.{Follows}
 use Rattle.schedule_events.specs.Schedule.{Scheduled, Applies, Brings, FitsEvent}
 use Rattle.schedule_events.proofs.Leaving.{follows_at_first, kept_by_each, begins_run}
+use Rattle.durable_schedule.proofs.Growing.{Grows, grows_on, same_grows, does_grow}
 use Rattle.script_lines.specs.declared.line.Line.{Line}
 use Rattle.script_lines.specs.declared.line.Line.TheVariants.{Invoke, Begin, Feed, Turn, Move, Stop, Show}
 use Rattle.script_lines.specs.Line.{IsLine}
@@ -55,6 +56,33 @@ follows_nap start end done none understood does = λ id fresh invocation begun.
     (lines_stay id done start end understood does
     (subst (λ (held : List (HeldAttempt Nap)). Follows nap_function (nap_until 10) default_options id start.standing held) (sym none)
     (follows_at_first nap_function (nap_until 10) default_options id start.standing fresh)))
+
+-- ---- the accepted events stay
+
+event_grows : (one : Event Nap) (answer : Reply) (old new : Scheduled Nap) → Applies nap_function default_options one answer old new → Grows old.standing new.standing
+event_grows one answer old new a = does_grow nap_function default_options one old.standing new.standing old.held new.held answer a
+
+stays_grown : (old new : Scheduled Nap) → new ≡ old → Grows old.standing new.standing
+stays_grown old new same = same_grows old.standing new.standing (ap (λ (s : Scheduled Nap). s.standing.events) same)
+
+turns_grow : (id : Text) (n turns : ℕ) (old new : Scheduled Nap) → AnsweredTurns id n turns old new → Grows old.standing new.standing
+turns_grow id n zero old new t = stays_grown old new t
+turns_grow id n (suc turns) old new t =
+    grows_on old.standing t.0.standing new.standing (turns_grow id n turns old t.0 t.1) (event_grows (event.Turn id n) (Turned Answered) t.0 new t.2)
+
+line_grows : (line : Line) (text : List ℕ) (old new : Scheduled Nap) → DoesLine line text old new → Grows old.standing new.standing
+line_grows (Invoke id object version state seed input) text old new d = event_grows (event.Invoke (new_invocation id object version state seed input)) d.reply old new d.applied
+line_grows (Begin id handler now) text old new d = event_grows (event.Begin id (nap d.0) now) d.1.reply old new d.1.applied
+line_grows (Feed id n count) text old new d = event_grows (event.Feed id n count) d.reply old new d.applied
+line_grows (Turn id n count) text old new d =
+    grows_on old.standing d.took.between.standing new.standing (turns_grow id n d.took.before old d.took.between d.took.answered) (event_grows (event.Turn id n) d.last d.took.between new d.took.applied)
+line_grows (Move id n count) text old new d = event_grows (event.Move id n count) d.reply old new d.applied
+line_grows (Stop id n) text old new d = event_grows (event.Stop id n) d.reply old new d.applied
+line_grows (Show id) text old new d = stays_grown old new d.1
+
+pub lines_grow : (done : List DoneLine) (old new : Scheduled Nap) → DoesAll done old new → Grows old.standing new.standing
+lines_grow [] old new d = stays_grown old new d
+lines_grow (one ∷ before) old new d = grows_on old.standing d.0.standing new.standing (lines_grow before old d.0 d.1) (line_grows one.line one.text d.0 new d.2)
 
 -- a fact that holds, holds at an error
 pub on_err : {T E : Type 0} {P : Type 0} (r : Result T E) → P → OnErr r P

@@ -16,7 +16,7 @@ use Rattle.invocation_reads.specs.Told.{request_told}
 use Rattle.invocation_reads.specs.Answered.{Answers}
 use Rattle.durable_schedule.specs.declared.scheduler.Scheduler.{Scheduler}
 use Rattle.script_lines.specs.Text.{request_line, refused_text}
-use Rattle.durable_script.specs.Reaching.{Reaches}
+use Rattle.durable_script.specs.Reaching.{Reaches, Nowhere}
 use Rattle.durable_script.specs.Shown.{requests_from, shown_text, Looks, HasRecords, RefusesShow, Shows}
 use Rattle.durable_script.proofs.Reaching.{reaches_both, reaches_so}
 
@@ -47,24 +47,24 @@ abbrev pub IsNotTold : Text → Refusal → List Event → Type 0
 IsNotTold id refusal events = IsRefused (those_that_hold (known_tests events id)) refusal
 
 module _ {S : Type 0} (g : Ghosts S) (id : Text) (a b c d : Scheduler Nap S) where
-  pub shown_all : (requests : List RecordedFrame) (answer : Option NonEmptyValue) (now : Bool) → Reaches g (Looks (KnownOpen id now)) a b
-      → Reaches g (Looks (λ events. Answers events id (Ok answer))) b c → Reaches g (Looks (KnownRequests id requests)) c d
-      → Reaches g (Looks (HasRecords id requests answer now)) a d
+  pub shown_all : (requests : List RecordedFrame) (answer : Option NonEmptyValue) (now : Bool) → Reaches g Nowhere (Looks (KnownOpen id now)) a b
+      → Reaches g Nowhere (Looks (λ events. Answers events id (Ok answer))) b c → Reaches g Nowhere (Looks (KnownRequests id requests)) c d
+      → Reaches g Nowhere (Looks (HasRecords id requests answer now)) a d
   shown_all requests answer now one two three =
       reaches_both g (KnownAnswer id now answer) (KnownRequests id requests) (HasRecords id requests answer now) a c d
       (λ events p q. record { requests_are = q.1; answer_is = p.1; is_open_is = p.0.1 })
       (reaches_both g (KnownOpen id now) (λ events. Answers events id (Ok answer)) (KnownAnswer id now answer) a b c (λ events p q. (p, q)) one two) three
 
   -- the first question is not answered
-  pub unknown_first : (refusal : Refusal) → Reaches g (Looks (IsNotTold id refusal)) a b → Reaches g (Looks (RefusesShow id refusal)) a b
-  unknown_first refusal one = reaches_so g (Looks (IsNotTold id refusal)) (Looks (RefusesShow id refusal)) a b (λ x y p. (inl p.0, p.1)) one
+  pub unknown_first : (refusal : Refusal) → Reaches g Nowhere (Looks (IsNotTold id refusal)) a b → Reaches g Nowhere (Looks (RefusesShow id refusal)) a b
+  unknown_first refusal one = reaches_so g Nowhere Nowhere (Looks (IsNotTold id refusal)) (Looks (RefusesShow id refusal)) a b (λ x y none. none) (λ x y p. (inl p.0, p.1)) one
 
-  pub unknown_second : (refusal : Refusal) (now : Bool) → Reaches g (Looks (KnownOpen id now)) a b → Reaches g (Looks (RefusesShow id refusal)) b c
-      → Reaches g (Looks (RefusesShow id refusal)) a c
+  pub unknown_second : (refusal : Refusal) (now : Bool) → Reaches g Nowhere (Looks (KnownOpen id now)) a b → Reaches g Nowhere (Looks (RefusesShow id refusal)) b c
+      → Reaches g Nowhere (Looks (RefusesShow id refusal)) a c
   unknown_second refusal now one two = reaches_both g (KnownOpen id now) (RefusesShow id refusal) (RefusesShow id refusal) a b c (λ events p q. q) one two
 
-  pub unknown_third : (refusal : Refusal) (now : Bool) (answer : Option NonEmptyValue) → Reaches g (Looks (KnownOpen id now)) a b
-      → Reaches g (Looks (λ events. Answers events id (Ok answer))) b c → Reaches g (Looks (IsNotTold id refusal)) c d → Reaches g (Looks (RefusesShow id refusal)) a d
+  pub unknown_third : (refusal : Refusal) (now : Bool) (answer : Option NonEmptyValue) → Reaches g Nowhere (Looks (KnownOpen id now)) a b
+      → Reaches g Nowhere (Looks (λ events. Answers events id (Ok answer))) b c → Reaches g Nowhere (Looks (IsNotTold id refusal)) c d → Reaches g Nowhere (Looks (RefusesShow id refusal)) a d
   unknown_third refusal now answer one two three =
       reaches_both g (KnownAnswer id now answer) (IsNotTold id refusal) (RefusesShow id refusal) a c d (λ events p q. inl q)
       (reaches_both g (KnownOpen id now) (λ events. Answers events id (Ok answer)) (KnownAnswer id now answer) a b c (λ events p q. (p, q)) one two) three
@@ -72,10 +72,10 @@ module _ {S : Type 0} (g : Ghosts S) (id : Text) (a b c d : Scheduler Nap S) whe
 -- ---- as text
 
 module _ {S : Type 0} (g : Ghosts S) (id : Text) (old new : Scheduler Nap S) where
-  pub records_printed : (requests : List RecordedFrame) (answer : Option NonEmptyValue) (now : Bool) → Reaches g (Looks (HasRecords id requests answer now)) old new
-      → Reaches g (Looks (Shows id (shown_text requests answer now))) old new
+  pub records_printed : (requests : List RecordedFrame) (answer : Option NonEmptyValue) (now : Bool) → Reaches g Nowhere (Looks (HasRecords id requests answer now)) old new
+      → Reaches g Nowhere (Looks (Shows id (shown_text requests answer now))) old new
   records_printed requests answer now has =
-      reaches_so g (Looks (HasRecords id requests answer now)) (Looks (Shows id (shown_text requests answer now))) old new
+      reaches_so g Nowhere Nowhere (Looks (HasRecords id requests answer now)) (Looks (Shows id (shown_text requests answer now))) old new (λ x y none. none)
       (λ x y p. (
         inl (record {
           answer = answer;
@@ -87,7 +87,7 @@ module _ {S : Type 0} (g : Ghosts S) (id : Text) (old new : Scheduler Nap S) whe
         p.1,
       )) has
 
-  pub refusal_printed : (refusal : Refusal) → Reaches g (Looks (RefusesShow id refusal)) old new → Reaches g (Looks (Shows id (refused_text (name_of refusal) ++ 10 ∷ []))) old new
+  pub refusal_printed : (refusal : Refusal) → Reaches g Nowhere (Looks (RefusesShow id refusal)) old new → Reaches g Nowhere (Looks (Shows id (refused_text (name_of refusal) ++ 10 ∷ []))) old new
   refusal_printed refusal why =
-      reaches_so g (Looks (RefusesShow id refusal)) (Looks (Shows id (refused_text (name_of refusal) ++ 10 ∷ []))) old new
+      reaches_so g Nowhere Nowhere (Looks (RefusesShow id refusal)) (Looks (Shows id (refused_text (name_of refusal) ++ 10 ∷ []))) old new (λ x y none. none)
       (λ x y p. (inr (record { refusal = refusal; cause = p.0; text_is = refl }), p.1)) why

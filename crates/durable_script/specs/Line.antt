@@ -44,6 +44,10 @@ pub record DoesEvent (one : Event Nap) (text : List ℕ) (old new : Scheduled Na
   pub applied : Applies nap_function default_options one reply old new
   pub text_is : text ≡ printed 1 reply ++ 10 ∷ []
 
+-- the same with some text
+abbrev pub DoesSomeEvent : Event Nap → Scheduled Nap → Scheduled Nap → Type 0
+DoesSomeEvent one old new = (text : List ℕ) × DoesEvent one text old new
+
 -- whether a reply is that of a turn that was answered
 abbrev pub was_answered : Reply → Bool
 was_answered (Turned Answered) = true
@@ -80,3 +84,7 @@ DoesLine (Turn id attempt count) text old new = TakesTurns id attempt count text
 DoesLine (Move id attempt count) text old new = DoesEvent (event.Move id attempt count) text old new
 DoesLine (Stop id attempt) text old new = DoesEvent (event.Stop id attempt) text old new
 DoesLine (Show id) text old new = Looks (Shows id text) old new
+
+-- the same with some text
+abbrev pub DoesSomeLine : Line → Scheduled Nap → Scheduled Nap → Type 0
+DoesSomeLine line old new = (text : List ℕ) × DoesLine line text old new

@@ -56,6 +56,10 @@ abbrev pub DoesAll : List DoneLine → Scheduled Nap → Scheduled Nap → Type 
 DoesAll [] old new = new ≡ old
 DoesAll (one ∷ before) old new = (between : Scheduled Nap) × DoesAll before old between × DoesLine one.line one.text between new
 
+-- some lines were done, with some texts
+abbrev pub DoesSome : Scheduled Nap → Scheduled Nap → Type 0
+DoesSome old new = (done : List DoneLine) × AreUnderstood done × DoesAll done old new
+
 -- What was done is all that `Does` tells of.
 module _ (lines : List (ℕ × List ℕ)) (Does : List DoneLine → Type 0) where
   -- the first lines of a script were done, and these come behind them

@@ -6,7 +6,7 @@ use Rattle.durable_script.specs.declared.fault.ScriptFault.{ScriptFault}
 use Rattle.durable_script.specs.declared.fault.ScriptFault.TheVariants.{LineNotUnderstood, ScriptUnreadable, OutOfMemory, OutputUnwritable}
 use Rattle.durable_script.specs.declared.runner.Runner.{Runner}
 use Rattle.durable_script.specs.Reaching.{Reaches}
-use Rattle.durable_script.specs.Line.{DoesLine}
+use Rattle.durable_script.specs.Line.{DoesLine, DoesSomeLine}
 use Rattle.durable_script.specs.Asked.{asked_after, IsUnderstood, IsNotUnderstood}
 
 module _ {S : Type 0} (g : Ghosts S) where
@@ -14,7 +14,7 @@ module _ {S : Type 0} (g : Ghosts S) where
   pub record DoesNext (bytes text : List ℕ) (old new : Runner S) : Type 0 where
     pub line : Line
     pub understood : IsUnderstood old.asked bytes line
-    pub does : Reaches g (DoesLine line text) old.scheduler new.scheduler
+    pub does : Reaches g (DoesSomeLine line) (DoesLine line text) old.scheduler new.scheduler
     pub asked : new.asked ≡ asked_after old.asked line
 
   -- the line is not understood; or memory was refused, before it was done or for its text

@@ -2,8 +2,8 @@
 ghost use Rattle.std.specs.Prelude.{◌≡◌, ◌<◌, ◌≤◌, ◌+◌, ◌∷◌, [], ◌++◌, List, ℕ, not, IfOk, IfErr, OnErr, string_bytes};
 ghost use Rattle.script_lines.specs.Line.{IsLine};
 ghost use Rattle.invocation_vm.specs.Options.{default_options};
-ghost use Rattle.durable_script.specs.Reaching.{Reaches};
-ghost use Rattle.durable_script.specs.Line.{new_invocation, nap, was_answered, DoesEvent, TakesTurns, TookTurns, DoesLine};
+ghost use Rattle.durable_script.specs.Reaching.{Nowhere, Reaches};
+ghost use Rattle.durable_script.specs.Line.{new_invocation, nap, was_answered, DoesEvent, DoesSomeEvent, TakesTurns, TookTurns, DoesLine, DoesSomeLine};
 ghost use Rattle.durable_script.specs.Asked.{none_asked, is_second, asked_after, Understands};
 ghost use Rattle.durable_script.specs.Runner.{DoesNext, StopsAt};
 
@@ -88,8 +88,8 @@ fn do_event<S: Alter + Drop>(
     scheduler: &mut Scheduler<Nap, S>,
     event: Event<Nap>,
 ) -> Result<String, AllocError>
-    ensures ok { IfOk result (λ text. Reaches S.Store (DoesEvent event (string_bytes text)) scheduler.old scheduler.new) }
-    ensures err { OnErr result ((text : List ℕ) × Reaches S.Store (DoesEvent event text) scheduler.old scheduler.new) }
+    ensures ok { IfOk result (λ text. Reaches S.Store (DoesSomeEvent event) (DoesEvent event (string_bytes text)) scheduler.old scheduler.new) }
+    ensures err { OnErr result ((text : List ℕ) × Reaches S.Store (DoesSomeEvent event) (DoesEvent event text) scheduler.old scheduler.new) }
 {
     let reply = scheduler.apply(event);
     reply_line(scheduler.alloc, line_reply(1, reply))
@@ -110,7 +110,7 @@ fn take_turns<S: Alter + Drop>(
     count: u32,
 ) -> (u32, Reply)
     requires { 1 ≤ count }
-    ensures { Reaches S.Store (TookTurns id.now attempt count result.0 result.1) scheduler.old scheduler.new }
+    ensures { Reaches S.Store Nowhere (TookTurns id.now attempt count result.0 result.1) scheduler.old scheduler.new }
 {
     let mut taken = 1u32;
     loop {
@@ -130,8 +130,8 @@ fn do_turns<S: Alter + Drop>(
     count: u32,
 ) -> Result<String, AllocError>
     requires { 1 ≤ count }
-    ensures ok { IfOk result (λ text. Reaches S.Store (TakesTurns id.now attempt count (string_bytes text)) scheduler.old scheduler.new) }
-    ensures err { OnErr result ((text : List ℕ) × Reaches S.Store (TakesTurns id.now attempt count text) scheduler.old scheduler.new) }
+    ensures ok { IfOk result (λ text. Reaches S.Store Nowhere (TakesTurns id.now attempt count (string_bytes text)) scheduler.old scheduler.new) }
+    ensures err { OnErr result ((text : List ℕ) × Reaches S.Store Nowhere (TakesTurns id.now attempt count text) scheduler.old scheduler.new) }
 {
     let (taken, reply) = take_turns(scheduler, id, attempt, count);
     reply_line(scheduler.alloc, line_reply(taken, reply))
@@ -143,8 +143,8 @@ fn carry_out<S: Alter + Drop>(
     line: Line,
 ) -> Result<String, AllocError>
     requires { IsLine line }
-    ensures ok { IfOk result (λ text. Reaches S.Store (DoesLine line (string_bytes text)) scheduler.old scheduler.new) }
-    ensures err { OnErr result ((text : List ℕ) × Reaches S.Store (DoesLine line text) scheduler.old scheduler.new) }
+    ensures ok { IfOk result (λ text. Reaches S.Store (DoesSomeLine line) (DoesLine line (string_bytes text)) scheduler.old scheduler.new) }
+    ensures err { OnErr result ((text : List ℕ) × Reaches S.Store (DoesSomeLine line) (DoesLine line text) scheduler.old scheduler.new) }
 {
     let alloc = scheduler.alloc;
     match line {

@@ -1,7 +1,7 @@
 //! What is recorded of an invocation, as a line shows it.
 ghost use Rattle.std.specs.Prelude.{◌≡◌, ◌∷◌, [], ◌++◌, ℕ, List, Some, IfOk, IfErr, OnErr, string_bytes};
 ghost use Rattle.script_lines.specs.Text.{request_line, request_text, answer_text};
-ghost use Rattle.durable_script.specs.Reaching.{Reaches};
+ghost use Rattle.durable_script.specs.Reaching.{Nowhere, Reaches};
 ghost use Rattle.durable_script.specs.Shown.{shown_text, answer_line, Looks, RefusesShow, HasRecords, Shows};
 
 use crate::reply::reply_line;
@@ -67,8 +67,8 @@ fn shown<S: Alter + Drop>(
     scheduler: &mut Scheduler<Nap, S>,
     id: &ByteStr,
 ) -> Result<ShownInvocation, Refusal>
-    ensures ok { IfOk result (λ shown. Reaches S.Store (Looks (HasRecords id.now shown.requests.items shown.answer shown.is_open)) scheduler.old scheduler.new) }
-    ensures err { IfErr result (λ refusal. Reaches S.Store (Looks (RefusesShow id.now refusal)) scheduler.old scheduler.new) }
+    ensures ok { IfOk result (λ shown. Reaches S.Store Nowhere (Looks (HasRecords id.now shown.requests.items shown.answer shown.is_open)) scheduler.old scheduler.new) }
+    ensures err { IfErr result (λ refusal. Reaches S.Store Nowhere (Looks (RefusesShow id.now refusal)) scheduler.old scheduler.new) }
 {
     let is_open = scheduler.is_open(id)?;
     let answer = scheduler.answer(id)?;
@@ -90,8 +90,8 @@ pub(crate) fn show<S: Alter + Drop>(
     scheduler: &mut Scheduler<Nap, S>,
     id: &ByteStr,
 ) -> Result<String, AllocError>
-    ensures ok { IfOk result (λ text. Reaches S.Store (Looks (Shows id.now (string_bytes text))) scheduler.old scheduler.new) }
-    ensures err { OnErr result ((text : List ℕ) × Reaches S.Store (Looks (Shows id.now text)) scheduler.old scheduler.new) }
+    ensures ok { IfOk result (λ text. Reaches S.Store Nowhere (Looks (Shows id.now (string_bytes text))) scheduler.old scheduler.new) }
+    ensures err { OnErr result ((text : List ℕ) × Reaches S.Store Nowhere (Looks (Shows id.now text)) scheduler.old scheduler.new) }
 {
     let alloc = scheduler.alloc;
     match shown(scheduler, id) {

@@ -1,37 +1,35 @@
 -- Frames are taken one after the other.
-use Rattle.std.proofs.Common.{◌≡◌, ℕ, refl, sym, ap, subst, ◌∙◌, inl, inr, arith, Bool, true, false, not, List, [], ◌∷◌, ◌++◌, Option, Some, None, Ok, Err}
+use Rattle.std.proofs.Common.{◌≡◌, ℕ, refl, sym, ap, subst, ◌∙◌, inl, inr, arith, Bool, true, false, List, [], ◌∷◌, ◌++◌, Option, Some, None, Ok, Err}
 use Rattle.std.proofs.lemmas.Bool.{eq-eqb}
 use Rattle.sqlite_trees.specs.Tree.{Trees}
 use Rattle.sqlite.specs.State.{State, HasCleanDisk, Survives}
 use Rattle.sqlite.proofs.StateLemmas.{survives_then}
 use Rattle.journal_model.specs.Notification.{Bytes, Text}
 use Rattle.journal_model.specs.Event.{Event}
-use Rattle.journal_model.specs.Attempt.{is_live}
 use Rattle.store_refusals.specs.declared.refusal.Refusal.{Refusal}
 use Rattle.taken_frames.specs.declared.frame.FrameReply.{FrameReply}
 use Rattle.taken_frames.specs.Taken.{does_end}
 use Rattle.live_attempts.specs.declared.attempt.LiveAttempt.{LiveAttempt}
-use Rattle.live_attempts.specs.Attempts.{attempt_of}
+use Rattle.live_attempts.specs.Attempts.{ByInvocation, attempt_of}
 use Rattle.live_laws.specs.Agrees.{has_number}
 use Rattle.journal_store.specs.declared.accept.Accepted.{Accepted}
 use Rattle.journal_store.specs.Stands.{Stands}
-use Rattle.journal_store.specs.Attempts.{CommitsItem, Steps, TakesItem, attempt_left, frame_of_item}
+use Rattle.journal_store.specs.Attempts.{CommitsItem, TakesItem, attempt_left, frame_of_item}
 use Rattle.journal_store.specs.Accepting.{PassesItem, PassesItems, HasTaken, KeepsStep, CommitsSteps, Rests, TakesAll, TakesNext}
-use Rattle.journal_store.proofs.Quiet.{live_here}
 
-abbrev pub passes : (events : List Event) (id : Text) (number : ℕ) (reply : FrameReply) (database : State) (old new : List LiveAttempt) → TakesItem events id number reply database old new
+abbrev pub passes : (events : List Event) (id : Text) (number : ℕ) (reply : FrameReply) (database : State) (old new : ByInvocation) → TakesItem events id number reply database old new
     → PassesItem events id number reply old new
 passes events id number reply database old new it =
     record { attempt = it.attempt; item = it.item; rest = it.rest; is_first = it.is_first; no_cause = it.no_cause; replied = it.replied; left = it.left }
 
 -- one more
-pub passed_on : (events : List Event) (id : Text) (number : ℕ) (replies : List FrameReply) (reply : FrameReply) (old mid new : List LiveAttempt) (later : List Event)
+pub passed_on : (events : List Event) (id : Text) (number : ℕ) (replies : List FrameReply) (reply : FrameReply) (old mid new : ByInvocation) (later : List Event)
     → PassesItems events id number replies old later mid → (one : PassesItem later id number reply mid new)
     → PassesItems events id number (replies ++ reply ∷ []) old (Event.Take id number (frame_of_item one.attempt.version one.item) ∷ later) new
 passed_on events id number [] reply old mid new later h one =
     let event : Event = Event.Take id number (frame_of_item one.attempt.version one.item) in
     subst (λ (from : List Event). PassesItems from id number (reply ∷ []) old (event ∷ later) new) h.0
-    (subst (λ (first : List LiveAttempt). PassesItems later id number (reply ∷ []) first (event ∷ later) new) h.1 (new, one, (refl, refl)))
+    (subst (λ (first : ByInvocation). PassesItems later id number (reply ∷ []) first (event ∷ later) new) h.1 (new, one, (refl, refl)))
 passed_on events id number (first ∷ replies) reply old mid new later h one = (
   h.0,
   h.1,
@@ -39,7 +37,7 @@ passed_on events id number (first ∷ replies) reply old mid new later h one = (
 )
 
 -- what was taken so far of a live attempt, which goes on
-pub record HasPassed (events : List Event) (id : Text) (number : ℕ) (replies : List FrameReply) (database : State) (old now : List LiveAttempt) : Type 0 where
+pub record HasPassed (events : List Event) (id : Text) (number : ℕ) (replies : List FrameReply) (database : State) (old now : ByInvocation) : Type 0 where
   pub later : List Event
   pub passed : PassesItems events id number replies old later now
   pub stands : Stands later database now
@@ -51,7 +49,7 @@ here_still : (b : Bool) (rest : Bytes) (number : ℕ) (attempt : LiveAttempt) (o
 here_still true rest number attempt o e is left = cc
 here_still false rest number attempt o e is left = ap (has_number number) left ∙ eq-eqb attempt.number number is
 
-pub passed_one : (events : List Event) (id : Text) (number : ℕ) (before after : List FrameReply) (database next : State) (old now new : List LiveAttempt)
+pub passed_one : (events : List Event) (id : Text) (number : ℕ) (before after : List FrameReply) (database next : State) (old now new : ByInvocation)
     → (done : HasPassed events id number before database old now) → HasTaken true done.later id number before after next now new
     → HasPassed events id number after next old new
 passed_one events id number before after database next old now new done it =
@@ -70,7 +68,7 @@ none_left true rest attempt o e left = left
 none_left false rest attempt o e left = cc
 
 -- no further frame is taken
-pub rests_so : (events : List Event) (id : Text) (number : ℕ) (before : List FrameReply) (database next : State) (old now new : List LiveAttempt) (accepted : Accepted)
+pub rests_so : (events : List Event) (id : Text) (number : ℕ) (before : List FrameReply) (database next : State) (old now new : ByInvocation) (accepted : Accepted)
     → (done : HasPassed events id number before database old now) → accepted.refusal ≡ None
     → TakesNext done.later id number (Ok false) before accepted.replies.items next now new → TakesAll events id number accepted next old new
 rests_so events id number before database next old now new accepted done none (inl it) =
@@ -91,7 +89,7 @@ rests_so events id number before database next old now new accepted done none (i
   rests = subst (λ (why : Option Refusal). Rests done.later id number why next now new) (sym none) (inr it.1);
 }
 
-pub refused_so : (events : List Event) (id : Text) (number : ℕ) (before : List FrameReply) (database next : State) (old now new : List LiveAttempt) (accepted : Accepted) (why : Refusal)
+pub refused_so : (events : List Event) (id : Text) (number : ℕ) (before : List FrameReply) (database next : State) (old now new : ByInvocation) (accepted : Accepted) (why : Refusal)
     → (done : HasPassed events id number before database old now) → accepted.refusal ≡ Some why
     → TakesNext done.later id number (Err why) before accepted.replies.items next now new → TakesAll events id number accepted next old new
 refused_so events id number before database next old now new accepted why done is it = record {
@@ -103,7 +101,7 @@ refused_so events id number before database next old now new accepted why done i
 
 -- ---- crashes
 
-pub keeps_step : (events : List Event) (id : Text) (number : ℕ) (replies : List FrameReply) (database : State) (old now : List LiveAttempt) (trees : Trees)
+pub keeps_step : (events : List Event) (id : Text) (number : ℕ) (replies : List FrameReply) (database : State) (old now : ByInvocation) (trees : Trees)
     → HasPassed events id number replies database old now → CommitsItem id number now database trees → KeepsStep events id number old trees
 keeps_step events id number replies database old now trees done it =
     let commits = it.commits done.later done.stands in
@@ -121,7 +119,7 @@ keeps_step events id number replies database old now trees done it =
     }
 
 -- the first of the steps, and each further one
-pub steps_commit : (id : Text) (number : ℕ) (replies : List FrameReply) (start now next : State) (old attempts : List LiveAttempt)
+pub steps_commit : (id : Text) (number : ℕ) (replies : List FrameReply) (start now next : State) (old attempts : ByInvocation)
     → (HasCleanDisk now → (events : List Event) → Stands events start old → has_number number (attempt_of old id) ≡ true → HasPassed events id number replies now old attempts)
     → Survives start now (CommitsSteps id number old start) → Survives now next (CommitsItem id number attempts now) → Survives start next (CommitsSteps id number old start)
 steps_commit id number replies start now next old attempts taken before lives =
@@ -132,7 +130,7 @@ steps_commit id number replies start now next old attempts taken before lives =
     before lives
 
 -- at first none was taken
-pub none_passed : (events : List Event) (id : Text) (number : ℕ) (replies : List FrameReply) (database : State) (attempts : List LiveAttempt) → replies ≡ [] → Stands events database attempts
+pub none_passed : (events : List Event) (id : Text) (number : ℕ) (replies : List FrameReply) (database : State) (attempts : ByInvocation) → replies ≡ [] → Stands events database attempts
     → has_number number (attempt_of attempts id) ≡ true → HasPassed events id number replies database attempts attempts
 none_passed events id number replies database attempts none stands here = record {
   later = events;

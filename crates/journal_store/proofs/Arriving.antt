@@ -14,14 +14,13 @@ use Rattle.store_refusals.specs.declared.refusal.Refusal.{Refusal}
 use Rattle.store_refusals.specs.Refused.{is_circumstance}
 use Rattle.new_arrivals.specs.declared.arrival.PreparedArrival.{PreparedArrival}
 use Rattle.new_arrivals.specs.Arrivals.{IsMadeReady}
-use Rattle.live_attempts.specs.declared.attempt.LiveAttempt.{LiveAttempt}
-use Rattle.live_attempts.specs.Attempts.{Changes, after_put}
+use Rattle.live_attempts.specs.Attempts.{ByInvocation, Changes, after_put}
 use Rattle.live_laws.specs.Agrees.{Brings}
 use Rattle.journal_store.specs.Stands.{Stands, Does, AreAsBefore}
 use Rattle.journal_store.proofs.Standing.{store_still, stands_arrived, stands_still, written}
 
 -- what was made ready of an event that brings an arrival was written and put behind, or nothing was
-pub arrival_recorded : (events : List Event) (event : Event) (id : Text) (arrival : Arrival) (old mid new : State) (P Q : Trees → Type 0) (attempts left : List LiveAttempt)
+pub arrival_recorded : (events : List Event) (event : Event) (id : Text) (arrival : Arrival) (old mid new : State) (P Q : Trees → Type 0) (attempts left : ByInvocation)
     (made : PreparedArrival) (result : Result ℕ Refusal)
     → invocation_of event ≡ Some id → is_tick event ≡ false → Brings id event arrival → acknowledged (version_of events id) id event ≡ None
     → Survives old mid P → Asked old mid → Survives mid new Q → HasCleanDisk new

@@ -23,12 +23,10 @@ use Rattle.store_refusals.specs.Refused.{is_circumstance}
 use Rattle.store_refusals.specs.Prepared.{Keeps}
 use Rattle.new_invocations.proofs.Opened.{begun_named}
 use Rattle.begun_attempts.specs.declared.attempt.PreparedAttempt.{PreparedAttempt}
-use Rattle.begun_attempts.specs.declared.frames.JournalFrames.{JournalFrames}
 use Rattle.begun_attempts.specs.Begun.{IsBegun}
 use Rattle.live_attempts.specs.declared.input.PieceLeft.{PieceLeft}
-use Rattle.live_attempts.specs.declared.attempt.LiveAttempt.{LiveAttempt}
 use Rattle.live_attempts.specs.Input.{pieces_from}
-use Rattle.live_attempts.specs.Attempts.{attempt_of, IsNow}
+use Rattle.live_attempts.specs.Attempts.{ByInvocation, attempt_of}
 use Rattle.live_laws.specs.Agrees.{Agrees, IsBegunAs, row_piece}
 use Rattle.live_laws.proofs.Begun.{begun}
 use Rattle.journal_store.specs.declared.begun.BegunAttempt.{BegunAttempt}
@@ -88,9 +86,8 @@ pieces_are n (row ∷ next ∷ rows) at =
 -- ---- the attempt
 
 begun_as : (events : List Event) (id : Text) (now : ℕ) (made : PreparedAttempt) → IsBegun events id now made
-    → IsBegunAs events id (fresh id made.number made.version made.frames.journal.bytes.items made.frames.journal.lengths.items)
+    → IsBegunAs events id (fresh made.number made.version made.frames.journal.bytes.items made.frames.journal.lengths.items)
 begun_as events id now made is = record {
-  invocation = refl;
   number = is.number;
   version = is.version;
   bytes = is.journal.0;
@@ -119,7 +116,7 @@ fits_here events id now s made more k accepted is =
     omega (arith, counted, fits)
 
 -- what was made ready of a begin was written, and the attempt is taken in; or nothing was done
-pub begin_recorded : (events : List Event) (id : Text) (now : ℕ) (old mid new : State) (P Q : Trees → Type 0) (attempts left : List LiveAttempt) (made : PreparedAttempt)
+pub begin_recorded : (events : List Event) (id : Text) (now : ℕ) (old mid new : State) (P Q : Trees → Type 0) (attempts left : ByInvocation) (made : PreparedAttempt)
     (more : Tests) (result : Result BegunAttempt Refusal)
     → causes_of events (Event.Begin id now) ≡ those_that_hold ((not (is_some (invocation_begun events id)), UnknownInvocation) ∷ more)
     → Survives old mid P → Asked old mid → Survives mid new Q → HasCleanDisk new → (causes_of events (Event.Begin id now) ≡ []) × IsBegun events id now made
@@ -141,14 +138,6 @@ begin_recorded events id now old mid new P Q attempts left made more (Err why) t
       inr circumstance,
       record {
         kept = store_still events mid new Q lives undone.0 store;
-        live = subst (λ (all : List LiveAttempt). (one : Text) → Agrees events one (attempt_of all one)) (sym undone.1) stands.live;
+        live = subst (λ (all : ByInvocation). (one : Text) → Agrees events one (attempt_of all one)) (sym undone.1) stands.live;
       },
     )
-
--- the attempt that was made is the one that is taken in
-pub taken_in : {A E : Type 0} (id : Text) (number version : ℕ) (journal : JournalFrames) (attempt : LiveAttempt) (attempts left : List LiveAttempt) (result : Result A E)
-    → attempt.invocation ≡ id → (length journal.lengths.items < 2 ^ 32 → attempt ≡ fresh id number version journal.bytes.items journal.lengths.items)
-    → OnOk result (IsNow attempt.invocation (Some attempt) attempts left) → OnOk result (TakesIn id number version journal attempts left)
-taken_in id number version journal attempt attempts left (Ok x) named is_fresh put = λ fits.
-    subst (λ (one : LiveAttempt). IsNow id (Some one) attempts left) (is_fresh fits) (subst (λ (one : Text). IsNow one (Some attempt) attempts left) named put)
-taken_in id number version journal attempt attempts left (Err e) named is_fresh put = tt

@@ -14,7 +14,7 @@ use Rattle.journal_laws.proofs.ObjectState.{begin_when_new}
 use Rattle.store_rows.specs.Records.{Holds, no_records}
 use Rattle.store_model.proofs.Keeping.{kept_at_first}
 use Rattle.new_invocations.specs.Rows.{IsStoreOf}
-use Rattle.live_attempts.specs.declared.attempt.LiveAttempt.{LiveAttempt}
+use Rattle.live_attempts.specs.Attempts.{ByInvocation}
 use Rattle.live_laws.proofs.Opened.{live_open, unknown_dead}
 use Rattle.journal_store.specs.Stands.{Stands}
 use Rattle.journal_store.proofs.Standing.{unwritten}
@@ -101,13 +101,13 @@ stops_kept events (new ∷ more) s store apart = stop_kept events new more s (li
 
 -- ---- what stands then
 
-pub opened_left : (events : List Event) (s : State) (attempts : List LiveAttempt) → attempts ≡ [] → IsStoreOf events s → Stands (after_open events) s attempts
+pub opened_left : (events : List Event) (s : State) (attempts : ByInvocation) → attempts ≡ [] → IsStoreOf events s → Stands (after_open events) s attempts
 opened_left events s attempts none store = subst (Stands (after_open events) s) (sym none) (record {
   kept = stops_kept events (filter_map invoked_by events) s store (begun_apart events store.accepted);
   live = λ id. none_live events id store.accepted;
 })
 
-pub opened_fresh : (s : State) (attempts : List LiveAttempt) → attempts ≡ [] → Holds s.now.trees no_records → Stands [] s attempts
+pub opened_fresh : (s : State) (attempts : ByInvocation) → attempts ≡ [] → Holds s.now.trees no_records → Stands [] s attempts
 opened_fresh s attempts none held = subst (Stands [] s) (sym none) (record {
   kept = record { accepted = tt; keeps = λ clean is_open. record { accepted = tt; records = no_records; held = held; kept = kept_at_first } };
   live = λ id. refl;

@@ -12,7 +12,7 @@ use Rattle.store_refusals.specs.declared.refusal.Refusal.{Refusal}
 use Rattle.store_refusals.specs.declared.refusal.Refusal.TheVariants as refusal
 use Rattle.store_refusals.specs.Refused.{first_of, refusal_of, is_circumstance, IsRefused}
 use Rattle.live_attempts.specs.declared.attempt.LiveAttempt.{LiveAttempt}
-use Rattle.live_attempts.specs.Attempts.{attempt_of, IsNow, Changes, bytes_out, after_close, after_hand_out}
+use Rattle.live_attempts.specs.Attempts.{ByInvocation, attempt_of, IsNow, Changes, bytes_out, after_close, after_hand_out}
 use Rattle.live_laws.specs.Agrees.{Agrees, has_number, CausesOfLive, IsFirstCause}
 use Rattle.live_laws.proofs.Tests.{live_told, causes_told}
 use Rattle.live_laws.proofs.Steps.{closed as closed_kept, handed_out, stopped}
@@ -31,7 +31,7 @@ this_one number None e = cc
 this_one number (Some attempt) e = record { attempt = attempt; is = refl; numbered = eqb-true attempt.number number e }
 
 -- whether it is live is seen in memory
-pub live_here : (events : List Event) (database : State) (attempts : List LiveAttempt) (id : Text) (number : ℕ) → Stands events database attempts
+pub live_here : (events : List Event) (database : State) (attempts : ByInvocation) (id : Text) (number : ℕ) → Stands events database attempts
     → is_live events id number ≡ has_number number (attempt_of attempts id)
 live_here events database attempts id number stands = live_told events id number (attempt_of attempts id) (stands.live id)
 
@@ -42,14 +42,14 @@ none_written (Some object) = refl
 
 -- ---- stops
 
-stop_causes : (events : List Event) (database : State) (attempts : List LiveAttempt) (id : Text) (number : ℕ) → Stands events database attempts
+stop_causes : (events : List Event) (database : State) (attempts : ByInvocation) (id : Text) (number : ℕ) → Stands events database attempts
     → has_number number (attempt_of attempts id) ≡ true → causes_of events (Event.Stop id number) ≡ []
 stop_causes events database attempts id number stands live =
     let it = this_one number (attempt_of attempts id) live in
     let told = causes_told events id it.attempt stands.kept.accepted (subst (Agrees events id) it.is (stands.live id)) in
     subst (λ (n : ℕ). causes_of events (Event.Stop id n) ≡ []) it.numbered told.of_stop
 
-pub stands_stopped : (events : List Event) (database : State) (old new : List LiveAttempt) (id : Text) (number : ℕ) → Stands events database old
+pub stands_stopped : (events : List Event) (database : State) (old new : ByInvocation) (id : Text) (number : ℕ) → Stands events database old
     → has_number number (attempt_of old id) ≡ true → IsNow id None old new
     → (causes_of events (Event.Stop id number) ≡ []) × Unit {0} × Stands (Event.Stop id number ∷ events) database new
 stands_stopped events database old new id number stands live now =
@@ -66,11 +66,11 @@ stale_refused why cause causes first (inr circumstance) = inr circumstance
 
 -- ---- bytes that are handed out
 
-told_here : (events : List Event) (database : State) (attempts : List LiveAttempt) (id : Text) (number : ℕ) → Stands events database attempts
+told_here : (events : List Event) (database : State) (attempts : ByInvocation) (id : Text) (number : ℕ) → Stands events database attempts
     → (here : IsThis number (attempt_of attempts id)) → CausesOfLive events id here.attempt
 told_here events database attempts id number stands here = causes_told events id here.attempt stands.kept.accepted (subst (Agrees events id) here.is (stands.live id))
 
-hand_out_causes : (events : List Event) (database : State) (attempts : List LiveAttempt) (id : Text) (number most : ℕ) → Stands events database attempts
+hand_out_causes : (events : List Event) (database : State) (attempts : ByInvocation) (id : Text) (number most : ℕ) → Stands events database attempts
     → has_number number (attempt_of attempts id) ≡ true → (closed : Bool) → has_closed (attempt_of attempts id) ≡ closed
     → causes_of events (Event.HandOut id number most) ≡ those_that_hold ((closed, InputAlreadyClosed) ∷ [])
 hand_out_causes events database attempts id number most stands live closed is =
@@ -80,7 +80,7 @@ hand_out_causes events database attempts id number most stands live closed is =
     subst (λ (n : ℕ). causes_of events (Event.HandOut id n most) ≡ those_that_hold ((closed, InputAlreadyClosed) ∷ [])) here.numbered
     (told ∙ ap (λ (b : Bool). those_that_hold ((b, InputAlreadyClosed) ∷ [])) same)
 
-pub hand_out_closed : (events : List Event) (database : State) (attempts : List LiveAttempt) (id : Text) (number most : ℕ) → Stands events database attempts
+pub hand_out_closed : (events : List Event) (database : State) (attempts : ByInvocation) (id : Text) (number most : ℕ) → Stands events database attempts
     → has_number number (attempt_of attempts id) ≡ true → has_closed (attempt_of attempts id) ≡ true
     → IsRefused (causes_of events (Event.HandOut id number most)) refusal.InputAlreadyClosed
 hand_out_closed events database attempts id number most stands live closed =
@@ -91,7 +91,7 @@ handed_bytes : (events : List Event) (id : Text) (most : ℕ) (o : Option LiveAt
 handed_bytes events id most None number here agrees = cc
 handed_bytes events id most (Some attempt) number here agrees = ap (take most) agrees.bytes
 
-pub stands_handed : (events : List Event) (database : State) (old new : List LiveAttempt) (id : Text) (number most : ℕ) (bytes : List ℕ) → Stands events database old
+pub stands_handed : (events : List Event) (database : State) (old new : ByInvocation) (id : Text) (number most : ℕ) (bytes : List ℕ) → Stands events database old
     → has_number number (attempt_of old id) ≡ true → has_closed (attempt_of old id) ≡ false → bytes ≡ bytes_out most (attempt_of old id) → Changes id (after_hand_out most) old new
     → (causes_of events (Event.HandOut id number most) ≡ []) × (bytes ≡ take most (input_left events id)) × Stands (Event.HandOut id number most ∷ events) database new
 stands_handed events database old new id number most bytes stands live opened out changed =
@@ -106,7 +106,7 @@ stands_handed events database old new id number most bytes stands live opened ou
 
 -- ---- the input that is closed
 
-close_causes : (events : List Event) (database : State) (attempts : List LiveAttempt) (id : Text) (number : ℕ) → Stands events database attempts
+close_causes : (events : List Event) (database : State) (attempts : ByInvocation) (id : Text) (number : ℕ) → Stands events database attempts
     → has_number number (attempt_of attempts id) ≡ true → (rest closed : Bool) → has_rest (attempt_of attempts id) ≡ rest → has_closed (attempt_of attempts id) ≡ closed
     → causes_of events (Event.CloseInput id number) ≡ those_that_hold ((rest, InputRemains) ∷ (closed, InputAlreadyClosed) ∷ [])
 close_causes events database attempts id number stands live rest closed left is =
@@ -121,18 +121,18 @@ close_causes events database attempts id number stands live rest closed left is 
     rest_seen [] = refl
     rest_seen (byte ∷ bytes) = ap not (sym (ne_eqb (length (byte ∷ bytes)) 0 (λ e. omega (arith, e))))
 
-pub close_remains : (events : List Event) (database : State) (attempts : List LiveAttempt) (id : Text) (number : ℕ) → Stands events database attempts
+pub close_remains : (events : List Event) (database : State) (attempts : ByInvocation) (id : Text) (number : ℕ) → Stands events database attempts
     → has_number number (attempt_of attempts id) ≡ true → has_rest (attempt_of attempts id) ≡ true → IsRefused (causes_of events (Event.CloseInput id number)) refusal.InputRemains
 close_remains events database attempts id number stands live rest =
     inl (ap first_of (close_causes events database attempts id number stands live true (has_closed (attempt_of attempts id)) rest refl))
 
-pub close_closed : (events : List Event) (database : State) (attempts : List LiveAttempt) (id : Text) (number : ℕ) → Stands events database attempts
+pub close_closed : (events : List Event) (database : State) (attempts : ByInvocation) (id : Text) (number : ℕ) → Stands events database attempts
     → has_number number (attempt_of attempts id) ≡ true → has_rest (attempt_of attempts id) ≡ false → has_closed (attempt_of attempts id) ≡ true
     → IsRefused (causes_of events (Event.CloseInput id number)) refusal.InputAlreadyClosed
 close_closed events database attempts id number stands live rest closed =
     inl (ap first_of (close_causes events database attempts id number stands live false true rest closed))
 
-pub stands_closed : (events : List Event) (database : State) (old new : List LiveAttempt) (id : Text) (number : ℕ) → Stands events database old
+pub stands_closed : (events : List Event) (database : State) (old new : ByInvocation) (id : Text) (number : ℕ) → Stands events database old
     → has_number number (attempt_of old id) ≡ true → has_rest (attempt_of old id) ≡ false → has_closed (attempt_of old id) ≡ false → Changes id after_close old new
     → (causes_of events (Event.CloseInput id number) ≡ []) × Unit {0} × Stands (Event.CloseInput id number ∷ events) database new
 stands_closed events database old new id number stands live rest opened changed =

@@ -23,7 +23,7 @@ use Rattle.store_refusals.specs.Prepared.{Keeps}
 use Rattle.new_invocations.specs.Rows.{IsStoreOf}
 use Rattle.new_invocations.proofs.Standing.{store_kept}
 use Rattle.live_attempts.specs.declared.attempt.LiveAttempt.{LiveAttempt}
-use Rattle.live_attempts.specs.Attempts.{attempt_of, IsNow, Changes, after_put, after_reserve}
+use Rattle.live_attempts.specs.Attempts.{ByInvocation, attempt_of, IsNow, Changes, after_put, after_reserve}
 use Rattle.live_laws.specs.Agrees.{Agrees, Brings}
 use Rattle.live_laws.proofs.Steps.{arrived, elsewhere}
 use Rattle.live_laws.proofs.Begun.{invoked}
@@ -76,7 +76,7 @@ unwritten events event s store accepted none = record {
 -- ---- attempts
 
 -- of one invocation the attempt is as the event leaves it, and of the others it is as before
-pub stands_after : (events : List Event) (event : Event) (id : Text) (after : Option LiveAttempt) (database : State) (old new : List LiveAttempt)
+pub stands_after : (events : List Event) (event : Event) (id : Text) (after : Option LiveAttempt) (database : State) (old new : ByInvocation)
     → invocation_of event ≡ Some id → is_tick event ≡ false → IsStoreOf (event ∷ events) database → Agrees (event ∷ events) id after → IsNow id after old new
     → ((other : Text) → Agrees events other (attempt_of old other)) → Stands (event ∷ events) database new
 stands_after events event id after database old new of_it no_tick kept agrees now live = record {
@@ -90,7 +90,7 @@ stands_after events event id after database old new of_it no_tick kept agrees no
 }
 
 -- an arrival is put behind the input of the attempt
-pub stands_arrived : (events : List Event) (event : Event) (id : Text) (arrival : Arrival) (place : ℕ) (frame : Bytes) (database : State) (old new : List LiveAttempt)
+pub stands_arrived : (events : List Event) (event : Event) (id : Text) (arrival : Arrival) (place : ℕ) (frame : Bytes) (database : State) (old new : ByInvocation)
     → invocation_of event ≡ Some id → is_tick event ≡ false → Brings id event arrival → acknowledged (version_of events id) id event ≡ None
     → IsAccepted events → causes_of events event ≡ [] → IsStoreOf (event ∷ events) database → place ≡ 1 + length (entries_of events id)
     → frame ≡ frame_bytes (notification_type (entries_of events id) arrival.id) (notification_payload arrival)
@@ -104,7 +104,7 @@ stands_arrived events event id arrival place frame database old new of_it no_tic
 -- ---- room
 
 -- room that was made for a frame is used up when it is put
-pub put_in_room : (id : Text) (len place : ℕ) (frame : Bytes) (old mid new : List LiveAttempt) → Changes id (after_reserve len) old mid → Changes id (after_put place frame) mid new
+pub put_in_room : (id : Text) (len place : ℕ) (frame : Bytes) (old mid new : ByInvocation) → Changes id (after_reserve len) old mid → Changes id (after_put place frame) mid new
     → Changes id (after_put place frame) old new
 put_in_room id len place frame old mid new room put = record {
   own = put.own ∙ ap (option_map (after_put place frame)) room.own ∙ same (attempt_of old id);
@@ -123,7 +123,7 @@ with_room_only : (len : ℕ) (o : Option LiveAttempt) → IsAsBefore o (option_m
 with_room_only len None = tt
 with_room_only len (Some attempt) = refl
 
-pub room_only : (id : Text) (len : ℕ) (old new : List LiveAttempt) → Changes id (after_reserve len) old new → AreAsBefore old new
+pub room_only : (id : Text) (len : ℕ) (old new : ByInvocation) → Changes id (after_reserve len) old new → AreAsBefore old new
 room_only id len old new room other = elim (true_or_false (bytes_eq id other)) [
   | inl same ↦ subst (λ (o : Text). IsAsBefore (attempt_of old o) (attempt_of new o)) ((bytes_eq-Decides id other).0 same)
       (subst (IsAsBefore (attempt_of old id)) (sym room.own) (with_room_only len (attempt_of old id)))
@@ -133,7 +133,7 @@ room_only id len old new room other = elim (true_or_false (bytes_eq id other)) [
 agrees_still : (events : List Event) (id : Text) (one other : Option LiveAttempt) → IsAsBefore one other → Agrees events id one → Agrees events id other
 agrees_still events id None None same agrees = agrees
 agrees_still events id (Some one) (Some other) same agrees = subst (λ (o : LiveAttempt). Agrees events id (Some o)) (sym same)
-    (record { invocation = agrees.invocation; number = agrees.number; version = agrees.version; bytes = agrees.bytes; pieces = agrees.pieces; handed = agrees.handed; closed = agrees.closed })
+    (record { number = agrees.number; version = agrees.version; bytes = agrees.bytes; pieces = agrees.pieces; handed = agrees.handed; closed = agrees.closed })
 agrees_still events id None (Some other) same agrees = absurd same
 agrees_still events id (Some one) None same agrees = absurd same
 
@@ -156,19 +156,23 @@ store_still events old new P lives asked store = record {
 }
 
 -- a store stands as before
-pub stands_still : (events : List Event) (old new : State) (P : Trees → Type 0) (attempts left : List LiveAttempt) → Survives old new P → Asked old new → AreAsBefore attempts left
+pub stands_still : (events : List Event) (old new : State) (P : Trees → Type 0) (attempts left : ByInvocation) → Survives old new P → Asked old new → AreAsBefore attempts left
     → Stands events old attempts → Stands events new left
 stands_still events old new P attempts left lives asked same stands = record {
   kept = store_still events old new P lives asked stands.kept;
   live = λ id. agrees_still events id (attempt_of attempts id) (attempt_of left id) (same id) (stands.live id);
 }
 
+-- the database was asked alone
+pub stands_asked : (events : List Event) (old new : State) (attempts : ByInvocation) → Survives old new (λ _. ⊥) → Asked old new → Stands events old attempts → Stands events new attempts
+stands_asked events old new attempts lives asked stands = record { kept = store_still events old new (λ _. ⊥) lives asked stands.kept; live = stands.live }
+
 -- of a new invocation no attempt is live, before and after
 none_live : (events : List Event) (id : Text) (o : Option LiveAttempt) → live_attempt events id ≡ None → Agrees events id o → o ≡ None
 none_live events id None none agrees = refl
 none_live events id (Some attempt) none agrees = cc
 
-pub stands_invoked : (events : List Event) (new : NewInvocation) (database : State) (attempts : List LiveAttempt) → causes_of events (Event.Invoke new) ≡ []
+pub stands_invoked : (events : List Event) (new : NewInvocation) (database : State) (attempts : ByInvocation) → causes_of events (Event.Invoke new) ≡ []
     → IsAccepted events → IsStoreOf (Event.Invoke new ∷ events) database → ((id : Text) → Agrees events id (attempt_of attempts id)) → Stands (Event.Invoke new ∷ events) database attempts
 stands_invoked events new database attempts accepted before kept live =
     let both = invoked events new before accepted in

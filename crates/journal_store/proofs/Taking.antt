@@ -1,5 +1,5 @@
 -- A frame is taken, or refused.
-use Rattle.std.proofs.Common.{◌≡◌, ℕ, ◌+◌, ◌≤◌, ◌==◌, length, refl, sym, ap, subst, ◌∙◌, inl, inr, arith, drop, Bool, true, false, not, List, [], ◌∷◌, Option, Some, None, option_map, Result, Ok, Err, IfOk, IfErr, OnOk, OnErr, IsTrue}
+use Rattle.std.proofs.Common.{◌≡◌, ℕ, ◌==◌, length, refl, sym, ap, subst, ◌∙◌, inl, inr, arith, drop, Bool, true, false, not, List, [], ◌∷◌, Option, Some, None, option_map, Result, Ok, Err, IfOk, IfErr, OnOk, OnErr, IsTrue}
 use Rattle.sqlite_trees.specs.Tree.{Trees}
 use Rattle.sqlite.specs.State.{State, HasCleanDisk, Survives}
 use Rattle.sqlite.proofs.StateLemmas.{survives_then}
@@ -10,9 +10,8 @@ use Rattle.journal_model.specs.Event.{Event, Frame}
 use Rattle.journal_model.specs.Journal.{ends_attempt}
 use Rattle.journal_model.specs.Attempt.{is_live}
 use Rattle.journal_model.specs.Cause.{FrameNotAccepted, causes_of, those_that_hold, adding_tests}
-use Rattle.journal_protocol.specs.declared.decoder.RawMessage.{RawMessage}
 use Rattle.journal_protocol.specs.declared.message_type.UnknownMessageType.{UnknownMessageType}
-use Rattle.journal_protocol.specs.Item.{Item, unknown, message, item_at}
+use Rattle.journal_protocol.specs.Item.{unknown, message, item_at}
 use Rattle.attempt_frames.specs.declared.frame.AttemptFrame.{AttemptFrame}
 use Rattle.attempt_frames.specs.Answer.{IsFrame}
 use Rattle.attempt_frames.specs.Meaning.{frame_of}
@@ -31,15 +30,15 @@ use Rattle.taken_frames.specs.Taken.{IsLive, IsReply, IsTaken, does_end, lies_in
 use Rattle.taken_frames.proofs.Live.{begun_open}
 use Rattle.taken_frames.proofs.Tests.{causes_left}
 use Rattle.live_attempts.specs.declared.attempt.LiveAttempt.{LiveAttempt}
-use Rattle.live_attempts.specs.Attempts.{attempt_of, IsNow, after_take}
+use Rattle.live_attempts.specs.Attempts.{ByInvocation, attempt_of, IsNow, after_take}
 use Rattle.live_laws.specs.Agrees.{Agrees, has_number, is_answered_at_once, is_silent}
 use Rattle.live_laws.proofs.Steps.{taken, ended}
 use Rattle.live_laws.proofs.Tests.{live_is_open}
 use Rattle.journal_store.specs.declared.step.SeenFrame.{SeenFrame}
 use Rattle.journal_store.specs.declared.step.FirstSeen.TheVariants as firsts
 use Rattle.journal_store.specs.Stands.{Stands}
-use Rattle.journal_store.specs.Attempts.{IsFirstItem, IsLeftBy, IsOver, IsStale, TakesNone, RefusesItem, CommitsItem, attempt_left}
-use Rattle.journal_store.specs.Taking.{HasMessageOf, HasWritten, IsEndedBy, IsFirstOf, IsSeen, LandsSome, TakesSeen, passed}
+use Rattle.journal_store.specs.Attempts.{IsFirstItem, IsLeftBy, RefusesItem, CommitsItem, attempt_left}
+use Rattle.journal_store.specs.Taking.{HasWritten, IsEndedBy, IsFirstOf, IsSeen, LandsSome, TakesSeen, passed}
 use Rattle.journal_store.proofs.Standing.{landed, store_still, stands_after, unwritten, written}
 use Rattle.journal_store.proofs.Quiet.{live_here, stands_stopped, this_one}
 
@@ -78,7 +77,7 @@ silent Frame.NotAccepted read stateless is goes events id reply replied = absurd
 -- of the bytes that wait the events say nothing
 other_output : (events : List Event) (id : Text) (attempt : LiveAttempt) (rest : Bytes) → Agrees events id (Some attempt) → Agrees events id (Some (record attempt { output = rest }))
 other_output events id attempt rest agrees =
-    record { invocation = agrees.invocation; number = agrees.number; version = agrees.version; bytes = agrees.bytes; pieces = agrees.pieces; handed = agrees.handed; closed = agrees.closed }
+    record { number = agrees.number; version = agrees.version; bytes = agrees.bytes; pieces = agrees.pieces; handed = agrees.handed; closed = agrees.closed }
 
 agrees_left : (events : List Event) (id : Text) (number : ℕ) (frame : Frame) (read : AttemptFrame) (reply : FrameReply) (attempt : LiveAttempt) (rest : Bytes)
     → LeavesState frame → IsFrame frame read → IsReply events id frame reply → Agrees events id (Some attempt) → (b : Bool) → does_end reply ≡ b
@@ -110,15 +109,15 @@ not_in_frame (refusal.StatementRefused cause) h = refl
 not_in_frame refusal.OutOfMemory h = refl
 not_in_frame _ h = cc
 
-left_waiting : (events : List Event) (id : Text) (number : ℕ) (why : Refusal) (database : State) (old new : List LiveAttempt) → IsTrue (is_circumstance why) → Stands events database new → new ≡ old
+left_waiting : (events : List Event) (id : Text) (number : ℕ) (why : Refusal) (database : State) (old new : ByInvocation) → IsTrue (is_circumstance why) → Stands events database new → new ≡ old
     → IsLeftBy (lies_in_frame why) events id number database old new
 left_waiting events id number why database old new h stands same = rw (not_in_frame why h) (stands, same)
 
-left_by : (events : List Event) (id : Text) (number : ℕ) (database : State) (old new : List LiveAttempt) → has_number number (attempt_of old id) ≡ true → Stands events database old
+left_by : (events : List Event) (id : Text) (number : ℕ) (database : State) (old new : ByInvocation) → has_number number (attempt_of old id) ≡ true → Stands events database old
     → (b : Bool) → IsEndedBy b id old new → IsLeftBy b events id number database old new
 left_by events id number database old new here stands true now = let stopped = stands_stopped events database old new id number stands here now in (stopped.2, now)
 left_by events id number database old new here stands false same =
-    (subst (λ (all : List LiveAttempt). Stands events database all) (sym same) stands, same)
+    (subst (λ (all : ByInvocation). Stands events database all) (sym same) stands, same)
 
 -- ---- a frame that was seen
 
@@ -127,13 +126,13 @@ pub is_live_here : (events : List Event) (id : Text) (number : ℕ) (attempt : L
     → IsLive events id number it.facts
 is_live_here events id number attempt it agrees live seen = record { live = live; closed = seen.closed ∙ agrees.closed; handed = seen.handed ∙ agrees.handed }
 
-module _ (id : Text) (number : ℕ) (attempts : List LiveAttempt) (attempt : LiveAttempt) (it : SeenFrame) (seen : IsSeen attempt it)
+module _ (id : Text) (number : ℕ) (attempts : ByInvocation) (attempt : LiveAttempt) (it : SeenFrame) (seen : IsSeen attempt it)
     (found : attempt_of attempts id ≡ Some attempt) (numbered : attempt.number ≡ number) where
   pub seen_first : IsFirstItem id number attempts attempt (message seen.message_is) (drop it.len attempt.output)
   seen_first = record { found = found; is_this = numbered; first = seen.first }
 
   -- what was made ready was written, and the frame is passed; or nothing was done
-  pub seen_taken : (events : List Event) (old mid new : State) (P Q : Trees → Type 0) (left : List LiveAttempt) (made : PreparedFrame) (result : Result FrameReply Refusal)
+  pub seen_taken : (events : List Event) (old mid new : State) (P Q : Trees → Type 0) (left : ByInvocation) (made : PreparedFrame) (result : Result FrameReply Refusal)
       → Survives old mid P → Asked old mid → Survives mid new Q → HasCleanDisk new
       → LeavesState (frame_of attempt.version seen.message_is)
       → (causes_of events (Event.Take id number (frame_of attempt.version seen.message_is)) ≡ []) × IsTaken events id number (frame_of attempt.version seen.message_is) made
@@ -171,11 +170,11 @@ module _ (id : Text) (number : ℕ) (attempts : List LiveAttempt) (attempt : Liv
         rest = drop it.len attempt.output;
         is_first = seen_first;
         refused = inr circumstance;
-        left = left_waiting events id number why new attempts left circumstance (subst (λ (all : List LiveAttempt). Stands events new all) (sym undone.1) still) undone.1;
+        left = left_waiting events id number why new attempts left circumstance (subst (λ (all : ByInvocation). Stands events new all) (sym undone.1) still) undone.1;
       }
 
   -- it is refused, and with it its attempt where the cause lies in it
-  pub seen_refused : (events : List Event) (old new : State) (P : Trees → Type 0) (left : List LiveAttempt) (why : Refusal) → Survives old new P → Asked old new
+  pub seen_refused : (events : List Event) (old new : State) (P : Trees → Type 0) (left : ByInvocation) (why : Refusal) → Survives old new P → Asked old new
       → IsRefused (causes_of events (Event.Take id number (frame_of attempt.version seen.message_is))) why → IsEndedBy (lies_in_frame why) id attempts left
       → has_number number (attempt_of attempts id) ≡ true → Stands events old attempts → RefusesItem events id number why new attempts left
   seen_refused events old new P left why lives asked refused ends here stands = record {
@@ -212,7 +211,7 @@ module _ (id : Text) (number : ℕ) (attempts : List LiveAttempt) (attempt : Liv
 -- ---- items that are refused before they are read
 
 -- an unknown header
-unknown_causes : (events : List Event) (database : State) (attempts : List LiveAttempt) (id : Text) (number : ℕ) (attempt : LiveAttempt) → Stands events database attempts
+unknown_causes : (events : List Event) (database : State) (attempts : ByInvocation) (id : Text) (number : ℕ) (attempt : LiveAttempt) → Stands events database attempts
     → attempt_of attempts id ≡ Some attempt → has_number number (attempt_of attempts id) ≡ true
     → causes_of events (Event.Take id number Frame.NotAccepted) ≡ FrameNotAccepted ∷ those_that_hold (adding_tests events id (Event.Take id number Frame.NotAccepted))
 unknown_causes events database attempts id number attempt stands found here =
@@ -220,7 +219,7 @@ unknown_causes events database attempts id number attempt stands found here =
     let opened = live_is_open events id attempt stands.kept.accepted agrees in
     causes_left events id number Frame.NotAccepted (begun_open events id opened) opened (live_here events database attempts id number stands ∙ here)
 
-pub unknown_refused : (events : List Event) (database : State) (attempts left : List LiveAttempt) (id : Text) (number : ℕ) (attempt : LiveAttempt) (ty : UnknownMessageType) (rest : Bytes)
+pub unknown_refused : (events : List Event) (database : State) (attempts left : ByInvocation) (id : Text) (number : ℕ) (attempt : LiveAttempt) (ty : UnknownMessageType) (rest : Bytes)
     → Stands events database attempts → attempt_of attempts id ≡ Some attempt → attempt.number ≡ number → has_number number (attempt_of attempts id) ≡ true
     → item_at attempt.output ≡ Some (unknown ty, rest) → IsNow id None attempts left → RefusesItem events id number refusal.FrameNotAccepted database attempts left
 unknown_refused events database attempts left id number attempt ty rest stands found numbered here first now = record {
@@ -233,7 +232,7 @@ unknown_refused events database attempts left id number attempt ty rest stands f
 }
 
 -- an unknown header that was seen
-pub header_refused : (events : List Event) (database : State) (attempts left : List LiveAttempt) (id : Text) (number : ℕ) → has_number number (attempt_of attempts id) ≡ true
+pub header_refused : (events : List Event) (database : State) (attempts left : ByInvocation) (id : Text) (number : ℕ) → has_number number (attempt_of attempts id) ≡ true
     → IsFirstOf (attempt_of attempts id) firsts.Unknown → IsNow id None attempts left → Stands events database attempts
     → RefusesItem events id number refusal.FrameNotAccepted database attempts left
 header_refused events database attempts left id number here first now stands =

@@ -1,10 +1,10 @@
 -- What waits of what attempts wrote.
-use Rattle.std.proofs.Common.{◌≡◌, ℕ, refl, ap, subst, ◌∙◌, inl, inr, List, [], Option, Some, None, option_map, Result, Ok, Err, bytes_eq, OnOk, OnErr}
+use Rattle.std.proofs.Common.{◌≡◌, ℕ, refl, ap, subst, ◌∙◌, inl, inr, [], Option, Some, None, option_map, Result, Ok, Err, bytes_eq, OnOk, OnErr}
 use Rattle.std.proofs.lemmas.Slice.Eq.{bytes_eq-Decides}
 use Rattle.journal_model.specs.Notification.{Bytes, Text}
 use Rattle.store_refusals.specs.declared.refusal.Refusal.{Refusal}
 use Rattle.live_attempts.specs.declared.attempt.LiveAttempt.{LiveAttempt}
-use Rattle.live_attempts.specs.Attempts.{attempt_of, IsNow, Changes, after_hand_out, after_put, after_close}
+use Rattle.live_attempts.specs.Attempts.{ByInvocation, attempt_of, IsNow, Changes, after_hand_out, after_put, after_close}
 use Rattle.journal_store.specs.Stands.{output_of, KeepsOutputs, WaitsNow, WaitsAfter, IsAsBefore, AreAsBefore}
 use Rattle.journal_store.proofs.Standing.{true_or_false}
 
@@ -12,8 +12,8 @@ abbrev output_in : LiveAttempt → Bytes
 output_in attempt = attempt.output
 
 -- nothing has changed
-pub same_waits : (old new : List LiveAttempt) → new ≡ old → KeepsOutputs old new
-same_waits old new same id = ap (λ (all : List LiveAttempt). output_of all id) same
+pub same_waits : (old new : ByInvocation) → new ≡ old → KeepsOutputs old new
+same_waits old new same id = ap (λ (all : ByInvocation). output_of all id) same
 
 -- what is done to an attempt leaves its output
 same_output : (change : LiveAttempt → LiveAttempt) → ((one : LiveAttempt) → (change one).output ≡ one.output) → (o : Option LiveAttempt)
@@ -21,7 +21,7 @@ same_output : (change : LiveAttempt → LiveAttempt) → ((one : LiveAttempt) �
 same_output change same None = refl
 same_output change same (Some one) = ap (λ (bytes : Bytes). Some bytes) (same one)
 
-changed_waits : (id : Text) (change : LiveAttempt → LiveAttempt) (old new : List LiveAttempt) → ((one : LiveAttempt) → (change one).output ≡ one.output) → Changes id change old new
+changed_waits : (id : Text) (change : LiveAttempt → LiveAttempt) (old new : ByInvocation) → ((one : LiveAttempt) → (change one).output ≡ one.output) → Changes id change old new
     → KeepsOutputs old new
 changed_waits id change old new same changes other = elim (true_or_false (bytes_eq id other)) [
   | inl is ↦ subst (λ (o : Text). output_of new o ≡ output_of old o) ((bytes_eq-Decides id other).0 is)
@@ -29,14 +29,14 @@ changed_waits id change old new same changes other = elim (true_or_false (bytes_
   | inr apart ↦ ap (option_map output_in) (changes.others other apart)
 ]
 
-pub handed_waits : (id : Text) (most : ℕ) (old new : List LiveAttempt) → Changes id (after_hand_out most) old new → KeepsOutputs old new
+pub handed_waits : (id : Text) (most : ℕ) (old new : ByInvocation) → Changes id (after_hand_out most) old new → KeepsOutputs old new
 handed_waits id most old new changes = changed_waits id (after_hand_out most) old new (λ one. refl) changes
 
-pub closed_waits : (id : Text) (old new : List LiveAttempt) → Changes id after_close old new → KeepsOutputs old new
+pub closed_waits : (id : Text) (old new : ByInvocation) → Changes id after_close old new → KeepsOutputs old new
 closed_waits id old new changes = changed_waits id after_close old new (λ one. refl) changes
 
 -- an arrival is put behind, or room was made for it
-before_waits : (old new : List LiveAttempt) → AreAsBefore old new → KeepsOutputs old new
+before_waits : (old new : ByInvocation) → AreAsBefore old new → KeepsOutputs old new
 before_waits old new same id = by_both (attempt_of old id) (attempt_of new id) (same id)
   where
     by_both : (one other : Option LiveAttempt) → IsAsBefore one other → option_map output_in other ≡ option_map output_in one
@@ -45,21 +45,20 @@ before_waits old new same id = by_both (attempt_of old id) (attempt_of new id) (
     by_both None (Some other) is = absurd is
     by_both (Some one) None is = absurd is
 
-pub arrived_waits : {A : Type 0} (P : Type 0) (id : Text) (place : ℕ) (frame : Bytes) (old new : List LiveAttempt) (result : Result A Refusal)
+pub arrived_waits : {A : Type 0} (P : Type 0) (id : Text) (place : ℕ) (frame : Bytes) (old new : ByInvocation) (result : Result A Refusal)
     → OnOk result (Changes id (after_put place frame) old new) → OnErr result (P × AreAsBefore old new) → KeepsOutputs old new
 arrived_waits P id place frame old new (Ok done) put undone = changed_waits id (after_put place frame) old new (λ one. refl) put
 arrived_waits P id place frame old new (Err why) put undone = before_waits old new undone.1
 
 -- of one invocation the attempt is this now, and of the others it is as before
-now_waits : (id : Text) (attempt : Option LiveAttempt) (old new : List LiveAttempt) → IsNow id attempt old new → WaitsNow id (option_map output_in attempt) old new
+now_waits : (id : Text) (attempt : Option LiveAttempt) (old new : ByInvocation) → IsNow id attempt old new → WaitsNow id (option_map output_in attempt) old new
 now_waits id attempt old new now = record { own = ap (option_map output_in) now.own; others = λ other apart. ap (option_map output_in) (now.others other apart) }
 
-pub stopped_waits : (id : Text) (old new : List LiveAttempt) → IsNow id None old new → WaitsNow id None old new
+pub stopped_waits : (id : Text) (old new : ByInvocation) → IsNow id None old new → WaitsNow id None old new
 stopped_waits id old new now = now_waits id None old new now
 
-pub begun_waits : {A : Type 0} (P : Type 0) (id : Text) (attempt : LiveAttempt) (old new : List LiveAttempt) (result : Result A Refusal) → attempt.invocation ≡ id → attempt.output ≡ []
-    → OnOk result (IsNow attempt.invocation (Some attempt) old new) → OnErr result (P × (new ≡ old)) → WaitsAfter id (Some []) result old new
-begun_waits P id attempt old new (Ok done) named none put undone =
-    subst (λ (bytes : Bytes). WaitsNow id (Some bytes) old new) none
-    (subst (λ (one : Text). WaitsNow one (Some attempt.output) old new) named (now_waits attempt.invocation (Some attempt) old new put))
-begun_waits P id attempt old new (Err why) named none put undone = same_waits old new undone.1
+pub begun_waits : {A : Type 0} (P : Type 0) (id : Text) (attempt : LiveAttempt) (old new : ByInvocation) (result : Result A Refusal) → attempt.output ≡ []
+    → OnOk result (IsNow id (Some attempt) old new) → OnErr result (P × (new ≡ old)) → WaitsAfter id (Some []) result old new
+begun_waits P id attempt old new (Ok done) none put undone =
+    subst (λ (bytes : Bytes). WaitsNow id (Some bytes) old new) none (now_waits id (Some attempt) old new put)
+begun_waits P id attempt old new (Err why) none put undone = same_waits old new undone.1

@@ -20,7 +20,7 @@ use Rattle.taken_frames.specs.declared.frame.FrameReply.{FrameReply}
 use Rattle.taken_frames.specs.Taken.{IsReply, does_end, lies_in_frame}
 use Rattle.live_attempts.specs.declared.attempt.LiveAttempt.{LiveAttempt}
 use Rattle.live_attempts.specs.Input.{journal_left}
-use Rattle.live_attempts.specs.Attempts.{attempt_of, IsNow, Changes, after_output}
+use Rattle.live_attempts.specs.Attempts.{ByInvocation, attempt_of, IsNow, Changes, after_output}
 use Rattle.live_laws.specs.Agrees.{cause_of_stale}
 use Rattle.journal_store.specs.declared.begun.BegunAttempt.{BegunAttempt}
 use Rattle.journal_store.specs.Stands.{Stands, KeepsAll}
@@ -46,9 +46,8 @@ pub record IsBegunAttempt (events : List Event) (id : Text) (now : ℕ) (begun :
   pub start : begun.start ≡ frame_bytes 0x0000 (start_payload events id now)
 
 -- the attempt as it is kept then: all of its journal is left, and it wrote nothing
-abbrev pub fresh : Text → (number version : ℕ) → Bytes → List ℕ → LiveAttempt
-fresh id number version bytes lengths = record {
-  invocation = id;
+abbrev pub fresh : (number version : ℕ) → Bytes → List ℕ → LiveAttempt
+fresh number version bytes lengths = record {
   number = number;
   version = version;
   input = journal_left bytes lengths;
@@ -60,9 +59,9 @@ fresh id number version bytes lengths = record {
 abbrev pub IsToldAs : PreparedAttempt → BegunAttempt → Type 0
 IsToldAs made begun = (begun.number ≡ made.number) × (begun.version ≡ made.version) × (begun.start ≡ made.frames.start)
 
-abbrev pub TakesIn : Text → (number version : ℕ) → JournalFrames → List LiveAttempt → List LiveAttempt → Type 0
+abbrev pub TakesIn : Text → (number version : ℕ) → JournalFrames → ByInvocation → ByInvocation → Type 0
 TakesIn id number version journal old new =
-    length journal.lengths.items < 2 ^ 32 → IsNow id (Some (fresh id number version journal.bytes.items journal.lengths.items)) old new
+    length journal.lengths.items < 2 ^ 32 → IsNow id (Some (fresh number version journal.bytes.items journal.lengths.items)) old new
 
 -- ---- bytes that an attempt wrote
 
@@ -71,7 +70,7 @@ abbrev pub IsUnfed : Bool → List Event → Text → Refusal → Type 0
 IsUnfed true events id why = why ≡ OutOfMemory
 IsUnfed false events id why = IsStale events id why
 
-abbrev pub Feeds : {A : Type 0} → List Event → Text → ℕ → Bytes → Result A Refusal → State → List LiveAttempt → List LiveAttempt → Type 0
+abbrev pub Feeds : {A : Type 0} → List Event → Text → ℕ → Bytes → Result A Refusal → State → ByInvocation → ByInvocation → Type 0
 Feeds events id number bytes (Ok fed) database old new =
     (is_live events id number ≡ true) × Stands events database new × Changes id (after_output bytes) old new
 Feeds events id number bytes (Err why) database old new = IsUnfed (is_live events id number) events id why × Stands events database new × (new ≡ old)
@@ -89,13 +88,13 @@ attempt_left true rest attempt = None
 attempt_left false rest attempt = Some (record attempt { output = rest })
 
 -- the first item of a live attempt's output
-pub record IsFirstItem (id : Text) (number : ℕ) (attempts : List LiveAttempt) (attempt : LiveAttempt) (item : Item) (rest : Bytes) : Type 0 where
+pub record IsFirstItem (id : Text) (number : ℕ) (attempts : ByInvocation) (attempt : LiveAttempt) (item : Item) (rest : Bytes) : Type 0 where
   pub found : attempt_of attempts id ≡ Some attempt
   pub is_this : attempt.number ≡ number
   pub first : item_at attempt.output ≡ Some (item, rest)
 
 -- it is accepted, and the store stands for it too
-pub record TakesItem (events : List Event) (id : Text) (number : ℕ) (reply : FrameReply) (database : State) (old new : List LiveAttempt) : Type 0 where
+pub record TakesItem (events : List Event) (id : Text) (number : ℕ) (reply : FrameReply) (database : State) (old new : ByInvocation) : Type 0 where
   pub attempt : LiveAttempt
   pub item : Item
   pub rest : Bytes
@@ -106,11 +105,11 @@ pub record TakesItem (events : List Event) (id : Text) (number : ℕ) (reply : F
   pub left : IsNow id (attempt_left (does_end reply) rest attempt) old new
 
 -- it is refused: for a cause that lies in it the attempt is over, and otherwise it waits
-abbrev pub IsLeftBy : Bool → List Event → Text → ℕ → State → List LiveAttempt → List LiveAttempt → Type 0
+abbrev pub IsLeftBy : Bool → List Event → Text → ℕ → State → ByInvocation → ByInvocation → Type 0
 IsLeftBy true events id number database old new = Stands (Event.Stop id number ∷ events) database new × IsNow id None old new
 IsLeftBy false events id number database old new = Stands events database new × (new ≡ old)
 
-pub record RefusesItem (events : List Event) (id : Text) (number : ℕ) (why : Refusal) (database : State) (old new : List LiveAttempt) : Type 0 where
+pub record RefusesItem (events : List Event) (id : Text) (number : ℕ) (why : Refusal) (database : State) (old new : ByInvocation) : Type 0 where
   pub attempt : LiveAttempt
   pub item : Item
   pub rest : Bytes
@@ -119,7 +118,7 @@ pub record RefusesItem (events : List Event) (id : Text) (number : ℕ) (why : R
   pub left : IsLeftBy (lies_in_frame why) events id number database old new
 
 -- no whole item waits
-pub record TakesNone (events : List Event) (id : Text) (number : ℕ) (database : State) (old new : List LiveAttempt) : Type 0 where
+pub record TakesNone (events : List Event) (id : Text) (number : ℕ) (database : State) (old new : ByInvocation) : Type 0 where
   pub attempt : LiveAttempt
   pub found : attempt_of old id ≡ Some attempt
   pub is_this : attempt.number ≡ number
@@ -128,20 +127,20 @@ pub record TakesNone (events : List Event) (id : Text) (number : ℕ) (database 
   pub same : new ≡ old
 
 -- the attempt is not live
-pub record IsOver (events : List Event) (id : Text) (number : ℕ) (why : Refusal) (database : State) (old new : List LiveAttempt) : Type 0 where
+pub record IsOver (events : List Event) (id : Text) (number : ℕ) (why : Refusal) (database : State) (old new : ByInvocation) : Type 0 where
   pub dead : is_live events id number ≡ false
   pub stale : IsStale events id why
   pub stands : Stands events database new
   pub same : new ≡ old
 
-abbrev pub Steps : List Event → Text → ℕ → Result (Option FrameReply) Refusal → State → List LiveAttempt → List LiveAttempt → Type 0
+abbrev pub Steps : List Event → Text → ℕ → Result (Option FrameReply) Refusal → State → ByInvocation → ByInvocation → Type 0
 Steps events id number (Ok None) database old new = TakesNone events id number database old new
 Steps events id number (Ok (Some reply)) database old new = TakesItem events id number reply database old new
 Steps events id number (Err why) database old new = IsOver events id number why database old new ⊎ RefusesItem events id number why database old new
 
 -- What the one commit of a step leaves, also where a crash comes before the step is over: of whatever events the store stood for,
 -- the frame that stands first is accepted, and the tables keep it too.
-pub record CommitsItem (id : Text) (number : ℕ) (attempts : List LiveAttempt) (database : State) (trees : Trees) : Type 0 where
+pub record CommitsItem (id : Text) (number : ℕ) (attempts : ByInvocation) (database : State) (trees : Trees) : Type 0 where
   pub attempt : LiveAttempt
   pub item : Item
   pub rest : Bytes

@@ -11,30 +11,30 @@ use Rattle.store_refusals.specs.declared.refusal.Refusal.{Refusal}
 use Rattle.store_refusals.specs.Refused.{IsRefused}
 use Rattle.new_invocations.specs.Rows.{IsStoreOf}
 use Rattle.live_attempts.specs.declared.attempt.LiveAttempt.{LiveAttempt}
-use Rattle.live_attempts.specs.Attempts.{attempt_of}
+use Rattle.live_attempts.specs.Attempts.{ByInvocation, attempt_of}
 use Rattle.live_laws.specs.Agrees.{Agrees}
 
 -- The events were accepted; the tables hold what is kept of them, as long as the connection is open; the attempts in memory are
 -- the live ones.
-pub record Stands (events : List Event) (database : State) (attempts : List LiveAttempt) : Type 0 where
+pub record Stands (events : List Event) (database : State) (attempts : ByInvocation) : Type 0 where
   pub kept : IsStoreOf events database
   pub live : (id : Text) → Agrees events id (attempt_of attempts id)
 
 -- the bytes that came from the live attempt of an invocation and were not taken
-abbrev pub output_of : List LiveAttempt → Text → Option Bytes
+abbrev pub output_of : ByInvocation → Text → Option Bytes
 output_of attempts id = option_map (λ (attempt : LiveAttempt). attempt.output) (attempt_of attempts id)
 
 -- what attempts wrote waits as before
-abbrev pub KeepsOutputs : List LiveAttempt → List LiveAttempt → Type 0
+abbrev pub KeepsOutputs : ByInvocation → ByInvocation → Type 0
 KeepsOutputs old new = (id : Text) → output_of new id ≡ output_of old id
 
 -- of one invocation these bytes wait then, if any attempt is live, and of the others what waited before
-pub record WaitsNow (id : Text) (output : Option Bytes) (old new : List LiveAttempt) : Type 0 where
+pub record WaitsNow (id : Text) (output : Option Bytes) (old new : ByInvocation) : Type 0 where
   pub own : output_of new id ≡ output
   pub others : (other : Text) → bytes_eq id other ≡ false → output_of new other ≡ output_of old other
 
 -- so it is where a call was accepted; where it was refused, what attempts wrote waits as before
-abbrev pub WaitsAfter : {A : Type 0} → Text → Option Bytes → Result A Refusal → List LiveAttempt → List LiveAttempt → Type 0
+abbrev pub WaitsAfter : {A : Type 0} → Text → Option Bytes → Result A Refusal → ByInvocation → ByInvocation → Type 0
 WaitsAfter id output (Ok answer) old new = WaitsNow id output old new
 WaitsAfter id output (Err why) old new = KeepsOutputs old new
 
@@ -44,12 +44,12 @@ IsAsBefore None None = Unit {0}
 IsAsBefore (Some one) (Some other) = other ≡ record one { input = record (one.input) { reserved = other.input.reserved } }
 IsAsBefore _ _ = ⊥
 
-abbrev pub AreAsBefore : List LiveAttempt → List LiveAttempt → Type 0
+abbrev pub AreAsBefore : ByInvocation → ByInvocation → Type 0
 AreAsBefore old new = (id : Text) → IsAsBefore (attempt_of old id) (attempt_of new id)
 
 -- An event is accepted, and the store stands for it too; or it is refused, for the least of its causes or for a circumstance, and
 -- the store stands as before.
-abbrev pub Does : {A : Type 0} → List Event → Event → (A → Type 0) → Result A Refusal → State → List LiveAttempt → Type 0
+abbrev pub Does : {A : Type 0} → List Event → Event → (A → Type 0) → Result A Refusal → State → ByInvocation → Type 0
 Does events event IsAnswer (Ok answer) database attempts = (causes_of events event ≡ []) × IsAnswer answer × Stands (event ∷ events) database attempts
 Does events event IsAnswer (Err why) database attempts = IsRefused (causes_of events event) why × Stands events database attempts
 

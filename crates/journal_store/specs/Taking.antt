@@ -16,7 +16,7 @@ use Rattle.store_rows.specs.Steps.{Turns}
 use Rattle.store_refusals.specs.declared.refusal.Refusal.{Refusal}
 use Rattle.taken_frames.specs.declared.frame.FrameReply.{FrameReply}
 use Rattle.live_attempts.specs.declared.attempt.LiveAttempt.{LiveAttempt}
-use Rattle.live_attempts.specs.Attempts.{IsNow, after_take}
+use Rattle.live_attempts.specs.Attempts.{ByInvocation, IsNow, after_take}
 use Rattle.journal_store.specs.declared.step.SeenFrame.{SeenFrame}
 use Rattle.journal_store.specs.declared.step.FirstSeen.{FirstSeen}
 use Rattle.journal_store.specs.declared.step.FirstSeen.TheVariants as seen
@@ -73,11 +73,11 @@ passed true len found = None
 passed false len found = option_map (after_take len) found
 
 -- an attempt is over where the cause of a refusal lies in its frame
-abbrev pub IsEndedBy : Bool → Text → List LiveAttempt → List LiveAttempt → Type 0
+abbrev pub IsEndedBy : Bool → Text → ByInvocation → ByInvocation → Type 0
 IsEndedBy true id old new = IsNow id None old new
 IsEndedBy false id old new = new ≡ old
 
 -- the first item is taken or refused
-abbrev pub TakesSeen : List Event → Text → ℕ → Result FrameReply Refusal → State → List LiveAttempt → List LiveAttempt → Type 0
+abbrev pub TakesSeen : List Event → Text → ℕ → Result FrameReply Refusal → State → ByInvocation → ByInvocation → Type 0
 TakesSeen events id number (Ok reply) database old new = TakesItem events id number reply database old new
 TakesSeen events id number (Err why) database old new = RefusesItem events id number why database old new

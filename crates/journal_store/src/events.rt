@@ -8,8 +8,7 @@ ghost use Rattle.sql_tables.specs.Asking.{IsKept};
 ghost use Rattle.store_rows.specs.Records.{applied_all};
 ghost use Rattle.store_rows.specs.Steps.{IsStore, Lands, Turns};
 ghost use Rattle.store_refusals.specs.Refused.{is_circumstance};
-ghost use Rattle.live_attempts.specs.declared.attempt.LiveAttempt.{LiveAttempt as Live};
-ghost use Rattle.live_attempts.specs.Attempts.{Changes, IsNow, after_put};
+ghost use Rattle.live_attempts.specs.Attempts.{ByInvocation, Changes, IsNow, after_put};
 ghost use Rattle.journal_store.specs.Attempts.{IsBegunAttempt, IsToldAs, TakesIn, fresh};
 ghost use Rattle.journal_store.specs.Stands.{AreAsBefore, Commits, Does, KeepsOutputs, Stands, WaitsAfter};
 
@@ -33,7 +32,7 @@ pub(crate) fn record_new<S: Alter>(
 ) -> Result<(), Refusal>
     requires store { IsStore (state S.Store conn.old) }
     requires idle { (state S.Store conn.old).in_transaction ≡ false }
-    ensures does { HasCleanDisk (state S.Store conn.new) → (events : List Event) (attempts : List Live) → Stands events (state S.Store conn.old) attempts → Does events (Event.Invoke new) (λ _. Unit {0}) result (state S.Store conn.new) attempts }
+    ensures does { HasCleanDisk (state S.Store conn.new) → (events : List Event) (attempts : ByInvocation) → Stands events (state S.Store conn.old) attempts → Does events (Event.Invoke new) (λ _. Unit {0}) result (state S.Store conn.new) attempts }
     ensures store { IsStore (state S.Store conn.new) }
     ensures idle { (state S.Store conn.new).in_transaction ≡ false }
     ensures crash { Survives (state S.Store conn.old) (state S.Store conn.new) (Commits (Event.Invoke new) (state S.Store conn.old)) }
@@ -112,63 +111,64 @@ pub(crate) fn record_result<S: Alter>(
 /// The attempt that is begun: all of its input is left, and it wrote nothing.
 fn fresh_attempt(
     alloc: Global,
-    id: &ByteStr,
     number: u32,
     version: u32,
     journal: JournalFrames,
 ) -> Result<LiveAttempt, AllocError>
-    ensures invocation { IfOk result (λ attempt. attempt.invocation ≡ id.now) }
     ensures output { IfOk result (λ attempt. attempt.output ≡ []) }
-    ensures fresh { IfOk result (λ attempt. length journal.lengths.items < 2 ^ 32 → attempt ≡ fresh id.now number version journal.bytes.items journal.lengths.items) }
+    ensures fresh { IfOk result (λ attempt. length journal.lengths.items < 2 ^ 32 → attempt ≡ fresh number version journal.bytes.items journal.lengths.items) }
 {
     let JournalFrames { bytes, lengths } = journal;
     let input = AttemptInput::of_journal(alloc, bytes, lengths.as_slice());
     drop(lengths);
-    let input = input?;
-    match id.clone() {
-        Ok(invocation) => Ok(LiveAttempt {
-            invocation,
-            number,
-            version,
-            input,
-            is_input_closed: false,
-            output: AttemptOutput::new(alloc),
-        }),
-        Err(refused) => {
-            drop(input);
-            Err(refused)
-        }
-    }
+    Ok(LiveAttempt {
+        number,
+        version,
+        input: input?,
+        is_input_closed: false,
+        output: AttemptOutput::new(alloc),
+    })
+}
+
+/// Makes room for one more attempt, and the id by which it is taken in.
+fn room_for(live: &mut LiveAttempts, id: &ByteStr) -> Result<ByteStr, AllocError>
+    ensures same { IfOk result (λ own. own ≡ id.now) }
+    ensures room { OnOk result (0 < live.new.room) }
+    ensures kept { live.new.attempts ≡ live.old.attempts }
+{
+    live.reserve_one()?;
+    id.clone()
 }
 
 /// Writes what was made ready of a begin, and takes the attempt in, for which room is made before.
 fn begin_fresh<S: Alter>(
     conn: &mut Connection<S>,
     live: &mut LiveAttempts,
+    id: &ByteStr,
     writes: &[Write],
     attempt: LiveAttempt,
 ) -> Result<(), Refusal>
     requires store { IsStore (state S.Store conn.old) }
     requires idle { (state S.Store conn.old).in_transaction ≡ false }
     ensures written { HasCleanDisk (state S.Store conn.new) → OnOk result (IsTrue (state S.Store conn.old).is_open × Turns (applied_all writes.now) (state S.Store conn.old).now.trees (state S.Store conn.new).now.trees) }
-    ensures put { OnOk result (IsNow attempt.invocation (Some attempt) live.old.attempts live.new.attempts) }
+    ensures put { OnOk result (IsNow id.now (Some attempt) live.old.attempts live.new.attempts) }
     ensures why { IfErr result (λ why. IsTrue (is_circumstance why)) }
     ensures undone { OnErr result (IsKept (state S.Store conn.old) (state S.Store conn.new) × (live.new.attempts ≡ live.old.attempts)) }
     ensures store { IsStore (state S.Store conn.new) }
     ensures idle { (state S.Store conn.new).in_transaction ≡ false }
     ensures crash { Survives (state S.Store conn.old) (state S.Store conn.new) (Lands writes.now (state S.Store conn.old)) }
 {
-    let room = live.reserve_one();
-    if room.is_err() {
+    let Ok(own) = room_for(live, id) else {
         drop(attempt);
         return Err(Refusal::OutOfMemory);
-    }
+    };
     match commit_all(conn, writes) {
         Ok(()) => {
-            live.put_begun(attempt);
+            live.put_begun(own, attempt);
             Ok(())
         }
         Err(cause) => {
+            drop(own);
             drop(attempt);
             Err(Refusal::StatementRefused(cause))
         }
@@ -197,8 +197,8 @@ fn begin_made<S: Alter>(
     ensures idle { (state S.Store conn.new).in_transaction ≡ false }
     ensures crash { Survives (state S.Store conn.old) (state S.Store conn.new) (Lands writes.now (state S.Store conn.old)) }
 {
-    match fresh_attempt(alloc, id, number, version, journal) {
-        Ok(attempt) => begin_fresh(conn, live, writes, attempt),
+    match fresh_attempt(alloc, number, version, journal) {
+        Ok(attempt) => begin_fresh(conn, live, id, writes, attempt),
         Err(_) => Err(Refusal::OutOfMemory),
     }
 }

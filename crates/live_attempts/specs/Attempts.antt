@@ -1,28 +1,29 @@
 -- The live attempts, one at most of each invocation.
-use Rattle.std.specs.Prelude.{◌≡◌, ℕ, Bool, true, false, List, [], ◌++◌, take, drop, Option, Some, None, option_map, bytes_eq}
-use Rattle.std.specs.List.{find}
+use Rattle.std.specs.Prelude.{◌≡◌, ℕ, true, false, List, [], ◌++◌, take, drop, Option, Some, None, option_map, bytes_eq}
+use Rattle.std.specs.Map.{lookup}
 use Rattle.live_attempts.specs.declared.attempt.LiveAttempt.{LiveAttempt}
 use Rattle.live_attempts.specs.Input.{handed_out, with_room, with_frame}
 
+-- live attempts, each behind its invocation's id
+abbrev pub ByInvocation : Type 0
+ByInvocation = List (List ℕ × LiveAttempt)
+
 -- the attempts, and how many more are taken in with no memory asked for
 pub record Attempts : Type 0 where
-  pub attempts : List LiveAttempt
+  pub attempts : ByInvocation
   pub room : ℕ
 
-abbrev pub is_attempt_of : List ℕ → LiveAttempt → Bool
-is_attempt_of id attempt = bytes_eq attempt.invocation id
-
 -- the live attempt of an invocation
-abbrev pub attempt_of : List LiveAttempt → List ℕ → Option LiveAttempt
-attempt_of attempts id = find (is_attempt_of id) attempts
+abbrev pub attempt_of : ByInvocation → List ℕ → Option LiveAttempt
+attempt_of attempts id = lookup (bytes_eq id) attempts
 
 -- of this invocation this attempt is live, and of the others the same as before
-pub record IsNow (id : List ℕ) (attempt : Option LiveAttempt) (old new : List LiveAttempt) : Type 0 where
+pub record IsNow (id : List ℕ) (attempt : Option LiveAttempt) (old new : ByInvocation) : Type 0 where
   pub own : attempt_of new id ≡ attempt
   pub others : (other : List ℕ) → bytes_eq id other ≡ false → attempt_of new other ≡ attempt_of old other
 
 -- this is done to the live attempt of the invocation, if there is one, and nothing to the others
-abbrev pub Changes : List ℕ → (LiveAttempt → LiveAttempt) → List LiveAttempt → List LiveAttempt → Type 0
+abbrev pub Changes : List ℕ → (LiveAttempt → LiveAttempt) → ByInvocation → ByInvocation → Type 0
 Changes id change old new = IsNow id (option_map change (attempt_of old id)) old new
 
 -- the bytes that are handed out of an attempt's input, none where no attempt is live

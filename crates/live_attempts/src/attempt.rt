@@ -1,13 +1,10 @@
 // An attempt that is live.
 use crate::input::AttemptInput;
 use crate::output::AttemptOutput;
-use bytes::ByteStr;
 
 /// The attempt that an invocation's frames are taken from: the last one that was begun, until it is over.
 #[derive(Debug, Drop)]
 pub struct LiveAttempt {
-    /// The invocation's id.
-    pub invocation: ByteStr,
     /// Counts the invocation's attempts from 1.
     pub number: u32,
     /// The version of the protocol that the attempt speaks.

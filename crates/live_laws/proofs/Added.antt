@@ -91,7 +91,6 @@ added events event id new old going asks ends closes plain (Some attempt) accept
     (ap (λ (o : Option ℕ). later_pieces (entries ++ more) o (arrivals_in more)) plain) refl
     (arrivals_full (entries ++ more) (arrivals_in more) places)
     attempt (after_rows rows attempt) (begun_before event events id new) ends
-    (kept_by (λ (a : LiveAttempt). a.invocation) (λ place frame a. refl) rows attempt)
     (kept_by (λ (a : LiveAttempt). a.number) (λ place frame a. refl) rows attempt)
     (kept_by (λ (a : LiveAttempt). a.version) (λ place frame a. refl) rows attempt)
     (bytes_behind rows attempt ∙ ap (λ (bytes : List ℕ). attempt.input.bytes ++ bytes) (bytes_of_arrivals id entries place more (entries ++ more) asked refl))

@@ -72,7 +72,6 @@ begun events id now attempt accepted is =
     let whole : whole_pieces (input_pieces (Event.Begin id now ∷ events) id) (input_places (Event.Begin id now ∷ events) id) ≡ map row_piece (journal_rows events id) =
     ap₂ whole_pieces (pieces_begun events id now) (places_begun events id now) ∙ pieces_of_journal events id accepted in
     record {
-      invocation = is.invocation;
       number = number_begun events id now ∙ ap (λ (n : ℕ). Some n) (sym is.number);
       version = is.version ∙ sym (version_same events (Event.Begin id now) id (begun_before (Event.Begin id now) events id refl));
       bytes =

@@ -95,12 +95,11 @@ module _ (events : List Event) (event : Event) (id : Text) (old : begins id even
       -- an attempt that is kept, with these frames put behind
       pub grown : (before after : LiveAttempt) → invocation_begun (event ∷ events) id ≡ invocation_begun events id
           → (is_of id event && ends_live event) ≡ false
-          → after.invocation ≡ before.invocation → after.number ≡ before.number → after.version ≡ before.version
+          → after.number ≡ before.number → after.version ≡ before.version
           → after.input.bytes ≡ before.input.bytes ++ input_bytes pieces → after.input.pieces ≡ before.input.pieces ++ whole_pieces pieces places
           → after.input.handed ≡ before.input.handed → after.is_input_closed ≡ ((is_of id event && closes_input event) || before.is_input_closed)
           → IsKeptLive events id before → IsKeptLive (event ∷ events) id after
-      grown before after same ends a b c d e f g kept = record {
-        invocation = a ∙ kept.invocation;
+      grown before after same ends b c d e f g kept = record {
         number = live_now ends ∙ kept.number ∙ ap (λ (n : ℕ). Some n) (sym b);
         version = c ∙ kept.version ∙ sym (version_same events event id same);
         bytes = d ∙ ap (λ (xs : List ℕ). xs ++ input_bytes pieces) kept.bytes ∙ sym left_grown;

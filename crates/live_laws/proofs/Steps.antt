@@ -51,7 +51,7 @@ quiet : (events : List Event) (event : Event) (id : Text) → begins id event �
     → (attempt : Option LiveAttempt) → Agrees events id attempt → Agrees (event ∷ events) id attempt
 quiet events event id old going asks brought at same ends closes None e = live_now events event id old going ends ∙ e
 quiet events event id old going asks brought at same ends closes (Some attempt) kept =
-    grown events event id old going asks [] [] brought at tt attempt attempt same ends refl refl refl
+    grown events event id old going asks [] [] brought at tt attempt attempt same ends refl refl
     (sym (append-nil attempt.input.bytes)) (sym (append-nil attempt.input.pieces)) refl
     (sym (ap (λ (b : Bool). b || attempt.is_input_closed) closes)) kept
 
@@ -170,7 +170,7 @@ is_acknowledged events id number n value (Some attempt) late kept =
     (ap₂ (λ (o : Option ℕ) (some : List Entry). later_pieces (entries ++ some) o (arrivals_in some)) told more)
     (ap (places_of_arrivals place) more)
     (frame_full 0x0006 (acknowledgement_payload n), tt)
-    attempt (after_put place frame attempt) (begun_before event events id refl) (and_false (bytes_eq id id)) refl refl refl
+    attempt (after_put place frame attempt) (begun_before event events id refl) (and_false (bytes_eq id id)) refl refl
     (ap (λ (bytes : List ℕ). attempt.input.bytes ++ bytes) (sym (append-nil frame))) refl refl
     (sym (ap (λ (b : Bool). b || attempt.is_input_closed) (and_false (bytes_eq id id)))) kept
 
@@ -184,7 +184,7 @@ closed events id number (Some attempt) kept =
     grown events event id refl refl refl [] []
     (nothing_brought (starting_state events id) events event id (entries_of events id) none refl)
     (ap (places_of_arrivals (1 + length (entries_of events id))) none) tt
-    attempt (after_close attempt) (begun_before event events id refl) (and_false (bytes_eq id id)) refl refl refl
+    attempt (after_close attempt) (begun_before event events id refl) (and_false (bytes_eq id id)) refl refl
     (sym (append-nil attempt.input.bytes)) (sym (append-nil attempt.input.pieces)) refl
     (sym (ap (λ (b : Bool). (b && true) || attempt.is_input_closed) (itself id))) kept
 
@@ -226,7 +226,6 @@ handed_out events id number most (Some attempt) kept =
     let count : ℕ = min (length attempt.input.bytes) most in
     let sum : handed + count ≡ bytes_handed (event ∷ events) id = omega arith in
     record {
-      invocation = kept.invocation;
       number = live_now events event id refl refl (and_false (bytes_eq id id)) ∙ kept.number;
       version = kept.version ∙ sym (version_same events event id (begun_before event events id refl));
       bytes =

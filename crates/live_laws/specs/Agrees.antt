@@ -32,7 +32,6 @@ pieces_left events id = pieces_after (bytes_handed events id) (whole_pieces (inp
 
 -- an attempt is kept as the live one of an invocation; of its output the events say nothing
 pub record IsKeptLive (events : List Event) (id : Text) (attempt : LiveAttempt) : Type 0 where
-  pub invocation : attempt.invocation ≡ id
   pub number : live_attempt events id ≡ Some attempt.number
   pub version : attempt.version ≡ version_of events id
   pub bytes : attempt.input.bytes ≡ input_left events id
@@ -64,7 +63,6 @@ abbrev pub row_piece : EntryRow → PieceLeft
 row_piece row = record { behind = row.place + 1; len = length (row_frame row) }
 
 pub record IsBegunAs (events : List Event) (id : Text) (attempt : LiveAttempt) : Type 0 where
-  pub invocation : attempt.invocation ≡ id
   pub number : attempt.number ≡ 1 + attempts_begun events id
   pub version : attempt.version ≡ version_of events id
   pub bytes : attempt.input.bytes ≡ flat_map row_frame (journal_rows events id)

@@ -14,11 +14,10 @@ const CANCEL: [u8; 8] = [0xfb, 0xff, 0, 0, 0, 0, 0, 4];
 const PAYLOAD: [u8; 4] = [0x10, 1, 0x22, 0];
 
 /// The first attempt of an invocation that has its input alone.
-fn begun(alloc: Global, id: &ByteStr) -> Result<LiveAttempt, AllocError> {
+fn begun(alloc: Global) -> Result<LiveAttempt, AllocError> {
     let mut input = AttemptInput::new(alloc);
     input.push(0, &INPUT, &[])?;
     Ok(LiveAttempt {
-        invocation: id.clone()?,
         number: 1,
         version: 7,
         input,
@@ -29,10 +28,9 @@ fn begun(alloc: Global, id: &ByteStr) -> Result<LiveAttempt, AllocError> {
 
 /// It is the only live one.
 fn live_alone(alloc: Global, id: &ByteStr) -> Result<LiveAttempts, AllocError> {
-    let attempt = begun(alloc, id)?;
     let mut live = LiveAttempts::new(alloc);
     live.reserve_one()?;
-    live.put_begun(attempt);
+    live.put_begun(id.clone()?, begun(alloc)?);
     Ok(live)
 }
 

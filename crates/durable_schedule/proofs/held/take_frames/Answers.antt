@@ -2,7 +2,7 @@ use Rattle.std.proofs.Common.{◌≡◌, ℕ, arith, sym, subst, ◌∙◌, Bool
 use Rattle.taken_frames.specs.declared.frame.FrameReply.{FrameReply}
 use Rattle.taken_frames.specs.Taken.{TellsEnd}
 use Rattle.schedule_events.specs.Schedule.{Took}
-use Rattle.durable_schedule.specs.Scheduled.{Leads}
+use Rattle.durable_schedule.specs.Scheduled.{Leads, TakesSome}
 use Rattle.durable_schedule.proofs.Enduring.{same_endures}
 use Rattle.durable_schedule.proofs.Taking.{Stepped, took_all, took_end, took_more, took_until, took_many, took_none, step_more}
 use Rattle.durable_schedule.proofs.held.take_frames.Goals as goal
@@ -10,7 +10,7 @@ use Rattle.durable_schedule.proofs.held.take_frames.Goals as goal
 pub loop-frames-init : goal.loop-frames-init
 loop-frames-init g c = record {
   took = took_none g.S.Store c.args.invocation.now c.args.number 0 c.args.store.now c.args.store.now;
-  crash = same_endures g.S.Store c.args.store.now;
+  crash = same_endures g.S.Store (TakesSome c.args.invocation.now c.args.number) c.args.store.now;
 }
 
 pub loop-frames-preserved : goal.loop-frames-preserved

@@ -1,9 +1,10 @@
 use Rattle.std.proofs.Common.{List, ℕ, refl, subst, ap, ◌∙◌, length, min, take, Ok, Err, arith}
 use Rattle.sqlite.specs.Held.{state}
 use Rattle.sqlite.specs.State.{HasCleanDisk}
+use Rattle.schedule_events.specs.declared.event.Reply.TheVariants as reply
 use Rattle.schedule_events.specs.Standing.{Feeds}
+use Rattle.durable_schedule.specs.Scheduled.{TakesSome, MovesSome}
 use Rattle.durable_schedule.proofs.Standing.{feeds}
-use Rattle.durable_schedule.proofs.Growing.{same_grows}
 use Rattle.durable_schedule.proofs.Enduring.{quiet_endures, endures_on}
 use Rattle.durable_schedule.proofs.held.take_in.Goals as goal
 
@@ -29,12 +30,27 @@ returns-in-Ok-clause-does g c clean s is =
 pub returns-in-Ok-clause-crash : goal.returns-in-Ok-clause-crash
 returns-in-Ok-clause-crash g c =
     let one = c.args.one.now in
+    let count = c.args.count in
     let before = c.args.store.now in
     let mid = c.feed.new.self in
-    endures_on g.S.Store before mid c.take_frames-frames.new.store (quiet_endures g.S.Store before mid c.feed.ensures.crash)
-    (λ clean s is.
-    let fed = feeds g.S.Store s before mid is one.invocation one.number (take c.min-bytes.result c.output-2.result.now) (Ok tt) (c.in-Ok.ensures.does clean s.events is.stands) in
-    (fed.0, fed.1, same_grows s fed.0 fed.2.events))
+    let bytes = take c.min-bytes.result c.output-2.result.now in
+    endures_on g.S.Store (MovesSome one count) (λ s fed. Feeds one.invocation one.number bytes s (Ok tt) fed) (TakesSome one.invocation one.number) (MovesSome one count) before mid c.take_frames-frames.new.store
+    (λ s t it. it)
+    (λ s fed t feeds takes. (
+      reply.Moved c.min-bytes.result takes.0 takes.1,
+      _,
+      (
+        fed,
+        c.advance_output.new.self,
+        c.min-bytes.ensures ∙ ap (λ (bytes : List ℕ). min count (length bytes)) c.output.ensures,
+        subst (λ (bytes : List ℕ). Feeds one.invocation one.number (take c.min-bytes.result bytes) s (Ok tt) fed) c.output-2.ensures feeds,
+        c.advance_output.ensures,
+        refl,
+        takes.2,
+      ),
+    ))
+    (quiet_endures g.S.Store (MovesSome one count) before mid c.feed.ensures.crash)
+    (λ clean s is. feeds g.S.Store s before mid is one.invocation one.number bytes (Ok tt) (c.in-Ok.ensures.does clean s.events is.stands))
     c.take_frames-frames.ensures.crash
 
 pub returns-in-Err-clause-does : goal.returns-in-Err-clause-does
@@ -44,4 +60,4 @@ returns-in-Err-clause-does g c clean s is =
     (it.0, it.1, (it.2, refl))
 
 pub returns-in-Err-clause-crash : goal.returns-in-Err-clause-crash
-returns-in-Err-clause-crash g c = quiet_endures g.S.Store c.args.store.now c.feed.new.self c.feed.ensures.crash
+returns-in-Err-clause-crash g c = quiet_endures g.S.Store (MovesSome c.args.one.now c.args.count) c.args.store.now c.feed.new.self c.feed.ensures.crash

@@ -11,11 +11,10 @@ use Rattle.schedule_events.specs.declared.event.Reply.{Reply}
 use Rattle.schedule_events.specs.Schedule.{Applies, AppliesAll, FitsEvent}
 use Rattle.schedule_events.proofs.Applying.{schedules_grow}
 use Rattle.schedule_events.proofs.Leaving.{leaves_runs}
-use Rattle.durable_schedule.specs.Scheduled.{IsStanding, Endures, FollowRuns, at_first}
+use Rattle.durable_schedule.specs.Scheduled.{IsStanding, Endures, Extends, AppliesWith, AppliesFirst, FollowRuns, at_first}
 use Rattle.durable_schedule.proofs.Standing.{stood}
-use Rattle.durable_schedule.proofs.Growing.{all_grow}
-use Rattle.durable_schedule.proofs.Enduring.{same_endures, endures_on}
-use Rattle.durable_schedule.proofs.Scheduling.{follow_runs, each_more}
+use Rattle.durable_schedule.proofs.Enduring.{same_endures}
+use Rattle.durable_schedule.proofs.Scheduling.{follow_runs, follow_kept, one_endures, each_more}
 use Rattle.durable_schedule.proofs.scheduler.run_schedule.Goals as goal
 
 pub loop-event-preserved : goal.loop-event-preserved
@@ -37,11 +36,8 @@ loop-event-preserved g c =
                 (schedules_grow g.H.Handler.next_call c.args.options yielded c.loop-event.replies.items (at_first s) before.0 after.0 one c.apply.result before.2 does),
           );
       fits = each_more FitsEvent yielded one inv.fits c.apply.ensures.fits;
-      crash = endures_on g.S.Store c.args.store old.store new.store inv.crash
-          (λ clean s is.
-          let it = inv.applies clean s is in
-          (it.0.standing, it.1.standing, all_grow g.H.Handler.next_call c.args.options yielded c.loop-event.replies.items (at_first s) it.0 it.2))
-          c.apply.ensures.crash;
+      crash = one_endures g.H.Handler.next_call c.args.options g.S.Store yielded c.loop-event.replies.items one c.args.store old new inv.applies inv.crash
+          (subst (λ (o : VMOptions). Endures g.S.Store (AppliesWith g.H.Handler.next_call o one old.held.items) old.store new.store) inv.options c.apply.ensures.crash);
       options = c.apply.ensures.options ∙ inv.options;
       count = omega (arith, c.put.ensures.len, inv.count, length-append yielded (one ∷ []));
       room = omega (arith, inv.room, c.put.ensures.capacity);
@@ -58,7 +54,8 @@ loop-event-init g c =
         subst (λ (rs : List Reply). AppliesAll g.H.Handler.next_call c.args.options [] rs (at_first s) (at_first s)) (sym c.in-Ok.ensures.items) refl,
       );
       fits = tt;
-      crash = subst (λ (store : Stored g.row.S.Denot). Endures g.S.Store c.args.store store) same (same_endures g.S.Store c.args.store);
+      crash = subst (λ (store : Stored g.row.S.Denot). Endures g.S.Store (AppliesFirst g.H.Handler.next_call c.args.options []) c.args.store store) same
+          (same_endures g.S.Store (AppliesFirst g.H.Handler.next_call c.args.options []) c.args.store);
       options = c.new-scheduler.ensures.options;
       count = c.in-Ok.ensures.len;
       room = omega (arith, c.in-Ok.ensures.capacity, c.len.ensures, c.args.events.ok.0);
@@ -80,9 +77,25 @@ returns-clause-headline g c clean before stands =
     let from = stood g.S.Store before c.args.store stands in
     let it = c.loop-event.invariant.applies clean from.0 from.1.standing in
     let function = g.H.Handler.next_call in
-    let follows = follow_runs function (leaves_runs function) c.args.options c.loop-event.yielded c.loop-event.replies.items from.0 it.0 c.loop-event.invariant.fits it.2 in (
+    let follows = follow_runs function c.args.options (leaves_runs function) c.loop-event.yielded c.loop-event.replies.items from.0 it.0 c.loop-event.invariant.fits it.2 in (
       it.0.standing.events,
       it.1.standing.stands,
       subst (λ (es : List Accepted). FollowRuns function c.args.options c.args.events.items es it.0.standing.events) from.1.same
           (subst (λ (es : List (Event g.row.H.Denot)). FollowRuns function c.args.options es from.0.events it.0.standing.events) all follows),
     )
+
+pub returns-clause-crash : goal.returns-clause-crash
+returns-clause-crash g c =
+    let h = c.into_iter-event-iterator.ensures.into_iter_gives in
+    let e = YieldsList-end (YieldsList-from_vec {s = c.into_iter-event-iterator.result} c.args.events.items h.0 (h.1 ∙ c.args.events.ok.0)) c.loop-event.yielded c.loop-event.event-iterator c.loop-event.yielded_by c.next.result c.next.new.self c.in-None.is c.next.ensures.steps in
+    let all : c.loop-event.yielded ≡ c.args.events.items = sym (map-id c.loop-event.yielded) ∙ e.0 in
+    subst (λ (es : List (Event g.row.H.Denot)). Endures g.S.Store (AppliesFirst g.H.Handler.next_call c.args.options es) c.args.store c.loop-event.scheduler.store) all c.loop-event.invariant.crash
+
+pub returns-clause-crash_headline : goal.returns-clause-crash_headline
+returns-clause-crash_headline g c =
+    let h = c.into_iter-event-iterator.ensures.into_iter_gives in
+    let e = YieldsList-end (YieldsList-from_vec {s = c.into_iter-event-iterator.result} c.args.events.items h.0 (h.1 ∙ c.args.events.ok.0)) c.loop-event.yielded c.loop-event.event-iterator c.loop-event.yielded_by c.next.result c.next.new.self c.in-None.is c.next.ensures.steps in
+    let all : c.loop-event.yielded ≡ c.args.events.items = sym (map-id c.loop-event.yielded) ∙ e.0 in
+    let function = g.H.Handler.next_call in
+    subst (λ (es : List (Event g.row.H.Denot)). Extends g.S.Store (FollowRuns function c.args.options es) c.args.store c.loop-event.scheduler.store) all
+    (follow_kept function c.args.options g.S.Store (leaves_runs function) c.loop-event.yielded c.loop-event.invariant.fits c.args.store c.loop-event.scheduler.store c.loop-event.invariant.crash)

@@ -4,7 +4,7 @@ use Rattle.sqlite.specs.Held.{state}
 use Rattle.sqlite.specs.State.{HasCleanDisk}
 use Rattle.schedule_events.specs.Standing.{Standing}
 use Rattle.schedule_events.specs.Schedule.{Scheduled, AppliesAll, FitsEvent}
-use Rattle.durable_schedule.specs.Scheduled.{IsStanding, IsScheduled, Endures, at_first}
+use Rattle.durable_schedule.specs.Scheduled.{IsStanding, IsScheduled, Endures, AppliesFirst, at_first}
 use Rattle.durable_schedule.proofs.scheduler.run_schedule.Given as goal
 
 abbrev pub invariant-loop-event : goal.invariant-loop-event
@@ -12,7 +12,7 @@ invariant-loop-event g l = record {
   applies : HasCleanDisk (state g.S.Store l.scheduler.store.connection) → (s : Standing) → IsStanding g.S.Store s l.fn.store
       → (new : Scheduled g.row.H.Denot) × IsScheduled g.S.Store new l.scheduler × AppliesAll g.H.Handler.next_call l.fn.options l.yielded l.replies.items (at_first s) new;
   fits : AllByRecursion FitsEvent l.yielded;
-  crash : Endures g.S.Store l.fn.store l.scheduler.store;
+  crash : Endures g.S.Store (AppliesFirst g.H.Handler.next_call l.fn.options l.yielded) l.fn.store l.scheduler.store;
   options : l.scheduler.options ≡ l.fn.options;
   count : vec_len l.replies ≡ length l.yielded;
   room : length l.fn.events.items ≤ vec_capacity l.replies;

@@ -2,7 +2,7 @@ use Rattle.std.proofs.Common.{◌≡◌, ℕ, List, ◌∷◌, [], ◌++◌, ref
 use Rattle.std.specs.Prelude.{string_bytes, IfOk}
 use Rattle.durable_script.specs.Line.{TakesTurns}
 use Rattle.durable_script.specs.Printed.{printed}
-use Rattle.durable_script.specs.Reaching.{Reaches}
+use Rattle.durable_script.specs.Reaching.{Reaches, Nowhere}
 use Rattle.durable_script.proofs.Following.{on_err}
 use Rattle.durable_script.proofs.Printing.{of_text, turns_printed}
 use Rattle.durable_script.proofs.runner.do_turns.Goals as goal
@@ -14,7 +14,7 @@ returns-clause-ok g c =
     let old = c.args.scheduler.now in
     let new = c.take_turns-taken.new.scheduler in
     let text = printed taken last ++ 10 ∷ [] in
-    of_text string_bytes (λ (t : List ℕ). Reaches g.S.Store (TakesTurns c.args.id.now c.args.attempt c.args.count t) old new) c.reply_line.result text
+    of_text string_bytes (λ (t : List ℕ). Reaches g.S.Store Nowhere (TakesTurns c.args.id.now c.args.attempt c.args.count t) old new) c.reply_line.result text
     (subst (λ (t : List ℕ). IfOk c.reply_line.result (λ s. string_bytes s ≡ t ++ 10 ∷ [])) c.line_reply.ensures c.reply_line.ensures)
     (turns_printed g.S.Store old new c.args.id.now c.args.attempt c.args.count taken last c.take_turns-taken.ensures text refl)
 

@@ -1,6 +1,7 @@
 use Rattle.std.proofs.Common.{refl, arith}
 use Rattle.schedule_events.specs.declared.event.Event.TheVariants as event
-use Rattle.durable_script.specs.Line.{nap_function, AnsweredTurns}
+use Rattle.durable_script.specs.Line.{AnsweredTurns}
+use Rattle.durable_script.specs.Reaching.{Nowhere}
 use Rattle.durable_script.proofs.Reaching.{reaches_none, reaches_turned}
 use Rattle.durable_script.proofs.Turning.{turned_last, turned_more}
 use Rattle.durable_script.proofs.runner.take_turns.Goals.{then-taken-count-via-then-taken-count, then-taken-count-via-else-taken-count+then-not-was_answered}
@@ -11,7 +12,7 @@ loop-taken-init g c = record {
   before = 0;
   taken = refl;
   within = c.requires;
-  answered = reaches_none g.S.Store (AnsweredTurns c.args.id.now c.args.attempt 0) c.args.scheduler.now (λ s. refl);
+  answered = reaches_none g.S.Store Nowhere (AnsweredTurns c.args.id.now c.args.attempt 0) c.args.scheduler.now (λ s. refl);
 }
 
 pub returns-then-taken-count : goal.returns-then-taken-count
@@ -22,7 +23,7 @@ returns-then-taken-count g c =
     let old = c.loop-taken.scheduler in
     let new = c.take_turn-reply.new.self in
     let reply = c.take_turn-reply.result in
-    let turned = reaches_turned g.S.Store nap_function (event.Turn id n) reply old new c.take_turn-reply.ensures.store c.take_turn-reply.ensures.does c.take_turn-reply.ensures.options in
+    let turned = reaches_turned g.S.Store (event.Turn id n) reply old new c.take_turn-reply.ensures.store c.take_turn-reply.ensures.does c.take_turn-reply.ensures.options in
     turned_last g.S.Store id n c.args.scheduler.now old new inv.before inv.answered c.args.count c.loop-taken.taken reply turned inv.taken inv.within
     (λ yes. elim c.then-taken-count.branch [
       | then-taken-count-via-then-taken-count w ↦ w.if-taken-count.true
@@ -37,7 +38,7 @@ loop-taken-preserved g c =
     let old = c.loop-taken.scheduler in
     let new = c.take_turn-reply.new.self in
     let reply = c.take_turn-reply.result in
-    let turned = reaches_turned g.S.Store nap_function (event.Turn id n) reply old new c.take_turn-reply.ensures.store c.take_turn-reply.ensures.does c.take_turn-reply.ensures.options in
+    let turned = reaches_turned g.S.Store (event.Turn id n) reply old new c.take_turn-reply.ensures.store c.take_turn-reply.ensures.does c.take_turn-reply.ensures.options in
     record {
       before = c.loop-taken.taken;
       taken = refl;

@@ -1,6 +1,6 @@
 use Rattle.std.proofs.Common.{◌≡◌, ◌≤◌, ◌+◌, ◌-◌, ℕ}
 use Rattle.durable_script.specs.Line.{AnsweredTurns}
-use Rattle.durable_script.specs.Reaching.{Reaches}
+use Rattle.durable_script.specs.Reaching.{Reaches, Nowhere}
 use Rattle.durable_script.proofs.runner.take_turns.Given as goal
 
 abbrev pub invariant-loop-taken : goal.invariant-loop-taken
@@ -8,7 +8,7 @@ invariant-loop-taken g l = record {
   before : ℕ;
   taken : l.taken ≡ before + 1;
   within : l.taken ≤ l.count;
-  answered : Reaches g.S.Store (AnsweredTurns l.id l.attempt before) l.fn.scheduler l.scheduler;
+  answered : Reaches g.S.Store Nowhere (AnsweredTurns l.id l.attempt before) l.fn.scheduler l.scheduler;
 }
 
 abbrev pub decreases-loop-taken : goal.decreases-loop-taken

@@ -1,7 +1,7 @@
-use Rattle.std.proofs.Common.{◌≡◌, refl, subst, arith, rules, true, false, List, Some, None, Ok, Bool}
+use Rattle.std.proofs.Common.{◌≡◌, refl, subst, arith, rules, true, false, Some, None, Ok, Bool}
 use Rattle.sqlite.specs.State.{State, HasCleanDisk}
 use Rattle.sqlite.specs.Held.{state}
-use Rattle.live_attempts.specs.declared.attempt.LiveAttempt.{LiveAttempt}
+use Rattle.live_attempts.specs.Attempts.{ByInvocation}
 use Rattle.journal_store.specs.declared.accept.Accepted.{Accepted}
 use Rattle.journal_store.specs.Accepting.{TakesNext}
 use Rattle.journal_store.proofs.Accepting.{lives_still, none_passed, passed_one, refused_so, rests_so, steps_commit}
@@ -21,7 +21,7 @@ loop-replies-preserved g c =
     let now : State = state g.S.Store c.loop-replies.conn in
     let next : State = state g.S.Store c.take_next.new.conn in
     let id = c.args.id.now in
-    let old : List LiveAttempt = c.args.live.now.attempts in
+    let old : ByInvocation = c.args.live.now.attempts in
     let more : c.in-Ok-true.field-0 ≡ true = search rules in
     record {
       store = c.take_next.ensures.store;

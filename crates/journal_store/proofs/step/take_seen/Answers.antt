@@ -1,10 +1,10 @@
-use Rattle.std.proofs.Common.{◌∙◌, subst, arith, List, Option, Some}
+use Rattle.std.proofs.Common.{◌∙◌, subst, arith, Option, Some}
 use Rattle.sqlite.specs.State.{State, HasCleanDisk}
 use Rattle.sqlite.specs.Held.{state}
 use Rattle.attempt_frames.specs.Meaning.{frame_of}
 use Rattle.taken_frames.proofs.Stateless.{all_leave}
 use Rattle.live_attempts.specs.declared.attempt.LiveAttempt.{LiveAttempt}
-use Rattle.live_attempts.specs.Attempts.{attempt_of}
+use Rattle.live_attempts.specs.Attempts.{ByInvocation, attempt_of}
 use Rattle.live_laws.specs.Agrees.{Agrees}
 use Rattle.journal_store.specs.Taking.{IsSeen, IsSeenOf}
 use Rattle.journal_store.proofs.Quiet.{live_here, this_one}
@@ -17,7 +17,7 @@ returns-in-Ok-clause-does g c clean events number stands here =
     let mid : State = state g.S.Store c.prepare_frame.new.conn in
     let new : State = state g.S.Store c.take_prepared.new.conn in
     let id = c.args.id.now in
-    let attempts : List LiveAttempt = c.args.live.now.attempts in
+    let attempts : ByInvocation = c.args.live.now.attempts in
     let early : HasCleanDisk mid = omega (arith, c.take_prepared.ensures.crash.clean, clean) in
     let it = this_one number (attempt_of attempts id) here in
     let seen : IsSeen it.attempt c.args.seen = subst (λ (o : Option LiveAttempt). IsSeenOf o c.args.seen) it.is c.requires.seen in
@@ -34,7 +34,7 @@ returns-in-Err-clause-does g c clean events number stands here =
     let old : State = state g.S.Store c.args.conn.now in
     let new : State = state g.S.Store c.prepare_frame.new.conn in
     let id = c.args.id.now in
-    let attempts : List LiveAttempt = c.args.live.now.attempts in
+    let attempts : ByInvocation = c.args.live.now.attempts in
     let it = this_one number (attempt_of attempts id) here in
     let seen : IsSeen it.attempt c.args.seen = subst (λ (o : Option LiveAttempt). IsSeenOf o c.args.seen) it.is c.requires.seen in
     let agrees : Agrees events id (Some it.attempt) = subst (Agrees events id) it.is (stands.live id) in
@@ -47,7 +47,7 @@ pub returns-in-Ok-clause-crash : goal.returns-in-Ok-clause-crash
 returns-in-Ok-clause-crash g c number here =
     let old : State = state g.S.Store c.args.conn.now in
     let id = c.args.id.now in
-    let attempts : List LiveAttempt = c.args.live.now.attempts in
+    let attempts : ByInvocation = c.args.live.now.attempts in
     let it = this_one number (attempt_of attempts id) here in
     let seen : IsSeen it.attempt c.args.seen = subst (λ (o : Option LiveAttempt). IsSeenOf o c.args.seen) it.is c.requires.seen in
     seen_lands id number attempts it.attempt c.args.seen seen it.is it.numbered old (state g.S.Store c.prepare_frame.new.conn) (state g.S.Store c.take_prepared.new.conn) c.in-Ok.made.writes.items

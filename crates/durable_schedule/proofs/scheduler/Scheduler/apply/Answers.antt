@@ -1,5 +1,12 @@
+use Rattle.std.proofs.Common.{refl, subst, sym}
+use Rattle.journal_model.specs.Event as model
+use Rattle.journal_store.specs.Stored.{Stored}
 use Rattle.schedule_events.specs.declared.event.Event.TheVariants as event
-use Rattle.durable_schedule.proofs.Scheduling.{applied, stored}
+use Rattle.schedule_events.specs.declared.event.Reply.TheVariants as reply
+use Rattle.schedule_events.specs.Standing.{Adds}
+use Rattle.durable_schedule.specs.Scheduled.{AppliesWith, Endures}
+use Rattle.durable_schedule.proofs.Enduring.{BeginsSome, quiet_endures, same_endures}
+use Rattle.durable_schedule.proofs.Scheduling.{applied, applied_with, begins_with, stored}
 use Rattle.durable_schedule.proofs.scheduler.Scheduler.apply.Goals as goal
 
 pub returns-in-Invoke-clause-does : goal.returns-in-Invoke-clause-does
@@ -27,3 +34,45 @@ pub returns-in-Stop-clause-does : goal.returns-in-Stop-clause-does
 returns-in-Stop-clause-does g c =
     applied g.S.Store g.H.Handler.next_call c.args.self.now c.stop.new.self c.args.event (event.Stop c.in-Stop.invocation c.in-Stop.attempt) c.stop.result c.in-Stop.is
     (λ clean s is. let it = c.stop.ensures.does clean s is in (it.0, it.1, (it.2, stored g.S.Store c.args.self.now c.stop.new.self c.stop.ensures.kept)))
+
+pub returns-in-Invoke-clause-crash : goal.returns-in-Invoke-clause-crash
+returns-in-Invoke-clause-crash g c =
+    let old = c.args.self.now in
+    let one = event.Invoke c.in-Invoke.new in
+    applied_with g.S.Store g.H.Handler.next_call old.options c.args.event one old.held.items old.store c.invoke.new.self.store c.in-Invoke.is (Adds (model.Event.Invoke c.in-Invoke.new)) (λ s t it. (reply.Done, old.held.items, (it, refl)))
+    c.invoke.ensures.crash
+
+pub returns-in-Begin-clause-crash : goal.returns-in-Begin-clause-crash
+returns-in-Begin-clause-crash g c =
+    let old = c.args.self.now in
+    let one = event.Begin c.in-Begin.invocation c.in-Begin.handler c.in-Begin.now in
+    applied_with g.S.Store g.H.Handler.next_call old.options c.args.event one old.held.items old.store c.begin.new.self.store c.in-Begin.is (BeginsSome c.in-Begin.invocation c.in-Begin.now) (λ s t it. begins_with g.H.Handler.next_call old.options c.in-Begin.invocation c.in-Begin.handler c.in-Begin.now old.held.items s t it)
+    c.begin.ensures.crash
+
+pub returns-in-Feed-clause-crash : goal.returns-in-Feed-clause-crash
+returns-in-Feed-clause-crash g c =
+    let old = c.args.self.now in
+    let one = event.Feed c.in-Feed.invocation c.in-Feed.attempt c.in-Feed.count in
+    applied_with g.S.Store g.H.Handler.next_call old.options c.args.event one old.held.items old.store c.feed.new.self.store c.in-Feed.is (AppliesWith g.H.Handler.next_call old.options one old.held.items) (λ s t it. it)
+    (quiet_endures g.S.Store (AppliesWith g.H.Handler.next_call old.options one old.held.items) old.store c.feed.new.self.store c.feed.ensures.crash)
+
+pub returns-in-Turn-clause-crash : goal.returns-in-Turn-clause-crash
+returns-in-Turn-clause-crash g c =
+    let old = c.args.self.now in
+    let one = event.Turn c.in-Turn.invocation c.in-Turn.attempt in
+    applied_with g.S.Store g.H.Handler.next_call old.options c.args.event one old.held.items old.store c.turn.new.self.store c.in-Turn.is (AppliesWith g.H.Handler.next_call old.options one old.held.items) (λ s t it. it)
+    (subst (λ (store : Stored g.row.S.Denot). Endures g.S.Store (AppliesWith g.H.Handler.next_call old.options one old.held.items) old.store store) (sym c.turn.ensures.store) (same_endures g.S.Store (AppliesWith g.H.Handler.next_call old.options one old.held.items) old.store))
+
+pub returns-in-Move-clause-crash : goal.returns-in-Move-clause-crash
+returns-in-Move-clause-crash g c =
+    let old = c.args.self.now in
+    let one = event.Move c.in-Move.invocation c.in-Move.attempt c.in-Move.count in
+    applied_with g.S.Store g.H.Handler.next_call old.options c.args.event one old.held.items old.store c.transfer.new.self.store c.in-Move.is (AppliesWith g.H.Handler.next_call old.options one old.held.items) (λ s t it. it)
+    c.transfer.ensures.crash
+
+pub returns-in-Stop-clause-crash : goal.returns-in-Stop-clause-crash
+returns-in-Stop-clause-crash g c =
+    let old = c.args.self.now in
+    let one = event.Stop c.in-Stop.invocation c.in-Stop.attempt in
+    applied_with g.S.Store g.H.Handler.next_call old.options c.args.event one old.held.items old.store c.stop.new.self.store c.in-Stop.is (AppliesWith g.H.Handler.next_call old.options one old.held.items) (λ s t it. it)
+    (quiet_endures g.S.Store (AppliesWith g.H.Handler.next_call old.options one old.held.items) old.store c.stop.new.self.store c.stop.ensures.crash)

@@ -2,7 +2,7 @@ use Rattle.std.proofs.Common.{List, ℕ, refl, subst, inl, inr}
 use Rattle.journal_model.specs.Event.{Event}
 use Rattle.schedule_events.specs.Schedule.{FeedDoes}
 use Rattle.durable_schedule.proofs.Standing.{begins, refused, as_begun}
-use Rattle.durable_schedule.proofs.Enduring.{event_endures}
+use Rattle.durable_schedule.proofs.Enduring.{begin_endures}
 use Rattle.durable_schedule.proofs.scheduler.Scheduler.begin.Goals as goal
 
 pub returns-in-Err-clause-does : goal.returns-in-Err-clause-does
@@ -12,7 +12,7 @@ returns-in-Err-clause-does g c clean s is =
     (it.0, it.1, inl (it.2, refl))
 
 pub returns-in-Err-clause-crash : goal.returns-in-Err-clause-crash
-returns-in-Err-clause-crash g c = event_endures g.S.Store (Event.Begin c.args.invocation c.args.now) c.args.self.now.store c.begin.new.self c.begin.ensures.crash
+returns-in-Err-clause-crash g c = begin_endures g.S.Store c.args.invocation c.args.now c.args.self.now.store c.begin.new.self c.begin.ensures.crash
 
 pub returns-in-Ok-push-clause-does : goal.returns-in-Ok-push-clause-does
 returns-in-Ok-push-clause-does g c clean s is =
@@ -44,7 +44,7 @@ returns-in-Ok-push-clause-does g c clean s is =
     )
 
 pub returns-in-Ok-push-clause-crash : goal.returns-in-Ok-push-clause-crash
-returns-in-Ok-push-clause-crash g c = event_endures g.S.Store (Event.Begin c.args.invocation c.args.now) c.args.self.now.store c.begin.new.self c.begin.ensures.crash
+returns-in-Ok-push-clause-crash g c = begin_endures g.S.Store c.args.invocation c.args.now c.args.self.now.store c.begin.new.self c.begin.ensures.crash
 
 pub returns-clause-does : goal.returns-clause-does
 returns-clause-does g c clean s is =
@@ -53,4 +53,4 @@ returns-clause-does g c clean s is =
     (it.0, it.1, inr (as_begun c.in-Ok.begun, refl, it.2, c.in-Err-push.ensures.items))
 
 pub returns-clause-crash : goal.returns-clause-crash
-returns-clause-crash g c = event_endures g.S.Store (Event.Begin c.args.invocation c.args.now) c.args.self.now.store c.begin.new.self c.begin.ensures.crash
+returns-clause-crash g c = begin_endures g.S.Store c.args.invocation c.args.now c.args.self.now.store c.begin.new.self c.begin.ensures.crash

@@ -4,7 +4,6 @@ use Rattle.schedule_events.specs.declared.held.HeldAttempt.{HeldAttempt}
 use Rattle.schedule_events.specs.Following.{is_held}
 use Rattle.schedule_events.specs.Schedule.{FeedsHeld}
 use Rattle.schedule_events.proofs.Applying.{not_held, found_at, feeds_found}
-use Rattle.durable_schedule.proofs.Enduring.{same_endures, quiet_endures}
 use Rattle.durable_schedule.proofs.scheduler.Scheduler.feed.Goals as goal
 
 pub returns-in-None-clause-does : goal.returns-in-None-clause-does
@@ -14,9 +13,6 @@ returns-in-None-clause-does g c clean s is =
     ap (λ (hs : List (HeldAttempt g.row.H.Denot)). position (is_held c.args.invocation.now c.args.number) hs) (sym c.deref.ensures.value) ∙ sym c.place_of.ensures ∙ c.in-None.is in
     (s, is, not_held (λ one. FeedsHeld one c.args.count) c.args.invocation.now c.args.number s held none)
 
-pub returns-in-None-clause-crash : goal.returns-in-None-clause-crash
-returns-in-None-clause-crash g c = same_endures g.S.Store c.args.self.now.store
-
 pub returns-in-Some-clause-does : goal.returns-in-Some-clause-does
 returns-in-Some-clause-does g c clean s is =
     let held = c.args.self.now.held.items in
@@ -25,6 +21,3 @@ returns-in-Some-clause-does g c clean s is =
     let found = found_at c.args.invocation.now c.args.number held c.in-Some.place c.index_mut.result.now some c.index_mut.ensures.value in
     let it = c.hand_out.ensures.does clean s is in
     (it.0, it.1, feeds_found c.args.invocation.now c.args.number c.args.count held c.in-Some.place c.index_mut.result.now c.hand_out.new.one s it.0 c.hand_out.result found it.2)
-
-pub returns-in-Some-clause-crash : goal.returns-in-Some-clause-crash
-returns-in-Some-clause-crash g c = quiet_endures g.S.Store c.args.self.now.store c.hand_out.new.store c.hand_out.ensures.crash

@@ -1,8 +1,7 @@
 use Rattle.std.proofs.Common.{ap, Ok, Err}
-use Rattle.journal_model.specs.Event.{Event}
 use Rattle.live_attempts.specs.Attempts.{Attempts}
 use Rattle.durable_schedule.proofs.Standing.{invokes, same_outputs}
-use Rattle.durable_schedule.proofs.Enduring.{event_endures}
+use Rattle.durable_schedule.proofs.Enduring.{invoke_endures}
 use Rattle.durable_schedule.proofs.scheduler.Scheduler.invoke.Goals as goal
 
 pub returns-in-Ok-clause-does : goal.returns-in-Ok-clause-does
@@ -18,7 +17,7 @@ returns-in-Err-clause-does g c clean s is =
     invokes g.S.Store s old new is c.args.new (Err c.in-Err.refusal) (c.in-Err.ensures.does clean s.events is.stands) (same_outputs g.S.Store s old new is (ap (λ (l : Attempts). l.attempts) c.invoke.ensures.live))
 
 pub returns-in-Ok-clause-crash : goal.returns-in-Ok-clause-crash
-returns-in-Ok-clause-crash g c = event_endures g.S.Store (Event.Invoke c.args.new) c.args.self.now.store c.invoke.new.self c.invoke.ensures.crash
+returns-in-Ok-clause-crash g c = invoke_endures g.S.Store c.args.new c.args.self.now.store c.invoke.new.self c.invoke.ensures.crash
 
 pub returns-in-Err-clause-crash : goal.returns-in-Err-clause-crash
-returns-in-Err-clause-crash g c = event_endures g.S.Store (Event.Invoke c.args.new) c.args.self.now.store c.invoke.new.self c.invoke.ensures.crash
+returns-in-Err-clause-crash g c = invoke_endures g.S.Store c.args.new c.args.self.now.store c.invoke.new.self c.invoke.ensures.crash

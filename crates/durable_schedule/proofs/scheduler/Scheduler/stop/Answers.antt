@@ -1,6 +1,5 @@
 use Rattle.std.proofs.Common.{Ok, Err}
 use Rattle.durable_schedule.proofs.Standing.{stops}
-use Rattle.durable_schedule.proofs.Enduring.{quiet_endures}
 use Rattle.durable_schedule.proofs.scheduler.Scheduler.stop.Goals as goal
 
 pub returns-in-Ok-clause-does : goal.returns-in-Ok-clause-does
@@ -10,9 +9,3 @@ returns-in-Ok-clause-does g c clean s is =
 pub returns-in-Err-clause-does : goal.returns-in-Err-clause-does
 returns-in-Err-clause-does g c clean s is =
     stops g.S.Store s c.args.self.now.store c.stop.new.self is c.args.invocation.now c.args.number (Err c.in-Err.refusal) (c.in-Err.ensures.does clean s.events is.stands) c.in-Err.ensures.waits
-
-pub returns-in-Ok-clause-crash : goal.returns-in-Ok-clause-crash
-returns-in-Ok-clause-crash g c = quiet_endures g.S.Store c.args.self.now.store c.stop.new.self c.stop.ensures.crash
-
-pub returns-in-Err-clause-crash : goal.returns-in-Err-clause-crash
-returns-in-Err-clause-crash g c = quiet_endures g.S.Store c.args.self.now.store c.stop.new.self c.stop.ensures.crash

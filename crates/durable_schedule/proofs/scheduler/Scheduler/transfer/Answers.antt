@@ -1,10 +1,12 @@
 use Rattle.std.proofs.Common.{◌≡◌, List, sym, ap, ◌∙◌, Some, None}
 use Rattle.std.specs.List.{position}
+use Rattle.schedule_events.specs.declared.event.Event.TheVariants as event
 use Rattle.schedule_events.specs.declared.held.HeldAttempt.{HeldAttempt}
 use Rattle.schedule_events.specs.Following.{is_held}
 use Rattle.schedule_events.specs.Schedule.{MovesHeld}
 use Rattle.schedule_events.proofs.Applying.{not_held, found_at, moves_found}
-use Rattle.durable_schedule.proofs.Enduring.{same_endures}
+use Rattle.durable_schedule.specs.Scheduled.{AppliesWith, MovesSome}
+use Rattle.durable_schedule.proofs.Enduring.{same_endures, endures_so}
 use Rattle.durable_schedule.proofs.scheduler.Scheduler.transfer.Goals as goal
 
 pub returns-in-None-clause-does : goal.returns-in-None-clause-does
@@ -15,7 +17,9 @@ returns-in-None-clause-does g c clean s is =
     (s, is, not_held (λ one. MovesHeld one c.args.count) c.args.invocation.now c.args.number s held none)
 
 pub returns-in-None-clause-crash : goal.returns-in-None-clause-crash
-returns-in-None-clause-crash g c = same_endures g.S.Store c.args.self.now.store
+returns-in-None-clause-crash g c =
+    let old = c.args.self.now in
+    same_endures g.S.Store (AppliesWith g.H.Handler.next_call old.options (event.Move c.args.invocation.now c.args.number c.args.count) old.held.items) old.store
 
 pub returns-in-Some-clause-does : goal.returns-in-Some-clause-does
 returns-in-Some-clause-does g c clean s is =
@@ -27,4 +31,13 @@ returns-in-Some-clause-does g c clean s is =
     (it.0, it.1, moves_found c.args.invocation.now c.args.number c.args.count held c.in-Some.place c.index_mut.result.now c.take_in.new.one s it.0 c.take_in.result found it.2)
 
 pub returns-in-Some-clause-crash : goal.returns-in-Some-clause-crash
-returns-in-Some-clause-crash g c = c.take_in.ensures.crash
+returns-in-Some-clause-crash g c =
+    let old = c.args.self.now in
+    let held = old.held.items in
+    let one = c.index_mut.result.now in
+    let some : position (is_held c.args.invocation.now c.args.number) held ≡ Some c.in-Some.place =
+    ap (λ (hs : List (HeldAttempt g.row.H.Denot)). position (is_held c.args.invocation.now c.args.number) hs) (sym c.deref.ensures.value) ∙ sym c.place_of.ensures ∙ c.in-Some.is in
+    let found = found_at c.args.invocation.now c.args.number held c.in-Some.place one some c.index_mut.ensures.value in
+    endures_so g.S.Store (MovesSome one c.args.count) (AppliesWith g.H.Handler.next_call old.options (event.Move c.args.invocation.now c.args.number c.args.count) held) old.store c.take_in.new.store
+    (λ s t it. (it.0, _, moves_found c.args.invocation.now c.args.number c.args.count held c.in-Some.place one it.1 s t it.0 found it.2))
+    c.take_in.ensures.crash
