@@ -1,9 +1,10 @@
 // All of the frames among bytes that came are taken.
-ghost use Rattle.std.specs.Prelude.{◌≡◌, ◌+◌, false, true, List, IfOk, vec_len};
+ghost use Rattle.std.specs.Prelude.{◌≡◌, ◌+◌, false, true, List, IfErr, IfOk, vec_len};
 ghost use Rattle.sqlite.specs.Held.{state};
 ghost use Rattle.sqlite.specs.State.{HasCleanDisk, Survives};
 ghost use Rattle.journal_model.specs.Event.{Event};
 ghost use Rattle.store_rows.specs.Steps.{IsStore};
+ghost use Rattle.store_refusals.specs.declared.refusal.Refusal.TheVariants.{OutOfMemory};
 ghost use Rattle.live_attempts.specs.Attempts.{attempt_of};
 ghost use Rattle.live_laws.specs.Agrees.{has_number};
 ghost use Rattle.journal_store.specs.Attempts.{CommitsItem};
@@ -103,6 +104,7 @@ pub(crate) fn accept<S: Alter>(
     requires store { IsStore (state S.Store conn.old) }
     requires idle { (state S.Store conn.old).in_transaction ≡ false }
     ensures does { HasCleanDisk (state S.Store conn.new) → (events : List Event) → Stands events (state S.Store conn.old) live.old.attempts → Accepts events id.now attempt bytes.now result (state S.Store conn.new) live.old.attempts live.new.attempts }
+    ensures live { has_number attempt (attempt_of live.old.attempts id.now) ≡ true → IfErr result (λ why. why ≡ OutOfMemory) }
     ensures store { IsStore (state S.Store conn.new) }
     ensures idle { (state S.Store conn.new).in_transaction ≡ false }
     ensures crash { Survives (state S.Store conn.old) (state S.Store conn.new) (CommitsFed id.now attempt bytes.now live.old.attempts (state S.Store conn.old)) }

@@ -7,6 +7,7 @@ ghost use Rattle.journal_model.specs.Attempt.{input_left};
 ghost use Rattle.sql_tables.specs.Asking.{IsKept};
 ghost use Rattle.store_rows.specs.Steps.{IsStore};
 ghost use Rattle.new_invocations.specs.Rows.{IsStoreOf};
+ghost use Rattle.store_refusals.specs.declared.refusal.Refusal.TheVariants.{OutOfMemory};
 ghost use Rattle.live_attempts.specs.Attempts.{attempt_of};
 ghost use Rattle.live_laws.specs.Agrees.{has_number};
 ghost use Rattle.journal_store.specs.Attempts.{Feeds, IsStale, has_closed, has_rest};
@@ -84,6 +85,7 @@ pub(crate) fn stop<S: Alter>(
     requires idle { (state S.Store conn.old).in_transaction ≡ false }
     ensures does { HasCleanDisk (state S.Store conn.new) → (events : List Event) → Stands events (state S.Store conn.old) live.old.attempts → Does events (Event.Stop id.now attempt) (λ _. Unit {0}) result (state S.Store conn.new) live.new.attempts }
     ensures live { has_number attempt (attempt_of live.old.attempts id.now) ≡ true → IfErr result (λ _. ⊥) }
+    ensures asks { has_number attempt (attempt_of live.old.attempts id.now) ≡ true → conn.new ≡ conn.old }
     ensures waits { WaitsAfter id.now None result live.old.attempts live.new.attempts }
     ensures store { IsStore (state S.Store conn.new) }
     ensures idle { (state S.Store conn.new).in_transaction ≡ false }
@@ -108,6 +110,8 @@ pub(crate) fn feed<S: Alter>(
     requires store { IsStore (state S.Store conn.old) }
     requires idle { (state S.Store conn.old).in_transaction ≡ false }
     ensures does { HasCleanDisk (state S.Store conn.new) → (events : List Event) → Stands events (state S.Store conn.old) live.old.attempts → Feeds events id.now attempt bytes.now result (state S.Store conn.new) live.old.attempts live.new.attempts }
+    ensures live { has_number attempt (attempt_of live.old.attempts id.now) ≡ true → IfErr result (λ why. why ≡ OutOfMemory) }
+    ensures asks { has_number attempt (attempt_of live.old.attempts id.now) ≡ true → conn.new ≡ conn.old }
     ensures store { IsStore (state S.Store conn.new) }
     ensures idle { (state S.Store conn.new).in_transaction ≡ false }
     ensures crash { Survives (state S.Store conn.old) (state S.Store conn.new) (λ _. ⊥) }

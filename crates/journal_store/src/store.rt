@@ -5,6 +5,7 @@ ghost use Rattle.sqlite.specs.State.{HasCleanDisk, Survives};
 ghost use Rattle.journal_model.specs.Event.{Event};
 ghost use Rattle.journal_model.specs.Journal.{entries_of};
 ghost use Rattle.journal_model.specs.Attempt.{input_left};
+ghost use Rattle.store_refusals.specs.declared.refusal.Refusal.TheVariants.{OutOfMemory};
 ghost use Rattle.live_attempts.specs.Attempts.{attempt_of};
 ghost use Rattle.live_laws.specs.Agrees.{has_number};
 ghost use Rattle.journal_store.specs.Accepting.{Accepts, CommitsFed};
@@ -127,9 +128,12 @@ impl<S: Alter + Drop> Store<S> {
         )
     }
 
-    /// Takes in the next bytes that the attempt wrote. `step` then takes the frames among them.
+    /// Takes in the next bytes that the attempt wrote. `step` then takes the frames among them. Of a live attempt they are refused
+    /// for want of memory alone, and the database is not asked.
     pub fn feed(&mut self, id: &ByteStr, attempt: u32, bytes: &[u8]) -> Result<(), Refusal>
         ensures does { HasCleanDisk (state S.Store self.new.connection) → (events : List Event) → Stands events (state S.Store self.old.connection) self.old.live.attempts → Feeds events id.now attempt bytes.now result (state S.Store self.new.connection) self.old.live.attempts self.new.live.attempts }
+        ensures live { has_number attempt (attempt_of self.old.live.attempts id.now) ≡ true → IfErr result (λ why. why ≡ OutOfMemory) }
+        ensures asks { has_number attempt (attempt_of self.old.live.attempts id.now) ≡ true → self.new.connection ≡ self.old.connection }
         ensures crash { Survives (state S.Store self.old.connection) (state S.Store self.new.connection) (λ _. ⊥) }
     {
         feed(
@@ -161,6 +165,7 @@ impl<S: Alter + Drop> Store<S> {
     /// until none waits whole. An `Err` is a refusal of the bytes.
     pub fn accept(&mut self, id: &ByteStr, attempt: u32, bytes: &[u8]) -> Result<Accepted, Refusal>
         ensures does { HasCleanDisk (state S.Store self.new.connection) → (events : List Event) → Stands events (state S.Store self.old.connection) self.old.live.attempts → Accepts events id.now attempt bytes.now result (state S.Store self.new.connection) self.old.live.attempts self.new.live.attempts }
+        ensures live { has_number attempt (attempt_of self.old.live.attempts id.now) ≡ true → IfErr result (λ why. why ≡ OutOfMemory) }
         ensures crash { Survives (state S.Store self.old.connection) (state S.Store self.new.connection) (CommitsFed id.now attempt bytes.now self.old.live.attempts (state S.Store self.old.connection)) }
     {
         accept(
@@ -177,6 +182,7 @@ impl<S: Alter + Drop> Store<S> {
     pub fn stop(&mut self, id: &ByteStr, attempt: u32) -> Result<(), Refusal>
         ensures does { HasCleanDisk (state S.Store self.new.connection) → (events : List Event) → Stands events (state S.Store self.old.connection) self.old.live.attempts → Does events (Event.Stop id.now attempt) (λ _. Unit {0}) result (state S.Store self.new.connection) self.new.live.attempts }
         ensures live { has_number attempt (attempt_of self.old.live.attempts id.now) ≡ true → IfErr result (λ _. ⊥) }
+        ensures asks { has_number attempt (attempt_of self.old.live.attempts id.now) ≡ true → self.new.connection ≡ self.old.connection }
         ensures waits { WaitsAfter id.now None result self.old.live.attempts self.new.live.attempts }
         ensures crash { Survives (state S.Store self.old.connection) (state S.Store self.new.connection) (λ _. ⊥) }
     {
