@@ -1,5 +1,5 @@
 -- The tree that a future's record is, over the ids of notifications.
-use Rattle.std.specs.Prelude.{◌≡◌, ℕ, List, ◌++◌, map}
+use Rattle.std.specs.Prelude.{ℕ, List, ◌++◌, map}
 use Rattle.journal_model.specs.AwaitTree as Trees
 use Rattle.journal_model.specs.declared.notification.NotificationId.{NotificationId}
 use Rattle.journal_model.specs.declared.notification.NotificationId.TheVariants as ids

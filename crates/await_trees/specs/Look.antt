@@ -1,5 +1,5 @@
 -- What looking at a tree answers.
-use Rattle.std.specs.Prelude.{◌≡◌, Bool}
+use Rattle.std.specs.Prelude.{◌≡◌}
 use Rattle.journal_model.specs.AwaitTree as Trees
 use Rattle.await_trees.specs.Shape.{state_meant}
 use Rattle.await_trees.specs.declared.tree.AwaitState.{AwaitState}

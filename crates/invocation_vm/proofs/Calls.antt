@@ -1,5 +1,5 @@
 -- What the run of a handler makes of each call that is carried out, before anything has come.
-use Rattle.std.proofs.Common.{◌≡◌, refl, sym, ap, ap₂, subst, ◌∙◌, ℕ, suc, ◌+◌, ◌-◌, ◌^◌, ◌≤◌, ◌<◌, ◌==◌, nat_lt, arith, append-nil, Bool, true, false, if◌then◌else◌, List, [], ◌∷◌, ◌++◌, length, Option, Some, None, option_map, inl}
+use Rattle.std.proofs.Common.{◌≡◌, refl, sym, ap, ap₂, subst, ◌∙◌, ℕ, ◌+◌, ◌-◌, ◌^◌, ◌≤◌, ◌<◌, ◌==◌, nat_lt, arith, append-nil, Bool, true, false, if◌then◌else◌, List, [], ◌∷◌, ◌++◌, length, Option, Some, None, option_map, inl}
 use Rattle.std.specs.Prelude.{nat_le, IsNone}
 use Rattle.std.specs.List.{flat_map, AllByRecursion}
 use Rattle.std.proofs.lemmas.Bool.{le-leb, lt-leb}
@@ -15,14 +15,13 @@ use Rattle.journal_model.specs.AwaitTree.{AwaitTree, Single}
 use Rattle.journal_model.specs.Request.{Request}
 use Rattle.journal_model.specs.Refusal.{Refusal, milliseconds, first_refusal, value_tests, refusal_of}
 use Rattle.journal_model.specs.Spelling.{frame_bytes, request_payload, request_frame, suspension_payload}
-use Rattle.journal_model.specs.History.{Step, answers_of, next_completion, next_handle, stands_for}
+use Rattle.journal_model.specs.History.{Step, next_completion, next_handle, stands_for}
 use Rattle.journal_model.specs.Await.{awaited_ids}
 use Rattle.journal_model.specs.Waiting.{still_awaited, only_leaves}
-use Rattle.journal_model.specs.Run.{Invocation, Ending, GoesOn, answered_step, after_call}
+use Rattle.journal_model.specs.Run.{Invocation, answered_step}
 use Rattle.journal_model.proofs.Continuing.{after_call-answers, after_call-ends, after_call-waits}
 use Rattle.journal_model.proofs.FirstCalls.{FirstSteps, first_id, first-none, first-sleep, first-output, await_outcome-single, still_awaited-single}
 use Rattle.invocation_vm.specs.declared.options.VMOptions.{VMOptions}
-use Rattle.invocation_vm.specs.declared.options.AwaitingOnPolicy.{AwaitingOnPolicy}
 use Rattle.invocation_vm.specs.declared.failure.AttemptFailure.{AttemptFailure}
 use Rattle.invocation_vm.specs.declared.failure.CallRefusal.{CallRefusal}
 use Rattle.invocation_vm.specs.declared.progress.Progress.{Progress}
@@ -31,7 +30,7 @@ use Rattle.invocation_vm.specs.Options.{run_options}
 use Rattle.invocation_vm.specs.Frames.{FitsFrame, WriteFails, tree_awaited, awaiting_payloads, TellsAwaiting}
 use Rattle.invocation_vm.specs.Progress.{id_awaited, Sleeps, SleepFails, PutsOut, OutputFails}
 use Rattle.invocation_vm.proofs.Payloads.{IsNumbered, awaiting_fits}
-use Rattle.invocation_vm.specs.Standing.{AreFirst, Tallies, IsFirstRequest, GoesOnBy, WaitsBy, EndsBy, HasCause}
+use Rattle.invocation_vm.specs.Standing.{AreFirst, Tallies, GoesOnBy, WaitsBy, EndsBy, HasCause}
 
 -- ---- what handles stand for
 

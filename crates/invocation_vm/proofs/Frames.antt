@@ -1,5 +1,5 @@
 -- The first message of bytes that begin with a frame.
-use Rattle.std.proofs.Common.{◌≡◌, ◌≢◌, refl, sym, ap, subst, ◌∙◌, ℕ, ◌+◌, ◌^◌, ◌<◌, ◌≤◌, arith, Bool, true, false, List, [], ◌∷◌, ◌++◌, length, take, drop, length-append, Option, Some, None, Result, Ok, Err, ◌⊎◌, inl, inr}
+use Rattle.std.proofs.Common.{◌≡◌, sym, ap, subst, ◌∙◌, ℕ, ◌<◌, ◌≤◌, arith, List, ◌++◌, length, drop, length-append, Option, Some, None, Result, Ok, Err, ◌⊎◌, inl, inr}
 use Rattle.std.specs.Prelude.{IsSome}
 use Rattle.std.proofs.lemmas.Bool.{cases_lt}
 use Rattle.std.proofs.lemmas.List.{drop-append-le}
@@ -10,7 +10,6 @@ use Rattle.protocol_wire.specs.Decodes.{IsRead}
 use Rattle.protocol_wire.specs.declared.record.TheConstants.{LEVELS}
 use Rattle.protocol_table.specs.declared.table.RecordType.{RecordType}
 use Rattle.journal_protocol.specs.declared.message_type.MessageType.{MessageType}
-use Rattle.journal_protocol.specs.declared.message_type.UnknownMessageType.{UnknownMessageType}
 use Rattle.journal_protocol.specs.declared.decoder.RawMessage.{RawMessage}
 use Rattle.journal_protocol.specs.MessageType.{number_of}
 use Rattle.journal_protocol.specs.Header.{message_type}
@@ -20,7 +19,7 @@ use Rattle.journal_protocol.proofs.Streams.{item_at-short, item_at-whole}
 use Rattle.journal_protocol.proofs.Spellings.{spelled-frame_bytes}
 use Rattle.journal_model.specs.Spelling.{frame_bytes}
 use Rattle.invocation_vm.specs.declared.failure.AttemptFailure.{AttemptFailure}
-use Rattle.invocation_vm.specs.Preflight.{TakesMessage, RecordFails, ReadsRecord}
+use Rattle.invocation_vm.specs.Preflight.{TakesMessage, ReadsRecord}
 
 abbrev some_pair : {A B : Type 0} → A → B → Option (A × B)
 some_pair a b = Some (a, b)

@@ -1,7 +1,6 @@
 -- The start and the input of a new invocation are read back from the payloads of its first two frames, also where nothing is
 -- known of their texts: what was read without a fault is what was written.
-use Rattle.std.proofs.Common.{◌≡◌, refl, sym, ap, ap₂, ◌∙◌, ℕ, ◌+◌, ◌-◌, ◌==◌, ◌^◌, ◌<◌, arith, Bool, true, false, if◌then◌else◌, nat_lt, List, [], ◌∷◌, ◌++◌, append-nil, length, map, Option, Some, None}
-use Rattle.std.specs.Prelude.{option_map}
+use Rattle.std.proofs.Common.{◌≡◌, refl, sym, ap, ◌∙◌, ℕ, ◌-◌, ◌^◌, ◌<◌, arith, Bool, true, false, if◌then◌else◌, nat_lt, List, [], ◌∷◌, length, map, Option, Some, None}
 use Rattle.std.specs.List.{AllByRecursion}
 use Rattle.protocol_wire.specs.Wire.{bytes}
 use Rattle.protocol_wire.specs.Fields.{fields}
@@ -11,7 +10,6 @@ use Rattle.protocol_wire.specs.declared.record.TheConstants.{LEVELS}
 use Rattle.protocol_table.specs.declared.table.RecordType.TheVariants as types
 use Rattle.protocol_wire.proofs.Back.{u64_back, u32_back, text_back, bool_back, optional_text_back, optional_record_back, records_back}
 use Rattle.protocol_wire.proofs.Holds.{LengthFits, PartLengthsFit, lengths_fit}
-use Rattle.protocol_records.specs.declared.value.Value.{Value}
 use Rattle.protocol_records.specs.declared.header.Header as records
 use Rattle.protocol_records.specs.declared.start.StartMessage.{StartMessage}
 use Rattle.protocol_records.specs.declared.input_command.InputCommandMessage.{InputCommandMessage}
@@ -22,10 +20,8 @@ use Rattle.protocol_records.specs.StateEntry.{state_entry_of, state_entry_parts}
 use Rattle.protocol_records.specs.Start.{start_of, start_parts}
 use Rattle.protocol_records.specs.InputCommand.{input_command_of, input_command_parts}
 use Rattle.journal_model.specs.declared.call.Header.{Header}
-use Rattle.journal_model.specs.declared.handler.Input.{Input}
 use Rattle.journal_model.specs.declared.invocation.NewInvocation.{NewInvocation}
 use Rattle.journal_model.specs.State.{StateMap}
-use Rattle.journal_model.specs.declared.invocation.StateMode.{StateMode}
 use Rattle.journal_protocol.specs.Records.{header_record, header_told, is_partial, state_shown, input_record, start_record}
 use Rattle.journal_protocol.proofs.RecordSpellings.{starts_spelled, inputs_spelled}
 use Rattle.invocation_vm.specs.declared.options.VMOptions.{VMOptions}

@@ -1,13 +1,12 @@
 -- A message that was taken, read as a record.
-use Rattle.std.proofs.Common.{◌≡◌, refl, ℕ, List, Option, Some, ◌≢◌}
-use Rattle.std.specs.Prelude.{IsSome}
+use Rattle.std.proofs.Common.{◌≡◌, refl, ℕ, List, Some}
 use Rattle.protocol_table.specs.declared.table.RecordType.{RecordType}
 use Rattle.journal_protocol.specs.declared.message_type.MessageType.{MessageType}
 use Rattle.journal_protocol.specs.declared.decoder.RawMessage.{RawMessage}
 use Rattle.journal_protocol.specs.Header.{message_type}
 use Rattle.journal_protocol.specs.Item.{item_at, message}
 use Rattle.invocation_vm.specs.declared.failure.AttemptFailure.{AttemptFailure}
-use Rattle.invocation_vm.specs.Preflight.{TakesMessage, MessageFails, PayloadFails, RecordFails}
+use Rattle.invocation_vm.specs.Preflight.{MessageFails, PayloadFails, RecordFails}
 
 pub message_fails : (ty : MessageType) (t : RecordType) (old new : List ℕ) (failure : AttemptFailure) → MessageFails old new failure → RecordFails ty t old new failure
 message_fails ty t old new AttemptFailure.OutOfMemory h = tt

@@ -1,8 +1,6 @@
 -- What is read of the first two frames of a new invocation.
-use Rattle.std.proofs.Common.{◌≡◌, refl, sym, ap, ap₂, subst, ◌∙◌, ℕ, ◌+◌, ◌^◌, ◌<◌, arith, Bool, true, false, List, [], ◌∷◌, ◌++◌, length, length-append, Option, Some, None, Result, Ok, Err}
-use Rattle.std.specs.Prelude.{is_some, IsSome}
-use Rattle.protocol_wire.specs.Check.{payload_fault}
-use Rattle.protocol_wire.specs.declared.record.TheConstants.{LEVELS}
+use Rattle.std.proofs.Common.{◌≡◌, refl, sym, ap, ap₂, subst, ◌∙◌, ℕ, ◌^◌, ◌<◌, arith, true, List, ◌++◌, length, length-append, Option, Some, None, Result, Ok, Err}
+use Rattle.std.specs.Prelude.{is_some}
 use Rattle.protocol_table.specs.declared.table.RecordType.TheVariants as types
 use Rattle.protocol_records.specs.declared.start.StartMessage.{StartMessage}
 use Rattle.protocol_records.specs.declared.input_command.InputCommandMessage.{InputCommandMessage}
@@ -14,11 +12,11 @@ use Rattle.journal_model.specs.State.{StateMap}
 use Rattle.journal_model.specs.Spelling.{frame_bytes}
 use Rattle.journal_protocol.specs.declared.message_type.MessageType.{MessageType}
 use Rattle.journal_protocol.specs.Frame.{message_of, IsFrame}
-use Rattle.journal_protocol.specs.Records.{start_record, input_record}
+use Rattle.journal_protocol.specs.Records.{start_record}
 use Rattle.journal_protocol.proofs.Types.{names_read_back}
 use Rattle.invocation_vm.specs.declared.options.VMOptions.{VMOptions}
 use Rattle.invocation_vm.specs.declared.failure.AttemptFailure.{AttemptFailure}
-use Rattle.invocation_vm.specs.First.{first_payload, second_payload, FitsFrames, AreToRead, CannotRead, given_by}
+use Rattle.invocation_vm.specs.First.{first_payload, second_payload, FitsFrames, AreToRead, CannotRead}
 use Rattle.invocation_vm.specs.Preflight.{ReadsRecord, StartFails, input_given}
 use Rattle.invocation_vm.specs.Reads.{HasStart, HasInput}
 use Rattle.invocation_vm.proofs.Frames.{ReadsFirst, reads_first}

@@ -7,7 +7,7 @@ use Rattle.journal_model.specs.declared.handler.Input.{Input}
 use Rattle.journal_model.specs.declared.invocation.NewInvocation.{NewInvocation}
 use Rattle.journal_model.specs.State.{StateMap}
 use Rattle.journal_model.specs.History.{Step, answers_of, requests_of}
-use Rattle.journal_model.specs.Run.{Handler, Invocation, Progress as Runs, Ending, GoesOn, Waits, Ended, after_call, run}
+use Rattle.journal_model.specs.Run.{Handler, Invocation, Progress as Runs, Ending, GoesOn, after_call, run}
 use Rattle.journal_model.proofs.Continuing.{run-next}
 use Rattle.invocation_vm.specs.declared.failure.AttemptFailure.{AttemptFailure}
 use Rattle.invocation_vm.specs.declared.progress.Progress.{Progress}

@@ -1,5 +1,5 @@
 -- The first two frames of a new invocation whose object has this state: its start and its input.
-use Rattle.std.specs.Prelude.{◌≡◌, ◌<◌, ◌^◌, ◌++◌, ℕ, List, [], Option, Some, None, IsSome}
+use Rattle.std.specs.Prelude.{◌≡◌, ◌<◌, ◌^◌, ◌++◌, ℕ, List, Option, Some, None, IsSome}
 use Rattle.journal_model.specs.declared.invocation.NewInvocation.{NewInvocation}
 use Rattle.journal_model.specs.State.{StateMap}
 use Rattle.journal_model.specs.Spelling.{frame_bytes, input_payload}

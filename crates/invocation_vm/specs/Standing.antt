@@ -10,7 +10,7 @@ use Rattle.journal_model.specs.Spelling.{request_payload, request_frame, frame_b
 use Rattle.journal_model.specs.History.{Step, answers_of, place_of, next_completion, next_handle, completions_of, stands_for, TakesBelow, WithinPlaces}
 use Rattle.journal_model.specs.Delivery.{known_results}
 use Rattle.journal_model.specs.Waiting.{still_awaited}
-use Rattle.journal_model.specs.Run.{Invocation, Ending, GoesOn, Waits, Ended, after_call, requests_to}
+use Rattle.journal_model.specs.Run.{Invocation, GoesOn, Waits, Ended, after_call, requests_to}
 use Rattle.invocation_vm.specs.declared.options.AwaitingOnPolicy.{AwaitingOnPolicy}
 use Rattle.invocation_vm.specs.declared.failure.AttemptFailure.{AttemptFailure}
 use Rattle.invocation_vm.specs.declared.progress.Progress.{Progress}

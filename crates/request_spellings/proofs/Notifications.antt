@@ -1,9 +1,8 @@
 -- Notifications, acknowledgements and suspensions.
-use Rattle.std.proofs.Common.{◌≡◌, ℕ, List, [], ◌++◌, Some, refl}
+use Rattle.std.proofs.Common.{◌≡◌, [], ◌++◌, Some, refl}
 use Rattle.protocol_wire.specs.Parts.{payload_of}
 use Rattle.journal_model.specs.Spelling as model
 use Rattle.journal_model.specs.declared.notification.Failure.{Failure}
-use Rattle.journal_model.specs.declared.notification.Notification.{Notification}
 use Rattle.journal_model.specs.declared.notification.NotificationId.{NotificationId}
 use Rattle.journal_model.specs.declared.notification.NotificationId.TheVariants as ids
 use Rattle.journal_model.specs.declared.notification.NotificationResult.{NotificationResult}

@@ -1,5 +1,5 @@
 -- Requests.
-use Rattle.std.proofs.Common.{◌≡◌, ℕ, List, [], ◌∷◌, ◌++◌, Some, None, refl}
+use Rattle.std.proofs.Common.{ℕ, List, [], ◌∷◌, ◌++◌, Some, None, refl}
 use Rattle.protocol_wire.specs.Parts as parts
 use Rattle.journal_model.specs.Spelling as model
 use Rattle.journal_model.specs.declared.value.NonEmptyValue.{NonEmptyValue}

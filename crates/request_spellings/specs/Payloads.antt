@@ -1,5 +1,5 @@
 -- The canonical payloads of these records.
-use Rattle.std.specs.Prelude.{ℕ, List, [], Some}
+use Rattle.std.specs.Prelude.{ℕ, List, Some}
 use Rattle.protocol_wire.specs.Parts.{Part, payload_of}
 use Rattle.journal_model.specs.Notification.{Arrival}
 use Rattle.journal_model.specs.declared.notification.NotificationId.{NotificationId}

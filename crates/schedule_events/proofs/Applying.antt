@@ -1,13 +1,11 @@
 -- What a call does to the attempt that was found at its place, it does among all that are held; and one more event.
-use Rattle.std.proofs.Common.{◌≡◌, ℕ, List, [], ◌∷◌, ◌++◌, Option, Some, None, refl, sym, ap, subst, ◌∙◌, get_or}
+use Rattle.std.proofs.Common.{◌≡◌, ℕ, List, [], ◌∷◌, Option, Some, None, refl, sym, ap, subst, ◌∙◌, get_or}
 use Rattle.std.specs.Prelude.{slice_set}
 use Rattle.std.specs.List.{position}
 use Rattle.journal_model.specs.Notification.{Text}
 use Rattle.journal_model.specs.Run.{Handler}
-use Rattle.invocation_vm.specs.declared.options.VMOptions.{VMOptions}
 use Rattle.invocation_vm.specs.declared.attempt.Attempt.{Attempt}
 use Rattle.invocation_vm.specs.declared.progress.Turn.{Turn}
-use Rattle.schedule_events.specs.declared.event.Event.{Event}
 use Rattle.schedule_events.specs.declared.event.Reply.{Reply}
 use Rattle.schedule_events.specs.declared.event.Reply.TheVariants as reply
 use Rattle.schedule_events.specs.declared.event.Refusal.TheVariants as refusal
@@ -15,7 +13,7 @@ use Rattle.schedule_events.specs.declared.held.HeldAttempt.{HeldAttempt}
 use Rattle.schedule_events.specs.First.{with_first, IsFirstAt}
 use Rattle.schedule_events.specs.Standing.{Standing, Stays}
 use Rattle.schedule_events.specs.Following.{is_held, held_of}
-use Rattle.schedule_events.specs.Schedule.{TurnDoes, IfHeld, with_attempt, FeedsOne, FeedsHeld, TurnsHeld, MovesOne, MovesHeld, Scheduled, Applies, AppliesAll}
+use Rattle.schedule_events.specs.Schedule.{TurnDoes, IfHeld, with_attempt, FeedsOne, FeedsHeld, TurnsHeld, MovesOne, MovesHeld, Scheduled, Applies}
 use Rattle.schedule_events.specs.Laws.{NoneHeld, FeedsReach, MovesReach, TurnsReach, SchedulesGrow}
 use Rattle.schedule_events.proofs.Firsts.{first_found, first_missing, first_at, with_first_at, set_same}
 use Rattle.schedule_events.proofs.Holding.{held_is}

@@ -1,5 +1,5 @@
 -- The first element that passes a test: at its place, after it was replaced, and after one more.
-use Rattle.std.proofs.Common.{◌≡◌, ℕ, zero, suc, ◌+◌, ◌<◌, ◌≤◌, Bool, true, false, ltb, List, [], ◌∷◌, ◌++◌, length, Option, Some, None, get_or, refl, sym, ap, ◌∙◌, arith, ◌⊎◌, inl, inr, is_some}
+use Rattle.std.proofs.Common.{◌≡◌, ℕ, zero, suc, ◌+◌, ◌<◌, ◌≤◌, Bool, true, false, ltb, List, [], ◌∷◌, ◌++◌, length, Option, Some, None, get_or, refl, sym, ap, ◌∙◌, arith, ◌⊎◌, inl, inr}
 use Rattle.std.specs.List.{find, position, position_or_len}
 use Rattle.std.specs.Prelude.{slice_set, if◌then◌else◌}
 use Rattle.std.proofs.lemmas.Bool.{le-ltb, ltb-false}
@@ -61,14 +61,6 @@ module _ {A : Type 0} (test : A → Bool) where
         passes = f.passes;
         none_before = λ j d lt. f.none_before (suc j) d (omega arith);
       }))
-
-  -- a search answers where one passes
-  pub found_alike : (xs : List A) → is_some (position test xs) ≡ is_some (find test xs)
-  found_alike xs = go (position test xs) refl
-    where
-      go : (o : Option ℕ) → position test xs ≡ o → is_some o ≡ is_some (find test xs)
-      go None e = let f = first_missing xs e in rw f refl
-      go (Some k) e = let x = first_found xs k e in let f = first_at xs k x.0 x.1 in rw f refl
 
   pub with_first_at : (xs : List A) (k : ℕ) (x y : A) → IsFirstAt test xs k x → slice_set xs k y ≡ with_first test xs y
   with_first_at [] k x y f = absurd (omega (arith, f.within))

@@ -13,4 +13,3 @@ pub mod Changing
 pub mod Keeping
 pub mod Leaving
 pub mod Applying
-pub mod Waiting

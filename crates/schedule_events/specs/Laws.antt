@@ -1,5 +1,5 @@
 -- What schedules keep, and what they leave.
-use Rattle.std.specs.Prelude.{◌≡◌, ◌<◌, ℕ, Bool, List, [], ◌∷◌, ◌++◌, get_or, Some, None, slice_set}
+use Rattle.std.specs.Prelude.{◌≡◌, ℕ, List, [], ◌∷◌, ◌++◌, get_or, Some, None, slice_set}
 use Rattle.std.specs.List.{AllByRecursion, position}
 use Rattle.journal_model.specs.Notification.{Text}
 use Rattle.journal_model.specs.declared.invocation.NewInvocation.{NewInvocation}
@@ -12,17 +12,12 @@ use Rattle.invocation_vm.specs.declared.attempt.Attempt.{Attempt}
 use Rattle.invocation_vm.specs.declared.progress.Turn.{Turn}
 use Rattle.schedule_events.specs.declared.event.Reply.{Reply}
 use Rattle.schedule_events.specs.declared.event.Reply.TheVariants as reply
-use Rattle.schedule_events.specs.declared.event.Refusal.TheVariants as refusal
 use Rattle.schedule_events.specs.declared.held.HeldAttempt.{HeldAttempt}
-use Rattle.schedule_events.specs.Standing.{Standing, TakesFrame, bytes_waiting}
+use Rattle.schedule_events.specs.Standing.{Standing}
 use Rattle.schedule_events.specs.Schedule.{IfHeld, FeedsOne, FeedsHeld, MovesOne, MovesHeld, TurnDoes, TurnsHeld, Does, Scheduled, Applies, AppliesAll, Brings, FitsEvent}
 use Rattle.schedule_events.specs.Following.{is_held, held_of, Follows, IsBeginningOfRun}
 
 -- ---- of the calls
-
--- each frame that is taken leaves fewer bytes that wait
-abbrev pub FramesShrink : Type 0
-FramesShrink = (id : Text) (attempt : ℕ) (does_end : Bool) (old new : Standing) → TakesFrame id attempt does_end old new → bytes_waiting new id < bytes_waiting old id
 
 module _ (H : Type 0) where
   -- an attempt that stands at no place is not held

@@ -1,5 +1,5 @@
 -- What a store stands for, and what each of its calls answers and leaves.
-use Rattle.std.specs.Prelude.{◌≡◌, ◌⊎◌, ◌+◌, ℕ, Bool, true, false, List, [], ◌∷◌, ◌++◌, length, take, Option, Some, None, is_some, unwrap_or, Result, Ok, Err, bytes_eq}
+use Rattle.std.specs.Prelude.{◌≡◌, ◌⊎◌, ◌+◌, ℕ, Bool, true, false, List, [], ◌∷◌, ◌++◌, take, Option, Some, None, is_some, Result, Ok, Err, bytes_eq}
 use Rattle.journal_model.specs.Notification.{Bytes, Text}
 use Rattle.journal_model.specs.declared.invocation.NewInvocation.{NewInvocation}
 use Rattle.journal_model.specs.Event.{Event, Frame}
@@ -152,7 +152,3 @@ pub record WaitsStill (id : Text) (attempt : ℕ) (why : Refusal) (old new : Sta
 -- an attempt that is not live has no frames; a circumstance may be met before any is looked at, and then nothing changes
 abbrev pub RefusesFrame : Text → (attempt : ℕ) → Refusal → Standing → Standing → Type 0
 RefusesFrame id attempt why old new = StopsAtFrame id attempt why old new ⊎ (WaitsStill id attempt why old new ⊎ Refuses (Event.Stop id attempt) why old new)
-
--- how many bytes wait
-abbrev pub bytes_waiting : Standing → Text → ℕ
-bytes_waiting s id = length (unwrap_or (s.outputs id) [])

@@ -1,5 +1,5 @@
 //! Laws of schedules. The functions do nothing: their contracts are the laws.
-ghost use Rattle.schedule_events.specs.Laws.{BeginsRun, FeedsReach, FollowsAtFirst, FramesShrink, KeptByEach, LeavesRuns, MovesReach, NoneHeld, SchedulesGrow, TurnsReach};
+ghost use Rattle.schedule_events.specs.Laws.{BeginsRun, FeedsReach, FollowsAtFirst, KeptByEach, LeavesRuns, MovesReach, NoneHeld, SchedulesGrow, TurnsReach};
 
 use journal_model::Handler;
 
@@ -15,11 +15,6 @@ pub fn schedules_follow_runs<H: Handler>()
 /// A schedule has as many replies as events, each for its own.
 pub fn schedules_grow<H: Handler>()
     ensures { SchedulesGrow H.next_call }
-{}
-
-/// Each frame that is taken leaves fewer bytes that wait.
-pub fn frames_shrink()
-    ensures { FramesShrink }
 {}
 
 /// What is done to an attempt at its place among those that are held is what the definitions of the events say.

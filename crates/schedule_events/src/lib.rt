@@ -7,4 +7,4 @@ mod laws;
 
 pub use event::{Event, Refusal, Reply};
 pub use held::HeldAttempt;
-pub use laws::{attempts_are_held, frames_shrink, schedules_follow_runs, schedules_grow};
+pub use laws::{attempts_are_held, schedules_follow_runs, schedules_grow};

@@ -6,8 +6,8 @@ use Rattle.std.proofs.lemmas.List.Sorted.{IsPermutation-map, IsPermutation-sym, 
 use Rattle.sqlite.specs.declared.types.Value.TheVariants.{Null}
 use Rattle.sqlite_value.specs.Order.{Row}
 use Rattle.sqlite_value.specs.declared.keys.Key.{Key}
-use Rattle.sqlite.specs.Term.{Term, Env, eval_all, holds}
-use Rattle.sqlite.specs.Query.{Query, Output, output, output_cmp, IsAnswer, page}
+use Rattle.sqlite.specs.Term.{Term, eval_all, holds}
+use Rattle.sqlite.specs.Query.{Query, Output, output, output_cmp, IsAnswer}
 use Rattle.sqlite.specs.Tree.{Trees}
 use Rattle.sqlite_keyed.proofs.ListLemmas.{map-map, map_same, filter-map, filter_same, IsPermutation-filter}
 use Rattle.sqlite_sql.specs.Program.{overlay, IsProgramAnswer}

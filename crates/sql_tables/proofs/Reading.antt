@@ -1,5 +1,5 @@
 -- What a caller knows of rows that were read.
-use Rattle.std.proofs.Common.{◌≡◌, inl, inr, ◌≤◌, ◌<◌, ℕ, Bool, true, false, cond, Option, Some, None, List, [], ◌∷◌, map, filter, drop, length, slice_get, slice_index_or, zero, suc, ◌≢◌, Result, Ok, Err, IfErr, IsErrAnd, IsTrue, refl, sym, ap, subst, ◌∙◌, arith}
+use Rattle.std.proofs.Common.{◌≡◌, inl, inr, ◌<◌, ℕ, Bool, true, false, cond, Option, Some, None, List, [], ◌∷◌, map, filter, drop, length, slice_get, slice_index_or, zero, suc, ◌≢◌, Result, Ok, Err, IfErr, IsErrAnd, refl, sym, ap, subst, ◌∙◌, arith}
 use Rattle.std.specs.List.{AllByRecursion, find}
 use Rattle.std.specs.List.Sorted.{IsPermutation}
 use Rattle.std.proofs.lemmas.List.Sorted.{IsPermutation-map, length_permutation}

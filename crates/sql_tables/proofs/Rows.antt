@@ -1,5 +1,5 @@
 -- Rows under INSERT and DELETE, in any order.
-use Rattle.std.proofs.Common.{◌≡◌, ◌⊎◌, ◌<◌, ◌≤◌, ◌+◌, ℕ, ℤ, pos, inl, inr, Bool, true, false, not, cond, ◌&&◌, ◌||◌, Ordering, Less, Equal, Greater, is_eq, List, [], ◌∷◌, ◌++◌, map, filter, length, drop, refl, sym, ap, subst, ◌∙◌, arith, append-nil}
+use Rattle.std.proofs.Common.{◌≡◌, ◌≤◌, ℤ, inl, inr, Bool, true, false, not, cond, ◌&&◌, ◌||◌, Ordering, Less, Equal, Greater, is_eq, List, [], ◌∷◌, ◌++◌, map, filter, length, drop, refl, sym, ap, subst, ◌∙◌, arith, append-nil}
 use Rattle.std.specs.List.{AllByRecursion, list_any}
 use Rattle.std.specs.Ordering.{match_ordering}
 use Rattle.std.specs.List.Sorted.{IsPermutation}
@@ -20,7 +20,7 @@ use Rattle.sqlite_rules.specs.Edit.{id_in, is_taken, without_all, put_all, are_f
 use Rattle.sqlite_rules.specs.Calls.{ids_of}
 use Rattle.sqlite_rules.specs.Lists.{Has}
 use Rattle.sqlite_rules.proofs.ListLemmas.{all_has, all_from, some_has, some_from, has_filtered, has_kept}
-use Rattle.sqlite_rules.proofs.TableLemmas.{int_is, taken_is, none_to_drop}
+use Rattle.sqlite_rules.proofs.TableLemmas.{int_is, taken_is}
 use Rattle.sql_tables.specs.Content.{IsNumbered, HasRows}
 
 pub put_permutes : (new : Row) (rows : List Row) → is_taken rows new ≡ false → IsPermutation (put_row new rows) (new ∷ rows)

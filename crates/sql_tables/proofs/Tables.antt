@@ -1,5 +1,5 @@
 -- Each statement as a change of one table's rows.
-use Rattle.std.proofs.Common.{◌≡◌, ◌≢◌, ◌/◌, ◌^◌, ℕ, Bool, true, false, not, ◌&&◌, List, [], ◌∷◌, ◌++◌, map, filter, drop, length, slice_get, Some, None, Option, cond, Ok, refl, sym, ap, subst, ◌∙◌, nat_le}
+use Rattle.std.proofs.Common.{◌≡◌, ◌/◌, ℕ, Bool, true, false, not, List, [], ◌∷◌, ◌++◌, map, filter, drop, length, slice_get, Some, cond, Ok, refl, sym, ap, subst, ◌∙◌}
 use Rattle.std.proofs.lemmas.Bool.{and_parts, not-true}
 use Rattle.sqlite.specs.declared.types.Value.TheVariants.{Null, Int}
 use Rattle.sqlite_value.specs.Order.{Row}
@@ -10,8 +10,7 @@ use Rattle.sqlite.specs.Command.TheVariants.{Insert, Delete, Update}
 use Rattle.sqlite.specs.Cast.{cast, cast_row, cast_all}
 use Rattle.sqlite.specs.Rowids.TheVariants.{Chosen, Given}
 use Rattle.sqlite_schema.specs.declared.schema.Column.{Column}
-use Rattle.std.specs.Option.{unwrap_or}
-use Rattle.sqlite_trees.specs.Tree.{Trees, rowid, put_row}
+use Rattle.sqlite_trees.specs.Tree.{rowid, put_row}
 use Rattle.sqlite_trees.specs.View.{is_int}
 use Rattle.sqlite.specs.Kind.TheVariants.{Integer}
 use Rattle.std.specs.List.{AllByRecursion}
@@ -25,7 +24,7 @@ use Rattle.sqlite_rules.specs.Calls.{ids_of}
 use Rattle.sqlite.specs.Effect.{value_rows}
 use Rattle.sqlite.specs.State.{State, Executes}
 use Rattle.sqlite.specs.Listing.{understood}
-use Rattle.sqlite_sql.specs.Program.{given_at, overlay}
+use Rattle.sqlite_sql.specs.Program.{overlay}
 use Rattle.sqlite.proofs.Callers.{IsPlain, command_of}
 use Rattle.sqlite.specs.Schema.{Schema}
 use Rattle.sql_tables.specs.Columns.{NoneRefers, table_at}

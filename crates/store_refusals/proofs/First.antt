@@ -1,8 +1,7 @@
 -- The first test that holds.
-use Rattle.std.proofs.Common.{◌≡◌, refl, Bool, true, false, if◌then◌else◌, List, [], ◌∷◌, ◌++◌, Option, Some, None}
-use Rattle.journal_model.specs.Cause.{Cause, Tests, those_that_hold}
-use Rattle.store_refusals.specs.declared.refusal.Refusal.{Refusal}
-use Rattle.store_refusals.specs.Refused.{refusal_of, first_of, refusal_by}
+use Rattle.std.proofs.Common.{◌≡◌, refl, true, false, [], ◌∷◌, None}
+use Rattle.journal_model.specs.Cause.{Tests, those_that_hold}
+use Rattle.store_refusals.specs.Refused.{first_of, refusal_by}
 
 -- the least cause is that of the first test that holds
 pub first_holds : (tests : Tests) → first_of (those_that_hold tests) ≡ refusal_by tests

@@ -1,5 +1,5 @@
 -- Which refusal a cause is, and when one may be answered.
-use Rattle.std.specs.Prelude.{◌≡◌, ◌⊎◌, Bool, true, false, if◌then◌else◌, List, [], ◌∷◌, Option, Some, None, option_map, IsTrue}
+use Rattle.std.specs.Prelude.{◌≡◌, ◌⊎◌, Bool, true, false, if◌then◌else◌, List, [], ◌∷◌, Option, Some, None, IsTrue}
 use Rattle.journal_protocol.specs.declared.encoder.EncodingError.{EncodingError}
 use Rattle.journal_protocol.specs.declared.encoder.EncodingError.TheVariants as encoding
 use Rattle.sql_tables.specs.declared.read.ReadError.{ReadError}

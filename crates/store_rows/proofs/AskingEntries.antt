@@ -1,9 +1,9 @@
 -- What the questions about entries ask for.
-use Rattle.std.proofs.Common.{◌≡◌, ◌==◌, ◌&&◌, ℕ, Bool, true, false, List, [], ◌∷◌, map, filter, drop, Option, None, Some, refl, sym, ap, ◌∙◌, bytes_eq}
+use Rattle.std.proofs.Common.{◌≡◌, ◌&&◌, ℕ, Bool, true, false, List, [], ◌∷◌, map, filter, drop, Option, None, Some, refl, ap, ◌∙◌, bytes_eq}
 use Rattle.std.specs.List.Sorted.{IsPermutation}
 use Rattle.std.proofs.Common.{Less}
 use Rattle.sqlite_trees.specs.Tree.{IsAscending}
-use Rattle.sqlite.specs.declared.types.Value.TheVariants.{Null, Text, Blob}
+use Rattle.sqlite.specs.declared.types.Value.TheVariants.{Null, Text}
 use Rattle.sqlite.specs.Values.{or_null}
 use Rattle.sqlite_value.specs.Order.{Row, column, value_cmp}
 use Rattle.sqlite_value.specs.Keys.{ascending}
@@ -19,13 +19,13 @@ use Rattle.sql_tables.specs.Asking.{IsAnswer}
 use Rattle.sql_tables.specs.Cells.{short_cell}
 use Rattle.sql_tables.specs.Statements.{rows_of, program_of, equals}
 use Rattle.sql_tables.proofs.Answers.{passes}
-use Rattle.sql_tables.proofs.Cells.{are_same, both_true, same_text, same_blob, same_short, same_null-Int, same_null-Text}
+use Rattle.sql_tables.proofs.Cells.{are_same, both_true, same_text, same_short, same_null-Int, same_null-Text}
 use Rattle.sql_tables.proofs.Ordered.{records_ordered}
 use Rattle.sql_tables.proofs.Reading.{records_read}
-use Rattle.store_rows.specs.Tables.{store_schema, invocation_columns, entry_columns, state_columns}
+use Rattle.store_rows.specs.Tables.{store_schema, entry_columns}
 use Rattle.store_rows.specs.Statements.{entry_by_place_text, entry_by_completion_text, entry_by_second_completion_text, entry_by_answered_text, entries_text}
-use Rattle.store_rows.specs.Records.{Records, Holds, InvocationRow, EntryRow, StateRow, invocation_cells, entry_cells, state_cells}
-use Rattle.store_rows.specs.Questions.{is_text, is_number, has_id, is_open_of, is_any, is_at_place, asks_for, asks_second_for, answers, is_at_key, is_of_object}
+use Rattle.store_rows.specs.Records.{Records, Holds, EntryRow, entry_cells}
+use Rattle.store_rows.specs.Questions.{is_text, is_number, is_at_place, asks_for, asks_second_for, answers}
 
 abbrev names_of : List Column → List (List ℕ)
 names_of columns = map (λ c. c.name) columns

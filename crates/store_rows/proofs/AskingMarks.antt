@@ -1,7 +1,7 @@
 -- What the question about the mark asks for.
-use Rattle.std.proofs.Common.{◌≡◌, ℕ, Bool, true, false, List, [], ◌∷◌, map, filter, drop, refl, sym, ap, subst, ◌∙◌, codes, arith}
+use Rattle.std.proofs.Common.{◌≡◌, ℕ, Bool, true, false, List, [], ◌∷◌, map, filter, drop, refl, ap, subst, codes, arith}
 use Rattle.std.specs.List.Sorted.{IsPermutation}
-use Rattle.sqlite.specs.declared.types.Value.TheVariants.{Null, Text}
+use Rattle.sqlite.specs.declared.types.Value.TheVariants.{Null}
 use Rattle.sqlite_value.specs.Order.{Row, column, bytes}
 use Rattle.sqlite.specs.Term.{Term, col, eval_all}
 use Rattle.sqlite.specs.Command.TheVariants.{Select}
@@ -11,7 +11,6 @@ use Rattle.sqlite_tied.specs.Compute.{everything}
 use Rattle.sqlite.proofs.Callers.{IsPlain, command_of}
 use Rattle.sql_tables.specs.Asking.{IsAnswer}
 use Rattle.sql_tables.specs.Statements.{rows_of, program_of}
-use Rattle.sql_tables.proofs.Answers.{passes}
 use Rattle.sql_tables.proofs.Reading.{records_read, rows_shown}
 use Rattle.store_rows.specs.Tables.{store_schema}
 use Rattle.store_rows.specs.Statements.{marks_text}

@@ -1,5 +1,5 @@
 -- What the questions about the state of objects ask for.
-use Rattle.std.proofs.Common.{◌≡◌, ◌==◌, ◌&&◌, ℕ, Bool, true, false, List, [], ◌∷◌, map, filter, drop, Option, None, Some, refl, sym, ap, ◌∙◌, bytes_eq}
+use Rattle.std.proofs.Common.{◌≡◌, ◌&&◌, ℕ, Bool, true, false, List, [], ◌∷◌, map, filter, drop, Option, None, Some, refl, ap, ◌∙◌}
 use Rattle.std.specs.List.Sorted.{IsPermutation}
 use Rattle.std.proofs.Common.{Less}
 use Rattle.sqlite_trees.specs.Tree.{IsAscending}
@@ -22,10 +22,10 @@ use Rattle.sql_tables.proofs.Answers.{passes}
 use Rattle.sql_tables.proofs.Cells.{are_same, both_true, same_text, same_blob, same_short, same_null-Int, same_null-Text}
 use Rattle.sql_tables.proofs.Ordered.{records_ordered}
 use Rattle.sql_tables.proofs.Reading.{records_read}
-use Rattle.store_rows.specs.Tables.{store_schema, invocation_columns, entry_columns, state_columns}
+use Rattle.store_rows.specs.Tables.{store_schema, state_columns}
 use Rattle.store_rows.specs.Statements.{state_by_key_text, states_text}
-use Rattle.store_rows.specs.Records.{Records, Holds, InvocationRow, EntryRow, StateRow, invocation_cells, entry_cells, state_cells}
-use Rattle.store_rows.specs.Questions.{is_text, is_number, has_id, is_open_of, is_any, is_at_place, asks_for, asks_second_for, answers, is_at_key, is_of_object}
+use Rattle.store_rows.specs.Records.{Records, Holds, StateRow, state_cells}
+use Rattle.store_rows.specs.Questions.{is_text, is_number, is_at_key, is_of_object}
 
 abbrev names_of : List Column → List (List ℕ)
 names_of columns = map (λ c. c.name) columns

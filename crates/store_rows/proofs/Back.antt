@@ -1,7 +1,7 @@
 -- The record that has these cells.
-use Rattle.std.proofs.Common.{◌≡◌, ◌==◌, if◌then◌else◌, ℕ, pos, Bool, true, false, List, [], ◌∷◌, Option, None, Some, refl, sym, ap, ◌∙◌}
+use Rattle.std.proofs.Common.{◌≡◌, ◌==◌, if◌then◌else◌, ℕ, pos, Bool, true, false, List, Option, None, Some, refl, ap}
 use Rattle.std.specs.Prelude.{IfSome, nat_abs}
-use Rattle.std.specs.Int.{w64, cast_signed, cast_unsigned}
+use Rattle.std.specs.Int.{w64, cast_unsigned}
 use Rattle.std.specs.Ordering.{int_eq}
 use Rattle.std.proofs.lemmas.Int.{of_z-to_z}
 use Rattle.sqlite.specs.declared.types.Value.{Value}
@@ -9,8 +9,8 @@ use Rattle.sqlite.specs.declared.types.Value.TheVariants.{Null, Int, Real, Text,
 use Rattle.sqlite.specs.Values.{or_null}
 use Rattle.sqlite_value.specs.Order.{Row, column, bytes}
 use Rattle.sqlite_rules.specs.Edit.{id_in}
-use Rattle.sql_tables.specs.Cells.{IsLong, IsShort, flag_cell, long_cell, short_cell}
-use Rattle.store_rows.specs.Records.{Closing, EntryRow, FitsEntry, FitsInvocation, FitsError, FitsState, InvocationRow, LastError, Progress, StateRow, closing_cell, delay_of, entry_cells, invocation_cells, state_cells}
+use Rattle.sql_tables.specs.Cells.{IsLong, flag_cell, long_cell, short_cell}
+use Rattle.store_rows.specs.Records.{Closing, EntryRow, FitsEntry, FitsInvocation, FitsError, FitsState, InvocationRow, LastError, StateRow, closing_cell, delay_of, entry_cells, invocation_cells, state_cells}
 use Rattle.store_rows.specs.declared.row.Closing.TheVariants.{Ended, Failed}
 
 pub short_in : Value → ℕ

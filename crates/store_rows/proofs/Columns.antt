@@ -4,10 +4,10 @@ use Rattle.std.specs.Prelude.{IfSome, IsUtf8}
 use Rattle.sqlite.specs.declared.types.Value.TheVariants.{Text}
 use Rattle.sqlite.specs.Values.{or_null}
 use Rattle.sqlite_value.specs.Order.{Row, column}
-use Rattle.sql_tables.specs.Cells.{IsLong, IsShort, long_cell, short_cell}
+use Rattle.sql_tables.specs.Cells.{IsShort, short_cell}
 use Rattle.sql_tables.proofs.Reading.{listed_as}
 use Rattle.store_rows.specs.Parts.{progress_columns}
-use Rattle.store_rows.specs.Records.{Closing, FitsError, LastError, closing_cell, delay_of}
+use Rattle.store_rows.specs.Records.{Closing, FitsError, LastError, closing_cell}
 use Rattle.store_rows.specs.declared.row.Closing.TheVariants.{Ended, Failed}
 
 pub eight : (row : Row) → length row ≡ 8 → row ≡ column row 0 ∷ column row 1 ∷ column row 2 ∷ column row 3 ∷ column row 4 ∷ column row 5 ∷ column row 6 ∷ column row 7 ∷ []

@@ -25,7 +25,7 @@ use Rattle.sql_tables.proofs.Tables.{insert_changes}
 use Rattle.sql_tables.proofs.Writes.{cast_null, cast_int}
 use Rattle.store_rows.specs.Tables.{store_schema, entry_columns, entry_keys}
 use Rattle.store_rows.specs.Statements.{add_entry_text}
-use Rattle.store_rows.specs.Records.{Records, EntryRow, Holds, FitsEntry, invocation_cells, entry_cells, state_cells, mark_cells, with_entry}
+use Rattle.store_rows.specs.Records.{EntryRow, FitsEntry, invocation_cells, entry_cells, state_cells, mark_cells, with_entry}
 use Rattle.store_rows.proofs.Making.{none_refers}
 use Rattle.store_rows.proofs.Moves.{Moves, kept_rows}
 

@@ -1,11 +1,11 @@
 -- What the statements over invocations do to the records.
-use Rattle.std.proofs.Common.{◌≡◌, ◌/◌, ℕ, pos, Bool, true, false, ◌&&◌, if◌then◌else◌, List, [], ◌∷◌, ◌++◌, map, drop, length, cond, Option, None, Some, refl, sym, ap, subst, ◌∙◌, bytes_eq, codes, arith}
+use Rattle.std.proofs.Common.{◌≡◌, ◌/◌, ℕ, pos, Bool, true, false, if◌then◌else◌, List, [], ◌∷◌, ◌++◌, map, drop, length, cond, Option, None, Some, refl, sym, ap, subst, ◌∙◌, bytes_eq, codes, arith}
 use Rattle.std.specs.Prelude.{IfSome, IsUtf8}
 use Rattle.std.specs.List.{AllByRecursion}
 use Rattle.std.specs.Int.{w64, cast_signed}
 use Rattle.std.proofs.lemmas.List.{map-append}
 use Rattle.sqlite_keyed.proofs.ListLemmas.{map-map, map_same, all-append}
-use Rattle.sqlite.specs.declared.types.Value.TheVariants.{Null, Text, Blob}
+use Rattle.sqlite.specs.declared.types.Value.TheVariants.{Null, Text}
 use Rattle.sqlite.specs.Values.{or_null}
 use Rattle.sqlite_value.specs.Order.{Row}
 use Rattle.sqlite.specs.Term.{Term, lit, col, eval_all}
@@ -19,7 +19,7 @@ use Rattle.sqlite.specs.Listing.{understood}
 use Rattle.sqlite_tied.specs.Compute.{everything}
 use Rattle.sqlite.proofs.Callers.{IsPlain, command_of}
 use Rattle.sql_tables.specs.Asking.{HasRun}
-use Rattle.sql_tables.specs.Cells.{IsLong, IsShort, flag_cell, long_cell, short_cell}
+use Rattle.sql_tables.specs.Cells.{IsLong, IsShort, long_cell, short_cell}
 use Rattle.sql_tables.specs.Changes.{Changes}
 use Rattle.sql_tables.specs.Columns.{plain_orders}
 use Rattle.sql_tables.specs.Content.{HasRows}
@@ -30,7 +30,7 @@ use Rattle.sql_tables.proofs.Tables.{insert_changes, update_changes}
 use Rattle.sql_tables.proofs.Writes.{cast_null, cast_int}
 use Rattle.store_rows.specs.Tables.{store_schema, invocation_columns, invocation_keys}
 use Rattle.store_rows.specs.Statements.{add_invocation_text, set_progress_text}
-use Rattle.store_rows.specs.Records.{Records, InvocationRow, Progress, LastError, Closing, Holds, FitsInvocation, FitsProgress, FitsError, invocation_cells, progress_cells, closing_cell, delay_of, entry_cells, state_cells, mark_cells, with_invocation, with_progress, set_in}
+use Rattle.store_rows.specs.Records.{InvocationRow, Progress, LastError, Closing, FitsInvocation, FitsProgress, FitsError, invocation_cells, progress_cells, closing_cell, delay_of, entry_cells, state_cells, mark_cells, with_invocation, with_progress, set_in}
 use Rattle.store_rows.specs.declared.row.Closing.TheVariants.{Ended, Failed}
 use Rattle.store_rows.proofs.Making.{none_refers}
 use Rattle.store_rows.proofs.Moves.{Moves, kept_rows}

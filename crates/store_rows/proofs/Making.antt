@@ -1,10 +1,7 @@
 -- What the tables' texts make, and the row that marks them.
-use Rattle.std.proofs.Common.{◌≡◌, ◌/◌, ℕ, pos, List, [], ◌∷◌, ◌++◌, length, Ok, refl, sym, subst, ◌∙◌, arith, codes}
-use Rattle.std.specs.Fmt.{digits}
-use Rattle.sqlite_value.specs.Order.{Row}
+use Rattle.std.proofs.Common.{◌≡◌, ◌/◌, pos, List, [], ◌∷◌, ◌++◌, length, refl, ◌∙◌, arith, codes}
 use Rattle.sqlite.specs.declared.types.Value.TheVariants.{Null, Int, Text}
 use Rattle.sqlite.specs.Term.{Term, lit}
-use Rattle.sqlite.specs.Schema.{Schema}
 use Rattle.sqlite.specs.Source.TheVariants.{Values}
 use Rattle.sqlite.specs.Command.TheVariants.{Insert}
 use Rattle.sqlite.specs.Cast.{cast_all}
@@ -16,7 +13,6 @@ use Rattle.sqlite_tied.specs.Compute.{everything}
 use Rattle.sqlite.proofs.Callers.{IsPlain, command_of}
 use Rattle.sql_tables.specs.Changes.{Changes}
 use Rattle.sql_tables.specs.Columns.{NoneRefers, no_schema}
-use Rattle.sql_tables.specs.Content.{HasRows}
 use Rattle.sql_tables.proofs.Making.{IsMaking, table_made, has_none}
 use Rattle.sql_tables.proofs.Tables.{insert_changes}
 use Rattle.sql_tables.proofs.Writes.{cast_int}

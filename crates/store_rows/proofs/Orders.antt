@@ -1,5 +1,5 @@
 -- Orders of records that were read.
-use Rattle.std.proofs.Common.{◌≡◌, inl, inr, ◌+◌, ◌-◌, ◌<◌, ◌≤◌, ℕ, pos, zero, suc, Bool, cond, Ordering, Less, Equal, Greater, nat_lt, List, [], ◌∷◌, ◌++◌, length, slice_get, slice_index_or, Some, IsTrue, refl, sym, ap, subst, ◌∙◌, arith}
+use Rattle.std.proofs.Common.{◌≡◌, inl, inr, ◌+◌, ◌-◌, ◌<◌, ◌≤◌, ℕ, pos, zero, suc, cond, Ordering, Less, Equal, Greater, nat_lt, List, [], ◌∷◌, ◌++◌, length, slice_get, slice_index_or, Some, IsTrue, refl, sym, ap, subst, ◌∙◌, arith}
 use Rattle.std.specs.List.Sorted.{IsPermutation}
 use Rattle.std.proofs.lemmas.List.Sorted.{IsPermutation-sym}
 use Rattle.std.proofs.lemmas.Bool.{cases_Bool, lt-ltb, ltb-true, ltb-false}

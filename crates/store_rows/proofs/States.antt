@@ -1,5 +1,5 @@
 -- What the statements over the state of objects do to the records.
-use Rattle.std.proofs.Common.{◌≡◌, ◌/◌, ℕ, Bool, true, false, not, ◌&&◌, List, [], ◌∷◌, ◌++◌, map, filter, drop, length, refl, sym, ap, subst, ◌∙◌, bytes_eq, codes, arith}
+use Rattle.std.proofs.Common.{◌≡◌, ◌/◌, ℕ, Bool, not, ◌&&◌, List, [], ◌∷◌, ◌++◌, map, filter, drop, length, refl, sym, ap, subst, ◌∙◌, bytes_eq, codes, arith}
 use Rattle.std.proofs.lemmas.List.{map-append}
 use Rattle.sqlite_keyed.proofs.ListLemmas.{filter-map, filter_same, all-append, all-filter}
 use Rattle.sqlite.specs.declared.types.Value.TheVariants.{Null, Text, Blob}
@@ -23,7 +23,7 @@ use Rattle.sql_tables.proofs.Cells.{both_true, same_text, same_blob}
 use Rattle.sql_tables.proofs.Tables.{insert_changes, delete_changes}
 use Rattle.store_rows.specs.Tables.{store_schema, state_columns, state_keys}
 use Rattle.store_rows.specs.Statements.{add_state_text, drop_state_text, drop_states_text}
-use Rattle.store_rows.specs.Records.{Records, StateRow, Holds, FitsState, invocation_cells, entry_cells, state_cells, mark_cells, with_state, without_state, without_states, is_at_key, is_of_object}
+use Rattle.store_rows.specs.Records.{StateRow, FitsState, invocation_cells, entry_cells, state_cells, mark_cells, with_state, without_state, without_states, is_at_key, is_of_object}
 use Rattle.store_rows.proofs.Making.{none_refers}
 use Rattle.store_rows.proofs.Moves.{Moves, kept_rows}
 

@@ -5,7 +5,7 @@ use Rattle.std.specs.List.Sorted.{IsPermutation}
 use Rattle.std.specs.Ordering.{is_lt, nat_cmp}
 use Rattle.std.specs.Cmp.Lexicographic.{slice_cmp}
 use Rattle.sqlite_trees.specs.Tree.{Trees}
-use Rattle.store_rows.specs.Records.{Records, Holds, InvocationRow, EntryRow, StateRow}
+use Rattle.store_rows.specs.Records.{Records, Holds, InvocationRow, EntryRow}
 pub use Rattle.store_rows.specs.Records.{is_at_key, is_of_object}
 
 -- the first record that passes, whatever records the tables have

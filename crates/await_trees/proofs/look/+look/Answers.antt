@@ -1,4 +1,4 @@
-use Rattle.std.proofs.Common.{◌≡◌, ◌∙◌, sym, ap, subst, map, take, arith, rules}
+use Rattle.std.proofs.Common.{◌≡◌, sym, subst, map, take, arith, rules}
 use Rattle.std.proofs.lemmas.List.{take_all}
 use Rattle.await_trees.specs.Shape.{IsShaped}
 use Rattle.await_trees.specs.declared.tree.AwaitTreeShape.{AwaitTreeShape}

@@ -1,5 +1,5 @@
 use Rattle.std.proofs.lemmas.Result.{err_from_is_err_and}
-use Rattle.invocation_vm.proofs.Calls.{sleep_goes_on, sleep_cause, output_goes_on, output_cause, await_waits, await_cause, end_ends}
+use Rattle.invocation_vm.proofs.Calls.{sleep_goes_on, sleep_cause, output_goes_on, output_cause, await_waits, await_cause}
 use Rattle.invocation_vm.proofs.progress.carry_out.Goals as goal
 
 pub returns-in_err-sleep-in-Sleep-clause-cause : goal.returns-in_err-sleep-in-Sleep-clause-cause

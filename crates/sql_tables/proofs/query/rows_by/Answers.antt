@@ -1,8 +1,7 @@
-use Rattle.std.proofs.Common.{◌≡◌, ◌∙◌, true, not, sym, ap, subst, arith, rules, IsTrue, refl}
+use Rattle.std.proofs.Common.{◌≡◌, ◌∙◌, true, not, sym, ap, subst, arith, rules, IsTrue}
 use Rattle.sqlite.specs.Held.{state}
 use Rattle.sqlite.specs.State.{State, HasCleanDisk, KeepsCommit}
 use Rattle.sqlite.specs.Values.{bound}
-use Rattle.sql_tables.specs.Asking.{IsAnswer, IsKept}
 use Rattle.sql_tables.proofs.Queries.{failed_or_late_keeps, shown_answers, shown_keeps, shown_open, undone_keeps}
 use Rattle.sql_tables.proofs.query.rows_by.Goals as goal
 

@@ -1,7 +1,7 @@
-use Rattle.std.proofs.Common.{◌≡◌, inl, inr, IsTrue, sym, subst, arith}
+use Rattle.std.proofs.Common.{inl, inr, IsTrue, sym, subst}
 use Rattle.std.proofs.lemmas.Bool.{cases_Bool}
 use Rattle.sqlite.specs.Held.{state}
-use Rattle.sqlite.specs.State.{State, HasCleanDisk, KeepsCommit}
+use Rattle.sqlite.specs.State.{State, KeepsCommit}
 use Rattle.sqlite.specs.Values.{bound}
 use Rattle.sql_tables.proofs.Queries.{failed_run_keeps, keeps_itself, run_keeps, went_inside}
 use Rattle.sql_tables.proofs.query.run.Goals as goal

@@ -1,4 +1,4 @@
-use Rattle.std.proofs.Common.{◌≡◌, ◌∙◌, sym, subst, ◌≢◌}
+use Rattle.std.proofs.Common.{◌∙◌, sym}
 use Rattle.sql_tables.proofs.Reading.{err_and, foreign_among}
 use Rattle.sql_tables.proofs.stored.all_of.Goals as goal
 

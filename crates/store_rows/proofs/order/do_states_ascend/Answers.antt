@@ -1,4 +1,4 @@
-use Rattle.std.proofs.Common.{◌≡◌, ◌∙◌, ◌+◌, true, false, sym, arith}
+use Rattle.std.proofs.Common.{◌≡◌, ◌∙◌, true, false, sym, arith}
 use Rattle.store_rows.specs.Records.{StateRow}
 use Rattle.store_rows.specs.Questions.{is_before}
 use Rattle.store_rows.proofs.Orders.{all_ascend, ascends_at, ascends_on}

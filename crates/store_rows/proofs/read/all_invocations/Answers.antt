@@ -1,5 +1,4 @@
-use Rattle.std.proofs.Common.{◌≡◌, ◌∙◌, ◌∷◌, [], map, true, false, sym, subst, arith, bytes_eq}
-use Rattle.sqlite.specs.declared.types.Value.TheVariants.{Text}
+use Rattle.std.proofs.Common.{◌≡◌, ◌∙◌, [], map, true, false, sym, subst, arith}
 use Rattle.sqlite.specs.Held.{state}
 use Rattle.sqlite.specs.State.{State, HasCleanDisk}
 use Rattle.sql_tables.proofs.Reading.{err_and}

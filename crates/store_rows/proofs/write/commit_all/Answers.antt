@@ -1,4 +1,4 @@
-use Rattle.std.proofs.Common.{◌≡◌, IsTrue, inr, sym, subst, ap, arith, rules, take}
+use Rattle.std.proofs.Common.{◌≡◌, inr, subst, arith, rules, take}
 use Rattle.std.proofs.lemmas.List.{take_more, take_all}
 use Rattle.sqlite.specs.Tree.{Trees}
 use Rattle.sqlite.specs.State.{State, HasCleanDisk, Survives}
@@ -6,8 +6,7 @@ use Rattle.sqlite.specs.Held.{state}
 use Rattle.sqlite.proofs.StateLemmas.{survives_then}
 use Rattle.sqlite.proofs.Callers.{survives_begin}
 use Rattle.sql_tables.proofs.Queries.{keeps_on}
-use Rattle.store_rows.specs.Records.{applied_all}
-use Rattle.store_rows.specs.Steps.{Lands, Steps}
+use Rattle.store_rows.specs.Steps.{Lands}
 use Rattle.store_rows.proofs.Moves.{steps_on, turns_on}
 use Rattle.store_rows.proofs.write.commit_all.Goals as goal
 

@@ -1,4 +1,4 @@
-use Rattle.std.proofs.Common.{List, Option, sym, subst}
+use Rattle.std.proofs.Common.{Option, sym, subst}
 use Rattle.std.proofs.lemmas.Result.{err_from_is_err_and}
 use Rattle.protocol_records.specs.declared.start.StartMessage.{StartMessage}
 use Rattle.invocation_vm.specs.First.{AreToRead}

@@ -1,7 +1,7 @@
 use Rattle.std.proofs.Common.{◌≡◌, ap, Option, Some}
 use Rattle.std.specs.Prelude.{is_some, true}
 use Rattle.journal_model.specs.declared.handler.Input.{Input}
-use Rattle.invocation_vm.proofs.Turning.{answered, waited, carried_out, failed, read_on, read_failed, kept_so, asked_so}
+use Rattle.invocation_vm.proofs.Turning.{answered, waited, carried_out, read_on, read_failed, kept_so, asked_so}
 use Rattle.invocation_vm.specs.declared.progress.Turn.{Turn}
 use Rattle.invocation_vm.proofs.attempt.Attempt.turn.Goals as goal
 
