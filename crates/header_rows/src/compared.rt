@@ -3,9 +3,9 @@ use call_records::{
     AttachInvocationCommandMessage, CallCommandMessage, CompleteAwakeableCommandMessage,
     GetInvocationOutputCommandMessage, OneWayCallCommandMessage, SendSignalCommandMessage,
 };
-use command_differences::CommandMessageHeaderDiff;
-use command_errors::CommandMismatchError;
-use command_headers::{CommandMessageHeaderEq, NamedCommandMessage};
+use protocol_differences::CommandMessageHeaderDiff;
+use protocol_differences::CommandMismatchError;
+use protocol_headers::{CommandMessageHeaderEq, NamedCommandMessage};
 use command_records::{
     ClearAllStateCommandMessage, ClearStateCommandMessage, CompletePromiseCommandMessage,
     GetEagerStateCommandMessage, GetEagerStateKeysCommandMessage, GetLazyStateCommandMessage,

@@ -1,7 +1,7 @@
 //! What is printed of two commands that differ.
 use crate::compared::{compared, has_name, is_printed_as};
 use call_records::SendSignalCommandMessage;
-use command_errors::CommandRelationship;
+use protocol_differences::CommandRelationship;
 use journal_protocol::CommandType;
 use protocol_records::{Failure, Header, InputCommandMessage, SleepCommandMessage, Value};
 use protocol_wire::RecordType;

@@ -1,8 +1,0 @@
-ghost use Rattle.read_laws.specs.FitsNotification.{notification_fits};
-
-use crate::FitsRead;
-use notification_records::NotificationMessage;
-
-impl FitsRead for NotificationMessage {
-    ghost fits_read = { λ levels a are_bytes fine. notification_fits levels a fine };
-}
