@@ -1,0 +1,169 @@
+//! Rows of whole messages.
+//!
+//! - `as TYPE PLACE FRAME`: the record of a message that is asked for as this type, at this place; told as in the rows of records.
+//! - `decoded TYPE PAYLOAD`, `joined TYPE PAYLOAD MORE`: a message without its header, and one that is merged with more.
+//! - `notified PAYLOAD`: the id and the result of a notification.
+//! - `encode VERSION TYPE PAYLOAD`: the frame that the record of this payload is written as.
+//! - `notify VERSION NUMBER PAYLOAD`: the frame of a notification of the type of this number.
+use crate::operands::{Hex, bytes, message_type, version};
+use crate::records::refusal_told;
+use bytes::Bytes;
+use command_records::{RunCommandMessage, SetStateCommandMessage};
+use control_records::ProposeRunCompletionMessage;
+use journal_model::{Notification, NotificationId, NotificationResult};
+use journal_protocol::{Decoder, EncodingError, RawMessage};
+use notification_records::NotificationMessage;
+use protocol_records::{SleepCommandMessage, SuspensionMessage, SuspensionMessageV6};
+use protocol_wire::decode;
+use std::alloc::Global;
+use typed_messages::{
+    Encoder, RawMessageExt, RestateEncodableMessage, RestateMessage, encode_record, is_failure,
+};
+
+/// The message at the front of these bytes.
+fn first_message(alloc: Global, frame: &str) -> Option<RawMessage> {
+    let frame = bytes(alloc, frame)?;
+    let mut decoder = Decoder::new(alloc);
+    decoder.push(frame.as_slice()).ok()?;
+    decoder.consume_next().ok()?
+}
+
+/// Tells a message: how long its payload is said to be, and its canonical payload.
+fn message_told<M: RestateMessage>(alloc: Global, message: &M) -> Option<String> {
+    let payload = message.encode_to_vec(alloc).ok()?;
+    let length = message.encoded_len()?;
+    let payload = Hex(payload.as_slice());
+    format!(in alloc; "{length} {payload}").ok()
+}
+
+fn read_as<M: RestateMessage>(alloc: Global, place: i64, message: &RawMessage) -> Option<String> {
+    match message.decode_to::<M>(alloc, place) {
+        Ok(record) => {
+            let told = message_told(alloc, &record);
+            drop(record);
+            told
+        }
+        Err(error) => format!(in alloc; "{error}").ok(),
+    }
+}
+
+fn asked_for(alloc: Global, name: &str, place: &str, frame: &str) -> Option<String> {
+    let place: i64 = place.parse().ok()?;
+    let message = first_message(alloc, frame)?;
+    match name {
+        "SleepCommand" => read_as::<SleepCommandMessage>(alloc, place, &message),
+        "RunCommand" => read_as::<RunCommandMessage>(alloc, place, &message),
+        "SetStateCommand" => read_as::<SetStateCommandMessage>(alloc, place, &message),
+        "Suspension" => read_as::<SuspensionMessage>(alloc, place, &message),
+        "SuspensionV6" => read_as::<SuspensionMessageV6>(alloc, place, &message),
+        _ => None,
+    }
+}
+
+fn decoded(alloc: Global, payload: &str) -> Option<String> {
+    let payload = bytes(alloc, payload)?;
+    match SleepCommandMessage::decode(alloc, payload.as_slice()) {
+        Ok(sleep) => message_told(alloc, &sleep),
+        Err(error) => refusal_told(alloc, error),
+    }
+}
+
+fn joined(alloc: Global, payload: &str, more: &str) -> Option<String> {
+    let payload = bytes(alloc, payload)?;
+    let more = bytes(alloc, more)?;
+    let sleep: SleepCommandMessage = decode(alloc, payload.as_slice()).ok()?;
+    match sleep.merge(alloc, more.as_slice()) {
+        Ok(sleep) => message_told(alloc, &sleep),
+        Err(error) => refusal_told(alloc, error),
+    }
+}
+
+fn result_word(brought: &NotificationResult) -> &'static str {
+    if is_failure(brought) {
+        return "failure";
+    }
+    match brought {
+        NotificationResult::Void => "void",
+        _ => "another",
+    }
+}
+
+fn notification_told(alloc: Global, told: &Notification) -> Option<String> {
+    let brought = result_word(&told.result);
+    match &told.id {
+        NotificationId::CompletionId(id) => format!(in alloc; "completion {id} {brought}").ok(),
+        NotificationId::SignalId(id) => format!(in alloc; "signal {id} {brought}").ok(),
+        NotificationId::SignalName(name) => format!(in alloc; "signal {name:?} {brought}").ok(),
+    }
+}
+
+fn notified(alloc: Global, frame: &str) -> Option<String> {
+    let message = first_message(alloc, frame)?;
+    let told = message.decode_as_notification(alloc);
+    drop(message);
+    match told {
+        Ok(notification) => {
+            let told = notification_told(alloc, &notification);
+            drop(notification);
+            told
+        }
+        Err(error) => format!(in alloc; "{error}").ok(),
+    }
+}
+
+fn frame_told(alloc: Global, frame: Result<Bytes, EncodingError>) -> Option<String> {
+    match frame {
+        Ok(frame) => {
+            let frame = Hex(frame.as_slice());
+            format!(in alloc; "{frame}").ok()
+        }
+        Err(error) => format!(in alloc; "{error}").ok(),
+    }
+}
+
+fn encoded<M: RestateMessage + RestateEncodableMessage>(
+    alloc: Global,
+    encoder: Encoder,
+    payload: &[u8],
+) -> Option<String> {
+    let record: M = decode(alloc, payload).ok()?;
+    let frame = encoder.encode(alloc, &record);
+    drop(record);
+    frame_told(alloc, frame)
+}
+
+fn encoded_as(alloc: Global, of: &str, name: &str, payload: &str) -> Option<String> {
+    let encoder = Encoder::new(version(of)?);
+    let payload = bytes(alloc, payload)?;
+    match name {
+        "SleepCommand" => encoded::<SleepCommandMessage>(alloc, encoder, payload.as_slice()),
+        "Suspension" => encoded::<SuspensionMessage>(alloc, encoder, payload.as_slice()),
+        "ProposeRunCompletion" => encoded::<ProposeRunCompletionMessage>(
+            alloc,
+            encoder,
+            payload.as_slice(),
+        ),
+        _ => None,
+    }
+}
+
+fn notification_encoded(alloc: Global, of: &str, ty: &str, payload: &str) -> Option<String> {
+    let (version, ty) = (version(of)?, message_type(ty)?);
+    let payload = bytes(alloc, payload)?;
+    let record: NotificationMessage = decode(alloc, payload.as_slice()).ok()?;
+    let frame = encode_record(alloc, ty, &record, version);
+    drop(record);
+    frame_told(alloc, frame)
+}
+
+pub fn answer(alloc: Global, operation: &str, operands: &[&str]) -> Option<String> {
+    match (operation, operands) {
+        ("as", [name, place, frame]) => asked_for(alloc, name, place, frame),
+        ("decoded", [payload]) => decoded(alloc, payload),
+        ("joined", [payload, more]) => joined(alloc, payload, more),
+        ("notified", [frame]) => notified(alloc, frame),
+        ("encode", [version, name, payload]) => encoded_as(alloc, version, name, payload),
+        ("notify", [version, ty, payload]) => notification_encoded(alloc, version, ty, payload),
+        _ => None,
+    }
+}

@@ -1,0 +1,124 @@
+//! Rows of the stream: headers, types of messages, frames.
+//!
+//! - `word WORD`: the type, the length and the flag of a header, or why there is none.
+//! - `header TYPE LENGTH FLAG`: the word of a header, whose flag says whether an acknowledgement is requested.
+//! - `type NUMBER`: the type of this number, whether it is a command, a notification, and one that allows the flag.
+//! - `write TYPE PAYLOAD`: the frame of a message.
+//! - `pieces BYTES ..`: what stands at the front of the stream when each piece came, and how many bytes are left.
+use crate::operands::{Hex, bytes, flag, message_type, number};
+use bytes::BytesMut;
+use journal_protocol::{
+    Decoder, DecodingError, MessageHeader, MessageType, RawMessage, write_message,
+};
+use std::alloc::Global;
+use std::fmt::Write;
+
+/// How many items of one piece are looked at, at most.
+const MOST: u32 = 64;
+
+fn word(alloc: Global, word: &str) -> Option<String> {
+    let word = u64::from_str_radix(word, 16).ok()?;
+    match MessageHeader::try_from(word) {
+        Ok(header) => {
+            let (ty, length) = (header.message_type(), header.message_length());
+            let flag = flag(header.requested_ack());
+            format!(in alloc; "{ty} {length} {flag}").ok()
+        }
+        Err(unknown) => format!(in alloc; "{unknown}").ok(),
+    }
+}
+
+/// A header whose flag is told, or is left to the type.
+fn header_of(ty: MessageType, length: u32, flag: &str) -> Option<MessageHeader> {
+    match flag {
+        "-" => Some(MessageHeader::new(ty, length)),
+        "true" => Some(MessageHeader::new_with_requested_ack(ty, true, length)),
+        "false" => Some(MessageHeader::new_with_requested_ack(ty, false, length)),
+        _ => None,
+    }
+}
+
+fn header(alloc: Global, ty: &str, length: &str, flag: &str) -> Option<String> {
+    let header = header_of(message_type(ty)?, number(length)?, flag)?;
+    let word = u64::from(header);
+    format!(in alloc; "{word:016x}").ok()
+}
+
+fn type_numbered(alloc: Global, number: &str) -> Option<String> {
+    let number = u16::from_str_radix(number, 16).ok()?;
+    match MessageType::try_from(number) {
+        Ok(ty) => {
+            let (back, is_command) = (u16::from(ty), ty.is_command());
+            let (is_notification, allows_ack) = (ty.is_notification(), ty.allows_ack());
+            format!(in alloc; "{ty} {back:04x} {is_command} {is_notification} {allows_ack}").ok()
+        }
+        Err(unknown) => format!(in alloc; "{unknown}").ok(),
+    }
+}
+
+fn written(alloc: Global, ty: &str, payload: &str) -> Option<String> {
+    let ty = message_type(ty)?;
+    let payload = bytes(alloc, payload)?;
+    let mut out = BytesMut::new(alloc);
+    write_message(&mut out, ty, payload.as_slice()).ok()?;
+    let frame = Hex(out.as_slice());
+    format!(in alloc; "{frame}").ok()
+}
+
+fn put_message(message: &RawMessage, told: &mut String) -> Option<()> {
+    let ty = message.ty();
+    let payload = Hex(message.payload().as_slice());
+    write!(told, "{ty} {payload}, ").ok()
+}
+
+fn put_item(item: Result<Option<RawMessage>, DecodingError>, told: &mut String) -> Option<bool> {
+    match item {
+        Ok(None) => Some(false),
+        Ok(Some(message)) => {
+            let put = put_message(&message, told);
+            drop(message);
+            put?;
+            Some(true)
+        }
+        Err(error) => {
+            write!(told, "{error}, ").ok()?;
+            Some(true)
+        }
+    }
+}
+
+/// Takes a piece in, and tells what stands at the front until nothing whole does.
+fn take_piece(alloc: Global, decoder: &mut Decoder, piece: &str, told: &mut String) -> Option<()> {
+    let piece = bytes(alloc, piece)?;
+    decoder.push(piece.as_slice()).ok()?;
+    for _ in 0..MOST {
+        if !put_item(decoder.consume_next(), told)? {
+            break;
+        }
+    }
+    let left = decoder.remaining();
+    write!(told, "{left} left").ok()
+}
+
+fn pieces(alloc: Global, pieces: &[&str]) -> Option<String> {
+    let mut decoder = Decoder::new(alloc);
+    let mut told = String::new(alloc);
+    for piece in pieces {
+        if !told.is_empty() {
+            told.push_str("; ").ok()?;
+        }
+        take_piece(alloc, &mut decoder, *piece, &mut told)?;
+    }
+    Some(told)
+}
+
+pub fn answer(alloc: Global, operation: &str, operands: &[&str]) -> Option<String> {
+    match (operation, operands) {
+        ("word", [of]) => word(alloc, of),
+        ("header", [ty, length, flag]) => header(alloc, ty, length, flag),
+        ("type", [of]) => type_numbered(alloc, of),
+        ("write", [ty, payload]) => written(alloc, ty, payload),
+        ("pieces", all) => pieces(alloc, all),
+        _ => None,
+    }
+}
