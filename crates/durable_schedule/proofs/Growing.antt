@@ -5,6 +5,7 @@ use Rattle.journal_model.specs.declared.invocation.NewInvocation.{NewInvocation}
 use Rattle.journal_model.specs.Run.{Handler}
 use Rattle.journal_model.specs.Event.{Event}
 use Rattle.invocation_vm.specs.declared.options.VMOptions.{VMOptions}
+use Rattle.invocation_vm.specs.View.{AttemptView}
 use Rattle.store_refusals.specs.declared.refusal.Refusal.{Refusal}
 use Rattle.schedule_events.specs.declared.event.Event as scheduled
 use Rattle.schedule_events.specs.declared.event.Event.TheVariants as event
@@ -14,7 +15,7 @@ use Rattle.schedule_events.specs.declared.event.Refusal.TheVariants as refusal
 use Rattle.schedule_events.specs.declared.held.HeldAttempt.{HeldAttempt}
 use Rattle.schedule_events.specs.Standing.{Standing, Refuses, Invokes, Stops, RefusesFrame}
 use Rattle.schedule_events.specs.Following.{held_of}
-use Rattle.schedule_events.specs.Schedule.{RepliesDone, Took, TakesFrames, BeginDoes, FeedsHeld, TurnsHeld, MovesHeld, IfHeld, Does, Scheduled, AppliesAll}
+use Rattle.schedule_events.specs.Schedule.{RepliesDone, Took, TakesFrames, BeginDoes, FeedsOne, TurnsOne, MovesOne, IfHeld, Does, Scheduled, AppliesAll}
 
 -- the events of the one are the first of the other's
 abbrev pub Grows : Standing → Standing → Type 0
@@ -67,7 +68,7 @@ invoke_grows one s t (Err why) it = refuses_grows (Event.Invoke one) why s t it
 
 stop_grows : (id : Text) (n : ℕ) (s t : Standing) (result : Result (Unit {0}) Refusal) → Stops id n s result t → Grows s t
 stop_grows id n s t (Ok done) it = more_grows s t (Event.Stop id n) it.events
-stop_grows id n s t (Err why) it = refuses_grows (Event.Stop id n) why s t it
+stop_grows id n s t (Err why) it = refuses_grows (Event.Stop id n) why s t it.1
 
 module _ {H : Type 0} (function : H → Handler) (options : VMOptions) where
   begin_grows : (id : Text) (handler : H) (now : ℕ) (s t : Standing) (held more : List (HeldAttempt H)) (answer : Reply) → BeginDoes options id handler now s held answer t more → Grows s t
@@ -82,44 +83,44 @@ module _ {H : Type 0} (function : H → Handler) (options : VMOptions) where
   begin_grows id handler now s t held more (reply.Turned turn) it = absurd it
   begin_grows id handler now s t held more (reply.Moved bytes frames why) it = absurd it
 
-  feed_grows : (one : HeldAttempt H) (count : ℕ) (s t : Standing) (held more : List (HeldAttempt H)) (answer : Reply) → FeedsHeld one count s held answer t more → Grows s t
-  feed_grows one count s t held more (reply.Fed n) it = more_grows s t (Event.HandOut one.invocation one.number count) it.3.1.events
-  feed_grows one count s t held more (reply.Refused (refusal.Store why)) it = refuses_grows (Event.HandOut one.invocation one.number count) why s t it.0
-  feed_grows one count s t held more (reply.Refused refusal.AttemptNotHeld) it = absurd it
-  feed_grows one count s t held more reply.Done it = absurd it
-  feed_grows one count s t held more (reply.Begun n) it = absurd it
-  feed_grows one count s t held more (reply.Turned turn) it = absurd it
-  feed_grows one count s t held more (reply.Moved bytes frames why) it = absurd it
+  feed_grows : (count : ℕ) (one : HeldAttempt H) (s t : Standing) (answer : Reply) (changed : AttemptView H) → FeedsOne count one s answer t changed → Grows s t
+  feed_grows count one s t (reply.Fed n) changed it = more_grows s t (Event.HandOut one.invocation one.number count) it.2.1.events
+  feed_grows count one s t (reply.Refused (refusal.Store why)) changed it = refuses_grows (Event.HandOut one.invocation one.number count) why s t it.0
+  feed_grows count one s t (reply.Refused refusal.AttemptNotHeld) changed it = absurd it
+  feed_grows count one s t reply.Done changed it = absurd it
+  feed_grows count one s t (reply.Begun n) changed it = absurd it
+  feed_grows count one s t (reply.Turned turn) changed it = absurd it
+  feed_grows count one s t (reply.Moved bytes frames why) changed it = absurd it
 
-  turn_grows : (one : HeldAttempt H) (s t : Standing) (held more : List (HeldAttempt H)) (answer : Reply) → TurnsHeld function one s held answer t more → Grows s t
-  turn_grows one s t held more (reply.Turned turn) it = same_grows s t it.2.events
-  turn_grows one s t held more (reply.Refused why) it = absurd it
-  turn_grows one s t held more reply.Done it = absurd it
-  turn_grows one s t held more (reply.Begun n) it = absurd it
-  turn_grows one s t held more (reply.Fed n) it = absurd it
-  turn_grows one s t held more (reply.Moved bytes frames why) it = absurd it
+  turn_grows : (one : HeldAttempt H) (s t : Standing) (answer : Reply) (changed : AttemptView H) → TurnsOne function one s answer t changed → Grows s t
+  turn_grows one s t (reply.Turned turn) changed it = same_grows s t it.1.events
+  turn_grows one s t (reply.Refused why) changed it = absurd it
+  turn_grows one s t reply.Done changed it = absurd it
+  turn_grows one s t (reply.Begun n) changed it = absurd it
+  turn_grows one s t (reply.Fed n) changed it = absurd it
+  turn_grows one s t (reply.Moved bytes frames why) changed it = absurd it
 
-  move_grows : (one : HeldAttempt H) (count : ℕ) (s t : Standing) (held more : List (HeldAttempt H)) (answer : Reply) → MovesHeld one count s held answer t more → Grows s t
-  move_grows one count s t held more (reply.Moved bytes frames why) it =
-      grows_on s it.0 t (same_grows s it.0 it.3.events) (frames_grow one.invocation one.number frames why it.0 t it.6)
-  move_grows one count s t held more (reply.Refused (refusal.Store why)) it = refuses_grows (Event.Stop one.invocation one.number) why s t it.0
-  move_grows one count s t held more (reply.Refused refusal.AttemptNotHeld) it = absurd it
-  move_grows one count s t held more reply.Done it = absurd it
-  move_grows one count s t held more (reply.Begun n) it = absurd it
-  move_grows one count s t held more (reply.Fed n) it = absurd it
-  move_grows one count s t held more (reply.Turned turn) it = absurd it
+  move_grows : (count : ℕ) (one : HeldAttempt H) (s t : Standing) (answer : Reply) (changed : AttemptView H) → MovesOne count one s answer t changed → Grows s t
+  move_grows count one s t (reply.Moved bytes frames why) changed it =
+      grows_on s it.0 t (same_grows s it.0 it.2.events) (frames_grow one.invocation one.number frames why it.0 t it.4)
+  move_grows count one s t (reply.Refused (refusal.Store why)) changed it = refuses_grows (Event.Stop one.invocation one.number) why s t it.0.1
+  move_grows count one s t (reply.Refused refusal.AttemptNotHeld) changed it = absurd it
+  move_grows count one s t reply.Done changed it = absurd it
+  move_grows count one s t (reply.Begun n) changed it = absurd it
+  move_grows count one s t (reply.Fed n) changed it = absurd it
+  move_grows count one s t (reply.Turned turn) changed it = absurd it
 
-  held_grows : (Change : HeldAttempt H → Standing → List (HeldAttempt H) → Reply → Standing → List (HeldAttempt H) → Type 0) (s t : Standing) (held more : List (HeldAttempt H)) (answer : Reply)
-      → ((one : HeldAttempt H) → Change one s held answer t more → Grows s t) → (o : Option (HeldAttempt H)) → IfHeld Change o s held answer t more → Grows s t
+  held_grows : (Change : HeldAttempt H → Standing → Reply → Standing → AttemptView H → Type 0) (s t : Standing) (held more : List (HeldAttempt H)) (answer : Reply)
+      → ((one : HeldAttempt H) (changed : AttemptView H) → Change one s answer t changed → Grows s t) → (o : Option (HeldAttempt H)) → IfHeld Change o s held answer t more → Grows s t
   held_grows Change s t held more answer each None it = same_grows s t it.1.events
-  held_grows Change s t held more answer each (Some one) it = each one it
+  held_grows Change s t held more answer each (Some one) it = each one it.0 it.1
 
   pub does_grow : (one : scheduled.Event H) (s t : Standing) (held more : List (HeldAttempt H)) (answer : Reply) → Does function options one s held answer t more → Grows s t
   does_grow (event.Invoke one) s t held more answer it = done_grows (λ result. Invokes one s result t) answer s t (invoke_grows one s t) it.0
   does_grow (event.Begin id handler now) s t held more answer it = begin_grows id handler now s t held more answer it
-  does_grow (event.Feed id n count) s t held more answer it = held_grows (λ one. FeedsHeld one count) s t held more answer (λ one. feed_grows one count s t held more answer) (held_of held id n) it
-  does_grow (event.Turn id n) s t held more answer it = held_grows (TurnsHeld function) s t held more answer (λ one. turn_grows one s t held more answer) (held_of held id n) it
-  does_grow (event.Move id n count) s t held more answer it = held_grows (λ one. MovesHeld one count) s t held more answer (λ one. move_grows one count s t held more answer) (held_of held id n) it
+  does_grow (event.Feed id n count) s t held more answer it = held_grows (FeedsOne count) s t held more answer (λ one. feed_grows count one s t answer) (held_of held id n) it
+  does_grow (event.Turn id n) s t held more answer it = held_grows (TurnsOne function) s t held more answer (λ one. turn_grows one s t answer) (held_of held id n) it
+  does_grow (event.Move id n count) s t held more answer it = held_grows (MovesOne count) s t held more answer (λ one. move_grows count one s t answer) (held_of held id n) it
   does_grow (event.Stop id n) s t held more answer it = done_grows (λ result. Stops id n s result t) answer s t (stop_grows id n s t) it.0
 
   pub all_grow : (events : List (scheduled.Event H)) (replies : List Reply) (old new : Scheduled H) → AppliesAll function options events replies old new → Grows old.standing new.standing

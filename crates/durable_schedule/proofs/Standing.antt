@@ -1,5 +1,5 @@
 -- What the store's calls do to what it stands for.
-use Rattle.std.proofs.Common.{◌≡◌, ◌⊎◌, refl, sym, ap, subst, ◌∙◌, ℕ, Bool, true, false, List, [], ◌∷◌, Option, Some, None, is_some, option_map, take, inl, inr, Result, Ok, Err, IsTrue}
+use Rattle.std.proofs.Common.{◌≡◌, ◌⊎◌, refl, sym, ap, subst, ◌∙◌, ℕ, Bool, true, false, List, [], ◌∷◌, Option, Some, None, is_some, option_map, take, inl, inr, Result, Ok, Err, IfErr, IsTrue}
 use Rattle.sqlite_trees.specs.declared.store.Store.{Ghosts}
 use Rattle.sqlite.specs.Held.{state}
 use Rattle.journal_model.specs.Notification.{Bytes, Text}
@@ -109,11 +109,17 @@ module _ {S : Type 0} (g : Ghosts S) (s : Standing) (old new : Stored S) (is : I
   hands_out id attempt most (Err why) does keeps = refused (Event.HandOut id attempt most) why does.0 does.1 keeps
 
   pub stops : (id : Text) (attempt : ℕ) (result : Result (Unit {0}) Refusal) → Does s.events (Event.Stop id attempt) (λ _. Unit {0}) result (state g new.connection) new.live.attempts
-      → WaitsAfter id None result old.live.attempts new.live.attempts → Then (Stops id attempt s result)
-  stops id attempt (Ok done) does waits =
+      → WaitsAfter id None result old.live.attempts new.live.attempts → (has_number attempt (attempt_of old.live.attempts id) ≡ true → IfErr result (λ _. ⊥)) → Then (Stops id attempt s result)
+  stops id attempt (Ok done) does waits live =
       let it = stood g (Event.Stop id attempt ∷ s.events) new does.2 in
       (it.0, it.1.standing, leaves (Event.Stop id attempt) id None it.0 it.1 waits)
-  stops id attempt (Err why) does waits = refused (Event.Stop id attempt) why does.0 does.1 waits
+  stops id attempt (Err why) does waits live =
+      let it = refused (Event.Stop id attempt) why does.0 does.1 waits in
+      (it.0, it.1, (dead (is_live s.events id attempt) refl, it.2))
+    where
+      dead : (b : Bool) → is_live s.events id attempt ≡ b → is_live s.events id attempt ≡ false
+      dead true e = absurd (live (sym (live_told s.events id attempt (attempt_of old.live.attempts id) (is.stands.live id)) ∙ e))
+      dead false e = e
 
   -- ---- bytes that an attempt wrote
 
@@ -154,4 +160,5 @@ module _ {S : Type 0} (g : Ghosts S) (s : Standing) (old new : Stored S) (is : I
         },
       )
   feeds id n bytes (Err why) does =
-      refused (Event.Stop id n) why (unfed id n why (is_live s.events id n) refl does.0) does.1 (same_outputs does.2)
+      let it = refused (Event.Stop id n) why (unfed id n why (is_live s.events id n) refl does.0) does.1 (same_outputs does.2) in
+      (it.0, it.1, (λ live. subst (λ (b : Bool). IsUnfed b s.events id why) live does.0, it.2))

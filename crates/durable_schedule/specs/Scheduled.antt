@@ -13,6 +13,7 @@ use Rattle.journal_model.specs.Journal.{invocation_begun, starting_state, record
 use Rattle.journal_model.specs.Run.{Handler}
 use Rattle.invocation_vm.specs.declared.options.VMOptions.{VMOptions}
 use Rattle.invocation_vm.specs.First.{given_by}
+use Rattle.invocation_vm.specs.View.{AttemptView}
 use Rattle.journal_store.specs.Stored.{Stored}
 use Rattle.journal_store.specs.Stands.{Stands, KeepsAll, output_of}
 use Rattle.store_refusals.specs.declared.refusal.Refusal.{Refusal}
@@ -64,8 +65,8 @@ abbrev pub TakesSome : Text → (number : ℕ) → Standing → Standing → Typ
 TakesSome id number s t = (frames : ℕ) × (why : Option Refusal) × TakesFrames id number frames why s t
 
 -- so many bytes at most were moved, with some answer
-abbrev pub MovesSome : {H : Type 0} → HeldAttempt H → (count : ℕ) → Standing → Standing → Type 0
-MovesSome {H} one count s t = (answer : Reply) × (changed : HeldAttempt H) × MovesOne one count s answer t changed
+abbrev pub MovesSome : {H : Type 0} → (count : ℕ) → HeldAttempt H → Standing → Standing → Type 0
+MovesSome {H} count one s t = (answer : Reply) × (changed : AttemptView H) × MovesOne count one s answer t changed
 
 -- no attempts are held yet
 abbrev pub at_first : {H : Type 0} → Standing → Scheduled H

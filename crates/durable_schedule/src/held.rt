@@ -36,7 +36,8 @@ pub(crate) fn hand_out<H: Handler, S: Alter + Drop>(
     one: &mut HeldAttempt<H>,
     count: usize,
 ) -> Reply
-    ensures does { Leads S.Store (λ s t. FeedsOne one.old count s result t one.new) store.old store.new }
+    ensures does { Leads S.Store (λ s t. FeedsOne count one.old s result t one.new.attempt) store.old store.new }
+    ensures kept { one.new ≡ record one.old { attempt = one.new.attempt } }
     ensures crash { Survives (state S.Store store.old.connection) (state S.Store store.new.connection) (λ _. ⊥) }
 {
     match store.next_input(&one.invocation, one.number, count) {
@@ -78,8 +79,9 @@ pub(crate) fn take_in<H: Handler, S: Alter + Drop>(
     one: &mut HeldAttempt<H>,
     count: usize,
 ) -> Reply
-    ensures does { Leads S.Store (λ s t. MovesOne one.old count s result t one.new) store.old store.new }
-    ensures crash { Endures S.Store (MovesSome one.old count) store.old store.new }
+    ensures does { Leads S.Store (λ s t. MovesOne count one.old s result t one.new.attempt) store.old store.new }
+    ensures kept { one.new ≡ record one.old { attempt = one.new.attempt } }
+    ensures crash { Endures S.Store (MovesSome count one.old) store.old store.new }
 {
     let bytes = count.min(one.attempt.output().len());
     match store.feed(&one.invocation, one.number, &one.attempt.output()[..bytes]) {

@@ -11,7 +11,7 @@ ghost use Rattle.invocation_reads.specs.Answered.{Answers};
 ghost use Rattle.journal_store.specs.Stands.{Stands};
 ghost use Rattle.schedule_events.specs.Standing.{Adds, Begins, Begun, Invokes, Standing, Stops};
 ghost use Rattle.schedule_events.specs.Following.{held_of};
-ghost use Rattle.schedule_events.specs.Schedule.{RepliesDone, BeginDoes, IfHeld, FeedsHeld, TurnsHeld, MovesHeld, Applies, AppliesAll, FitsEvent, Scheduled};
+ghost use Rattle.schedule_events.specs.Schedule.{RepliesDone, BeginDoes, IfHeld, FeedsOne, TurnsOne, MovesOne, Applies, AppliesAll, FitsEvent, Scheduled};
 ghost use Rattle.durable_schedule.specs.Scheduled.{AppliesFirst, AppliesWith, Endures, Extends, FollowRuns, IsScheduled, IsStanding, Leads, at_first};
 
 use crate::held::{hand_out, place_of, take_in};
@@ -99,7 +99,7 @@ impl<H: Handler + Drop, S: Alter + Drop> Scheduler<H, S> {
 
     /// Bytes of its input go to an attempt.
     fn feed(&mut self, invocation: &ByteStr, number: u32, count: usize) -> Reply
-        ensures does { Leads S.Store (λ s t. IfHeld (λ one. FeedsHeld one count) (held_of self.old.held.items invocation.now number) s self.old.held.items result t self.new.held.items) self.old.store self.new.store }
+        ensures does { Leads S.Store (λ s t. IfHeld (FeedsOne count) (held_of self.old.held.items invocation.now number) s self.old.held.items result t self.new.held.items) self.old.store self.new.store }
         ensures options { self.new.options ≡ self.old.options }
         ensures crash { Survives (state S.Store self.old.store.connection) (state S.Store self.new.store.connection) (λ _. ⊥) }
     {
@@ -111,7 +111,7 @@ impl<H: Handler + Drop, S: Alter + Drop> Scheduler<H, S> {
 
     /// An attempt makes a turn.
     fn turn(&mut self, invocation: &ByteStr, number: u32) -> Reply
-        ensures does { Leads S.Store (λ s t. IfHeld (TurnsHeld H.next_call) (held_of self.old.held.items invocation.now number) s self.old.held.items result t self.new.held.items) self.old.store self.new.store }
+        ensures does { Leads S.Store (λ s t. IfHeld (TurnsOne H.next_call) (held_of self.old.held.items invocation.now number) s self.old.held.items result t self.new.held.items) self.old.store self.new.store }
         ensures store { self.new.store ≡ self.old.store }
         ensures options { self.new.options ≡ self.old.options }
     {
@@ -126,7 +126,7 @@ impl<H: Handler + Drop, S: Alter + Drop> Scheduler<H, S> {
 
     /// Bytes of its output go from an attempt to the store.
     fn transfer(&mut self, invocation: &ByteStr, number: u32, count: usize) -> Reply
-        ensures does { Leads S.Store (λ s t. IfHeld (λ one. MovesHeld one count) (held_of self.old.held.items invocation.now number) s self.old.held.items result t self.new.held.items) self.old.store self.new.store }
+        ensures does { Leads S.Store (λ s t. IfHeld (MovesOne count) (held_of self.old.held.items invocation.now number) s self.old.held.items result t self.new.held.items) self.old.store self.new.store }
         ensures options { self.new.options ≡ self.old.options }
         ensures crash { Endures S.Store (AppliesWith H.next_call self.old.options (Event.Move invocation.now number count) self.old.held.items) self.old.store self.new.store }
     {

@@ -77,9 +77,9 @@ sleep_refused version name wake_up now h =
     let b : nat_le (2 ^ 64) (milliseconds wake_up) ≡ true = le-leb (2 ^ 64) (milliseconds wake_up) h in rw b refl
 
 pub sleep_goes_on : (invocation : Invocation) (steps : List Step) (name : List ℕ) (wake_up : ℕ) (now : Option ℕ) (old new : Progress)
-    → Tallies steps old → Sleeps name (milliseconds wake_up) old new → GoesOnBy invocation steps (Call.Sleep name wake_up now) old new
+    → Tallies steps old → Sleeps name (milliseconds wake_up) old new → GoesOnBy invocation [] steps (Call.Sleep name wake_up now) old new
 sleep_goes_on invocation steps name wake_up now old new t s =
-    subst (λ (p : Progress). GoesOnBy invocation steps (Call.Sleep name wake_up now) old p) (sym s.state) (record {
+    subst (λ (p : Progress). GoesOnBy invocation [] steps (Call.Sleep name wake_up now) old p) (sym s.state) (record {
       step = step;
       goes_on = after_call-answers invocation steps [] (Call.Sleep name wake_up now) (sleep_accepted invocation.version name wake_up now s.bounds) refl;
       tallies = record {
@@ -99,9 +99,13 @@ sleep_goes_on invocation steps name wake_up now old new t s =
 pub sleep_cause : (invocation : Invocation) (steps : List Step) (name : List ℕ) (wake_up : ℕ) (now : Option ℕ) (old : Progress) (failure : AttemptFailure)
     → Tallies steps old → SleepFails name (milliseconds wake_up) old.completions failure → HasCause invocation steps (Call.Sleep name wake_up now) failure
 sleep_cause invocation steps name wake_up now old AttemptFailure.OutOfMemory t h = tt
-sleep_cause invocation steps name wake_up now old AttemptFailure.IdsExhausted t h = (omega arith, omega (arith, next_handle-is steps old t))
-sleep_cause invocation steps name wake_up now old AttemptFailure.PayloadTooLong t h =
-    inl (subst (λ (n : ℕ). 2 ^ 32 ≤ length (request_payload (Request.Sleep (milliseconds wake_up) n name))) t.completions h)
+sleep_cause invocation steps name wake_up now old AttemptFailure.IdsExhausted t (accepted, none_left) =
+    (sleep_accepted invocation.version name wake_up now accepted, omega arith, omega (arith, none_left, next_handle-is steps old t))
+sleep_cause invocation steps name wake_up now old AttemptFailure.PayloadTooLong t (accepted, left, long) = (
+  sleep_accepted invocation.version name wake_up now accepted,
+  λ takes. omega (arith, left, next_handle-is steps old t),
+  inl (subst (λ (n : ℕ). 2 ^ 32 ≤ length (request_payload (Request.Sleep (milliseconds wake_up) n name))) t.completions long),
+)
 sleep_cause invocation steps name wake_up now old (AttemptFailure.RefusedCall refusal) t h =
     sleep_refused invocation.version name wake_up now h.1 ∙ ap (λ (r : CallRefusal). Some (refusal_meant r)) (sym h.0)
 sleep_cause invocation steps name wake_up now old AttemptFailure.CallNotCarriedOut t h = absurd h
@@ -119,9 +123,9 @@ refused_none (Some refusal) meant h e = absurd cc
 
 pub output_goes_on : (invocation : Invocation) (steps : List Step) (version : ℕ) (value : NonEmptyValue) (options : PayloadOptions) (refused : Option CallRefusal) (old new : Progress)
     → version ≡ invocation.version → option_map refusal_meant refused ≡ first_refusal (value_tests version value) → Tallies steps old
-    → IsNone refused × PutsOut value old new → GoesOnBy invocation steps (Call.Output value options) old new
+    → IsNone refused × PutsOut value old new → GoesOnBy invocation [] steps (Call.Output value options) old new
 output_goes_on invocation steps version value options refused old new v r t (accepted, s) =
-    subst (λ (p : Progress). GoesOnBy invocation steps (Call.Output value options) old p) (sym s.state) (record {
+    subst (λ (p : Progress). GoesOnBy invocation [] steps (Call.Output value options) old p) (sym s.state) (record {
       step = step;
       goes_on = after_call-answers invocation steps [] (Call.Output value options)
           (refused_none refused (refusal_of invocation.version (Call.Output value options)) accepted (r ∙ ap (λ (n : ℕ). first_refusal (value_tests n value)) v)) refl;
@@ -146,7 +150,8 @@ pub output_cause : (invocation : Invocation) (steps : List Step) (version : ℕ)
     → OutputFails refused value failure → HasCause invocation steps (Call.Output value options) failure
 output_cause invocation steps version value options refused AttemptFailure.OutOfMemory v r h = tt
 output_cause invocation steps version value options refused AttemptFailure.IdsExhausted v r h = absurd h
-output_cause invocation steps version value options refused AttemptFailure.PayloadTooLong v r h = inl h
+output_cause invocation steps version value options refused AttemptFailure.PayloadTooLong v r (accepted, long) =
+    (refused_none refused _ accepted (r ∙ ap (λ (n : ℕ). first_refusal (value_tests n value)) v), λ takes. absurd (omega (arith, takes)), inl long)
 output_cause invocation steps version value options refused (AttemptFailure.RefusedCall refusal) v r h =
     sym (ap (λ (n : ℕ). first_refusal (value_tests n value)) v) ∙ sym r ∙ ap (λ (o : Option CallRefusal). option_map refusal_meant o) h
 output_cause invocation steps version value options refused AttemptFailure.CallNotCarriedOut v r h = absurd h
@@ -174,9 +179,9 @@ waits_for options steps progress handle t =
 pub await_waits : (invocation : Invocation) (steps : List Step) (version : ℕ) (options : VMOptions) (tree : AwaitTree ℕ) (handle : ℕ) (old : Progress) (output : List ℕ)
     → version ≡ invocation.version → run_options options ≡ invocation.options → Tallies steps old → tree ≡ Single handle
     → TellsAwaiting (awaiting_payloads version options.awaiting_on_policy (tree_awaited options.implicit_cancellation (id_awaited old.completions handle))) old.output output
-    → WaitsBy invocation options.awaiting_on_policy steps (Call.Await tree) old (record old { output = output })
+    → WaitsBy invocation [] options.awaiting_on_policy steps (Call.Await tree) old (record old { output = output })
 await_waits invocation steps version options tree handle old output v o t e told =
-    subst (λ (one : AwaitTree ℕ). WaitsBy invocation options.awaiting_on_policy steps (Call.Await one) old (record old { output = output })) (sym e) (record {
+    subst (λ (one : AwaitTree ℕ). WaitsBy invocation [] options.awaiting_on_policy steps (Call.Await one) old (record old { output = output })) (sym e) (record {
       tree = awaited_ids invocation.options steps (Single handle);
       waits = after_call-waits invocation steps [] (Call.Await (Single handle)) (Single handle) (awaited_ids invocation.options steps (Single handle)) refl refl
           (await_outcome-single invocation.options steps t.first.unknown handle);
@@ -192,7 +197,7 @@ await_waits invocation steps version options tree handle old output v o t e told
 
 -- ---- the end
 
-pub end_ends : (invocation : Invocation) (steps : List Step) (old : Progress) → EndsBy invocation steps Call.End old (record old { output = old.output ++ frame_bytes 3 [] })
+pub end_ends : (invocation : Invocation) (steps : List Step) (old : Progress) → EndsBy invocation [] steps Call.End old (record old { output = old.output ++ frame_bytes 3 [] })
 end_ends invocation steps old = record { ends = after_call-ends invocation steps [] Call.End refl refl; state = refl }
 
 -- what an await waits for is numbered, so that it fits a frame

@@ -1,5 +1,6 @@
 pub mod Calls
 pub mod Frames
+pub mod Laws
 pub mod Payloads
 pub mod Reading
 pub mod Records

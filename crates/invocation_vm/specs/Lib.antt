@@ -8,3 +8,4 @@ pub mod Preflight
 pub mod Progress
 pub mod Reads
 pub mod Standing
+pub mod View

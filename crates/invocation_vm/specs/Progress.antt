@@ -1,5 +1,5 @@
 -- What the calls of a handler do, one by one.
-use Rattle.std.specs.Prelude.{◌≡◌, ◌≤◌, ◌<◌, ◌^◌, ◌+◌, ◌==◌, ◌-◌, ℕ, Bool, true, false, nat_lt, if◌then◌else◌, List, [], ◌∷◌, ◌++◌, length, Option, Some, None}
+use Rattle.std.specs.Prelude.{◌≡◌, ◌≤◌, ◌<◌, ◌^◌, ◌+◌, ◌==◌, ◌-◌, ℕ, Bool, true, false, nat_lt, if◌then◌else◌, List, [], ◌∷◌, ◌++◌, length, Option, Some, None, IsNone}
 use Rattle.journal_model.specs.declared.notification.NotificationId.{NotificationId}
 use Rattle.journal_model.specs.declared.value.NonEmptyValue.{NonEmptyValue}
 use Rattle.journal_model.specs.declared.call.Answer.{Answer}
@@ -34,10 +34,12 @@ pub record Sleeps (name : List ℕ) (wake_up_time : ℕ) (old new : Progress) : 
     output = old.output ++ request_frame (Request.Sleep wake_up_time (old.completions + 1) name);
   }
 
+-- a moment that is refused comes before numbers that ran out, and both before a payload that is too long
 abbrev pub SleepFails : List ℕ → ℕ → ℕ → AttemptFailure → Type 0
 SleepFails name wake_up_time completions AttemptFailure.OutOfMemory = Unit {0}
-SleepFails name wake_up_time completions AttemptFailure.IdsExhausted = 2 ^ 32 ≤ 17 + completions
-SleepFails name wake_up_time completions AttemptFailure.PayloadTooLong = 2 ^ 32 ≤ length (request_payload (Request.Sleep wake_up_time (completions + 1) name))
+SleepFails name wake_up_time completions AttemptFailure.IdsExhausted = (wake_up_time < 2 ^ 64) × (2 ^ 32 ≤ 17 + completions)
+SleepFails name wake_up_time completions AttemptFailure.PayloadTooLong =
+    (wake_up_time < 2 ^ 64) × (17 + completions < 2 ^ 32) × (2 ^ 32 ≤ length (request_payload (Request.Sleep wake_up_time (completions + 1) name)))
 SleepFails name wake_up_time completions (AttemptFailure.RefusedCall refusal) = (refusal ≡ CallRefusal.OutOfBoundsDuration) × (2 ^ 64 ≤ wake_up_time)
 SleepFails name wake_up_time completions _ = ⊥
 
@@ -57,7 +59,7 @@ pub record PutsOut (value : NonEmptyValue) (old new : Progress) : Type 0 where
 
 abbrev pub OutputFails : Option CallRefusal → NonEmptyValue → AttemptFailure → Type 0
 OutputFails refused value AttemptFailure.OutOfMemory = Unit {0}
-OutputFails refused value AttemptFailure.PayloadTooLong = 2 ^ 32 ≤ length (request_payload (Request.Output value []))
+OutputFails refused value AttemptFailure.PayloadTooLong = IsNone refused × (2 ^ 32 ≤ length (request_payload (Request.Output value [])))
 OutputFails refused value (AttemptFailure.RefusedCall refusal) = refused ≡ Some refusal
 OutputFails refused value _ = ⊥
 

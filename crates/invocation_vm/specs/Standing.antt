@@ -1,8 +1,9 @@
--- How the progress of an attempt stands to the steps of a run to which nothing has come, and what a call makes of both.
-use Rattle.std.specs.Prelude.{◌≡◌, ◌≤◌, ◌<◌, ◌^◌, ◌+◌, ℕ, Bool, true, false, List, [], ◌∷◌, ◌++◌, length, Option, Some, ◌⊎◌}
+-- How the progress of an attempt stands to the steps of a run, and what a call makes of both.
+use Rattle.std.specs.Prelude.{◌≡◌, ◌≤◌, ◌<◌, ◌^◌, ◌+◌, ℕ, Bool, true, false, List, [], ◌∷◌, ◌++◌, length, Option, Some, None, ◌⊎◌}
 use Rattle.std.specs.List.{flat_map, AllByRecursion}
 use Rattle.journal_model.specs.declared.notification.NotificationId.{NotificationId}
 use Rattle.journal_model.specs.declared.call.Call.{Call}
+use Rattle.journal_model.specs.Notification.{Arrival}
 use Rattle.journal_model.specs.AwaitTree.{AwaitTree}
 use Rattle.journal_model.specs.Request.{Request}
 use Rattle.journal_model.specs.Refusal.{refusal_of}
@@ -49,46 +50,50 @@ IsFirstRequest (Request.Output value name) = HasShortCode value
 IsFirstRequest _ = ⊥
 
 -- the run goes on with one more step, whose answer was given and whose requests were written
-pub record GoesOnBy (invocation : Invocation) (steps : List Step) (call : Call) (old new : Progress) : Type 0 where
+pub record GoesOnBy (invocation : Invocation) (arrivals : List Arrival) (steps : List Step) (call : Call) (old new : Progress) : Type 0 where
   pub step : Step
-  pub goes_on : after_call invocation steps [] call ≡ record { steps = step ∷ steps; ending = GoesOn }
+  pub goes_on : after_call invocation steps arrivals call ≡ record { steps = step ∷ steps; ending = GoesOn }
   pub tallies : Tallies (step ∷ steps) new
   pub first : AllByRecursion IsFirstRequest step.requests
   pub fits : AllByRecursion (λ request. FitsFrame (request_payload request)) step.requests
   pub output : new.output ≡ old.output ++ flat_map request_frame step.requests
 
 -- the run waits for a tree, which was told where that is to be told
-pub record WaitsBy (invocation : Invocation) (policy : AwaitingOnPolicy) (steps : List Step) (call : Call) (old new : Progress) : Type 0 where
+pub record WaitsBy (invocation : Invocation) (arrivals : List Arrival) (policy : AwaitingOnPolicy) (steps : List Step) (call : Call) (old new : Progress) : Type 0 where
   pub tree : AwaitTree (Option NotificationId)
-  pub waits : after_call invocation steps [] call ≡ record { steps = steps; ending = Waits tree }
-  pub fits : AllByRecursion FitsFrame (awaiting_payloads invocation.version policy (still_awaited invocation.options steps [] tree))
+  pub waits : after_call invocation steps arrivals call ≡ record { steps = steps; ending = Waits tree }
+  pub fits : AllByRecursion FitsFrame (awaiting_payloads invocation.version policy (still_awaited invocation.options steps arrivals tree))
   pub state : new ≡ record old {
-    output = old.output ++ flat_map (frame_bytes 4) (awaiting_payloads invocation.version policy (still_awaited invocation.options steps [] tree));
+    output = old.output ++ flat_map (frame_bytes 4) (awaiting_payloads invocation.version policy (still_awaited invocation.options steps arrivals tree));
   }
 
 -- the run has ended, and the end was written
-pub record EndsBy (invocation : Invocation) (steps : List Step) (call : Call) (old new : Progress) : Type 0 where
-  pub ends : after_call invocation steps [] call ≡ record { steps = steps; ending = Ended }
+pub record EndsBy (invocation : Invocation) (arrivals : List Arrival) (steps : List Step) (call : Call) (old new : Progress) : Type 0 where
+  pub ends : after_call invocation steps arrivals call ≡ record { steps = steps; ending = Ended }
   pub state : new ≡ record old { output = old.output ++ frame_bytes 3 [] }
 
 -- what a call that was carried out makes of the run and of the progress
-abbrev pub CarriesOut : Invocation → AwaitingOnPolicy → List Step → Call → Progress → Progress → Turn → Type 0
-CarriesOut invocation policy steps call old new Turn.Answered = GoesOnBy invocation steps call old new
-CarriesOut invocation policy steps call old new Turn.Waiting = WaitsBy invocation policy steps call old new
-CarriesOut invocation policy steps call old new Turn.Ended = EndsBy invocation steps call old new
-CarriesOut invocation policy steps call old new (Turn.Failed failure) = ⊥
+abbrev pub CarriesOut : Invocation → List Arrival → AwaitingOnPolicy → List Step → Call → Progress → Progress → Turn → Type 0
+CarriesOut invocation arrivals policy steps call old new Turn.Answered = GoesOnBy invocation arrivals steps call old new
+CarriesOut invocation arrivals policy steps call old new Turn.Waiting = WaitsBy invocation arrivals policy steps call old new
+CarriesOut invocation arrivals policy steps call old new Turn.Ended = EndsBy invocation arrivals steps call old new
+CarriesOut invocation arrivals policy steps call old new (Turn.Failed failure) = ⊥
 
 -- a payload of some request does not fit a frame
 abbrev pub HasTooLong : List Request → Type 0
 HasTooLong [] = ⊥
 HasTooLong (request ∷ requests) = (2 ^ 32 ≤ length (request_payload request)) ⊎ HasTooLong requests
 
--- why a call is not carried out: no number is left for its handle, a payload of its requests is too long,
--- the definition of a run refuses it, or it is another call
+-- a number is left for each handle that the call makes
+abbrev pub HasNumbers : List Step → Call → Type 0
+HasNumbers steps call = 0 < completions_of call → next_handle steps < 2 ^ 32
+
+-- Why a call is not carried out: it is another call, or the first of these: the definition of a run refuses it, no number is left for its
+-- handle, a payload of its requests is too long.
 abbrev pub HasCause : Invocation → List Step → Call → AttemptFailure → Type 0
 HasCause invocation steps call AttemptFailure.OutOfMemory = Unit {0}
-HasCause invocation steps call AttemptFailure.IdsExhausted = (0 < completions_of call) × (2 ^ 32 ≤ next_handle steps)
-HasCause invocation steps call AttemptFailure.PayloadTooLong = HasTooLong (requests_to invocation steps call)
+HasCause invocation steps call AttemptFailure.IdsExhausted = (refusal_of invocation.version call ≡ None) × (0 < completions_of call) × (2 ^ 32 ≤ next_handle steps)
+HasCause invocation steps call AttemptFailure.PayloadTooLong = (refusal_of invocation.version call ≡ None) × HasNumbers steps call × HasTooLong (requests_to invocation steps call)
 HasCause invocation steps call (AttemptFailure.RefusedCall refusal) = refusal_of invocation.version call ≡ Some (refusal_meant refusal)
 HasCause invocation steps call AttemptFailure.CallNotCarriedOut = is_carried_out call ≡ false
 HasCause invocation steps call _ = ⊥

@@ -1,8 +1,8 @@
 //! An attempt: a handler at work on one invocation.
-ghost use Rattle.std.specs.Prelude.{◌≡◌, ◌++◌, ◌≤◌, ℕ, List, [], None, IsSome, IfSome, IfOk, IfErr, OnOk, OnErr, length, take, drop};
-ghost use Rattle.journal_model.specs.declared.invocation.NewInvocation.{NewInvocation};
-ghost use Rattle.journal_model.specs.State.{StateMap};
-ghost use Rattle.journal_model.specs.Run.{Handler as HandlerFunction, Invocation};
+ghost use Rattle.std.specs.Prelude.{◌≡◌, ◌≤◌, ℕ, List, [], None, IfOk, OnOk, OnErr, length, take};
+ghost use Rattle.journal_model.specs.Run.{Handler as HandlerFunction};
+ghost use Rattle.invocation_vm.specs.View.{fresh};
+ghost use Rattle.invocation_vm.specs.Attempt.{Advances, Announced, Feeds, IsUnread, OnlyReads, ReadsSome, Sends, Turns};
 
 use crate::failure::AttemptFailure;
 use crate::options::VMOptions;
@@ -13,38 +13,46 @@ use journal_model::{Handler, Input};
 use journal_protocol::Decoder;
 use protocol_records::StartMessage;
 use std::alloc::{AllocError, Global};
+use std::marker::Model;
 
 /// A handler at work on an invocation: what came, what it was answered, and what is to go out.
 #[derive(Drop)]
 pub struct Attempt<H> {
     alloc: Global,
-    pub handler: H,
+    handler: H,
     /// The version of the protocol that it speaks, 5 to 8.
-    pub version: u32,
-    pub options: VMOptions,
+    version: u32,
+    options: VMOptions,
     /// The bytes that came and were not read.
-    pub decoder: Decoder,
-    pub start: Option<StartMessage>,
+    decoder: Decoder,
+    start: Option<StartMessage>,
     /// What the handler is given, once it was read.
-    pub input: Option<Input>,
-    pub progress: Progress,
+    input: Option<Input>,
+    progress: Progress,
     /// What each further turn answers, once the attempt has ended or failed.
-    pub over: Option<Turn>,
+    over: Option<Turn>,
+}
+
+impl<H> Model for Attempt<H> {
+    ghost use Rattle.invocation_vm.specs.View.{AttemptView};
+
+    ghost Value = { AttemptView H };
+
+    ghost view = { λ attempt. record {
+      handler = attempt.handler;
+      version = attempt.version;
+      options = attempt.options;
+      unread = attempt.decoder;
+      output = attempt.progress.output;
+      over = attempt.over;
+      inner = record { start = attempt.start; input = attempt.input; answers = attempt.progress.answers; completions = attempt.progress.completions };
+    } };
 }
 
 impl<H: Handler> Attempt<H> {
-    ghost use Rattle.invocation_vm.specs.Attempt.{IsUnread, Stands, ReadTurn, RunTurn, ReadsSome, CallsOne, Feeds};
-
     /// An attempt to which nothing came yet.
     pub fn new(alloc: Global, version: u32, options: VMOptions, handler: H) -> Attempt<H>
-        ensures handler { result.handler ≡ handler }
-        ensures version { result.version ≡ version }
-        ensures options { result.options ≡ options }
-        ensures decoder { result.decoder ≡ [] }
-        ensures start { result.start ≡ None }
-        ensures input { result.input ≡ None }
-        ensures progress { result.progress ≡ record { answers = []; completions = 0; output = [] } }
-        ensures over { result.over ≡ None }
+        ensures { result ≡ fresh version options handler }
     {
         Attempt {
             alloc,
@@ -61,7 +69,7 @@ impl<H: Handler> Attempt<H> {
 
     /// Takes in the next bytes. Where memory is refused the attempt fails; one that is over takes in none.
     pub fn feed(&mut self, bytes: &[u8])
-        ensures { Feeds bytes.now self.old self.new self.old.over }
+        ensures { Feeds bytes.now self.old self.new }
     {
         if self.over.is_some() {
             return;
@@ -73,11 +81,10 @@ impl<H: Handler> Attempt<H> {
 
     // Reads the start and the input, as far as they came.
     fn read(&mut self) -> Result<Turn, AttemptFailure>
-        requires { self.old.input ≡ None }
-        ensures reads { (next : HandlerFunction) (new : NewInvocation) (state : StateMap) (known retry_count duration : ℕ) (left more : List ℕ)
-            → IsUnread H.next_call next new state known retry_count duration left more self.old
-            → ReadsSome H.next_call next new state known retry_count duration left more self.old self.new result }
-        ensures kept { self.new ≡ record self.old { decoder = self.new.decoder; start = self.new.start; input = self.new.input } }
+        requires { self.old.inner.input ≡ None }
+        ensures reads { (next : HandlerFunction) (first : Announced) (left more : List ℕ) → IsUnread H.next_call next first left more self.old
+            → ReadsSome H.next_call next first left more self.old self.new result }
+        ensures kept { OnlyReads self.old self.new }
     {
         let Some(start) = have_start(self.alloc, &mut self.decoder, self.start.take())? else {
             return Ok(Turn::Waiting);
@@ -101,19 +108,7 @@ impl<H: Handler> Attempt<H> {
 
     // Reads what comes before the handler is asked, or asks it and carries its call out.
     fn advance(&mut self) -> Result<Turn, AttemptFailure>
-        ensures reads { self.old.input ≡ None → (next : HandlerFunction) (new : NewInvocation) (state : StateMap) (known retry_count duration : ℕ) (left more : List ℕ)
-            → IsUnread H.next_call next new state known retry_count duration left more self.old
-            → ReadsSome H.next_call next new state known retry_count duration left more self.old self.new result }
-        ensures calls { (next : HandlerFunction) (given : Invocation) (calls : ℕ) → Stands H.next_call next given calls self.old
-            → CallsOne H.next_call next given calls self.old self.new result }
-        ensures kept { self.new ≡ record self.old {
-          decoder = self.new.decoder;
-          start = self.new.start;
-          input = self.new.input;
-          progress = self.new.progress;
-        } }
-        ensures read { self.old.input ≡ None → self.new ≡ record self.old { decoder = self.new.decoder; start = self.new.start; input = self.new.input } }
-        ensures asked { IsSome self.old.input → self.new ≡ record self.old { progress = self.new.progress } }
+        ensures { Advances H.next_call self.old result self.new }
     {
         let call = match &self.input {
             None => return self.read(),
@@ -132,20 +127,7 @@ impl<H: Handler> Attempt<H> {
     ///
     /// An attempt that is over answers what it answered last.
     pub fn turn(&mut self) -> Turn
-        ensures over { IfSome self.old.over (λ turn. (result ≡ turn) × (self.new ≡ self.old)) }
-        ensures reads { (next : HandlerFunction) (new : NewInvocation) (state : StateMap) (known retry_count duration : ℕ) (left more : List ℕ)
-            → self.old.over ≡ None → IsUnread H.next_call next new state known retry_count duration left more self.old
-            → ReadTurn H.next_call next new state known retry_count duration left more self.old self.new result }
-        ensures runs { (next : HandlerFunction) (given : Invocation) (calls : ℕ) → self.old.over ≡ None
-            → Stands H.next_call next given calls self.old → RunTurn H.next_call next given calls self.old self.new result }
-        ensures kept { self.new ≡ record self.old {
-          decoder = self.new.decoder;
-          start = self.new.start;
-          input = self.new.input;
-          progress = self.new.progress;
-          over = self.new.over;
-        } }
-        ensures asked { IsSome self.old.input → self.new ≡ record self.old { progress = self.new.progress; over = self.new.over } }
+        ensures { Turns H.next_call self.old result self.new }
     {
         if let Some(turn) = self.over {
             return turn;
@@ -170,23 +152,23 @@ impl<H: Handler> Attempt<H> {
 
     /// The bytes to hand out, the first one first.
     pub fn output(&self) -> &[u8]
-        ensures { result.now ≡ self.now.progress.output }
+        ensures { result.now ≡ self.now.output }
     {
         self.progress.output.as_slice()
     }
 
     /// Drops the first bytes of the output.
     pub fn advance_output(&mut self, count: usize)
-        requires { count ≤ length self.old.progress.output }
-        ensures { self.new ≡ record self.old { progress = record (self.old.progress) { output = drop count self.old.progress.output } } }
+        requires { count ≤ length self.old.output }
+        ensures { Sends count self.old self.new }
     {
         self.progress.output.advance(count);
     }
 
     /// Hands out the first bytes of the output, so many at most. Where memory is refused it stays as it was.
     pub fn take_output(&mut self, max: usize) -> Result<Bytes, AllocError>
-        ensures front { IfOk result (λ bytes. bytes ≡ take max self.old.progress.output) }
-        ensures rest { OnOk result (self.new ≡ record self.old { progress = record (self.old.progress) { output = drop max self.old.progress.output } }) }
+        ensures front { IfOk result (λ bytes. bytes ≡ take max self.old.output) }
+        ensures rest { OnOk result (Sends max self.old self.new) }
         ensures err { OnErr result (self.new ≡ self.old) }
     {
         self.progress.output.take(max)

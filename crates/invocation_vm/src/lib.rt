@@ -17,5 +17,4 @@ pub use options::{
     AwaitingOnPolicy, JournalMismatchRetryBehavior, JournalReplay, NonDeterministicChecksOption,
     VMOptions,
 };
-pub use output::Output;
-pub use progress::{Progress, Turn};
+pub use progress::Turn;

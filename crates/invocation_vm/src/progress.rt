@@ -35,7 +35,7 @@ pub enum Turn {
 
 /// What an attempt has answered its handler so far, and the bytes that it has to hand out.
 #[derive(Debug, Drop)]
-pub struct Progress {
+pub(crate) struct Progress {
     pub answers: Sequence<Answer>,
     /// How many completion ids were taken. They count from 1, and the handle of each is 16 more.
     pub completions: u32,
@@ -184,7 +184,7 @@ pub(crate) fn carry_out(
     call: Call,
 ) -> Result<Turn, AttemptFailure>
     ensures ok { IfOk result (λ turn. (invocation : Invocation) (steps : List Step) → version ≡ invocation.version → run_options options.now ≡ invocation.options
-        → Tallies steps progress.old → CarriesOut invocation options.now.awaiting_on_policy steps call progress.old progress.new turn) }
+        → Tallies steps progress.old → CarriesOut invocation [] options.now.awaiting_on_policy steps call progress.old progress.new turn) }
     ensures err { OnErr result (progress.new.output ≡ progress.old.output) }
     ensures cause { IfErr result (λ failure. (invocation : Invocation) (steps : List Step) → version ≡ invocation.version
         → Tallies steps progress.old → HasCause invocation steps call failure) }

@@ -6,6 +6,9 @@ use Rattle.std.proofs.lemmas.Bool.{le-ltb, ltb-false}
 use Rattle.std.proofs.lemmas.List.Quantifiers.{position-Some}
 use Rattle.schedule_events.specs.First.{with_first, IsFirstAt}
 
+same_some : {A : Type 0} (x y : A) → Some x ≡ Some y → x ≡ y
+same_some x y e = cc
+
 pub true_or_false : (b : Bool) → (b ≡ true) ⊎ (b ≡ false)
 true_or_false true = inl refl
 true_or_false false = inr refl
@@ -75,16 +78,13 @@ module _ {A : Type 0} (test : A → Bool) where
       })))
 
   -- the element itself in its place changes nothing
-  pub set_same : (xs : List A) (k : ℕ) (x : A) → IsFirstAt test xs k x → slice_set xs k x ≡ xs
-  set_same [] k x f = refl
-  set_same (z ∷ zs) zero x f = ap (λ (y : A). y ∷ zs) (sym (f.at z))
-  set_same (z ∷ zs) (suc k) x f =
-      ap (λ (s : List A). z ∷ s) (set_same zs k x (record {
-        within = omega (arith, f.within);
-        at = λ d. f.at d;
-        passes = f.passes;
-        none_before = λ j d lt. f.none_before (suc j) d (omega arith);
-      }))
+  pub with_same : (xs : List A) (x : A) → find test xs ≡ Some x → with_first test xs x ≡ xs
+  with_same [] x e = refl
+  with_same (z ∷ zs) x e =
+      elim (true_or_false (test z)) [
+        | inl q ↦ let same : z ≡ x = same_some z x (rw q at e) in rw q (ap (λ (y : A). y ∷ zs) (sym same))
+        | inr q ↦ rw q (ap (λ (s : List A). z ∷ s) (with_same zs x (rw q at e)))
+      ]
 
   pub first_with : (xs : List A) (x y : A) → find test xs ≡ Some x → test y ≡ true → find test (with_first test xs y) ≡ Some y
   first_with [] x y e p = absurd cc

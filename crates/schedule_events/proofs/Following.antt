@@ -62,7 +62,7 @@ module _ {H : Type 0} (function : H → Handler) (next : Handler) (options : VMO
   lost_with frames coming lost all e = ap (λ (s : List Request). s ++ (coming ++ lost)) (append-nil frames) ∙ sym (append_assoc frames coming lost) ∙ e
 
   pub begun : (held : List (HeldAttempt H)) (seen : Seen) (input : Bytes) (h : HeldAttempt H) → h.invocation ≡ id → h.number ≡ suc seen.attempts
-      → h.attempt.options ≡ options → h.attempt.progress.output ≡ [] → (h.attempt.over ≡ None → IsNotRead function next options (begun_seen seen input) (live_begun seen input) h.attempt [])
+      → h.attempt.options ≡ options → h.attempt.output ≡ [] → (h.attempt.over ≡ None → IsNotRead function next options (begun_seen seen input) (live_begun seen input) h.attempt [])
       → FollowsSeen function next options id held seen → FollowsSeen function next options id (held ++ h ∷ []) (begun_seen seen input)
   begun held seen input h invocation numbered chosen written unread f = record {
     calls = f.calls;
@@ -106,7 +106,7 @@ module _ {H : Type 0} (function : H → Handler) (next : Handler) (options : VMO
       → new.live ≡ Some after → after.number ≡ live.number → new.attempts ≡ seen.attempts → new.arrivals ≡ seen.arrivals → new.invocation ≡ seen.invocation → length new.requests < 2 ^ 32 - 1
       → held_of held id live.number ≡ Some h → g.invocation ≡ h.invocation → g.number ≡ h.number
       → (calls : ℕ) (coming : List Sent) (lost : List Request) → AllByRecursion FitsSent coming
-      → (new.requests ++ requests_in coming) ++ lost ≡ run_requests next (run_given options new) [] calls
+      → (new.requests ++ requests_in coming) ++ lost ≡ run_requests next (run_given options new) new.arrivals calls
       → Flies function next options new after g.attempt calls coming lost
       → FollowsSeen function next options id held seen → FollowsSeen function next options id (with_first (is_held id live.number) held g) new
   flown held seen new live after h g is_live number attempts arrived whose places found invocation same_number calls coming lost fit requests flies f = record {
@@ -134,7 +134,7 @@ module _ {H : Type 0} (function : H → Handler) (next : Handler) (options : VMO
       → new.live ≡ Some after → after.number ≡ live.number → new.attempts ≡ seen.attempts → new.arrivals ≡ seen.arrivals → new.invocation ≡ seen.invocation → length new.requests < 2 ^ 32 - 1
       → held_of held id live.number ≡ Some h
       → (calls : ℕ) (coming : List Sent) (lost : List Request) → AllByRecursion FitsSent coming
-      → (new.requests ++ requests_in coming) ++ lost ≡ run_requests next (run_given options new) [] calls
+      → (new.requests ++ requests_in coming) ++ lost ≡ run_requests next (run_given options new) new.arrivals calls
       → Flies function next options new after h.attempt calls coming lost
       → FollowsSeen function next options id held seen → FollowsSeen function next options id held new
   recorded held seen new live after h is_live number attempts arrived whose places found calls coming lost fit requests flies f = record {

@@ -11,7 +11,9 @@ use Rattle.journal_laws.proofs.ObjectState.{tail_of, holds-head, holds-tail, not
 use Rattle.store_refusals.specs.declared.refusal.Refusal.{Refusal}
 use Rattle.invocation_vm.specs.declared.options.VMOptions.{VMOptions}
 use Rattle.invocation_vm.specs.declared.progress.Turn.{Turn}
-use Rattle.invocation_vm.specs.declared.attempt.Attempt.{Attempt}
+use Rattle.invocation_vm.specs.View.{AttemptView, fresh}
+use Rattle.invocation_vm.specs.Attempt.{Feeds, Sends, Turns}
+use Rattle.invocation_vm.proofs.Laws.{took_in}
 use Rattle.schedule_events.specs.declared.event.Event.{Event}
 use Rattle.schedule_events.specs.declared.event.Event.TheVariants as event
 use Rattle.schedule_events.specs.declared.event.Reply.{Reply}
@@ -22,12 +24,12 @@ use Rattle.schedule_events.specs.Standing.{Standing, Stays, Adds, Leaves, Begun,
 use Rattle.std.specs.List.{AllByRecursion}
 use Rattle.schedule_events.specs.Flight.{Sent, Asks, Tells, Ends, FitsSent, stream}
 use Rattle.schedule_events.specs.Following.{Seen, SeenAttempt, seen_as, seen_by, seen_of, is_held, held_of, FollowsSeen, FollowsAt, Follows}
-use Rattle.schedule_events.specs.Schedule.{TurnDoes, FeedDoes, SendDoes, RepliesDone, Took, TakesFrames, HoldsBegun, BeginDoes, IfHeld, FeedsHeld, TurnsHeld, MovesHeld, with_attempt, Does, Brings, FitsEvent}
-use Rattle.schedule_events.proofs.Firsts.{first_push_other}
+use Rattle.schedule_events.specs.Schedule.{RepliesDone, Took, TakesFrames, HoldsBegun, BeginDoes, IfHeld, FeedsOne, TurnsOne, MovesOne, with_attempt, Does, Brings, FitsEvent}
+use Rattle.schedule_events.proofs.Firsts.{first_push_other, with_same}
 use Rattle.schedule_events.proofs.Holding.{some_none, found_is, held_is, held_with, held_other_invocation, not_held_invocation}
 use Rattle.schedule_events.proofs.Following.{idle, begun, begun_alone, begun_seen}
 use Rattle.schedule_events.proofs.Moving.{flight_of, flown_by, turn_flight, fed_flight, sent_flight, turned}
-use Rattle.schedule_events.proofs.Reading.{took_in, begun_unread, unread_fed, stands_fed, unread_sent, stands_sent}
+use Rattle.schedule_events.proofs.Reading.{begun_unread}
 use Rattle.schedule_events.proofs.Seeing.{itself, requests_alone, hands_out, stops, asks_for, waits, closes, seen_more}
 use Rattle.schedule_events.proofs.Beginning.{not_begun, entries_none, seen_invoked, seen_begun}
 use Rattle.schedule_events.proofs.Meanings.{IsFaulty, meant}
@@ -57,7 +59,7 @@ handed_live events id n most causes =
     live_when events id n (not-false (is_live events id n) (holds-head (tail_of (tail_of tests)) (holds-tail (tail_of tests) (holds-tail tests causes))))
 
 -- an attempt that was begun, as it is held
-abbrev held_begun : {H : Type 0} → Text → ℕ → Attempt H → HeldAttempt H
+abbrev held_begun : {H : Type 0} → Text → ℕ → AttemptView H → HeldAttempt H
 held_begun id number attempt = record { invocation = id; number = number; attempt = attempt }
 
 module _ {H : Type 0} (function : H → Handler) (next : Handler) (options : VMOptions) (want : Text) where
@@ -85,8 +87,8 @@ module _ {H : Type 0} (function : H → Handler) (next : Handler) (options : VMO
 
   -- ---- the input
 
-  handed : (one : HeldAttempt H) (attempt : Attempt H) (most : ℕ) (given : Bytes) (old new : Standing) (held : List (HeldAttempt H)) → held_of held one.invocation one.number ≡ Some one
-      → HandsOut one.invocation one.number most old (Ok given) new → FeedDoes one.attempt given attempt → In old held → In new (with_attempt held one attempt)
+  handed : (one : HeldAttempt H) (attempt : AttemptView H) (most : ℕ) (given : Bytes) (old new : Standing) (held : List (HeldAttempt H)) → held_of held one.invocation one.number ≡ Some one
+      → HandsOut one.invocation one.number most old (Ok given) new → Feeds given one.attempt attempt → In old held → In new (with_attempt held one attempt)
   handed one attempt most given old new held there c d f =
       changed function next options one.invocation want (ModelEvent.HandOut one.invocation one.number most) old new held (with_attempt held one attempt) refl refl c.1.events (λ other apart. c.1.outputs other)
       (λ is g. by_begun function next options one.invocation (ModelEvent.HandOut one.invocation one.number most) old new held (with_attempt held one attempt) (Some most) [] false
@@ -107,21 +109,18 @@ module _ {H : Type 0} (function : H → Handler) (next : Handler) (options : VMO
           let seen : Seen = seen_as old.events (old.outputs id) id new' in
           let seen_is : seen.live ≡ Some live = seen_live old.events id one.number (old.outputs id) output.0 live_is output.1 input in
           let parts : input ≡ given ++ left = sym (take-append-drop most input) ∙ ap (λ (s : Bytes). s ++ left) (sym c.0) in
-          let k = took_in one.attempt given attempt d in
           bare function next options id (with_attempt held one attempt) old.events new' (Some most) false (new.outputs id) (Some (record live { input = left }))
           (seen_live old.events id one.number (new.outputs id) output.0 live_is (c.1.outputs id ∙ output.1) left) (old.outputs id)
           (flown_by function next options id held seen (record seen { live = Some (record live { input = left }) }) live (record live { input = left }) one (record one { attempt = attempt })
           refl refl refl refl refl refl there refl refl
-          (fed_flight function next options seen live left one.attempt attempt k.options k.output (λ on. (k.kept on).0)
-          (λ invocation state known retry duration more on. unread_fed function next invocation state known retry duration input left more given one.attempt attempt (k.kept on).1 parts)
-          (λ invocation calls on. stands_fed function next invocation calls given one.attempt attempt (k.kept on).1)
+          (fed_flight function next options seen live given left one.attempt attempt d parts
           (flight_of function next options id held seen live one seen_is there follows))
           follows)
 
   -- ---- the output
 
-  moved : (one : HeldAttempt H) (attempt : Attempt H) (count : ℕ) (old new : Standing) (held : List (HeldAttempt H)) → held_of held one.invocation one.number ≡ Some one
-      → PutsBehind one.invocation one.number (take count one.attempt.progress.output) old new → SendDoes one.attempt count attempt → In old held → In new (with_attempt held one attempt)
+  moved : (one : HeldAttempt H) (attempt : AttemptView H) (count : ℕ) (old new : Standing) (held : List (HeldAttempt H)) → held_of held one.invocation one.number ≡ Some one
+      → PutsBehind one.invocation one.number (take count one.attempt.output) old new → Sends count one.attempt attempt → In old held → In new (with_attempt held one attempt)
   moved one attempt count old new held there c d f =
       outputs_changed function next options one.invocation want old new held (with_attempt held one attempt) c.events c.others
       (λ g. by_invocation (invocation_begun old.events one.invocation) refl g)
@@ -135,7 +134,7 @@ module _ {H : Type 0} (function : H → Handler) (next : Handler) (options : VMO
       by_invocation None is none = some_none (sym there ∙ none one.number)
       by_invocation (Some new') is follows =
           let id : Text = one.invocation in
-          let bytes : Bytes = take count one.attempt.progress.output in
+          let bytes : Bytes = take count one.attempt.output in
           let input : Bytes = input_left old.events id in
           let live : SeenAttempt = record { number = one.number; input = input; output = c.before } in
           let seen : Seen = seen_as old.events (old.outputs id) id new' in
@@ -147,10 +146,7 @@ module _ {H : Type 0} (function : H → Handler) (next : Handler) (options : VMO
           subst (λ (o : Option Seen). At id (with_attempt held one attempt) o) (sym now)
           (flown_by function next options id held seen (record seen { live = Some (record live { output = c.before ++ bytes }) }) live (record live { output = c.before ++ bytes }) one (record one { attempt = attempt })
           refl refl refl refl refl refl there refl refl
-          (sent_flight function next options seen live bytes one.attempt attempt (ap (λ (a : Attempt H). a.options) d) (ap (λ (a : Attempt H). a.over) d)
-          (ap (λ (a : Attempt H). bytes ++ a.progress.output) d ∙ take-append-drop count one.attempt.progress.output)
-          (λ invocation state known retry duration left more. unread_sent function next invocation state known retry duration left more count one.attempt attempt d)
-          (λ invocation calls. stands_sent function next invocation calls count one.attempt attempt d)
+          (sent_flight function next options seen live count one.attempt attempt d
           (flight_of function next options id held seen live one seen_is there follows))
           follows)
 
@@ -180,7 +176,7 @@ module _ {H : Type 0} (function : H → Handler) (next : Handler) (options : VMO
       seen_is : seen.live ≡ Some live
       seen_is = seen_live old.events id n (old.outputs id) t.next.output live_is t.next.waits (input_left old.events id)
 
-      by_first : (first : Sent) (others : List Sent) → follows.coming ≡ first ∷ others → t.rest ++ h.attempt.progress.output ≡ stream others → FitsSent first → AllByRecursion FitsSent others
+      by_first : (first : Sent) (others : List Sent) → follows.coming ≡ first ∷ others → t.rest ++ h.attempt.output ≡ stream others → FitsSent first → AllByRecursion FitsSent others
           → t.frame ≡ meant first → At id held (seen_of new id)
       by_first (Asks request) others frames bytes fits fit e =
           let place : length (entries_of old.events id) + 1 < 2 ^ 32 - 1 =
@@ -209,12 +205,12 @@ module _ {H : Type 0} (function : H → Handler) (next : Handler) (options : VMO
           subst (λ (o : Option Seen). At id held o) (sym now)
           (bare function next options id held old.events one None true None None refl (old.outputs id) (idle function next options id held seen follows))
 
-      front : TakesFront t.next.item t.rest h.attempt.progress.output follows.coming
-      front = taken_front t.next.output t.rest h.attempt.progress.output t.next.item follows.coming follows.fit t.next.first (follows.flies live seen_is h there).bytes
+      front : TakesFront t.next.item t.rest h.attempt.output follows.coming
+      front = taken_front t.next.output t.rest h.attempt.output t.next.item follows.coming follows.fit t.next.first (follows.flies live seen_is h there).bytes
 
       taken : At id held (seen_of new id)
       taken =
-          elim (frame_at_front (version_of old.events id) t.next.item t.rest h.attempt.progress.output follows.coming front) [
+          elim (frame_at_front (version_of old.events id) t.next.item t.rest h.attempt.output follows.coming front) [
             | inl e ↦ by_first front.first front.others front.frames front.bytes front.fits front.fit (t.next.frame_is ∙ e)
             | inr faulty ↦ absurd (not_faulty old.events id n t.frame taken_causes (subst IsFaulty (sym t.next.frame_is) faulty))
           ]
@@ -254,8 +250,8 @@ module _ {H : Type 0} (function : H → Handler) (next : Handler) (options : VMO
 
   -- ---- a turn
 
-  turned_held : (one : HeldAttempt H) (attempt : Attempt H) (t : Turn) (old new : Standing) (held : List (HeldAttempt H)) → held_of held one.invocation one.number ≡ Some one
-      → TurnDoes function one.attempt t attempt → Stays old new → In old held → In new (with_attempt held one attempt)
+  turned_held : (one : HeldAttempt H) (attempt : AttemptView H) (t : Turn) (old new : Standing) (held : List (HeldAttempt H)) → held_of held one.invocation one.number ≡ Some one
+      → Turns function one.attempt t attempt → Stays old new → In old held → In new (with_attempt held one attempt)
   turned_held one attempt t old new held there d s f =
       outputs_changed function next options one.invocation want old new held (with_attempt held one attempt) s.events (λ other apart. s.outputs other)
       (λ g. subst (λ (o : Option Seen). At one.invocation (with_attempt held one attempt) o) (sym now) (by_seen (seen_of old one.invocation) g))
@@ -268,7 +264,7 @@ module _ {H : Type 0} (function : H → Handler) (next : Handler) (options : VMO
       by_seen None none = some_none (sym there ∙ none one.number)
       by_seen (Some seen) follows =
           turned function next options one.invocation one.number held seen one (record one { attempt = attempt }) there refl refl
-          (λ live flight. turn_flight function next options seen live one.attempt attempt t d.chosen (λ u over. (subst (λ (o : Option Turn). IfSome o (λ t'. (t ≡ t') × (attempt ≡ one.attempt))) over d.over).1) (d.reads next) (d.runs next) flight) follows
+          (λ live flight. turn_flight function next options seen live one.attempt attempt t follows.alone d flight) follows
 
   -- ---- an attempt that was begun
 
@@ -306,11 +302,11 @@ module _ {H : Type 0} (function : H → Handler) (next : Handler) (options : VMO
           let seen : Seen = seen_as old.events (old.outputs id) id there.0 in
           let input : Bytes = input_bytes (journal_pieces (Some there.0) (entries_of old.events id)) in
           let follows : Sees id held seen = subst (λ (o : Option Seen). At id held o) (ap (option_map (seen_as old.events (old.outputs id) id)) there.1) g in
-          let k = took_in h.fresh answer.start h.attempt h.fed in
+          let k = took_in (fresh answer.version options handler) answer.start h.attempt h.fed in
           subst (λ (o : Option Seen). At id more o) (sym seen_now)
           (subst (λ (hs : List (HeldAttempt H)). Sees id hs (begun_seen seen input)) (sym h.held)
-          (begun function next options id held seen input (held_begun id answer.number h.attempt) refl (b.number ∙ omega arith) (k.options ∙ h.is_fresh.options_are) (k.output ∙ ap (λ p. p.output) h.is_fresh.progress)
-          (λ on. begun_unread function next options id now old new answer b there.0 handler h.fresh h.attempt there.1 follows.alone moment follows.seed follows.places (brings (sym is)) h.is_fresh h.fed on) follows))
+          (begun function next options id held seen input (held_begun id answer.number h.attempt) refl (b.number ∙ omega arith) k.options k.output
+          (λ on. begun_unread function next options id now old new answer b there.0 handler h.attempt there.1 follows.alone moment follows.seed follows.places (brings (sym is)) h.fed on) follows))
 
   -- ---- a new invocation
 
@@ -354,7 +350,7 @@ module _ {H : Type 0} (function : H → Handler) (next : Handler) (options : VMO
 
   kept_stop : (id : Text) (n : ℕ) (answer : Reply) (old new : Standing) (held : List (HeldAttempt H)) → RepliesDone (λ result. Stops id n old result new) answer → In old held → In new held
   kept_stop id n reply.Done old new held d f = stopped id n old new held d f
-  kept_stop id n (reply.Refused (refusal.Store why)) old new held d f = stands_still old new held d.stays f
+  kept_stop id n (reply.Refused (refusal.Store why)) old new held d f = stands_still old new held d.1.stays f
   kept_stop id n (reply.Refused refusal.AttemptNotHeld) old new held d f = absurd d
   kept_stop id n (reply.Begun m) old new held d f = absurd d
   kept_stop id n (reply.Fed m) old new held d f = absurd d
@@ -378,41 +374,48 @@ module _ {H : Type 0} (function : H → Handler) (next : Handler) (options : VMO
   kept_begin id handler now (reply.Turned t) old new held more moment brings d f = absurd d
   kept_begin id handler now (reply.Moved b m why) old new held more moment brings d f = absurd d
 
-  kept_feed : (one : HeldAttempt H) (count : ℕ) (answer : Reply) (old new : Standing) (held more : List (HeldAttempt H)) → held_of held one.invocation one.number ≡ Some one
-      → FeedsHeld one count old held answer new more → In old held → In new more
-  kept_feed one count (reply.Fed n) old new held more there d f = subst (λ (hs : List (HeldAttempt H)). In new hs) (sym d.5) (handed one d.1 count d.0 old new held there d.3 d.4 f)
-  kept_feed one count (reply.Refused (refusal.Store why)) old new held more there d f = same_state old new held more d.0.stays d.1 f
-  kept_feed one count reply.Done old new held more there d f = absurd d
-  kept_feed one count (reply.Refused refusal.AttemptNotHeld) old new held more there d f = absurd d
-  kept_feed one count (reply.Begun m) old new held more there d f = absurd d
-  kept_feed one count (reply.Turned t) old new held more there d f = absurd d
-  kept_feed one count (reply.Moved b m why) old new held more there d f = absurd d
+  -- an attempt that is held, and was not changed
+  unchanged : (one : HeldAttempt H) (attempt : AttemptView H) (old new : Standing) (held : List (HeldAttempt H)) → held_of held one.invocation one.number ≡ Some one → attempt ≡ one.attempt
+      → Stays old new → In old held → In new (with_attempt held one attempt)
+  unchanged one attempt old new held there same s f =
+      same_state old new held (with_attempt held one attempt) s
+      (ap (λ (a : AttemptView H). with_attempt held one a) same ∙ with_same (is_held one.invocation one.number) held one there) f
 
-  kept_turn : (one : HeldAttempt H) (answer : Reply) (old new : Standing) (held more : List (HeldAttempt H)) → held_of held one.invocation one.number ≡ Some one
-      → TurnsHeld function one old held answer new more → In old held → In new more
-  kept_turn one (reply.Turned t) old new held more there d f = subst (λ (hs : List (HeldAttempt H)). In new hs) (sym d.3) (turned_held one d.0 t old new held there d.1 d.2 f)
-  kept_turn one reply.Done old new held more there d f = absurd d
-  kept_turn one (reply.Refused why) old new held more there d f = absurd d
-  kept_turn one (reply.Begun m) old new held more there d f = absurd d
-  kept_turn one (reply.Fed m) old new held more there d f = absurd d
-  kept_turn one (reply.Moved b m why) old new held more there d f = absurd d
+  kept_feed : (count : ℕ) (one : HeldAttempt H) (answer : Reply) (old new : Standing) (held : List (HeldAttempt H)) (attempt : AttemptView H) → held_of held one.invocation one.number ≡ Some one
+      → FeedsOne count one old answer new attempt → In old held → In new (with_attempt held one attempt)
+  kept_feed count one (reply.Fed n) old new held attempt there d f = handed one attempt count d.0 old new held there d.2 d.3 f
+  kept_feed count one (reply.Refused (refusal.Store why)) old new held attempt there d f = unchanged one attempt old new held there d.1 d.0.stays f
+  kept_feed count one reply.Done old new held attempt there d f = absurd d
+  kept_feed count one (reply.Refused refusal.AttemptNotHeld) old new held attempt there d f = absurd d
+  kept_feed count one (reply.Begun m) old new held attempt there d f = absurd d
+  kept_feed count one (reply.Turned t) old new held attempt there d f = absurd d
+  kept_feed count one (reply.Moved b m why) old new held attempt there d f = absurd d
 
-  kept_move : (one : HeldAttempt H) (count : ℕ) (answer : Reply) (old new : Standing) (held more : List (HeldAttempt H)) → held_of held one.invocation one.number ≡ Some one
-      → MovesHeld one count old held answer new more → In old held → In new more
-  kept_move one count (reply.Moved bytes frames why) old new held more there d f =
-      subst (λ (hs : List (HeldAttempt H)). In new hs) (sym d.5)
-      (took_frames one.invocation one.number frames why d.0 new (with_attempt held one d.1) (record one { attempt = d.1 }) (held_with one.invocation one.number held one (record one { attempt = d.1 }) there refl refl) d.6
-      (moved one d.1 bytes old d.0 held there d.3 d.4 f))
-  kept_move one count (reply.Refused (refusal.Store why)) old new held more there d f = same_state old new held more d.0.stays d.1 f
-  kept_move one count reply.Done old new held more there d f = absurd d
-  kept_move one count (reply.Refused refusal.AttemptNotHeld) old new held more there d f = absurd d
-  kept_move one count (reply.Begun m) old new held more there d f = absurd d
-  kept_move one count (reply.Fed m) old new held more there d f = absurd d
-  kept_move one count (reply.Turned t) old new held more there d f = absurd d
+  kept_turn : (one : HeldAttempt H) (answer : Reply) (old new : Standing) (held : List (HeldAttempt H)) (attempt : AttemptView H) → held_of held one.invocation one.number ≡ Some one
+      → TurnsOne function one old answer new attempt → In old held → In new (with_attempt held one attempt)
+  kept_turn one (reply.Turned t) old new held attempt there d f = turned_held one attempt t old new held there d.0 d.1 f
+  kept_turn one reply.Done old new held attempt there d f = absurd d
+  kept_turn one (reply.Refused why) old new held attempt there d f = absurd d
+  kept_turn one (reply.Begun m) old new held attempt there d f = absurd d
+  kept_turn one (reply.Fed m) old new held attempt there d f = absurd d
+  kept_turn one (reply.Moved b m why) old new held attempt there d f = absurd d
+
+  kept_move : (count : ℕ) (one : HeldAttempt H) (answer : Reply) (old new : Standing) (held : List (HeldAttempt H)) (attempt : AttemptView H) → held_of held one.invocation one.number ≡ Some one
+      → MovesOne count one old answer new attempt → In old held → In new (with_attempt held one attempt)
+  kept_move count one (reply.Moved bytes frames why) old new held attempt there d f =
+      took_frames one.invocation one.number frames why d.0 new (with_attempt held one attempt) (record one { attempt = attempt })
+      (held_with one.invocation one.number held one (record one { attempt = attempt }) there refl refl) d.4
+      (moved one attempt bytes old d.0 held there d.2 d.3 f)
+  kept_move count one (reply.Refused (refusal.Store why)) old new held attempt there d f = unchanged one attempt old new held there d.1 d.0.1.stays f
+  kept_move count one reply.Done old new held attempt there d f = absurd d
+  kept_move count one (reply.Refused refusal.AttemptNotHeld) old new held attempt there d f = absurd d
+  kept_move count one (reply.Begun m) old new held attempt there d f = absurd d
+  kept_move count one (reply.Fed m) old new held attempt there d f = absurd d
+  kept_move count one (reply.Turned t) old new held attempt there d f = absurd d
 
   -- one that is held, or none
-  kept_held : (Change : HeldAttempt H → Standing → List (HeldAttempt H) → Reply → Standing → List (HeldAttempt H) → Type 0) (id : Text) (n : ℕ) (answer : Reply) (old new : Standing) (held more : List (HeldAttempt H))
-      → ((one : HeldAttempt H) → held_of held one.invocation one.number ≡ Some one → Change one old held answer new more → In old held → In new more)
+  kept_held : (Change : HeldAttempt H → Standing → Reply → Standing → AttemptView H → Type 0) (id : Text) (n : ℕ) (answer : Reply) (old new : Standing) (held more : List (HeldAttempt H))
+      → ((one : HeldAttempt H) (attempt : AttemptView H) → held_of held one.invocation one.number ≡ Some one → Change one old answer new attempt → In old held → In new (with_attempt held one attempt))
       → IfHeld Change (held_of held id n) old held answer new more → In old held → In new more
   kept_held Change id n answer old new held more own d f = by_held (held_of held id n) refl d
     where
@@ -420,13 +423,14 @@ module _ {H : Type 0} (function : H → Handler) (next : Handler) (options : VMO
       by_held None there d = same_state old new held more d.1 d.2 f
       by_held (Some one) there d =
           let is = held_is id n one (found_is id n held one there) in
-          own one (ap (λ (i : Text). held_of held i one.number) is.0 ∙ ap (λ (m : ℕ). held_of held id m) is.1 ∙ there) d f
+          subst (λ (hs : List (HeldAttempt H)). In new hs) (sym d.2)
+          (own one d.0 (ap (λ (i : Text). held_of held i one.number) is.0 ∙ ap (λ (m : ℕ). held_of held id m) is.1 ∙ there) d.1 f)
 
   -- what an event does keeps the invocation in its run
   pub keeps : (one : Event H) (answer : Reply) (old new : Standing) (held more : List (HeldAttempt H)) → FitsEvent one → Brings function want next one → Does function options one old held answer new more → In old held → In new more
   keeps (event.Invoke one) answer old new held more fits brings d f = subst (λ (hs : List (HeldAttempt H)). In new hs) (sym d.1) (kept_invoke one answer old new held fits d.0 f)
   keeps (event.Begin id handler now) answer old new held more fits brings d f = kept_begin id handler now answer old new held more fits brings d f
-  keeps (event.Feed id n count) answer old new held more fits brings d f = kept_held (λ one. FeedsHeld one count) id n answer old new held more (λ one there c g. kept_feed one count answer old new held more there c g) d f
-  keeps (event.Turn id n) answer old new held more fits brings d f = kept_held (λ one. TurnsHeld function one) id n answer old new held more (λ one there c g. kept_turn one answer old new held more there c g) d f
-  keeps (event.Move id n count) answer old new held more fits brings d f = kept_held (λ one. MovesHeld one count) id n answer old new held more (λ one there c g. kept_move one count answer old new held more there c g) d f
+  keeps (event.Feed id n count) answer old new held more fits brings d f = kept_held (FeedsOne count) id n answer old new held more (λ one attempt there c g. kept_feed count one answer old new held attempt there c g) d f
+  keeps (event.Turn id n) answer old new held more fits brings d f = kept_held (TurnsOne function) id n answer old new held more (λ one attempt there c g. kept_turn one answer old new held attempt there c g) d f
+  keeps (event.Move id n count) answer old new held more fits brings d f = kept_held (MovesOne count) id n answer old new held more (λ one attempt there c g. kept_move count one answer old new held attempt there c g) d f
   keeps (event.Stop id n) answer old new held more fits brings d f = subst (λ (hs : List (HeldAttempt H)). In new hs) (sym d.1) (kept_stop id n answer old new held d.0 f)

@@ -1,10 +1,11 @@
 -- What a schedule leaves of an invocation that was not begun before.
 use Rattle.std.proofs.Common.{◌≡◌, List, [], ◌∷◌, ◌++◌, Option, None, option_map, refl, sym, ap, subst, ◌∙◌, append_assoc}
 use Rattle.std.specs.List.{AllByRecursion}
-use Rattle.journal_model.specs.Notification.{Text}
-use Rattle.journal_model.specs.Journal.{recorded_requests}
-use Rattle.journal_model.specs.Run.{Handler}
+use Rattle.journal_model.specs.Notification.{Text, Arrival}
+use Rattle.journal_model.specs.Journal.{recorded_requests, starting_state}
+use Rattle.journal_model.specs.Run.{Handler, run_requests}
 use Rattle.invocation_vm.specs.declared.options.VMOptions.{VMOptions}
+use Rattle.invocation_vm.specs.First.{given_by}
 use Rattle.schedule_events.specs.declared.event.Event.{Event}
 use Rattle.schedule_events.specs.declared.event.Reply.{Reply}
 use Rattle.schedule_events.specs.declared.held.HeldAttempt.{HeldAttempt}
@@ -29,7 +30,11 @@ module _ {H : Type 0} (function : H → Handler) where
       subst (λ (o : Option Seen). FollowsAt function next options id held o) (ap (option_map (seen_as s.events (s.outputs id) id)) begun) f in
       record {
         calls = g.calls;
-        beginning = (requests_in g.coming ++ g.lost, sym (append_assoc (recorded_requests s.events id) (requests_in g.coming) g.lost) ∙ g.requests);
+        beginning = (
+          requests_in g.coming ++ g.lost,
+          sym (append_assoc (recorded_requests s.events id) (requests_in g.coming) g.lost) ∙ g.requests
+              ∙ ap (λ (arrivals : List Arrival). run_requests next (given_by options new (starting_state s.events id)) arrivals g.calls) g.alone,
+        );
       }
 
   kept_along : (next : Handler) (options : VMOptions) (id : Text) (events : List (Event H)) (replies : List Reply) (old new : Scheduled H) → AppliesAll function options events replies old new

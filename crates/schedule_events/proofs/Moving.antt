@@ -1,17 +1,17 @@
 -- A turn, a feed and a move of the live attempt keep its invocation in the run.
-use Rattle.std.proofs.Common.{◌≡◌, ◌≢◌, ℕ, ◌+◌, ◌-◌, ◌^◌, ◌<◌, ◌==◌, Bool, true, false, List, ◌++◌, length, Option, Some, None, refl, sym, ap, subst, ◌∙◌, inl, inr, append_assoc}
+use Rattle.std.proofs.Common.{◌≡◌, ◌≢◌, ℕ, ◌-◌, ◌^◌, ◌<◌, ◌==◌, Bool, true, false, List, [], ◌++◌, length, take, Option, Some, None, refl, sym, ap, subst, ◌∙◌, inl, inr, append_assoc, take-append-drop, IfSome}
 use Rattle.std.proofs.lemmas.Bool.Decides.{Decides-eqb}
-use Rattle.journal_model.specs.declared.invocation.NewInvocation.{NewInvocation}
-use Rattle.journal_model.specs.State.{StateMap}
+use Rattle.journal_model.specs.Notification.{Arrival}
 use Rattle.journal_model.specs.Request.{Request}
-use Rattle.journal_model.specs.Run.{Handler, Invocation}
+use Rattle.journal_model.specs.Run.{Handler}
 use Rattle.schedule_events.specs.First.{with_first}
 use Rattle.invocation_vm.specs.declared.options.VMOptions.{VMOptions}
-use Rattle.invocation_vm.specs.declared.attempt.Attempt.{Attempt}
+use Rattle.invocation_vm.specs.View.{AttemptView}
 use Rattle.invocation_vm.specs.declared.progress.Turn.{Turn}
-use Rattle.invocation_vm.specs.Attempt.{IsUnread, Stands, RunTurn, ReadTurn}
+use Rattle.invocation_vm.specs.Attempt.{Stands, RunTurn, Feeds, Sends, Turns}
+use Rattle.invocation_vm.proofs.Laws.{took_in, unread_fed, stands_fed, unread_sent, stands_sent}
 use Rattle.schedule_events.specs.declared.held.HeldAttempt.{HeldAttempt}
-use Rattle.schedule_events.specs.Following.{Seen, SeenAttempt, is_held, held_of, run_given, FollowsSeen}
+use Rattle.schedule_events.specs.Following.{Seen, SeenAttempt, is_held, held_of, run_given, announced, FollowsSeen}
 use Rattle.schedule_events.proofs.Holding.{some_is, some_none}
 use Rattle.schedule_events.proofs.Following.{flown, beside}
 use Rattle.schedule_events.proofs.Turning.{Flight, run_turn, read_turn}
@@ -40,66 +40,80 @@ module _ {H : Type 0} (function : H → Handler) (next : Handler) (options : VMO
   flown_by id held seen new live after h g is number attempts arrived whose recorded found invocation same fl f =
       flown function next options id held seen new live after h g is number attempts arrived whose (subst (λ (requests : List Request). length requests < 2 ^ 32 - 1) (sym recorded) f.places) found invocation same fl.calls fl.coming fl.lost fl.fit fl.requests fl.flies f
 
-  -- a turn
-  pub turn_flight : (seen : Seen) (live : SeenAttempt) (old new : Attempt H) (t : Turn) → new.options ≡ old.options
-      → ((u : Turn) → old.over ≡ Some u → new ≡ old)
-      → ((invocation : NewInvocation) (state : StateMap) (known retry duration : ℕ) (left more : List ℕ) → old.over ≡ None → IsUnread function next invocation state known retry duration left more old
-      → ReadTurn function next invocation state known retry duration left more old new t)
-      → ((given : Invocation) (calls : ℕ) → old.over ≡ None → Stands function next given calls old → RunTurn function next given calls old new t)
+  -- a turn, where nothing has arrived
+  pub turn_flight : (seen : Seen) (live : SeenAttempt) (old new : AttemptView H) (t : Turn) → seen.arrivals ≡ [] → Turns function old t new
       → Flight function next options seen live old → Flight function next options seen live new
-  turn_flight seen live old new t chosen over reads runs f = by_over old.over refl
+  turn_flight seen live old new t alone d f = by_over old.over refl
     where
+      chosen : new.options ≡ old.options
+      chosen = ap (λ (a : AttemptView H). a.options) d.kept
+
       by_over : (o : Option Turn) → old.over ≡ o → Flight function next options seen live new
-      by_over (Some u) is = subst (λ (a : Attempt H). Flight function next options seen live a) (sym (over u is)) f
+      by_over (Some u) is = subst (λ (a : AttemptView H). Flight function next options seen live a) (sym (subst (λ (o : Option Turn). IfSome o (λ last. (t ≡ last) × (new ≡ old))) is d.over).1) f
       by_over None is =
           elim (f.flies.stands is) [
-            | inl n ↦ read_turn function next options seen live old new t chosen f n (reads seen.invocation n.shown (1 + length seen.requests) n.retry n.duration live.input n.more is n.unread)
-            | inr h ↦ run_turn function next options seen live old new t chosen f h (runs (run_given options seen) f.calls is h.stands)
+            | inl n ↦ read_turn function next options seen live old new t chosen f n (d.reads next (announced seen n.shown n.retry n.duration) live.input n.more is n.unread)
+            | inr h ↦
+                run_turn function next options seen live old new t chosen f h
+                (subst (λ (arrivals : List Arrival). Stands function next (run_given options seen) arrivals [] f.calls old → RunTurn function next (run_given options seen) arrivals [] f.calls old new t) (sym alone)
+                (d.runs next (run_given options seen) [] f.calls is) h.stands)
           ]
 
   -- bytes of the input go to the attempt
-  pub fed_flight : (seen : Seen) (live : SeenAttempt) (left : List ℕ) (old new : Attempt H) → new.options ≡ old.options → new.progress.output ≡ old.progress.output
-      → (new.over ≡ None → old.over ≡ None)
-      → ((invocation : NewInvocation) (state : StateMap) (known retry duration : ℕ) (more : List ℕ) → new.over ≡ None → IsUnread function next invocation state known retry duration live.input more old
-      → IsUnread function next invocation state known retry duration left more new)
-      → ((given : Invocation) (calls : ℕ) → new.over ≡ None → Stands function next given calls old → Stands function next given calls new)
+  pub fed_flight : (seen : Seen) (live : SeenAttempt) (given left : List ℕ) (old new : AttemptView H) → Feeds given old new → live.input ≡ given ++ left
       → Flight function next options seen live old → Flight function next options (record seen { live = Some (record live { input = left }) }) (record live { input = left }) new
-  fed_flight seen live left old new chosen output over unread stands f = record {
-    calls = f.calls;
-    coming = f.coming;
-    lost = f.lost;
-    fit = f.fit;
-    requests = f.requests;
-    flies = record {
-      chosen = chosen ∙ f.flies.chosen;
-      bytes = ap (λ (s : List ℕ). live.output ++ s) output ∙ f.flies.bytes;
-      stands = λ on. elim (f.flies.stands (over on)) [
-        | inl n ↦ inl (record { shown = n.shown; at_start = n.at_start; retry = n.retry; duration = n.duration; more = n.more; unread = unread seen.invocation n.shown (1 + length seen.requests) n.retry n.duration n.more on n.unread; nothing = n.nothing })
-        | inr h ↦ inr (record { stands = stands (run_given options seen) f.calls on h.stands; whole = h.whole })
-      ];
-    };
-  }
+  fed_flight seen live given left old new fed parts f =
+      let k = took_in old given new fed in
+      record {
+        calls = f.calls;
+        coming = f.coming;
+        lost = f.lost;
+        fit = f.fit;
+        requests = f.requests;
+        flies = record {
+          chosen = k.options ∙ f.flies.chosen;
+          bytes = ap (λ (s : List ℕ). live.output ++ s) k.output ∙ f.flies.bytes;
+          stands = λ on. elim (f.flies.stands (k.kept on).0) [
+            | inl n ↦
+                inl (record {
+                  shown = n.shown;
+                  at_start = n.at_start;
+                  retry = n.retry;
+                  duration = n.duration;
+                  more = n.more;
+                  unread = unread_fed function next (announced seen n.shown n.retry n.duration) live.input left n.more given old new fed on parts n.unread;
+                  nothing = n.nothing;
+                })
+            | inr h ↦ inr (record { stands = stands_fed function next (run_given options seen) seen.arrivals [] f.calls given old new fed on h.stands; whole = h.whole })
+          ];
+        };
+      }
 
   -- bytes of the output go to the store
-  pub sent_flight : (seen : Seen) (live : SeenAttempt) (moved : List ℕ) (old new : Attempt H) → new.options ≡ old.options → new.over ≡ old.over
-      → moved ++ new.progress.output ≡ old.progress.output
-      → ((invocation : NewInvocation) (state : StateMap) (known retry duration : ℕ) (left more : List ℕ) → IsUnread function next invocation state known retry duration left more old
-      → IsUnread function next invocation state known retry duration left more new)
-      → ((given : Invocation) (calls : ℕ) → Stands function next given calls old → Stands function next given calls new)
-      → Flight function next options seen live old
-      → Flight function next options (record seen { live = Some (record live { output = live.output ++ moved }) }) (record live { output = live.output ++ moved }) new
-  sent_flight seen live moved old new chosen over output unread stands f = record {
+  pub sent_flight : (seen : Seen) (live : SeenAttempt) (count : ℕ) (old new : AttemptView H) → Sends count old new → Flight function next options seen live old
+      → Flight function next options (record seen { live = Some (record live { output = live.output ++ take count old.output }) }) (record live { output = live.output ++ take count old.output }) new
+  sent_flight seen live count old new sent f = record {
     calls = f.calls;
     coming = f.coming;
     lost = f.lost;
     fit = f.fit;
     requests = f.requests;
     flies = record {
-      chosen = chosen ∙ f.flies.chosen;
-      bytes = append_assoc live.output moved new.progress.output ∙ ap (λ (s : List ℕ). live.output ++ s) output ∙ f.flies.bytes;
-      stands = λ on. elim (f.flies.stands (sym over ∙ on)) [
-        | inl n ↦ inl (record { shown = n.shown; at_start = n.at_start; retry = n.retry; duration = n.duration; more = n.more; unread = unread seen.invocation n.shown (1 + length seen.requests) n.retry n.duration live.input n.more n.unread; nothing = n.nothing })
-        | inr h ↦ inr (record { stands = stands (run_given options seen) f.calls h.stands; whole = h.whole })
+      chosen = ap (λ (a : AttemptView H). a.options) sent ∙ f.flies.chosen;
+      bytes = append_assoc live.output (take count old.output) new.output
+          ∙ ap (λ (s : List ℕ). live.output ++ s) (ap (λ (a : AttemptView H). take count old.output ++ a.output) sent ∙ take-append-drop count old.output) ∙ f.flies.bytes;
+      stands = λ on. elim (f.flies.stands (sym (ap (λ (a : AttemptView H). a.over) sent) ∙ on)) [
+        | inl n ↦
+            inl (record {
+              shown = n.shown;
+              at_start = n.at_start;
+              retry = n.retry;
+              duration = n.duration;
+              more = n.more;
+              unread = unread_sent function next (announced seen n.shown n.retry n.duration) live.input n.more count old new sent n.unread;
+              nothing = n.nothing;
+            })
+        | inr h ↦ inr (record { stands = stands_sent function next (run_given options seen) seen.arrivals [] f.calls count old new sent h.stands; whole = h.whole })
       ];
     };
   }

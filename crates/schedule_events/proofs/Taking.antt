@@ -166,7 +166,7 @@ module _ {H : Type 0} (function : H → Handler) (next : Handler) (options : VMO
 
   -- a request is recorded
   pub is_recorded : (f : Follow seen) → seen.live ≡ Some live → held_of held id live.number ≡ Some h → (request : Request) (rest : Bytes) (others : List Sent)
-      → f.coming ≡ Asks request ∷ others → rest ++ h.attempt.progress.output ≡ stream others → AllByRecursion FitsSent others → length (seen.requests ++ request ∷ []) < 2 ^ 32 - 1
+      → f.coming ≡ Asks request ∷ others → rest ++ h.attempt.output ≡ stream others → AllByRecursion FitsSent others → length (seen.requests ++ request ∷ []) < 2 ^ 32 - 1
       → Follow (record seen { requests = seen.requests ++ request ∷ []; live = Some (record live { output = rest }) })
   is_recorded f is there request rest others frames bytes fit room =
       let F = f.flies live is h there in
@@ -185,7 +185,7 @@ module _ {H : Type 0} (function : H → Handler) (next : Handler) (options : VMO
 
   -- what is only told goes by
   pub goes_by : (f : Follow seen) → seen.live ≡ Some live → held_of held id live.number ≡ Some h → (payload rest : Bytes) (others : List Sent)
-      → f.coming ≡ Tells payload ∷ others → rest ++ h.attempt.progress.output ≡ stream others → AllByRecursion FitsSent others
+      → f.coming ≡ Tells payload ∷ others → rest ++ h.attempt.output ≡ stream others → AllByRecursion FitsSent others
       → Follow (record seen { live = Some (record live { output = rest }) })
   goes_by f is there payload rest others frames bytes fit =
       let F = f.flies live is h there in

@@ -10,9 +10,9 @@ use Rattle.journal_model.specs.Journal.{invocation_begun, starting_state, record
 use Rattle.journal_model.specs.Attempt.{attempts_begun, live_attempt, input_left}
 use Rattle.journal_model.specs.Run.{Handler, Invocation, run_requests, IsBeginning}
 use Rattle.invocation_vm.specs.declared.options.VMOptions.{VMOptions}
-use Rattle.invocation_vm.specs.declared.attempt.Attempt.{Attempt}
+use Rattle.invocation_vm.specs.View.{AttemptView}
 use Rattle.invocation_vm.specs.First.{given_by}
-use Rattle.invocation_vm.specs.Attempt.{IsUnread, Stands}
+use Rattle.invocation_vm.specs.Attempt.{Announced, IsUnread, Stands}
 use Rattle.schedule_events.specs.declared.held.HeldAttempt.{HeldAttempt}
 use Rattle.schedule_events.specs.Standing.{Standing}
 use Rattle.schedule_events.specs.Flight.{Sent, stream, requests_in, FitsSent}
@@ -58,6 +58,17 @@ seen_of s id = seen_by s.events (s.outputs id) id
 abbrev pub run_given : VMOptions → Seen → Invocation
 run_given options seen = given_by options seen.invocation seen.start
 
+-- what its live attempt is told first, that is shown this state
+abbrev pub announced : Seen → (shown : StateMap) → (retry duration : ℕ) → Announced
+announced seen shown retry duration = record {
+  new = seen.invocation;
+  state = shown;
+  arrivals = seen.arrivals;
+  recorded = seen.requests;
+  retry_count = retry;
+  duration = duration;
+}
+
 -- recorded requests that are the first of a run over no arrivals
 pub record IsBeginningOfRun (next : Handler) (given : Invocation) (recorded : List Request) : Type 0 where
   pub calls : ℕ
@@ -77,24 +88,25 @@ module _ {H : Type 0} where
 
 module _ {H : Type 0} (function : H → Handler) (next : Handler) (options : VMOptions) where
   -- an attempt that has not read its input has written nothing; before anything was recorded it is shown the state at the start
-  pub record IsNotRead (seen : Seen) (live : SeenAttempt) (attempt : Attempt H) (coming : List Sent) : Type 0 where
+  pub record IsNotRead (seen : Seen) (live : SeenAttempt) (attempt : AttemptView H) (coming : List Sent) : Type 0 where
     pub shown : StateMap
     pub at_start : seen.requests ≡ [] → shown ≡ seen.start
     pub retry : ℕ
     pub duration : ℕ
     pub more : Bytes
-    pub unread : IsUnread function next seen.invocation shown (1 + length seen.requests) retry duration live.input more attempt
+    pub unread : IsUnread function next (announced seen shown retry duration) live.input more attempt
     pub nothing : coming ≡ []
 
-  -- an attempt that has its input: its calls so far were answered as the run's, and all that they asked is recorded or on its way
-  pub record HasRead (seen : Seen) (attempt : Attempt H) (calls : ℕ) (lost : List Request) : Type 0 where
-    pub stands : Stands function next (run_given options seen) calls attempt
+  -- an attempt that has its input, when nothing was recorded: its calls so far were answered as the run's, and all that they asked is
+  -- recorded or on its way
+  pub record HasRead (seen : Seen) (attempt : AttemptView H) (calls : ℕ) (lost : List Request) : Type 0 where
+    pub stands : Stands function next (run_given options seen) seen.arrivals [] calls attempt
     pub whole : lost ≡ []
 
   -- the live attempt is somewhere in the run, or over, and its bytes are on the way
-  pub record Flies (seen : Seen) (live : SeenAttempt) (attempt : Attempt H) (calls : ℕ) (coming : List Sent) (lost : List Request) : Type 0 where
+  pub record Flies (seen : Seen) (live : SeenAttempt) (attempt : AttemptView H) (calls : ℕ) (coming : List Sent) (lost : List Request) : Type 0 where
     pub chosen : attempt.options ≡ options
-    pub bytes : live.output ++ attempt.progress.output ≡ stream coming
+    pub bytes : live.output ++ attempt.output ≡ stream coming
     pub stands : attempt.over ≡ None → IsNotRead seen live attempt coming ⊎ HasRead seen attempt calls lost
 
   -- what is recorded, what is on its way, and what attempts that are over have lost, are the run's requests so far; nothing has arrived
@@ -106,7 +118,7 @@ module _ {H : Type 0} (function : H → Handler) (next : Handler) (options : VMO
     pub seed : seen.invocation.seed < 2 ^ 64
     pub places : length seen.requests < 2 ^ 32 - 1
     pub alone : seen.arrivals ≡ []
-    pub requests : (seen.requests ++ requests_in coming) ++ lost ≡ run_requests next (run_given options seen) [] calls
+    pub requests : (seen.requests ++ requests_in coming) ++ lost ≡ run_requests next (run_given options seen) seen.arrivals calls
     pub numbered : (number : ℕ) → seen.attempts < number → held_of held id number ≡ None
     pub flies : (live : SeenAttempt) → seen.live ≡ Some live → (attempt : HeldAttempt H) → held_of held id live.number ≡ Some attempt
         → Flies seen live attempt.attempt calls coming lost

@@ -8,13 +8,11 @@ use Rattle.journal_model.specs.Journal.{invocation_begun, starting_state, record
 use Rattle.invocation_vm.specs.declared.options.VMOptions.{VMOptions}
 use Rattle.invocation_vm.specs.First.{given_by}
 use Rattle.schedule_events.specs.declared.event.Event.{Event}
-use Rattle.invocation_vm.specs.declared.attempt.Attempt.{Attempt}
-use Rattle.invocation_vm.specs.declared.progress.Turn.{Turn}
+use Rattle.invocation_vm.specs.View.{AttemptView}
 use Rattle.schedule_events.specs.declared.event.Reply.{Reply}
-use Rattle.schedule_events.specs.declared.event.Reply.TheVariants as reply
 use Rattle.schedule_events.specs.declared.held.HeldAttempt.{HeldAttempt}
 use Rattle.schedule_events.specs.Standing.{Standing}
-use Rattle.schedule_events.specs.Schedule.{IfHeld, FeedsOne, FeedsHeld, MovesOne, MovesHeld, TurnDoes, TurnsHeld, Does, Scheduled, Applies, AppliesAll, Brings, FitsEvent}
+use Rattle.schedule_events.specs.Schedule.{IfHeld, FeedsOne, MovesOne, TurnsOne, Does, Scheduled, Applies, AppliesAll, Brings, FitsEvent}
 use Rattle.schedule_events.specs.Following.{is_held, held_of, Follows, IsBeginningOfRun}
 
 -- ---- of the calls
@@ -24,22 +22,23 @@ module _ (H : Type 0) where
   abbrev pub NoneHeld : Type 0
   NoneHeld = (id : Text) (n : ℕ) (held : List (HeldAttempt H)) → position (is_held id n) held ≡ None → held_of held id n ≡ None
 
-  -- what is done to the attempt at its place is done among all that are held
+module _ {H : Type 0} where
+  -- what is done to the attempt at its place is done to the one that is held
+  abbrev pub Reaches : (HeldAttempt H → Standing → Reply → Standing → AttemptView H → Type 0) → Type 0
+  Reaches Does = (id : Text) (n : ℕ) (held : List (HeldAttempt H)) (place : ℕ) (one changed : HeldAttempt H) (old new : Standing) (answer : Reply)
+      → position (is_held id n) held ≡ Some place → one ≡ get_or held place one → changed ≡ record one { attempt = changed.attempt } → Does one old answer new changed.attempt
+      → IfHeld Does (held_of held id n) old held answer new (slice_set held place changed)
+
+module _ (H : Type 0) where
   abbrev pub FeedsReach : Type 0
-  FeedsReach = (id : Text) (n count : ℕ) (held : List (HeldAttempt H)) (place : ℕ) (one changed : HeldAttempt H) (old new : Standing) (answer : Reply)
-      → position (is_held id n) held ≡ Some place → one ≡ get_or held place one → FeedsOne one count old answer new changed
-      → IfHeld (λ one. FeedsHeld one count) (held_of held id n) old held answer new (slice_set held place changed)
+  FeedsReach = (count : ℕ) → Reaches {H = H} (FeedsOne count)
 
   abbrev pub MovesReach : Type 0
-  MovesReach = (id : Text) (n count : ℕ) (held : List (HeldAttempt H)) (place : ℕ) (one changed : HeldAttempt H) (old new : Standing) (answer : Reply)
-      → position (is_held id n) held ≡ Some place → one ≡ get_or held place one → MovesOne one count old answer new changed
-      → IfHeld (λ one. MovesHeld one count) (held_of held id n) old held answer new (slice_set held place changed)
+  MovesReach = (count : ℕ) → Reaches {H = H} (MovesOne count)
 
 module _ {H : Type 0} (function : H → Handler) where
   abbrev pub TurnsReach : Type 0
-  TurnsReach = (id : Text) (n : ℕ) (held : List (HeldAttempt H)) (place : ℕ) (one : HeldAttempt H) (attempt : Attempt H) (s : Standing) (t : Turn)
-      → position (is_held id n) held ≡ Some place → one ≡ get_or held place one → TurnDoes function one.attempt t attempt
-      → IfHeld (TurnsHeld function) (held_of held id n) s held (reply.Turned t) s (slice_set held place (record one { attempt = attempt }))
+  TurnsReach = Reaches (TurnsOne function)
 
   -- one more event behind a schedule's
   abbrev pub SchedulesGrow : Type 0

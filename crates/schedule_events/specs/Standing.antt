@@ -11,6 +11,7 @@ use Rattle.journal_model.specs.Cause.{Cause, causes_of, is_of_frame, IsAccepted}
 use Rattle.journal_protocol.specs.Item.{Item, unknown, message, item_at}
 use Rattle.attempt_frames.specs.Meaning.{frame_of}
 use Rattle.store_refusals.specs.declared.refusal.Refusal.{Refusal}
+use Rattle.store_refusals.specs.declared.refusal.Refusal.TheVariants.{OutOfMemory}
 use Rattle.store_refusals.specs.Refused.{IsRefused, refusal_of}
 
 -- the accepted events, the last one first, and the bytes that came from the live attempt of each invocation and wait to be taken
@@ -72,7 +73,7 @@ abbrev pub HandsOut : Text → (attempt most : ℕ) → Standing → Result Byte
 HandsOut id attempt most old (Ok bytes) new = (bytes ≡ take most (input_left old.events id)) × Adds (Event.HandOut id attempt most) old new
 HandsOut id attempt most old (Err why) new = Refuses (Event.HandOut id attempt most) why old new
 
--- bytes of the live attempt are put behind those that wait; they are refused as a stop would be
+-- bytes of the live attempt are put behind those that wait
 pub record PutsBehind (id : Text) (attempt : ℕ) (bytes : Bytes) (old new : Standing) : Type 0 where
   pub live : is_live old.events id attempt ≡ true
   pub events : new.events ≡ old.events
@@ -81,13 +82,15 @@ pub record PutsBehind (id : Text) (attempt : ℕ) (bytes : Bytes) (old new : Sta
   pub own : new.outputs id ≡ Some (before ++ bytes)
   pub others : KeepsOthers id old new
 
+-- they are refused as a stop would be; of a live attempt for want of memory alone
 abbrev pub Feeds : Text → (attempt : ℕ) → Bytes → Standing → Result (Unit {0}) Refusal → Standing → Type 0
 Feeds id attempt bytes old (Ok done) new = PutsBehind id attempt bytes old new
-Feeds id attempt bytes old (Err why) new = Refuses (Event.Stop id attempt) why old new
+Feeds id attempt bytes old (Err why) new = (is_live old.events id attempt ≡ true → why ≡ OutOfMemory) × Refuses (Event.Stop id attempt) why old new
 
+-- the stop of a live attempt is never refused
 abbrev pub Stops : Text → (attempt : ℕ) → Standing → Result (Unit {0}) Refusal → Standing → Type 0
 Stops id attempt old (Ok done) new = Leaves (Event.Stop id attempt) id None old new
-Stops id attempt old (Err why) new = Refuses (Event.Stop id attempt) why old new
+Stops id attempt old (Err why) new = (is_live old.events id attempt ≡ false) × Refuses (Event.Stop id attempt) why old new
 
 -- ---- the frames of an attempt
 

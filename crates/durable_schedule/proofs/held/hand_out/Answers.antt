@@ -1,5 +1,5 @@
 use Rattle.std.proofs.Common.{List, ℕ, refl, subst, Ok, Err}
-use Rattle.schedule_events.specs.Schedule.{FeedDoes}
+use Rattle.invocation_vm.specs.Attempt.{Feeds}
 use Rattle.durable_schedule.proofs.Standing.{hands_out}
 use Rattle.durable_schedule.proofs.held.hand_out.Goals as goal
 
@@ -9,7 +9,7 @@ returns-in-Ok-clause-does g c clean s is =
     let it = hands_out g.S.Store s c.args.store.now c.next_input.new.self is one.invocation one.number c.args.count (Ok c.in-Ok.bytes) (c.in-Ok.ensures.does clean s.events is.stands) c.next_input.ensures.waits in (
       it.0,
       it.1,
-      (c.in-Ok.bytes, c.feed.new.self, c.len.ensures.value, it.2, subst (λ (b : List ℕ). FeedDoes one.attempt b c.feed.new.self) c.deref.ensures c.feed.ensures, refl),
+      (c.in-Ok.bytes, c.len.ensures.value, it.2, subst (λ (b : List ℕ). Feeds b one.attempt c.feed.new.self) c.deref.ensures c.feed.ensures),
     )
 
 pub returns-in-Err-clause-does : goal.returns-in-Err-clause-does

@@ -18,11 +18,9 @@ returns-in-Ok-clause-does g c clean s is =
       taken.1,
       (
         fed.0,
-        c.advance_output.new.self,
         c.min-bytes.ensures ∙ ap (λ (bytes : List ℕ). min c.args.count (length bytes)) c.output.ensures,
         subst (λ (bytes : List ℕ). Feeds one.invocation one.number (take c.min-bytes.result bytes) s (Ok tt) fed.0) c.output-2.ensures fed.2,
         c.advance_output.ensures,
-        refl,
         taken.2,
       ),
     )
@@ -34,22 +32,20 @@ returns-in-Ok-clause-crash g c =
     let before = c.args.store.now in
     let mid = c.feed.new.self in
     let bytes = take c.min-bytes.result c.output-2.result.now in
-    endures_on g.S.Store (MovesSome one count) (λ s fed. Feeds one.invocation one.number bytes s (Ok tt) fed) (TakesSome one.invocation one.number) (MovesSome one count) before mid c.take_frames-frames.new.store
+    endures_on g.S.Store (MovesSome count one) (λ s fed. Feeds one.invocation one.number bytes s (Ok tt) fed) (TakesSome one.invocation one.number) (MovesSome count one) before mid c.take_frames-frames.new.store
     (λ s t it. it)
     (λ s fed t feeds takes. (
       reply.Moved c.min-bytes.result takes.0 takes.1,
       _,
       (
         fed,
-        c.advance_output.new.self,
         c.min-bytes.ensures ∙ ap (λ (bytes : List ℕ). min count (length bytes)) c.output.ensures,
         subst (λ (bytes : List ℕ). Feeds one.invocation one.number (take c.min-bytes.result bytes) s (Ok tt) fed) c.output-2.ensures feeds,
         c.advance_output.ensures,
-        refl,
         takes.2,
       ),
     ))
-    (quiet_endures g.S.Store (MovesSome one count) before mid c.feed.ensures.crash)
+    (quiet_endures g.S.Store (MovesSome count one) before mid c.feed.ensures.crash)
     (λ clean s is. feeds g.S.Store s before mid is one.invocation one.number bytes (Ok tt) (c.in-Ok.ensures.does clean s.events is.stands))
     c.take_frames-frames.ensures.crash
 
@@ -60,4 +56,4 @@ returns-in-Err-clause-does g c clean s is =
     (it.0, it.1, (it.2, refl))
 
 pub returns-in-Err-clause-crash : goal.returns-in-Err-clause-crash
-returns-in-Err-clause-crash g c = quiet_endures g.S.Store (MovesSome c.args.one.now c.args.count) c.args.store.now c.feed.new.self c.feed.ensures.crash
+returns-in-Err-clause-crash g c = quiet_endures g.S.Store (MovesSome c.args.count c.args.one.now) c.args.store.now c.feed.new.self c.feed.ensures.crash

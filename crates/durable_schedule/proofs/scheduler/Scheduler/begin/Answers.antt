@@ -1,6 +1,7 @@
 use Rattle.std.proofs.Common.{List, ℕ, refl, subst, inl, inr}
 use Rattle.journal_model.specs.Event.{Event}
-use Rattle.schedule_events.specs.Schedule.{FeedDoes}
+use Rattle.invocation_vm.specs.View.{AttemptView}
+use Rattle.invocation_vm.specs.Attempt.{Feeds}
 use Rattle.durable_schedule.proofs.Standing.{begins, refused, as_begun}
 use Rattle.durable_schedule.proofs.Enduring.{begin_endures}
 use Rattle.durable_schedule.proofs.scheduler.Scheduler.begin.Goals as goal
@@ -25,19 +26,9 @@ returns-in-Ok-push-clause-does g c clean s is =
         refl,
         it.2,
         record {
-          fresh = c.new-attempt.result;
           attempt = c.feed.new.self;
-          is_fresh = record {
-            handler_is = c.new-attempt.ensures.handler;
-            version_is = c.new-attempt.ensures.version;
-            options_are = c.new-attempt.ensures.options;
-            decoder = c.new-attempt.ensures.decoder;
-            start = c.new-attempt.ensures.start;
-            input = c.new-attempt.ensures.input;
-            progress = c.new-attempt.ensures.progress;
-            over = c.new-attempt.ensures.over;
-          };
-          fed = subst (λ (b : List ℕ). FeedDoes c.new-attempt.result b c.feed.new.self) c.deref.ensures c.feed.ensures;
+          fed = subst (λ (a : AttemptView g.row.H.Denot). Feeds c.in-Ok.begun.start a c.feed.new.self) c.new-attempt.ensures
+              (subst (λ (b : List ℕ). Feeds b c.new-attempt.result c.feed.new.self) c.deref.ensures c.feed.ensures);
           held = c.in-Ok-push.ensures.items;
         },
       ),

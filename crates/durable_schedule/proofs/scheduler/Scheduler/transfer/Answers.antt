@@ -1,10 +1,10 @@
-use Rattle.std.proofs.Common.{◌≡◌, List, sym, ap, ◌∙◌, Some, None}
+use Rattle.std.proofs.Common.{◌≡◌, refl, List, sym, ap, ◌∙◌, Some, None}
 use Rattle.std.specs.List.{position}
 use Rattle.schedule_events.specs.declared.event.Event.TheVariants as event
 use Rattle.schedule_events.specs.declared.held.HeldAttempt.{HeldAttempt}
 use Rattle.schedule_events.specs.Following.{is_held}
-use Rattle.schedule_events.specs.Schedule.{MovesHeld}
-use Rattle.schedule_events.proofs.Applying.{not_held, found_at, moves_found}
+use Rattle.schedule_events.specs.Schedule.{MovesOne}
+use Rattle.schedule_events.proofs.Applying.{not_held, found_at, changes_held}
 use Rattle.durable_schedule.specs.Scheduled.{AppliesWith, MovesSome}
 use Rattle.durable_schedule.proofs.Enduring.{same_endures, endures_so}
 use Rattle.durable_schedule.proofs.scheduler.Scheduler.transfer.Goals as goal
@@ -14,7 +14,7 @@ returns-in-None-clause-does g c clean s is =
     let held = c.args.self.now.held.items in
     let none : position (is_held c.args.invocation.now c.args.number) held ≡ None =
     ap (λ (hs : List (HeldAttempt g.row.H.Denot)). position (is_held c.args.invocation.now c.args.number) hs) (sym c.deref.ensures.value) ∙ sym c.place_of.ensures ∙ c.in-None.is in
-    (s, is, not_held (λ one. MovesHeld one c.args.count) c.args.invocation.now c.args.number s held none)
+    (s, is, not_held (MovesOne c.args.count) c.args.invocation.now c.args.number s held none)
 
 pub returns-in-None-clause-crash : goal.returns-in-None-clause-crash
 returns-in-None-clause-crash g c =
@@ -28,7 +28,7 @@ returns-in-Some-clause-does g c clean s is =
     ap (λ (hs : List (HeldAttempt g.row.H.Denot)). position (is_held c.args.invocation.now c.args.number) hs) (sym c.deref.ensures.value) ∙ sym c.place_of.ensures ∙ c.in-Some.is in
     let found = found_at c.args.invocation.now c.args.number held c.in-Some.place c.index_mut.result.now some c.index_mut.ensures.value in
     let it = c.take_in.ensures.does clean s is in
-    (it.0, it.1, moves_found c.args.invocation.now c.args.number c.args.count held c.in-Some.place c.index_mut.result.now c.take_in.new.one s it.0 c.take_in.result found it.2)
+    (it.0, it.1, changes_held (MovesOne c.args.count) c.args.invocation.now c.args.number held c.in-Some.place c.index_mut.result.now c.take_in.new.one s it.0 c.take_in.result found c.take_in.ensures.kept it.2)
 
 pub returns-in-Some-clause-crash : goal.returns-in-Some-clause-crash
 returns-in-Some-clause-crash g c =
@@ -38,6 +38,6 @@ returns-in-Some-clause-crash g c =
     let some : position (is_held c.args.invocation.now c.args.number) held ≡ Some c.in-Some.place =
     ap (λ (hs : List (HeldAttempt g.row.H.Denot)). position (is_held c.args.invocation.now c.args.number) hs) (sym c.deref.ensures.value) ∙ sym c.place_of.ensures ∙ c.in-Some.is in
     let found = found_at c.args.invocation.now c.args.number held c.in-Some.place one some c.index_mut.ensures.value in
-    endures_so g.S.Store (MovesSome one c.args.count) (AppliesWith g.H.Handler.next_call old.options (event.Move c.args.invocation.now c.args.number c.args.count) held) old.store c.take_in.new.store
-    (λ s t it. (it.0, _, moves_found c.args.invocation.now c.args.number c.args.count held c.in-Some.place one it.1 s t it.0 found it.2))
+    endures_so g.S.Store (MovesSome c.args.count one) (AppliesWith g.H.Handler.next_call old.options (event.Move c.args.invocation.now c.args.number c.args.count) held) old.store c.take_in.new.store
+    (λ s t it. (it.0, _, changes_held (MovesOne c.args.count) c.args.invocation.now c.args.number held c.in-Some.place one (record one { attempt = it.1 }) s t it.0 found refl it.2))
     c.take_in.ensures.crash

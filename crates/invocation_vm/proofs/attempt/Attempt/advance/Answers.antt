@@ -1,10 +1,11 @@
-use Rattle.std.proofs.Common.{List, ap, ◌∙◌}
+use Rattle.std.proofs.Common.{List, refl, ap, ◌∙◌}
 use Rattle.journal_model.specs.declared.call.Answer.{Answer}
-use Rattle.invocation_vm.proofs.Turning.{calls_one}
+use Rattle.invocation_vm.proofs.Turning.{advances_from, calls_one}
 use Rattle.invocation_vm.proofs.attempt.Attempt.advance.Goals as goal
 
-pub returns-clause-calls : goal.returns-clause-calls
-returns-clause-calls g c = λ next given calls s.
-    calls_one g.H.Handler.next_call next given calls c.args.self.now c.carry_out.new.progress c.in-Some.input c.in_ok-call-in-Some.call c.carry_out.result c.in-Some.is
-    (c.in_ok-call-in-Some.ensures ∙ ap (λ (answers : List Answer). g.H.Handler.next_call c.args.self.now.handler c.in-Some.input answers) c.as_slice.ensures)
-    c.carry_out.ensures.ok c.carry_out.ensures.err c.carry_out.ensures.cause s
+pub returns : goal.returns
+returns g c =
+    advances_from g.H.Handler.next_call c.args.self.now _ _ c.carry_out.result c.self.view_is
+    (calls_one g.H.Handler.next_call _ c.in-Some.input c.in_ok-call-in-Some.call c.in-Some.is
+    (c.in_ok-call-in-Some.ensures ∙ ap (λ (answers : List Answer). g.H.Handler.next_call c.self.inside.handler c.in-Some.input answers) c.as_slice.ensures)
+    _ c.carry_out.result c.carry_out.ensures.ok c.carry_out.ensures.err c.carry_out.ensures.cause refl)
