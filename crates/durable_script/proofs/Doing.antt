@@ -1,5 +1,5 @@
 -- One line more, and each way to come to an end.
-use Rattle.std.proofs.Common.{◌≡◌, ℕ, ◌<◌, false, List, [], ◌∷◌, ◌++◌, length, take, Option, Result, Ok, Err, refl, sym, ap, subst, ◌∙◌, inl, inr, append_assoc}
+use Rattle.std.proofs.Common.{◌≡◌, ℕ, ◌<◌, false, List, [], ◌∷◌, ◌++◌, length, take, Option, Result, Ok, Err, refl, sym, ap, subst, ◌∙◌, append_assoc}
 use Rattle.std.specs.Io.KnownBytes.{Appends}
 use Rattle.std.proofs.KnownBytes.{Appends-trans}
 use Rattle.sqlite_trees.specs.declared.store.Store.{Ghosts}
@@ -7,7 +7,7 @@ use Rattle.built_in_handlers.specs.declared.handlers.Nap.{Nap}
 use Rattle.durable_schedule.specs.declared.scheduler.Scheduler.{Scheduler}
 use Rattle.script_lines.specs.Line.{spelled}
 use Rattle.durable_script.specs.declared.fault.ScriptFault.{ScriptFault}
-use Rattle.durable_script.specs.declared.fault.ScriptFault.TheVariants.{LineNotUnderstood, ScriptUnreadable, OutOfMemory, OutputUnwritable}
+use Rattle.durable_script.specs.declared.fault.ScriptFault.TheVariants.{LineNotUnderstood, ScriptUnreadable, LineOutOfMemory, TextOutOfMemory, OutputUnwritable}
 use Rattle.durable_script.specs.declared.runner.Asked.{Asked}
 use Rattle.durable_script.specs.declared.runner.Runner.{Runner}
 use Rattle.durable_script.specs.Asked.{is_second, asked_after, IsNotUnderstood}
@@ -50,7 +50,7 @@ module _ {S : Type 0} (g : Ghosts S) (lines : List (ℕ × List ℕ)) (start : S
         → new.asked ≡ asked_by (next_line number bytes text old new d ∷ done)
     asked_more number bytes text old new d asked = d.asked ∙ ap (λ (a : Asked). asked_after a d.line) asked
 
-    -- the line was not done, or there is no memory for its text
+    -- the line was not read, or there is no memory for its text
     pub stops : (number : ℕ) (bytes : List ℕ) (fault : ScriptFault) (old new : Runner S) (rest after : List (ℕ × List ℕ)) (had has : Option (List ℕ)) → StopsAt g number bytes fault old new
         → HasDone lines (Did old.scheduler) done rest → old.asked ≡ asked_by done → rest ≡ (number, bytes) ∷ after → Appends had has (texts_of done)
         → DoesLines lines (Did new.scheduler) had has (Err fault)
@@ -70,29 +70,31 @@ module _ {S : Type 0} (g : Ghosts S) (lines : List (ℕ × List ℕ)) (start : S
         written = refl;
       };
     }
-    stops number bytes OutOfMemory old new rest after had has s h asked e written = record {
+    stops number bytes LineOutOfMemory old new rest after had has s h asked e written = record {
       output = texts_of done;
       appended = written;
-      comes_to = elim s [
-        | inl same ↦ inl (record {
-          done = done;
-          next = (number, bytes);
-          rest = after;
-          has_done = record {
-            lines_are = h.lines_are ∙ ap (λ (ls : List (ℕ × List ℕ)). lines_of done ++ ls) e;
-            understood = h.understood;
-            does = subst (λ (x : Scheduler Nap S). Did x done) (sym same) h.does;
-          };
-          written = refl;
-        })
-        | inr d ↦ inr (record {
-          last = next_line number bytes d.0 old new d.1;
-          before = done;
-          rest = after;
-          has_done = one_more number bytes d.0 old new rest after d.1 h asked e;
-          written = refl;
-        })
-      ];
+      comes_to = record {
+        done = done;
+        next = (number, bytes);
+        rest = after;
+        has_done = record {
+          lines_are = h.lines_are ∙ ap (λ (ls : List (ℕ × List ℕ)). lines_of done ++ ls) e;
+          understood = h.understood;
+          does = subst (λ (x : Scheduler Nap S). Did x done) (sym s) h.does;
+        };
+        written = refl;
+      };
+    }
+    stops number bytes TextOutOfMemory old new rest after had has s h asked e written = record {
+      output = texts_of done;
+      appended = written;
+      comes_to = record {
+        last = next_line number bytes s.0 old new s.1;
+        before = done;
+        rest = after;
+        has_done = one_more number bytes s.0 old new rest after s.1 h asked e;
+        written = refl;
+      };
     }
     stops number bytes ScriptUnreadable old new rest after had has s h asked e written = absurd s
     stops number bytes OutputUnwritable old new rest after had has s h asked e written = absurd s
@@ -135,8 +137,8 @@ pub some_done : (lines : List (ℕ × List ℕ)) (Does : List DoneLine → Type 
     → (done : List DoneLine) × AreUnderstood done × Does done
 some_done lines Does output (Ok done) c = (c.done, c.has_done.understood, c.has_done.does)
 some_done lines Does output (Err (LineNotUnderstood number)) c = (c.done, c.has_done.understood, c.has_done.does)
-some_done lines Does output (Err OutOfMemory) c =
-    elim c [ inl r ↦ (r.done, r.has_done.understood, r.has_done.does) | inr t ↦ (t.last ∷ t.before, t.has_done.understood, t.has_done.does) ]
+some_done lines Does output (Err LineOutOfMemory) c = (c.done, c.has_done.understood, c.has_done.does)
+some_done lines Does output (Err TextOutOfMemory) c = (c.last ∷ c.before, c.has_done.understood, c.has_done.does)
 some_done lines Does output (Err OutputUnwritable) c = (c.last ∷ c.before, c.has_done.understood, c.has_done.does)
 some_done lines Does output (Err ScriptUnreadable) c = absurd c
 
@@ -155,10 +157,10 @@ module _ (lines : List (ℕ × List ℕ)) (Does Tells : List DoneLine → Type 0
     unknown = c.unknown;
     written = c.written;
   }
-  comes_so output (Err OutOfMemory) c = elim c [
-    | inl r ↦ inl (record { done = r.done; next = r.next; rest = r.rest; has_done = has_done_so r.done (r.next ∷ r.rest) r.has_done; written = r.written })
-    | inr t ↦ inr (record { last = t.last; before = t.before; rest = t.rest; has_done = has_done_so (t.last ∷ t.before) t.rest t.has_done; written = t.written })
-  ]
+  comes_so output (Err LineOutOfMemory) c =
+      record { done = c.done; next = c.next; rest = c.rest; has_done = has_done_so c.done (c.next ∷ c.rest) c.has_done; written = c.written }
+  comes_so output (Err TextOutOfMemory) c =
+      record { last = c.last; before = c.before; rest = c.rest; has_done = has_done_so (c.last ∷ c.before) c.rest c.has_done; written = c.written }
   comes_so output (Err OutputUnwritable) c = record {
     last = c.last;
     before = c.before;

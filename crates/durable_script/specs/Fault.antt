@@ -1,16 +1,18 @@
 -- The text and the status of a fault.
 use Rattle.std.specs.Prelude.{ℕ, List, ◌++◌, codes, decimal}
 use Rattle.durable_script.specs.declared.fault.ScriptFault.{ScriptFault}
-use Rattle.durable_script.specs.declared.fault.ScriptFault.TheVariants.{LineNotUnderstood, ScriptUnreadable, OutOfMemory, OutputUnwritable}
+use Rattle.durable_script.specs.declared.fault.ScriptFault.TheVariants.{LineNotUnderstood, ScriptUnreadable, LineOutOfMemory, TextOutOfMemory, OutputUnwritable}
 
 abbrev pub status_of : ScriptFault → ℕ
 status_of (LineNotUnderstood number) = 1
 status_of ScriptUnreadable = 2
-status_of OutOfMemory = 2
+status_of LineOutOfMemory = 2
+status_of TextOutOfMemory = 2
 status_of OutputUnwritable = 2
 
 abbrev pub fault_text : ScriptFault → List ℕ
 fault_text (LineNotUnderstood number) = codes "line " ++ decimal number ++ codes ": not understood"
 fault_text ScriptUnreadable = codes "script cannot be read"
-fault_text OutOfMemory = codes "script cannot be read"
+fault_text LineOutOfMemory = codes "script cannot be read"
+fault_text TextOutOfMemory = codes "output cannot be written"
 fault_text OutputUnwritable = codes "output cannot be written"

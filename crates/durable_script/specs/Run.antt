@@ -22,7 +22,7 @@ use Rattle.script_lines.specs.declared.line.Line.{Line}
 use Rattle.script_lines.specs.Line.{spelled, IsLine}
 use Rattle.script_lines.specs.Script.{numbered_lines}
 use Rattle.durable_script.specs.declared.fault.ScriptFault.{ScriptFault}
-use Rattle.durable_script.specs.declared.fault.ScriptFault.TheVariants.{LineNotUnderstood, ScriptUnreadable, OutOfMemory, OutputUnwritable}
+use Rattle.durable_script.specs.declared.fault.ScriptFault.TheVariants.{LineNotUnderstood, ScriptUnreadable, LineOutOfMemory, TextOutOfMemory, OutputUnwritable}
 use Rattle.durable_script.specs.declared.runner.Asked.{Asked}
 use Rattle.durable_script.specs.Line.{DoesLine}
 use Rattle.durable_script.specs.Asked.{none_asked, is_second, asked_after, IsNotUnderstood}
@@ -112,7 +112,8 @@ module _ (lines : List (ℕ × List ℕ)) (Does : List DoneLine → Type 0) wher
   abbrev pub ComesTo : List ℕ → Result (Unit {0}) ScriptFault → Type 0
   ComesTo output (Ok done) = DoesWhole output
   ComesTo output (Err (LineNotUnderstood number)) = StopsBefore output number
-  ComesTo output (Err OutOfMemory) = ReadsNoMore output ⊎ HasNoText output
+  ComesTo output (Err LineOutOfMemory) = ReadsNoMore output
+  ComesTo output (Err TextOutOfMemory) = HasNoText output
   ComesTo output (Err OutputUnwritable) = WritesPart output
   ComesTo output (Err ScriptUnreadable) = ⊥
 

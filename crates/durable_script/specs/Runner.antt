@@ -1,9 +1,9 @@
 -- What doing a line comes to.
-use Rattle.std.specs.Prelude.{◌≡◌, ◌⊎◌, ℕ, List}
+use Rattle.std.specs.Prelude.{◌≡◌, ℕ, List}
 use Rattle.sqlite_trees.specs.declared.store.Store.{Ghosts}
 use Rattle.script_lines.specs.declared.line.Line.{Line}
 use Rattle.durable_script.specs.declared.fault.ScriptFault.{ScriptFault}
-use Rattle.durable_script.specs.declared.fault.ScriptFault.TheVariants.{LineNotUnderstood, ScriptUnreadable, OutOfMemory, OutputUnwritable}
+use Rattle.durable_script.specs.declared.fault.ScriptFault.TheVariants.{LineNotUnderstood, ScriptUnreadable, LineOutOfMemory, TextOutOfMemory, OutputUnwritable}
 use Rattle.durable_script.specs.declared.runner.Runner.{Runner}
 use Rattle.durable_script.specs.Reaching.{Reaches}
 use Rattle.durable_script.specs.Line.{DoesLine, DoesSomeLine}
@@ -17,9 +17,10 @@ module _ {S : Type 0} (g : Ghosts S) where
     pub does : Reaches g (DoesSomeLine line) (DoesLine line text) old.scheduler new.scheduler
     pub asked : new.asked ≡ asked_after old.asked line
 
-  -- the line is not understood; or memory was refused, before it was done or for its text
+  -- the line is not understood, or memory to read it was refused, and nothing was done; or it was done, and memory for its text was refused
   abbrev pub StopsAt : ℕ → List ℕ → ScriptFault → Runner S → Runner S → Type 0
   StopsAt number bytes (LineNotUnderstood n) old new = (n ≡ number) × IsNotUnderstood old.asked bytes × (new.scheduler ≡ old.scheduler)
-  StopsAt number bytes OutOfMemory old new = (new.scheduler ≡ old.scheduler) ⊎ ((text : List ℕ) × DoesNext bytes text old new)
+  StopsAt number bytes LineOutOfMemory old new = new.scheduler ≡ old.scheduler
+  StopsAt number bytes TextOutOfMemory old new = (text : List ℕ) × DoesNext bytes text old new
   StopsAt number bytes ScriptUnreadable old new = ⊥
   StopsAt number bytes OutputUnwritable old new = ⊥

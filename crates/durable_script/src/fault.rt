@@ -1,6 +1,6 @@
 //! Why a script does not come to its end.
 ghost use Rattle.std.specs.Prelude.{◌≡◌, Some};
-ghost use Rattle.durable_script.specs.declared.fault.ScriptFault.TheVariants.{OutOfMemory};
+ghost use Rattle.durable_script.specs.declared.fault.ScriptFault.TheVariants.{LineOutOfMemory};
 
 use std::alloc::AllocError;
 use std::error::Error;
@@ -13,8 +13,10 @@ pub enum ScriptFault {
     LineNotUnderstood(usize),
     /// The script could not be read to its end, within its bounds. Nothing is done.
     ScriptUnreadable,
-    /// There was no memory to read a line, or for the text of one that is done.
-    OutOfMemory,
+    /// There was no memory to read a line. Those before it are done.
+    LineOutOfMemory,
+    /// There was no memory for the text of a line that is done.
+    TextOutOfMemory,
     /// The writer failed.
     OutputUnwritable,
 }
@@ -29,7 +31,8 @@ impl ScriptFault {
         match self {
             ScriptFault::LineNotUnderstood(_) => 1,
             ScriptFault::ScriptUnreadable
-            | ScriptFault::OutOfMemory
+            | ScriptFault::LineOutOfMemory
+            | ScriptFault::TextOutOfMemory
             | ScriptFault::OutputUnwritable => 2,
         }
     }
@@ -43,10 +46,12 @@ impl fmt::Display for ScriptFault {
     fn fmt<W: fmt::Write>(&self, f: &mut fmt::Formatter<W>) -> fmt::Result {
         match self {
             ScriptFault::LineNotUnderstood(number) => write!(f, "line {number}: not understood"),
-            ScriptFault::ScriptUnreadable | ScriptFault::OutOfMemory => {
+            ScriptFault::ScriptUnreadable | ScriptFault::LineOutOfMemory => {
                 write!(f, "script cannot be read")
             }
-            ScriptFault::OutputUnwritable => write!(f, "output cannot be written"),
+            ScriptFault::TextOutOfMemory | ScriptFault::OutputUnwritable => {
+                write!(f, "output cannot be written")
+            }
         }
     }
 }
@@ -54,9 +59,9 @@ impl fmt::Display for ScriptFault {
 impl Error for ScriptFault {}
 
 impl From<AllocError> for ScriptFault {
-    ghost from_gives = { λ _ fault. fault ≡ OutOfMemory };
+    ghost from_gives = { λ _ fault. fault ≡ LineOutOfMemory };
 
     fn from(_error: AllocError) -> ScriptFault {
-        ScriptFault::OutOfMemory
+        ScriptFault::LineOutOfMemory
     }
 }

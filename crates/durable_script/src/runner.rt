@@ -29,7 +29,7 @@ use std::mem;
 const NAP_UNTIL: u64 = 10;
 
 /// What earlier lines have asked for, whether it was refused or not: a script asks for each once.
-#[derive(Clone, Copy, Debug, PartialEq, Eq)]
+#[derive(Clone, Copy)]
 pub(crate) struct Asked {
     /// An invocation.
     pub invoked: bool,
@@ -247,7 +247,9 @@ impl<S: Alter + Drop> Runner<S> {
     {
         let alloc = self.scheduler.alloc;
         match understand(alloc, &mut self.asked, bytes)? {
-            Some(understood) => Ok(carry_out(&mut self.scheduler, understood)?),
+            Some(understood) => {
+                carry_out(&mut self.scheduler, understood).or(Err(ScriptFault::TextOutOfMemory))
+            }
             None => Err(ScriptFault::LineNotUnderstood(number)),
         }
     }

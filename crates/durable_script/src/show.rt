@@ -17,7 +17,7 @@ use std::fmt;
 use store_refusals::Refusal;
 
 /// What is recorded of an invocation: everything that is asked for before a line is printed.
-#[derive(Debug, Drop)]
+#[derive(Drop)]
 struct ShownInvocation {
     requests: Vec<RecordedFrame>,
     answer: Option<NonEmptyValue>,

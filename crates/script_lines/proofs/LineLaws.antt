@@ -20,7 +20,7 @@ use Rattle.script_lines.specs.declared.line.Line.{Line}
 use Rattle.script_lines.specs.declared.line.Line.TheVariants.{Invoke, Begin, Feed, Turn, Move, Stop, Show}
 use Rattle.script_lines.specs.Word.{text_word, IsText, IsWordByte, state_word, handler_word}
 use Rattle.script_lines.specs.Line.{words_of, spelled, IsLine}
-use Rattle.script_lines.specs.Reading.{then_read, number_below, invoke_of, begin_of, feed_of, turn_of, move_of, stop_of, show_of, of_one, of_two, of_three, of_six, command_of, arguments_of, line_of}
+use Rattle.script_lines.specs.Reading.{then_read, number_below, text_of, invoke_of, begin_of, feed_of, turn_of, move_of, stop_of, show_of, of_one, of_two, of_three, of_six, command_of, arguments_of, line_of}
 use Rattle.script_lines.proofs.WordLaws.{IsReading, number_reading, text_reading, state_reading, handler_reading, chosen}
 
 -- the words are those of the line
@@ -54,7 +54,7 @@ number_64 = number_reading (2 ^ 64) (omega arith)
 invoke_takes : (id object version state seed input : List ℕ) (line : Line) → invoke_of id object version state seed input ≡ Some line → Spells (codes "invoke" ∷ id ∷ object ∷ version ∷ state ∷ seed ∷ input ∷ []) line
 unfolding invoke_of
 invoke_takes id object version state seed input line e =
-    let i = read_step e in let o = read_step i.2 in let v = read_step o.2 in let s = read_step v.2 in let r = read_step s.2 in let p = read_step r.2 in
+    let v = read_step e in let s = read_step v.2 in let r = read_step s.2 in let i = read_step r.2 in let o = read_step i.2 in let p = read_step o.2 in
     let it = text_reading.takes id i.0 i.1 in
     let ot = text_reading.takes object o.0 o.1 in
     let vt = number_32.takes version v.0 v.1 in
@@ -66,50 +66,52 @@ invoke_takes id object version state seed input line e =
 begin_takes : (id handler now : List ℕ) (line : Line) → begin_of id handler now ≡ Some line → Spells (codes "begin" ∷ id ∷ handler ∷ now ∷ []) line
 unfolding begin_of
 begin_takes id handler now line e =
-    let i = read_step e in let h = read_step i.2 in let n = read_step h.2 in
+    let h = read_step e in let n = read_step h.2 in let i = read_step n.2 in
     let it = text_reading.takes id i.0 i.1 in
     let ht = handler_reading.takes handler h.0 h.1 in
     let nt = number_64.takes now n.0 n.1 in
-    made _ (Begin i.0 h.0 n.0) line n.2 (record { is_line = (it.0, nt.0); same = next refl (next it.1 (next ht.1 (next nt.1 refl))) })
+    made _ (Begin i.0 h.0 n.0) line i.2 (record { is_line = (it.0, nt.0); same = next refl (next it.1 (next ht.1 (next nt.1 refl))) })
 
 feed_takes : (id attempt count : List ℕ) (line : Line) → feed_of id attempt count ≡ Some line → Spells (codes "feed" ∷ id ∷ attempt ∷ count ∷ []) line
 unfolding feed_of
 feed_takes id attempt count line e =
-    let i = read_step e in let a = read_step i.2 in let c = read_step a.2 in
+    let a = read_step e in let c = read_step a.2 in let i = read_step c.2 in
     let it = text_reading.takes id i.0 i.1 in
     let at = number_32.takes attempt a.0 a.1 in
     let ct = number_32.takes count c.0 c.1 in
-    made _ (Feed i.0 a.0 c.0) line c.2 (record { is_line = (it.0, at.0, ct.0); same = next refl (next it.1 (next at.1 (next ct.1 refl))) })
+    made _ (Feed i.0 a.0 c.0) line i.2 (record { is_line = (it.0, at.0, ct.0); same = next refl (next it.1 (next at.1 (next ct.1 refl))) })
 
 turn_takes : (id attempt count : List ℕ) (line : Line) → turn_of id attempt count ≡ Some line → Spells (codes "turn" ∷ id ∷ attempt ∷ count ∷ []) line
 unfolding turn_of
 turn_takes id attempt count line e =
-    let i = read_step e in let a = read_step i.2 in let c = read_step a.2 in
-    let it = text_reading.takes id i.0 i.1 in
+    let a = read_step e in let c = read_step a.2 in
     let at = number_32.takes attempt a.0 a.1 in
     let ct = number_32.takes count c.0 c.1 in
-    elim (chosen (eqb c.0 0) None (Some (Turn i.0 a.0 c.0)) (Some line) c.2) [
+    elim (chosen (eqb c.0 0) None (then_read (text_of id) (λ (text : List ℕ). Some (Turn text a.0 c.0))) (Some line) c.2) [
       | inl h ↦ absurd (none-some line h.1)
-      | inr h ↦ let some : 1 ≤ c.0 = let no_zero : c.0 ≢ 0 = eqb-false c.0 0 h.0 in omega arith in
-          made _ (Turn i.0 a.0 c.0) line h.1 (record { is_line = (it.0, at.0, some, ct.0); same = next refl (next it.1 (next at.1 (next ct.1 refl))) })
+      | inr h ↦
+          let some : 1 ≤ c.0 = let no_zero : c.0 ≢ 0 = eqb-false c.0 0 h.0 in omega arith in
+          let i = read_step h.1 in
+          let it = text_reading.takes id i.0 i.1 in
+          made _ (Turn i.0 a.0 c.0) line i.2 (record { is_line = (it.0, at.0, some, ct.0); same = next refl (next it.1 (next at.1 (next ct.1 refl))) })
     ]
 
 move_takes : (id attempt count : List ℕ) (line : Line) → move_of id attempt count ≡ Some line → Spells (codes "move" ∷ id ∷ attempt ∷ count ∷ []) line
 unfolding move_of
 move_takes id attempt count line e =
-    let i = read_step e in let a = read_step i.2 in let c = read_step a.2 in
+    let a = read_step e in let c = read_step a.2 in let i = read_step c.2 in
     let it = text_reading.takes id i.0 i.1 in
     let at = number_32.takes attempt a.0 a.1 in
     let ct = number_32.takes count c.0 c.1 in
-    made _ (Move i.0 a.0 c.0) line c.2 (record { is_line = (it.0, at.0, ct.0); same = next refl (next it.1 (next at.1 (next ct.1 refl))) })
+    made _ (Move i.0 a.0 c.0) line i.2 (record { is_line = (it.0, at.0, ct.0); same = next refl (next it.1 (next at.1 (next ct.1 refl))) })
 
 stop_takes : (id attempt : List ℕ) (line : Line) → stop_of id attempt ≡ Some line → Spells (codes "stop" ∷ id ∷ attempt ∷ []) line
 unfolding stop_of
 stop_takes id attempt line e =
-    let i = read_step e in let a = read_step i.2 in
+    let a = read_step e in let i = read_step a.2 in
     let it = text_reading.takes id i.0 i.1 in
     let at = number_32.takes attempt a.0 a.1 in
-    made _ (Stop i.0 a.0) line a.2 (record { is_line = (it.0, at.0); same = next refl (next it.1 (next at.1 refl)) })
+    made _ (Stop i.0 a.0) line i.2 (record { is_line = (it.0, at.0); same = next refl (next it.1 (next at.1 refl)) })
 
 show_takes : (id : List ℕ) (line : Line) → show_of id ≡ Some line → Spells (codes "show" ∷ id ∷ []) line
 unfolding show_of

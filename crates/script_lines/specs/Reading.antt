@@ -1,4 +1,4 @@
--- Reading a line from its words, as a computation: what the parts of the reader cite. That it reads just
+-- Reading a line from its words, as a computation: what the parts of the reader cite. What asks for no memory is read first. That it reads just
 -- the spellings of lines is what the public reader says.
 use Rattle.std.specs.Prelude.{◌≡◌, ℕ, ◌^◌, ◌&&◌, ◌==◌, Bool, List, [], ◌∷◌, length, Option, Some, None, Result, Ok, Err, option_and_then, codes, if◌then◌else◌, bytes_eq, decimal, nat_lt, nat_le}
 use Rattle.std.specs.List.{list_all}
@@ -49,46 +49,47 @@ handler_of word = if bytes_eq word (codes "nap") then Some Nap else None
 
 unfoldable pub invoke_of : List ℕ → List ℕ → List ℕ → List ℕ → List ℕ → List ℕ → Option Line
 invoke_of id object version state seed input = do
-  id ← text_of id
-  object ← text_of object
   version ← number_below (2 ^ 32) version
   state ← state_of state
   seed ← number_below (2 ^ 64) seed
+  id ← text_of id
+  object ← text_of object
   input ← text_of input
   Some (Invoke id object version state seed input)
 
 unfoldable pub begin_of : List ℕ → List ℕ → List ℕ → Option Line
 begin_of id handler now = do
-  id ← text_of id
   handler ← handler_of handler
   now ← number_below (2 ^ 64) now
+  id ← text_of id
   Some (Begin id handler now)
 
 unfoldable pub feed_of : List ℕ → List ℕ → List ℕ → Option Line
 feed_of id attempt count = do
-  id ← text_of id
   attempt ← number_below (2 ^ 32) attempt
   count ← number_below (2 ^ 32) count
+  id ← text_of id
   Some (Feed id attempt count)
 
 unfoldable pub turn_of : List ℕ → List ℕ → List ℕ → Option Line
 turn_of id attempt count = do
-  id ← text_of id
   attempt ← number_below (2 ^ 32) attempt
   count ← number_below (2 ^ 32) count
-  if count == 0 then None else Some (Turn id attempt count)
+  if count == 0 then None else (do
+    id ← text_of id
+    Some (Turn id attempt count))
 
 unfoldable pub move_of : List ℕ → List ℕ → List ℕ → Option Line
 move_of id attempt count = do
-  id ← text_of id
   attempt ← number_below (2 ^ 32) attempt
   count ← number_below (2 ^ 32) count
+  id ← text_of id
   Some (Move id attempt count)
 
 unfoldable pub stop_of : List ℕ → List ℕ → Option Line
 stop_of id attempt = do
-  id ← text_of id
   attempt ← number_below (2 ^ 32) attempt
+  id ← text_of id
   Some (Stop id attempt)
 
 unfoldable pub show_of : List ℕ → Option Line

@@ -1,13 +1,12 @@
 -- What is left of a script.
-use Rattle.std.specs.Prelude.{ℕ, ◌+◌, ◌==◌, List}
-use Rattle.std.specs.List.{slice_split}
+use Rattle.std.specs.Prelude.{ℕ, ◌+◌, List}
 use Rattle.script_lines.specs.declared.script.NumberedLine.{NumberedLine}
 use Rattle.script_lines.specs.declared.script.ScriptLines.{ScriptLines}
 use Rattle.script_lines.specs.Script.{numbered_from}
 
 -- the lines that are still to come
 abbrev pub lines_left : ScriptLines → List (ℕ × List ℕ)
-lines_left lines = numbered_from (lines.passed + 1) (slice_split (λ byte. byte == 10) lines.rest.now)
+lines_left lines = numbered_from (lines.passed + 1) lines.lines
 
 -- a line and its number
 abbrev pub numbered : NumberedLine → ℕ × List ℕ

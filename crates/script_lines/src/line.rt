@@ -11,11 +11,12 @@ use crate::word::{
     Command, HandlerName, LineError, StateMode, parse_command, parse_handler, parse_state,
     parse_text, parse_u32, parse_u64,
 };
+use bstr::ByteSlice;
 use bytes::{ByteStr, Bytes};
 use std::alloc::{AllocError, Global};
 
 /// A line that is understood. `id` names an invocation, `attempt` one of its attempts.
-#[derive(Debug, PartialEq, Eq, Drop)]
+#[derive(Drop)]
 pub enum Line {
     /// Makes an invocation of an object, at a protocol version.
     Invoke {
@@ -81,11 +82,11 @@ fn parse_invocation(
 ) -> Result<Line, LineError>
     ensures { Gives result (invoke_of id.now object.now version.now state.now seed.now input.now) }
 {
-    let id = parse_text(alloc, id)?;
-    let object = parse_text(alloc, object)?;
     let version = parse_u32(version).ok_or(LineError::NotUnderstood)?;
     let state = parse_state(state).ok_or(LineError::NotUnderstood)?;
     let seed = parse_u64(seed).ok_or(LineError::NotUnderstood)?;
+    let id = parse_text(alloc, id)?;
+    let object = parse_text(alloc, object)?;
     let input = parse_text(alloc, input)?.into_bytes();
     Ok(Line::Invoke {
         id,
@@ -103,9 +104,9 @@ fn parse_begin(alloc: Global, arguments: &[&[u8]]) -> Result<Line, LineError>
     let [id, handler, now] = arguments else {
         return Err(LineError::NotUnderstood);
     };
-    let id = parse_text(alloc, id)?;
     let handler = parse_handler(handler).ok_or(LineError::NotUnderstood)?;
     let now = parse_u64(now).ok_or(LineError::NotUnderstood)?;
+    let id = parse_text(alloc, id)?;
     Ok(Line::Begin { id, handler, now })
 }
 
@@ -115,9 +116,9 @@ fn parse_feed(alloc: Global, arguments: &[&[u8]]) -> Result<Line, LineError>
     let [id, attempt, count] = arguments else {
         return Err(LineError::NotUnderstood);
     };
-    let id = parse_text(alloc, id)?;
     let attempt = parse_u32(attempt).ok_or(LineError::NotUnderstood)?;
     let count = parse_u32(count).ok_or(LineError::NotUnderstood)?;
+    let id = parse_text(alloc, id)?;
     Ok(Line::Feed { id, attempt, count })
 }
 
@@ -127,12 +128,12 @@ fn parse_turn(alloc: Global, arguments: &[&[u8]]) -> Result<Line, LineError>
     let [id, attempt, count] = arguments else {
         return Err(LineError::NotUnderstood);
     };
-    let id = parse_text(alloc, id)?;
     let attempt = parse_u32(attempt).ok_or(LineError::NotUnderstood)?;
     let count = parse_u32(count).ok_or(LineError::NotUnderstood)?;
     if count == 0 {
         return Err(LineError::NotUnderstood);
     }
+    let id = parse_text(alloc, id)?;
     Ok(Line::Turn { id, attempt, count })
 }
 
@@ -142,9 +143,9 @@ fn parse_move(alloc: Global, arguments: &[&[u8]]) -> Result<Line, LineError>
     let [id, attempt, count] = arguments else {
         return Err(LineError::NotUnderstood);
     };
-    let id = parse_text(alloc, id)?;
     let attempt = parse_u32(attempt).ok_or(LineError::NotUnderstood)?;
     let count = parse_u32(count).ok_or(LineError::NotUnderstood)?;
+    let id = parse_text(alloc, id)?;
     Ok(Line::Move { id, attempt, count })
 }
 
@@ -154,8 +155,8 @@ fn parse_stop(alloc: Global, arguments: &[&[u8]]) -> Result<Line, LineError>
     let [id, attempt] = arguments else {
         return Err(LineError::NotUnderstood);
     };
-    let id = parse_text(alloc, id)?;
     let attempt = parse_u32(attempt).ok_or(LineError::NotUnderstood)?;
+    let id = parse_text(alloc, id)?;
     Ok(Line::Stop { id, attempt })
 }
 
@@ -173,7 +174,7 @@ fn parse_show(alloc: Global, arguments: &[&[u8]]) -> Result<Line, LineError>
 fn words_between<'a>(alloc: Global, bytes: &'a [u8]) -> Result<Vec<&'a [u8]>, AllocError>
     ensures { IfOk result (λ words. map (λ word. word.now) words.items ≡ slice_split (λ byte. byte == 32) bytes.now) }
 {
-    bytes.split(|byte| *byte == b' ').collect(alloc)
+    bytes.split_str(b" ").collect(alloc)
 }
 
 #[tactic(auto, unfolding(crate::specs::Reading::line_of, crate::specs::Reading::arguments_of, crate::specs::Reading::then_read))]

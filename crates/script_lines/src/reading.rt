@@ -13,7 +13,7 @@ pub const READ_LIMIT: u32 = 16_777_216;
 pub const SCRIPT_LIMIT: usize = 16_777_216;
 
 /// The script cannot be read: the reader failed, didn't end within the limits, or memory ran out.
-#[derive(Debug, Drop)]
+#[derive(Drop)]
 pub struct UnreadableScript;
 
 impl From<AllocError> for UnreadableScript {

@@ -6,7 +6,7 @@ ghost use Rattle.std.specs.Int.{to_be_bytes, w16};
 use std::fmt;
 
 /// A byte as two hexadecimal digits in lower case.
-#[derive(Clone, Copy, Debug)]
+#[derive(Clone, Copy)]
 struct HexByte(u8);
 
 impl fmt::Display for HexByte {
@@ -21,7 +21,7 @@ impl fmt::Display for HexByte {
 }
 
 /// Bytes as hexadecimal digits in lower case, and a dash where there are none.
-#[derive(Clone, Copy, Debug)]
+#[derive(Clone, Copy)]
 pub struct Hex<'a>(pub &'a [u8]);
 
 impl fmt::Display for Hex<'_> {
@@ -42,7 +42,7 @@ impl fmt::Display for Hex<'_> {
 }
 
 /// What the last of a line's turns came to.
-#[derive(Clone, Copy, Debug, PartialEq, Eq)]
+#[derive(Clone, Copy)]
 pub enum LastTurn {
     /// A call was answered.
     Answered,
@@ -70,7 +70,7 @@ impl fmt::Display for LastTurn {
 }
 
 /// What a line came to, but for `show`. A refusal goes by its printed name, as `S9`.
-#[derive(Clone, Copy, Debug, PartialEq, Eq)]
+#[derive(Clone, Copy)]
 pub enum LineReply {
     /// An invocation was made, or an attempt stopped.
     Done,
@@ -128,7 +128,7 @@ fn low_bytes(number: u32) -> [u8; 2]
 }
 
 /// A recorded request: its place, counted from 1, the number of its frame's type, which has sixteen bits, and its payload.
-#[derive(Clone, Copy, Debug)]
+#[derive(Clone, Copy)]
 pub struct ShownRequest<'a> {
     pub place: usize,
     pub ty: u32,
@@ -150,7 +150,7 @@ impl fmt::Display for ShownRequest<'_> {
 }
 
 /// The answer of an invocation.
-#[derive(Clone, Copy, Debug)]
+#[derive(Clone, Copy)]
 pub enum ShownAnswer<'a> {
     /// There is none.
     Missing,
@@ -179,7 +179,7 @@ impl fmt::Display for ShownAnswer<'_> {
 }
 
 /// Whether an invocation is open.
-#[derive(Clone, Copy, Debug)]
+#[derive(Clone, Copy)]
 pub struct ShownOpenness(pub bool);
 
 impl fmt::Display for ShownOpenness {

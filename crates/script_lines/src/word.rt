@@ -11,7 +11,7 @@ use std::alloc::{AllocError, Global};
 use std::str;
 
 /// Why a line is not read.
-#[derive(Debug, Drop)]
+#[derive(Drop)]
 pub enum LineError {
     /// It is the spelling of no line.
     NotUnderstood,
@@ -28,7 +28,7 @@ impl From<AllocError> for LineError {
 }
 
 /// The first word of a line: what the line is for.
-#[derive(Clone, Copy, Debug, PartialEq, Eq)]
+#[derive(Clone, Copy)]
 pub enum Command {
     Invoke,
     Begin,
@@ -40,7 +40,7 @@ pub enum Command {
 }
 
 /// How much of its object's state an invocation is begun with.
-#[derive(Clone, Copy, Debug, PartialEq, Eq)]
+#[derive(Clone, Copy)]
 pub enum StateMode {
     /// The whole map.
     Whole,
@@ -49,7 +49,7 @@ pub enum StateMode {
 }
 
 /// The built-in handlers that a line may name.
-#[derive(Clone, Copy, Debug, PartialEq, Eq)]
+#[derive(Clone, Copy)]
 pub enum HandlerName {
     /// Sleeps until 10 and answers `ok`.
     Nap,

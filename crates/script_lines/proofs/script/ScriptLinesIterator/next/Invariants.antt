@@ -6,4 +6,4 @@ abbrev pub invariant-loop-bytes : goal.invariant-loop-bytes
 invariant-loop-bytes l = lines_left l.self ≡ lines_left l.initial.self
 
 abbrev pub decreases-loop-bytes : goal.decreases-loop-bytes
-decreases-loop-bytes l = length l.self.rest.now
+decreases-loop-bytes l = length l.self.lines
