@@ -3,7 +3,7 @@
 //! - `command NUMBER`: the command of the type of this number, by name and in words.
 //! - `cancellation`: the command that no type is, and the type that it is written as.
 //! - `content_type TEXT`: the version that it names, or whose it is.
-//! - `version NUMBER`: a version with its content type, and whether it is at least version 7.
+//! - `version NUMBER`: a version with its content type, and whether it is at least version 7, and greater.
 //! - `supported`: the first and the last version that is spoken.
 //! - `code NAME`, `code_of NUMBER`: the number of a code.
 //! - `fixed NAME`: an error whose text never changes: its code, whether it is a suspension, its text.
@@ -57,8 +57,9 @@ fn content_type(alloc: Global, content_type: &str) -> Option<String> {
 
 fn version_told(alloc: Global, of: &str) -> Option<String> {
     let version = version(of)?;
-    let is_later = version.is_at_least(Version::V7);
-    format!(in alloc; "{version:?} {version} {is_later}").ok()
+    let is_at_least = version.is_at_least(Version::V7);
+    let is_greater = version > Version::V7;
+    format!(in alloc; "{version:?} {version} {is_at_least} {is_greater}").ok()
 }
 
 fn supported(alloc: Global) -> Option<String> {

@@ -4,11 +4,12 @@
 //! - `header TYPE LENGTH FLAG`: the word of a header, whose flag says whether an acknowledgement is requested.
 //! - `type NUMBER`: the type of this number, whether it is a command, a notification, and one that allows the flag.
 //! - `write TYPE PAYLOAD`: the frame of a message.
+//! - `too_long`: why a payload is not written whose length the header does not hold.
 //! - `pieces BYTES ..`: what stands at the front of the stream when each piece came, and how many bytes are left.
 use crate::operands::{Hex, bytes, flag, message_type, number};
 use bytes::BytesMut;
 use journal_protocol::{
-    Decoder, DecodingError, MessageHeader, MessageType, RawMessage, write_message,
+    Decoder, DecodingError, EncodingError, MessageHeader, MessageType, RawMessage, write_message,
 };
 use std::alloc::Global;
 use std::fmt::Write;
@@ -66,9 +67,9 @@ fn written(alloc: Global, ty: &str, payload: &str) -> Option<String> {
 }
 
 fn put_message(message: &RawMessage, told: &mut String) -> Option<()> {
-    let ty = message.ty();
+    let (ty, length) = (message.ty(), message.header().message_length());
     let payload = Hex(message.payload().as_slice());
-    write!(told, "{ty} {payload}, ").ok()
+    write!(told, "{ty} {length} {payload}, ").ok()
 }
 
 fn put_item(item: Result<Option<RawMessage>, DecodingError>, told: &mut String) -> Option<bool> {
@@ -112,12 +113,17 @@ fn pieces(alloc: Global, pieces: &[&str]) -> Option<String> {
     Some(told)
 }
 
+fn error_told(alloc: Global, error: EncodingError) -> Option<String> {
+    format!(in alloc; "{error}").ok()
+}
+
 pub fn answer(alloc: Global, operation: &str, operands: &[&str]) -> Option<String> {
     match (operation, operands) {
         ("word", [of]) => word(alloc, of),
         ("header", [ty, length, flag]) => header(alloc, ty, length, flag),
         ("type", [of]) => type_numbered(alloc, of),
         ("write", [ty, payload]) => written(alloc, ty, payload),
+        ("too_long", []) => error_told(alloc, EncodingError::PayloadTooLong),
         ("pieces", all) => pieces(alloc, all),
         _ => None,
     }

@@ -8,8 +8,11 @@
 //! - `uncompleted`: an await of three ids, of which the awakeable is known.
 //! - `named NAME PLACE TYPE`, `unnamed PLACE TYPE`, `awakeable ID`, `cancelled`: how commands and notifications are told.
 //! - `related TEXT NAME PLACE TYPE`: an error about a command.
+//! - `last`, `next NUMBER`: which command an error is about, and whether it is the last one.
 use crate::operands::{message_type, number, told, version};
 use bytes::ByteStr;
+use journal_protocol::CommandType;
+use protocol_differences::CommandRelationship;
 use protocol_errors::{
     AwaitedId, BadProposeRunCompletionAck, ClosedError, CommandMetadata, CommandTypeMismatchError,
     EphemeralStateGetWithClosedInput, Error, NotificationMetadata, OutOfBoundsDuration,
@@ -137,6 +140,18 @@ fn related(alloc: Global, text: &str, command: CommandMetadata) -> Option<String
     format!(in alloc; "{shown:?}").ok()
 }
 
+fn relationship(alloc: Global, of: CommandRelationship) -> Option<String> {
+    let is_last = of == CommandRelationship::Last;
+    let told = format!(in alloc; "{of:?} {is_last}");
+    drop(of);
+    told.ok()
+}
+
+fn next(alloc: Global, ty: &str) -> Option<String> {
+    let ty = CommandType::try_from(message_type(ty)?).ok()?;
+    relationship(alloc, CommandRelationship::Next { ty, name: None })
+}
+
 fn answer_about_commands(alloc: Global, operation: &str, operands: &[&str]) -> Option<String> {
     match (operation, operands) {
         ("named", [name, place, ty]) => named(alloc, name, place, ty),
@@ -146,6 +161,8 @@ fn answer_about_commands(alloc: Global, operation: &str, operands: &[&str]) -> O
         ("related", [text, name, place, ty]) => {
             related(alloc, text, named_command(alloc, name, place, ty)?)
         }
+        ("last", []) => relationship(alloc, CommandRelationship::Last),
+        ("next", [ty]) => next(alloc, ty),
         _ => None,
     }
 }
