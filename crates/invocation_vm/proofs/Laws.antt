@@ -1,12 +1,12 @@
 -- What bytes that go to an attempt, and from it, leave of how it stands.
-use Rattle.std.proofs.Common.{◌≡◌, ℕ, List, [], ◌++◌, Option, Some, None, refl, sym, ap, subst, ◌∙◌, append_assoc, inl, inr}
+use Rattle.std.proofs.Common.{◌≡◌, ℕ, List, ◌++◌, Option, Some, None, refl, sym, ap, subst, ◌∙◌, append_assoc, inl, inr}
 use Rattle.journal_model.specs.Notification.{Arrival}
 use Rattle.journal_model.specs.Request.{Request}
 use Rattle.journal_model.specs.Run.{Handler, Invocation}
 use Rattle.protocol_records.specs.declared.start.StartMessage.{StartMessage}
 use Rattle.invocation_vm.specs.declared.options.VMOptions.{VMOptions}
 use Rattle.invocation_vm.specs.declared.progress.Turn.{Turn}
-use Rattle.invocation_vm.specs.View.{AttemptView, fresh, progress_of}
+use Rattle.invocation_vm.specs.View.{AttemptView, fresh}
 use Rattle.invocation_vm.specs.First.{FitsFrames, AreToRead}
 use Rattle.invocation_vm.specs.Attempt.{Announced, entries_known, IsUnread, Stands, Feeds, FeedsUnless, Sends}
 

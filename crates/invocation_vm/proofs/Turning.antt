@@ -1,11 +1,9 @@
 -- What a turn of an attempt makes of the run of its handler, from what it read, or from what the call that it carried out made of it.
-use Rattle.std.specs.Prelude.{IfOk, IfErr, OnErr, IsSome, IfSome, is_some, true}
-use Rattle.std.proofs.Common.{◌≡◌, refl, sym, ap, subst, ◌∙◌, ℕ, suc, ◌+◌, ◌<◌, List, [], ◌∷◌, ◌++◌, append_assoc, length, arith, Option, Some, None, Result, Ok, Err}
+use Rattle.std.specs.Prelude.{IfOk, IfErr, OnErr, IsSome, IfSome, is_some}
+use Rattle.std.proofs.Common.{◌≡◌, refl, sym, ap, subst, ◌∙◌, ℕ, suc, ◌+◌, List, [], ◌∷◌, ◌++◌, append_assoc, length, arith, Option, Some, None, Result, Ok, Err}
 use Rattle.journal_model.specs.declared.call.Call.{Call}
-use Rattle.journal_model.specs.declared.call.Answer.{Answer}
 use Rattle.protocol_records.specs.declared.start.StartMessage.{StartMessage}
 use Rattle.journal_model.specs.declared.handler.Input.{Input}
-use Rattle.journal_model.specs.Notification.{Arrival}
 use Rattle.journal_model.specs.Request.{Request}
 use Rattle.journal_model.specs.History.{Step, answers_of, requests_of}
 use Rattle.journal_model.specs.Run.{Handler, Invocation, Progress as Runs, Ending, GoesOn, IsBeginning, after_call, run, run_requests}
@@ -17,11 +15,11 @@ use Rattle.invocation_vm.specs.View.{AttemptView, progress_of}
 use Rattle.journal_model.specs.Waiting.{still_awaited}
 use Rattle.invocation_vm.specs.Options.{run_options}
 use Rattle.invocation_vm.specs.Frames.{awaiting_payloads}
-use Rattle.invocation_vm.specs.First.{AreToRead, CannotRead, given_by}
+use Rattle.invocation_vm.specs.First.{AreToRead}
 use Rattle.invocation_vm.specs.Reads.{HasInput}
 use Rattle.invocation_vm.proofs.Calls.{none_first}
 use Rattle.invocation_vm.specs.Standing.{Tallies, GoesOnBy, WaitsBy, EndsBy, CarriesOut, HasCause}
-use Rattle.invocation_vm.specs.Attempt.{Announced, entries_known, Serves, IsUnread, Stands, AnswersCall, WaitsAtCall, EndsAtCall, ReadTurn, RunTurn, ReadsSome, ReadsMore, HasRead, FailsAtCall, CallsOne, OnlyReads, OnlyAsks, KeepsOver, Advances, Turns}
+use Rattle.invocation_vm.specs.Attempt.{Announced, entries_known, Serves, IsUnread, Stands, AnswersCall, WaitsAtCall, EndsAtCall, ReadTurn, RunTurn, ReadsSome, ReadsMore, HasRead, CallsOne, OnlyReads, OnlyAsks, Advances, Turns}
 
 some_is : {A : Type 0} (x y : A) → ◌≡◌ {A = Option A} (Some x) (Some y) → x ≡ y
 some_is x y e = cc
@@ -149,16 +147,6 @@ module _ {H : Type 0} (function : H → Handler) (before : AttemptView H) (input
           let steps : List Step = (run next given [] calls).steps in
           record { output = same; cause = subst (λ (one : Call). HasCause given steps one failure) (asked_call next given recorded calls s) (cause given steps s.serves.version s.tallies) }
 
-  -- memory was refused to the handler
-  pub asks_none : Advances function before (Err AttemptFailure.OutOfMemory) before
-  asks_none = record {
-    reads = λ none next first left more u. some_none (sym is ∙ none);
-    calls = λ next given recorded calls s. record { output = refl; cause = tt };
-    kept = refl;
-    read = λ none. refl;
-    asked = λ there. refl;
-  }
-
 -- what is said of the parts of an attempt is said of what is seen of it
 pub advances_from : {H : Type 0} (function : H → Handler) (before parts after : AttemptView H) (result : Result Turn AttemptFailure) → parts ≡ before
     → Advances function parts result after → Advances function before result after
@@ -171,22 +159,6 @@ has_read_from {H = H} function next first left more before parts after same h = 
 -- ---- turns that read
 
 module _ {H : Type 0} (function : H → Handler) (before after : AttemptView H) (same : OnlyReads before after) where
-  -- before anything was asked
-  pub reads_some : (result : Result Turn AttemptFailure) → before.inner.input ≡ None
-      → ((next : Handler) (first : Announced) (left more : List ℕ) → IsUnread function next first left more before → ReadsSome function next first left more before after result)
-      → Advances function before result after
-  reads_some result none reads = record {
-    reads = λ unread. reads;
-    calls = λ next given recorded calls s. some_none (sym s.input ∙ none);
-    kept = same ∙ λ i. record before { unread = after.unread; output = ap (λ (a : AttemptView H). a.output) (sym same) i; inner = ap (λ (a : AttemptView H). a.inner) (sym same) i };
-    read = λ unread. same;
-    asked = λ there. none_there before.inner.input none there;
-  }
-    where
-      none_there : {B : Type 0} → (o : Option Input) → o ≡ None → IsSome o → B
-      none_there None e there = absurd cc
-      none_there (Some input) e there = some_none e
-
   read_on : (next : Handler) (first : Announced) (left more : List ℕ) (turn : Turn) → before.over ≡ None → ReadsSome function next first left more before after (Ok turn)
       → ReadTurn function next first left more before after turn
   read_on next first left more Turn.Waiting over h = record {
@@ -212,20 +184,6 @@ module _ {H : Type 0} (function : H → Handler) (next : Handler) (first : Annou
 
   abbrev Inputs : StartMessage → Result (Option Input) AttemptFailure → List ℕ → Type 0
   Inputs start result came = HasInput before.options first.new first.state (entries_known first) first.retry_count first.duration left more start result came
-
-  pub lacks_start : (came : List ℕ) → Comes None came → length more < length left
-      → ReadsMore function next first left more (record before { unread = came; inner = record (before.inner) { start = None } })
-  lacks_start came bytes lacks = record {
-    unread = record {
-      serves = record { handler = u.serves.handler; version = u.serves.version; options = u.serves.options };
-      fits = u.fits;
-      input = u.input;
-      answers = u.answers;
-      completions = u.completions;
-      bytes = bytes;
-    };
-    lacks = lacks;
-  }
 
   pub lacks_input : (start : StartMessage) (came : List ℕ) → Inputs start (Ok None) came
       → ReadsMore function next first left more (record before { unread = came; inner = record (before.inner) { start = Some start } })

@@ -1,5 +1,5 @@
 //! An attempt: a handler at work on one invocation.
-ghost use Rattle.std.specs.Prelude.{◌≡◌, ◌≤◌, ℕ, List, [], None, IfOk, OnOk, OnErr, length, take};
+ghost use Rattle.std.specs.Prelude.{◌≡◌, ◌≤◌, ℕ, List, None, IfOk, OnOk, OnErr, length, take};
 ghost use Rattle.journal_model.specs.Run.{Handler as HandlerFunction};
 ghost use Rattle.invocation_vm.specs.View.{fresh};
 ghost use Rattle.invocation_vm.specs.Attempt.{Advances, Announced, Feeds, IsUnread, OnlyReads, ReadsSome, Sends, Turns};

@@ -1,5 +1,5 @@
 -- Each event keeps each invocation in its run.
-use Rattle.std.proofs.Common.{◌≡◌, ℕ, zero, suc, ◌+◌, ◌-◌, ◌^◌, ◌<◌, arith, length, length-append, Bool, true, false, ◌&&◌, List, [], ◌∷◌, ◌++◌, take, drop, Option, Some, None, Ok, is_some, option_map, refl, sym, ap, subst, ◌∙◌, inl, inr, IfSome, take-append-drop}
+use Rattle.std.proofs.Common.{◌≡◌, ℕ, zero, suc, ◌+◌, ◌-◌, ◌^◌, ◌<◌, arith, length, length-append, Bool, true, false, ◌&&◌, List, [], ◌∷◌, ◌++◌, take, drop, Option, Some, None, Ok, is_some, option_map, refl, sym, ap, subst, ◌∙◌, inl, inr, take-append-drop}
 use Rattle.journal_model.specs.Notification.{Bytes, Text}
 use Rattle.journal_model.specs.declared.invocation.NewInvocation.{NewInvocation}
 use Rattle.journal_model.specs.Event.{Event as ModelEvent, Frame}

@@ -1,5 +1,4 @@
-use Rattle.std.proofs.Common.{◌≡◌, ap, subst, sym, ◌∙◌, Option, Some, None, Result, Ok, Err}
-use Rattle.invocation_vm.specs.declared.failure.AttemptFailure.{AttemptFailure}
+use Rattle.std.proofs.Common.{ap, subst, sym, ◌∙◌, Some, Ok}
 use Rattle.invocation_vm.specs.declared.progress.Turn.{Turn}
 use Rattle.invocation_vm.specs.View.{AttemptView}
 use Rattle.invocation_vm.specs.Attempt.{Advances, Turns}
