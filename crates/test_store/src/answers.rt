@@ -1,0 +1,169 @@
+//! What calls answer, each printed as the end of a line.
+use crate::fault::Fault;
+use invocation_reads::RecordedFrame;
+use journal_model::NonEmptyValue;
+use journal_store::{Accepted, BegunAttempt, FrameReply};
+use script_lines::text::Hex;
+use store_refusals::Refusal;
+use store_rows::LastError;
+
+/// A refusal by its name, and why a statement was refused.
+pub fn print_refusal<R: Print>(rt: &R, why: Refusal) -> Result<(), Fault> {
+    let name = why.name();
+    match why {
+        Refusal::StatementRefused(cause) => println!(rt; "refused {name} {cause:?}")?,
+        _ => println!(rt; "refused {name}")?,
+    }
+    Ok(())
+}
+
+pub fn print_done<R: Print>(rt: &R, done: Result<(), Refusal>) -> Result<(), Fault> {
+    match done {
+        Ok(()) => Ok(println!(rt; "ok")?),
+        Err(why) => print_refusal(rt, why),
+    }
+}
+
+pub fn print_place<R: Print>(rt: &R, place: Result<u32, Refusal>) -> Result<(), Fault> {
+    match place {
+        Ok(place) => Ok(println!(rt; "place {place}")?),
+        Err(why) => print_refusal(rt, why),
+    }
+}
+
+pub fn print_openness<R: Print>(rt: &R, is_open: Result<bool, Refusal>) -> Result<(), Fault> {
+    match is_open {
+        Ok(true) => Ok(println!(rt; "open")?),
+        Ok(false) => Ok(println!(rt; "closed")?),
+        Err(why) => print_refusal(rt, why),
+    }
+}
+
+pub fn print_bytes<R: Print>(rt: &R, bytes: &[u8]) -> Result<(), Fault> {
+    Ok(println!(rt; "{}", Hex(bytes))?)
+}
+
+/// The number, the version and the start frame of an attempt.
+pub fn print_begun<R: Print>(rt: &R, begun: &BegunAttempt) -> Result<(), Fault> {
+    let start = Hex(begun.start.as_slice());
+    Ok(println!(rt;
+        "attempt {} version {} {start}",
+        begun.number, begun.version
+    )?)
+}
+
+fn print_reply<R: Print>(rt: &R, reply: FrameReply) -> Result<(), Fault> {
+    match reply {
+        FrameReply::Recorded { place } => print!(rt; "recorded {place}")?,
+        FrameReply::Noted => print!(rt; "noted")?,
+        FrameReply::Suspended => print!(rt; "suspended")?,
+        FrameReply::Failed => print!(rt; "failed")?,
+        FrameReply::Ended => print!(rt; "ended")?,
+    }
+    Ok(())
+}
+
+/// The answer to one frame, if one waited.
+pub fn print_step<R: Print>(
+    rt: &R,
+    step: Result<Option<FrameReply>, Refusal>,
+) -> Result<(), Fault> {
+    match step {
+        Ok(Some(reply)) => {
+            print_reply(rt, reply)?;
+            Ok(println!(rt)?)
+        }
+        Ok(None) => Ok(println!(rt; "nothing")?),
+        Err(why) => print_refusal(rt, why),
+    }
+}
+
+/// The answers to all frames that were taken, and why no further one was.
+pub fn print_accepted<R: Print>(rt: &R, accepted: &Accepted) -> Result<(), Fault> {
+    for reply in &accepted.replies {
+        print_reply(rt, *reply)?;
+        print!(rt; ", ")?;
+    }
+    match accepted.refusal {
+        Some(why) => print_refusal(rt, why),
+        None => Ok(println!(rt; "no more")?),
+    }
+}
+
+fn print_each<R: Print>(rt: &R, frames: &[RecordedFrame]) -> Result<(), Fault> {
+    for frame in frames {
+        print!(rt; "{:04x} {}, ", frame.kind, Hex(frame.payload.as_slice()))?;
+    }
+    Ok(println!(rt; "no more")?)
+}
+
+/// The type and the payload of each frame.
+pub fn print_frames<R: Print>(
+    rt: &R,
+    frames: Result<Vec<RecordedFrame>, Refusal>,
+) -> Result<(), Fault> {
+    match frames {
+        Ok(frames) => {
+            let done = print_each(rt, frames.as_slice());
+            drop(frames);
+            done
+        }
+        Err(why) => print_refusal(rt, why),
+    }
+}
+
+fn print_value<R: Print>(rt: &R, value: &NonEmptyValue) -> Result<(), Fault> {
+    match value {
+        NonEmptyValue::Success(bytes) => println!(rt; "value {}", Hex(bytes.as_slice()))?,
+        NonEmptyValue::Failure(failure) => {
+            let pairs = failure.metadata.len();
+            println!(rt;
+                "failure {} {} pairs {pairs}",
+                failure.code,
+                failure.message.as_str()
+            )?
+        }
+    }
+    Ok(())
+}
+
+/// What an invocation answers.
+pub fn print_answer<R: Print>(
+    rt: &R,
+    answer: Result<Option<NonEmptyValue>, Refusal>,
+) -> Result<(), Fault> {
+    match answer {
+        Ok(Some(value)) => {
+            let done = print_value(rt, &value);
+            drop(value);
+            done
+        }
+        Ok(None) => Ok(println!(rt; "none")?),
+        Err(why) => print_refusal(rt, why),
+    }
+}
+
+fn print_error<R: Print>(rt: &R, error: &LastError) -> Result<(), Fault> {
+    let delay = error.delay;
+    let message = error.message.as_str();
+    Ok(println!(rt;
+        "code {} behavior {} delay {delay:?} {message}",
+        error.code, error.behavior
+    )?)
+}
+
+/// The last error of an invocation.
+pub fn print_failure<R: Print>(
+    rt: &R,
+    failure: Result<Option<LastError>, Refusal>,
+) -> Result<(), Fault> {
+    match failure {
+        Ok(Some(error)) => {
+            let done = print_error(rt, &error);
+            drop(error);
+            done
+        }
+        Ok(None) => Ok(println!(rt; "none")?),
+        Err(why) => print_refusal(rt, why),
+    }
+}

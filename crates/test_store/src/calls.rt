@@ -1,0 +1,218 @@
+//! A file of calls of a store, each line a call, ` -> ` and what it answers. The answer is not read: each call is printed with what
+//! it answered, so that a file is printed as it stands where all is as it says.
+use crate::answers::{
+    print_accepted, print_answer, print_begun, print_bytes, print_done, print_failure,
+    print_frames, print_openness, print_place, print_refusal, print_step,
+};
+use crate::database::{Database, empty};
+use crate::fault::Fault;
+use crate::words::{parse_bytes, parse_new, parse_result, parse_text};
+use bytes::ByteStr;
+use journal_store::Store;
+use sqlite::MemStore;
+use std::alloc::Global;
+use std::fs;
+use std::rt::Files;
+
+type Memory = Store<MemStore>;
+
+fn invoke<R: Print>(
+    rt: &R,
+    alloc: Global,
+    store: &mut Memory,
+    words: &[&str],
+) -> Result<(), Fault> {
+    let new = parse_new(alloc, words)?;
+    print_done(rt, store.invoke(new))
+}
+
+fn result<R: Print>(
+    rt: &R,
+    alloc: Global,
+    store: &mut Memory,
+    id: &ByteStr,
+    completion: &str,
+    value: &str,
+) -> Result<(), Fault> {
+    let completion = completion.parse()?;
+    let value = parse_result(alloc, value)?;
+    print_place(rt, store.result(id, completion, value))
+}
+
+fn begin<R: Print>(rt: &R, store: &mut Memory, id: &ByteStr, now: &str) -> Result<(), Fault> {
+    let now = now.parse()?;
+    match store.begin(id, now) {
+        Ok(begun) => {
+            let done = print_begun(rt, &begun);
+            drop(begun);
+            done
+        }
+        Err(why) => print_refusal(rt, why),
+    }
+}
+
+fn next_input<R: Print>(
+    rt: &R,
+    store: &mut Memory,
+    id: &ByteStr,
+    attempt: u32,
+    most: &str,
+) -> Result<(), Fault> {
+    let most = most.parse()?;
+    match store.next_input(id, attempt, most) {
+        Ok(bytes) => {
+            let done = print_bytes(rt, bytes.as_slice());
+            drop(bytes);
+            done
+        }
+        Err(why) => print_refusal(rt, why),
+    }
+}
+
+fn feed<R: Print>(
+    rt: &R,
+    alloc: Global,
+    store: &mut Memory,
+    id: &ByteStr,
+    attempt: u32,
+    bytes: &str,
+) -> Result<(), Fault> {
+    let bytes = parse_bytes(alloc, bytes)?;
+    print_done(rt, store.feed(id, attempt, bytes.as_slice()))
+}
+
+fn accept<R: Print>(
+    rt: &R,
+    alloc: Global,
+    store: &mut Memory,
+    id: &ByteStr,
+    attempt: u32,
+    bytes: &str,
+) -> Result<(), Fault> {
+    let bytes = parse_bytes(alloc, bytes)?;
+    let accepted = store.accept(id, attempt, bytes.as_slice());
+    drop(bytes);
+    match accepted {
+        Ok(accepted) => {
+            let done = print_accepted(rt, &accepted);
+            drop(accepted);
+            done
+        }
+        Err(why) => print_refusal(rt, why),
+    }
+}
+
+/// A call about one attempt.
+fn ask_attempt<R: Print>(
+    rt: &R,
+    alloc: Global,
+    store: &mut Memory,
+    call: &str,
+    id: &ByteStr,
+    words: &[&str],
+) -> Result<(), Fault> {
+    let [attempt, words @ ..] = words else {
+        return Err(Fault::NotUnderstood);
+    };
+    let attempt = attempt.parse()?;
+    match (call, words) {
+        ("next_input", [most]) => next_input(rt, store, id, attempt, most),
+        ("close_input", []) => print_done(rt, store.close_input(id, attempt)),
+        ("feed", [bytes]) => feed(rt, alloc, store, id, attempt, bytes),
+        ("step", []) => print_step(rt, store.step(id, attempt)),
+        ("accept", [bytes]) => accept(rt, alloc, store, id, attempt, bytes),
+        ("stop", []) => print_done(rt, store.stop(id, attempt)),
+        _ => Err(Fault::NotUnderstood),
+    }
+}
+
+/// A call about one invocation.
+fn ask_invocation<R: Print>(
+    rt: &R,
+    alloc: Global,
+    store: &mut Memory,
+    call: &str,
+    id: &ByteStr,
+    words: &[&str],
+) -> Result<(), Fault> {
+    match (call, words) {
+        ("result", [completion, value]) => result(rt, alloc, store, id, completion, value),
+        ("begin", [now]) => begin(rt, store, id, now),
+        ("requests", []) => print_frames(rt, store.requests(id)),
+        ("arrivals", []) => print_frames(rt, store.arrivals(id)),
+        ("answer", []) => print_answer(rt, store.answer(id)),
+        ("failure", []) => print_failure(rt, store.failure(id)),
+        ("is_open", []) => print_openness(rt, store.is_open(id)),
+        _ => ask_attempt(rt, alloc, store, call, id, words),
+    }
+}
+
+/// A call of the store.
+fn ask<R: Print>(
+    rt: &R,
+    alloc: Global,
+    store: &mut Memory,
+    call: &str,
+    words: &[&str],
+) -> Result<(), Fault> {
+    if call == "invoke" {
+        return invoke(rt, alloc, store, words);
+    }
+    let [id, words @ ..] = words else {
+        return Err(Fault::NotUnderstood);
+    };
+    let id = parse_text(alloc, id)?;
+    ask_invocation(rt, alloc, store, call, &id, words)
+}
+
+/// A line of the database, or a call of the store over it.
+fn answer<R: Print>(
+    rt: &R,
+    alloc: Global,
+    database: &mut Database,
+    line: &str,
+) -> Result<(), Fault> {
+    if let Some(statement) = line.strip_prefix("sql ") {
+        return database.execute(rt, statement);
+    }
+    let words: Vec<&str> = line.split(' ').collect(alloc)?;
+    match *words.as_slice() {
+        ["new"] => database.renew(rt),
+        ["open"] => database.open(rt),
+        ["close"] => database.close(rt),
+        ["unlimit"] => database.limit(rt, None),
+        ["limit", steps] => database.limit(rt, Some(steps.parse()?)),
+        [call, ref words @ ..] => ask(rt, alloc, database.store()?, call, words),
+        [] => Err(Fault::NotUnderstood),
+    }
+}
+
+/// Prints a line with what it answers, and a line that is no call as it is.
+fn run_line<R: Print>(
+    rt: &R,
+    alloc: Global,
+    database: &mut Database,
+    line: &str,
+) -> Result<(), Fault> {
+    if line.is_empty() || line.starts_with('#') {
+        println!(rt; "{line}")?;
+        return Ok(());
+    }
+    let call = match line.split_once(" -> ") {
+        Some((call, _answer)) => call,
+        None => line,
+    };
+    print!(rt; "{call} -> ")?;
+    answer(rt, alloc, database, call)
+}
+
+/// Makes the calls of a file over an empty database.
+pub fn run_calls<R: Files + Print + AllocGlobal>(rt: &R, name: &str) -> Result<(), Fault> {
+    let alloc = rt.alloc();
+    let calls = fs::read_to_string(rt, name)?;
+    let mut database = empty(alloc)?;
+    for line in calls.as_str().lines() {
+        run_line(rt, alloc, &mut database, line)?;
+    }
+    Ok(())
+}

@@ -1,0 +1,117 @@
+//! A schedule, from its events to its replies.
+use crate::answers::{print_answer, print_frames, print_openness};
+use crate::database::open_memory;
+use crate::fault::Fault;
+use built_in_handlers::handlers::Nap;
+use bytes::{ByteStr, Bytes};
+use durable_schedule::{Scheduler, run_schedule};
+use invocation_vm::VMOptions;
+use journal_model::{NewInvocation, StateMode};
+use schedule_events::{Event, Reply};
+use sequence::Sequence;
+use sqlite::MemStore;
+use std::alloc::{AllocError, Global};
+
+fn i1() -> ByteStr {
+    ByteStr::from_static("i1")
+}
+
+fn new_invocation(alloc: Global) -> NewInvocation {
+    NewInvocation {
+        id: i1(),
+        object: ByteStr::from_static("o"),
+        input: Bytes::new(),
+        headers: Sequence::new(alloc),
+        version: 7,
+        seed: 1,
+        state: StateMode::Whole,
+    }
+}
+
+/// How many events there are.
+const COUNT: u32 = 9;
+
+/// The events of a nap, by their place: it is moved up to its await, and stopped. The last one asks for another attempt.
+fn event(alloc: Global, place: u32) -> Event<Nap> {
+    let (invocation, attempt, count) = (i1(), 1, 1000);
+    match place {
+        0 => Event::Invoke(new_invocation(alloc)),
+        1 => Event::Begin {
+            invocation,
+            handler: Nap {
+                alloc,
+                until_ms: 10,
+            },
+            now: 0,
+        },
+        2 => Event::Feed {
+            invocation,
+            attempt,
+            count,
+        },
+        3..=5 => Event::Turn {
+            invocation,
+            attempt,
+        },
+        6 => Event::Move {
+            invocation,
+            attempt,
+            count,
+        },
+        7 => Event::Stop {
+            invocation,
+            attempt,
+        },
+        _ => Event::Turn {
+            invocation,
+            attempt: 2,
+        },
+    }
+}
+
+fn events(alloc: Global) -> Result<Vec<Event<Nap>>, AllocError> {
+    let mut events = Vec::new(alloc);
+    for place in 0..COUNT {
+        events.push(event(alloc, place))?;
+    }
+    Ok(events)
+}
+
+fn print_replies<R: Print>(rt: &R, replies: &[Reply]) -> Result<(), Fault> {
+    for reply in replies {
+        println!(rt; "{reply:?}")?;
+    }
+    Ok(())
+}
+
+/// What a scheduler tells of the invocation, and what the store tells that it leaves.
+fn print_left<R: Print>(rt: &R, mut scheduler: Scheduler<Nap, MemStore>) -> Result<(), Fault> {
+    let is_open = scheduler.is_open(&i1());
+    let answer = scheduler.answer(&i1());
+    let requests = scheduler.requests(&i1());
+    let kept = scheduler.into_store().requests(&i1());
+    print_openness(rt, is_open)?;
+    print_answer(rt, answer)?;
+    print_frames(rt, requests)?;
+    print_frames(rt, kept)
+}
+
+/// Runs the events of a nap over a store in memory, and prints each reply.
+pub fn run_nap<R: Print + AllocGlobal>(rt: &R) -> Result<(), Fault> {
+    let alloc = rt.alloc();
+    let events = events(alloc)?;
+    let store = open_memory(alloc)?;
+    match run_schedule(alloc, store, VMOptions::default(), events) {
+        Ok((scheduler, replies)) => {
+            let printed = print_replies(rt, replies.as_slice());
+            drop(replies);
+            let left = print_left(rt, scheduler);
+            printed?;
+            left
+        }
+        Err(no_room) => {
+            drop(no_room);
+            Err(Fault::Memory)
+        }
+    }
+}
