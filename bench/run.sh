@@ -7,22 +7,22 @@
 #
 #     apt-get install protobuf-compiler libprotobuf-dev g++
 #
-# The first call proves bench_protocol and every crate below it, which takes long. Ends with 1 where the bytes differ.
+# The first call proves bench and every crate below it, which takes long. Ends with 1 where the bytes differ.
 set -e
 cd "$(dirname "$0")"
 count=${1:-1000000}
-crate=../crates/bench_protocol
+crate=../crates/bench
 built=$(mktemp -d)
 trap 'rm -rf "$built"' EXIT
 
 protoc --cpp_out="$built" records.proto
 c++ -std=c++17 -O2 -I. -I"$built" protobuf_times.cc "$built"/records.pb.cc -o "$built"/protobuf_times \
     $(pkg-config --cflags --libs protobuf 2>/dev/null || echo -lprotobuf)
-# Builds the program, and runs it with no word: it does nothing then.
+# Builds the program, and runs it with no word: it does a little of each then.
 (cd "$crate" && rt run) >&2
 
 uptime || true
-"$crate"/out/bench_protocol "$count" > "$built"/ours
+"$crate"/out/bench protocol "$count" > "$built"/ours
 "$built"/protobuf_times "$count" > "$built"/theirs
 uptime || true
 

@@ -8,11 +8,11 @@
 #
 #     apt-get install libsqlite3-dev gcc
 #
-# The first call proves bench_store and every crate below it, which takes long.
+# The first call proves bench and every crate below it, which takes long.
 set -e
 cd "$(dirname "$0")"
 count=${1:-2000}
-crate=../crates/bench_store
+crate=../crates/bench
 built=$(mktemp -d)
 trap 'rm -rf "$built"' EXIT
 
@@ -24,11 +24,11 @@ grep -o '"[A-Z]* [^"]* [^"]*"' sqlite_times.c | while read -r text; do
     fi
 done
 cc -std=c11 -D_POSIX_C_SOURCE=199309L -O2 sqlite_times.c -o "$built"/sqlite_times -lsqlite3
-# Builds the program, and runs it with no word: it does nothing then.
+# Builds the program, and runs it with no word: it does a little of each then.
 (cd "$crate" && rt run) >&2
 
 uptime || true
-"$crate"/out/bench_store "$count" > "$built"/ours
+"$crate"/out/bench store "$count" > "$built"/ours
 "$built"/sqlite_times "$count" > "$built"/theirs
 uptime || true
 

@@ -1,4 +1,4 @@
-# A table of what bench_store printed (the file that the variable `ours` names) and what sqlite_times printed.
+# A table of what `bench store` printed (the file that the variable `ours` names) and what sqlite_times printed.
 
 function put(name, time) {
     if (FILENAME != ours) {

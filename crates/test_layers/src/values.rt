@@ -1,11 +1,9 @@
-//! Values that code and contracts share, and what errors are about.
+//! Values that code and contracts share.
 use bytes::ByteStr;
 use journal_model::{
     Answer, AwaitedFuture, CANCEL_NOTIFICATION_HANDLE, Moment, NotificationHandle, PayloadOptions,
     UnresolvedFuture,
 };
-use journal_protocol::CommandType;
-use protocol_differences::CommandRelationship;
 use std::alloc::AllocError;
 use std::test::Fail;
 use std::time::Duration;
@@ -68,13 +66,4 @@ fn options_and_moments(rt: HostRuntime) {
         Moment::new(Duration::from_secs(2)).duration(),
         Duration::from_secs(2)
     );
-}
-
-#[test]
-fn relationships(rt: HostRuntime) {
-    let next = CommandRelationship::Next {
-        ty: CommandType::Sleep,
-        name: None,
-    };
-    assert!(rt; next != CommandRelationship::Last);
 }

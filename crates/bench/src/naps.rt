@@ -23,16 +23,33 @@ fn record_nap(alloc: Global, store: &mut Memory, which: u32) -> Result<()> {
     Ok(())
 }
 
+fn record_naps(alloc: Global, store: &mut Memory, count: u32) -> Result<()> {
+    for which in 0..count {
+        record_nap(alloc, store, which)?;
+    }
+    Ok(())
+}
+
 /// Prints the line of so many naps.
 pub fn time_naps<R: CpuClock + Print + AllocGlobal>(rt: &R, count: u32) -> Result<()> {
-    let alloc = rt.alloc();
-    let mut store = empty_store(alloc)?;
-    let start = rt.thread_cpu_time()?;
-    for which in 0..count {
-        record_nap(alloc, &mut store, which)?;
-    }
-    let end = rt.thread_cpu_time()?;
-    let event = Micros::each(end.saturating_sub(start), count.saturating_mul(EVENTS));
+    let mut store = empty_store(rt.alloc())?;
+    let start = rt.thread_cpu_time();
+    let recorded = record_naps(rt.alloc(), &mut store, count);
+    let end = rt.thread_cpu_time();
+    drop(store);
+    recorded?;
+    let took = end?.saturating_sub(start?);
+    let event = Micros::each(took, count.saturating_mul(EVENTS));
     println!(rt; "naps {count} event {event}")?;
+    Ok(())
+}
+
+/// Records so many naps, and says so.
+pub fn try_naps<R: Print + AllocGlobal>(rt: &R, count: u32) -> Result<()> {
+    let mut store = empty_store(rt.alloc())?;
+    let recorded = record_naps(rt.alloc(), &mut store, count);
+    drop(store);
+    recorded?;
+    println!(rt; "naps {count}")?;
     Ok(())
 }

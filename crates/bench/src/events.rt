@@ -171,26 +171,39 @@ fn time_round<R: CpuClock>(
     done
 }
 
+const NO_TIMES: Times = Times {
+    step: Duration::ZERO,
+    result: Duration::ZERO,
+    begin: Duration::ZERO,
+    next_input: Duration::ZERO,
+};
+
+/// Prints the times of so many events of each kind, over a journal of so many entries.
+fn print_times<R: Print>(rt: &R, len: u32, times: Times, events: u32) -> Result<()> {
+    let step = Micros::each(times.step, events);
+    let result = Micros::each(times.result, events);
+    print!(rt; "journal {len} step {step} result {result}")?;
+    let begin = Micros::each(times.begin, events);
+    let next_input = Micros::each(times.next_input, events);
+    println!(rt; " begin {begin} next_input {next_input}")?;
+    Ok(())
+}
+
 /// Prints the line of a journal of so many entries, at least ten.
 pub fn time_journal<R: CpuClock + Print + AllocGlobal>(rt: &R, len: u32) -> Result<()> {
     let events = (len / 10).clamp(1, EVENTS);
     let rounds = EVENTS / events;
-    let mut times = Times {
-        step: Duration::ZERO,
-        result: Duration::ZERO,
-        begin: Duration::ZERO,
-        next_input: Duration::ZERO,
-    };
+    let mut times = NO_TIMES;
     for _ in 0..rounds {
         time_round(rt, rt.alloc(), len, events, &mut times)?;
     }
-    let all = rounds.wrapping_mul(events);
-    let step = Micros::each(times.step, all);
-    let result = Micros::each(times.result, all);
-    let begin = Micros::each(times.begin, all);
-    let next_input = Micros::each(times.next_input, all);
-    println!(rt;
-        "journal {len} step {step} result {result} begin {begin} next_input {next_input}"
-    )?;
+    print_times(rt, len, times, rounds.wrapping_mul(events))
+}
+
+/// Makes one more event of each kind over a journal of so many entries, at least ten, and says so.
+pub fn try_events<R: CpuClock + Print + AllocGlobal>(rt: &R, len: u32) -> Result<()> {
+    let mut times = NO_TIMES;
+    time_round(rt, rt.alloc(), len, 1, &mut times)?;
+    println!(rt; "journal {len}")?;
     Ok(())
 }

@@ -70,26 +70,28 @@ fn print_commands<R: CpuClock + Print>(rt: &R, alloc: Global, journal: &[u8]) ->
     Ok(())
 }
 
+// A word for whether what was written is what was read.
+fn end_word(journal: &[u8], written: &[u8]) -> &'static str {
+    if written == journal { "same" } else { "OTHER" }
+}
+
 // Prints the line of the whole journal. Writing is what it takes longer to read and write than to read.
 fn print_whole<R: Print>(rt: &R, journal: &[u8], whole: &Whole) -> Result<()> {
-    let frames = whole.count;
-    let bytes = journal.len();
+    let (frames, bytes) = (whole.count, journal.len());
     let reading = whole.framing.saturating_add(whole.reading);
     let writing = whole.rewriting.saturating_sub(whole.reading);
-    let framing = each(whole.framing, frames);
-    let read = each(reading, frames);
-    let write = each(writing, frames);
-    let read_speed = speed(reading, bytes);
-    let write_speed = speed(writing, bytes);
-    let hash = checksum(whole.written.as_slice());
-    let end = if whole.written.as_slice() == journal {
-        "same"
-    } else {
-        "OTHER"
-    };
-    println!(rt;
-        "journal frames {frames} bytes {bytes} framing {framing} read {read} write {write} MB/s {read_speed} {write_speed} checksum {hash:016x} {end}"
+    let (framing, read, write) = (
+        each(whole.framing, frames),
+        each(reading, frames),
+        each(writing, frames),
+    );
+    print!(rt;
+        "journal frames {frames} bytes {bytes} framing {framing} read {read} write {write}"
     )?;
+    let (read_speed, write_speed) = (speed(reading, bytes), speed(writing, bytes));
+    let hash = checksum(whole.written.as_slice());
+    let end = end_word(journal, whole.written.as_slice());
+    println!(rt; " MB/s {read_speed} {write_speed} checksum {hash:016x} {end}")?;
     Ok(())
 }
 
@@ -100,4 +102,14 @@ pub fn time_journal<R: CpuClock + Print + AllocGlobal>(rt: &R, count: u32) -> Re
     print_commands(rt, alloc, journal.as_slice())?;
     let whole = time_whole(rt, alloc, journal.as_slice())?;
     print_whole(rt, journal.as_slice(), &whole)
+}
+
+/// Reads and writes a journal of so many commands, and prints whether what was written is what was read.
+pub fn try_journal<R: CpuClock + Print + AllocGlobal>(rt: &R, count: u32) -> Result<()> {
+    let journal = make_journal(rt.alloc(), count)?;
+    let whole = time_whole(rt, rt.alloc(), journal.as_slice())?;
+    let frames = whole.count;
+    let end = end_word(journal.as_slice(), whole.written.as_slice());
+    println!(rt; "journal frames {frames} {end}")?;
+    Ok(())
 }
