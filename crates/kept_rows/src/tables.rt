@@ -4,13 +4,15 @@ use sqlite::{Connection, MemStore};
 use std::alloc::Global;
 use std::test::Fail;
 use store_rows::{
-    Closing, EntryRow, InvocationRow, LastError, Progress, ReadError, StateRow, Write,
+    Closing, EntryRow, InvocationRow, LastError, Progress, ReadError, StateRow, StoreTables, Write,
     all_invocations, commit_all, entry_by_answered, entry_by_completion, entry_by_place,
     entry_by_second_completion, invocation_by_id, is_ready, journal, open, open_invocation,
     state_by_key, states_of,
 };
 
 type Memory = Connection<MemStore>;
+
+type Tables = StoreTables<MemStore>;
 
 fn name() -> ByteStr {
     ByteStr::from_static("one")
@@ -110,25 +112,32 @@ fn is_foreign(alloc: Global, conn: &mut Memory) -> bool {
     conn.is_autocommit() && open(alloc, conn) == Err(ReadError::Foreign)
 }
 
-fn is_committed(conn: &mut Memory, write: Write) -> bool {
-    if !is_ready(conn) {
-        return false;
+// A new store.
+fn opened(alloc: Global) -> Option<Tables> {
+    let Ok(mut database) = Connection::open_in_memory(alloc) else {
+        return None;
+    };
+    if !database.is_autocommit() || open(alloc, &mut database).is_err() || !is_ready(&database) {
+        return None;
     }
+    Some(StoreTables::of(alloc, database))
+}
+
+fn is_committed(tables: &mut Tables, write: Write) -> bool {
     let writes = [write];
-    let done = commit_all(conn, &writes);
+    let done = commit_all(tables, &writes);
     drop(writes);
     done.is_ok()
 }
 
-fn is_filled(alloc: Global, conn: &mut Memory) -> bool {
-    is_opened(alloc, conn)
-        && is_committed(conn, Write::AddInvocation(invocation()))
-        && is_committed(conn, Write::AddEntry(request(0, 1, 2)))
-        && is_committed(conn, Write::AddEntry(request(1, 3, 4)))
-        && is_committed(conn, Write::AddEntry(arrival(2, 4)))
-        && is_committed(conn, Write::PutState(value(b"k")))
-        && is_committed(conn, Write::PutState(value(b"j")))
-        && is_committed(conn, Write::PutState(value(b"k")))
+fn is_filled(tables: &mut Tables) -> bool {
+    is_committed(tables, Write::AddInvocation(invocation()))
+        && is_committed(tables, Write::AddEntry(request(0, 1, 2)))
+        && is_committed(tables, Write::AddEntry(request(1, 3, 4)))
+        && is_committed(tables, Write::AddEntry(arrival(2, 4)))
+        && is_committed(tables, Write::PutState(value(b"k")))
+        && is_committed(tables, Write::PutState(value(b"j")))
+        && is_committed(tables, Write::PutState(value(b"k")))
 }
 
 // The place of the entry that is found.
@@ -139,32 +148,20 @@ fn place_of(found: Result<Option<EntryRow>, ReadError>) -> Option<u32> {
     }
 }
 
-fn at_place(alloc: Global, conn: &mut Memory, place: u32) -> Option<u32> {
-    if !is_ready(conn) {
-        return None;
-    }
-    place_of(entry_by_place(alloc, conn, &name(), place))
+fn at_place(tables: &mut Tables, place: u32) -> Option<u32> {
+    place_of(entry_by_place(tables, &name(), place))
 }
 
-fn asking(alloc: Global, conn: &mut Memory, completion: u32) -> Option<u32> {
-    if !is_ready(conn) {
-        return None;
-    }
-    place_of(entry_by_completion(alloc, conn, &name(), completion))
+fn asking(tables: &mut Tables, completion: u32) -> Option<u32> {
+    place_of(entry_by_completion(tables, &name(), completion))
 }
 
-fn asking_second(alloc: Global, conn: &mut Memory, completion: u32) -> Option<u32> {
-    if !is_ready(conn) {
-        return None;
-    }
-    place_of(entry_by_second_completion(alloc, conn, &name(), completion))
+fn asking_second(tables: &mut Tables, completion: u32) -> Option<u32> {
+    place_of(entry_by_second_completion(tables, &name(), completion))
 }
 
-fn answering(alloc: Global, conn: &mut Memory, completion: u32) -> Option<u32> {
-    if !is_ready(conn) {
-        return None;
-    }
-    place_of(entry_by_answered(alloc, conn, &name(), completion))
+fn answering(tables: &mut Tables, completion: u32) -> Option<u32> {
+    place_of(entry_by_answered(tables, &name(), completion))
 }
 
 // How many are found.
@@ -175,25 +172,16 @@ fn count<T: Drop>(found: Result<Vec<T>, ReadError>) -> Option<usize> {
     }
 }
 
-fn entry_count(alloc: Global, conn: &mut Memory) -> Option<usize> {
-    if !is_ready(conn) {
-        return None;
-    }
-    count(journal(alloc, conn, &name()))
+fn entry_count(tables: &mut Tables) -> Option<usize> {
+    count(journal(tables, &name()))
 }
 
-fn state_count(alloc: Global, conn: &mut Memory) -> Option<usize> {
-    if !is_ready(conn) {
-        return None;
-    }
-    count(states_of(alloc, conn, &object()))
+fn state_count(tables: &mut Tables) -> Option<usize> {
+    count(states_of(tables, &object()))
 }
 
-fn invocation_count(alloc: Global, conn: &mut Memory) -> Option<usize> {
-    if !is_ready(conn) {
-        return None;
-    }
-    count(all_invocations(alloc, conn))
+fn invocation_count(tables: &mut Tables) -> Option<usize> {
+    count(all_invocations(tables))
 }
 
 // Whether one is found.
@@ -204,32 +192,28 @@ fn is_there<T: Drop>(found: Result<Option<T>, ReadError>) -> Option<bool> {
     }
 }
 
-fn has_invocation(alloc: Global, conn: &mut Memory) -> Option<bool> {
-    if !is_ready(conn) {
-        return None;
-    }
-    is_there(invocation_by_id(alloc, conn, &name()))
+fn has_invocation(tables: &mut Tables) -> Option<bool> {
+    is_there(invocation_by_id(tables, &name()))
 }
 
-fn has_open_invocation(alloc: Global, conn: &mut Memory) -> Option<bool> {
-    if !is_ready(conn) {
-        return None;
-    }
-    is_there(open_invocation(alloc, conn, &object()))
+fn has_open_invocation(tables: &mut Tables) -> Option<bool> {
+    is_there(open_invocation(tables, &object()))
 }
 
-fn has_state(alloc: Global, conn: &mut Memory) -> Option<bool> {
-    if !is_ready(conn) {
-        return None;
-    }
+fn has_state(tables: &mut Tables) -> Option<bool> {
     let key = Bytes::from_static(b"k");
-    is_there(state_by_key(alloc, conn, &object(), &key))
+    is_there(state_by_key(tables, &object(), &key))
 }
 
 // A mode that is neither.
-fn is_spoilt(conn: &mut Memory) -> bool {
-    conn.execute("UPDATE invocation SET mode = ?1", &[ValueRef::Int(2)])
-        .is_ok()
+fn spoilt(tables: Tables) -> Option<Tables> {
+    let alloc = tables.alloc();
+    let mut database = tables.into_connection();
+    let done = database.execute("UPDATE invocation SET mode = ?1", &[ValueRef::Int(2)]);
+    if done.is_err() || !is_ready(&database) {
+        return None;
+    }
+    Some(StoreTables::of(alloc, database))
 }
 
 #[test]
@@ -250,62 +234,62 @@ fn other_databases_are_foreign(rt: HostRuntime) -> Result<(), Fail> {
 
 #[test]
 fn entries_are_found(rt: HostRuntime) -> Result<(), Fail> {
-    let mut conn = Connection::open_in_memory(rt.alloc())?;
-    assert!(rt; is_filled(rt.alloc(), &mut conn));
-    assert!(rt; at_place(rt.alloc(), &mut conn, 1) == Some(1));
-    assert!(rt; at_place(rt.alloc(), &mut conn, 3).is_none());
-    assert!(rt; asking(rt.alloc(), &mut conn, 3) == Some(1));
-    assert!(rt; asking_second(rt.alloc(), &mut conn, 4) == Some(1));
-    assert!(rt; answering(rt.alloc(), &mut conn, 4) == Some(2));
+    let mut tables = opened(rt.alloc()).ok_or("a store")?;
+    assert!(rt; is_filled(&mut tables));
+    assert!(rt; at_place(&mut tables, 1) == Some(1));
+    assert!(rt; at_place(&mut tables, 3).is_none());
+    assert!(rt; asking(&mut tables, 3) == Some(1));
+    assert!(rt; asking_second(&mut tables, 4) == Some(1));
+    assert!(rt; answering(&mut tables, 4) == Some(2));
     Ok(())
 }
 
 #[test]
 fn lists_are_found(rt: HostRuntime) -> Result<(), Fail> {
-    let mut conn = Connection::open_in_memory(rt.alloc())?;
-    assert!(rt; is_filled(rt.alloc(), &mut conn));
-    assert!(rt; entry_count(rt.alloc(), &mut conn) == Some(3));
-    assert!(rt; state_count(rt.alloc(), &mut conn) == Some(2));
-    assert!(rt; invocation_count(rt.alloc(), &mut conn) == Some(1));
+    let mut tables = opened(rt.alloc()).ok_or("a store")?;
+    assert!(rt; is_filled(&mut tables));
+    assert!(rt; entry_count(&mut tables) == Some(3));
+    assert!(rt; state_count(&mut tables) == Some(2));
+    assert!(rt; invocation_count(&mut tables) == Some(1));
     Ok(())
 }
 
 #[test]
 fn closed_invocations_free_their_object(rt: HostRuntime) -> Result<(), Fail> {
-    let mut conn = Connection::open_in_memory(rt.alloc())?;
-    assert!(rt; is_filled(rt.alloc(), &mut conn));
-    assert!(rt; has_open_invocation(rt.alloc(), &mut conn) == Some(true));
+    let mut tables = opened(rt.alloc()).ok_or("a store")?;
+    assert!(rt; is_filled(&mut tables));
+    assert!(rt; has_open_invocation(&mut tables) == Some(true));
     let closing = Write::SetProgress {
         id: name(),
         progress: closed_progress(),
     };
-    assert!(rt; is_committed(&mut conn, closing));
-    assert!(rt; has_open_invocation(rt.alloc(), &mut conn) == Some(false));
-    assert!(rt; has_invocation(rt.alloc(), &mut conn) == Some(true));
+    assert!(rt; is_committed(&mut tables, closing));
+    assert!(rt; has_open_invocation(&mut tables) == Some(false));
+    assert!(rt; has_invocation(&mut tables) == Some(true));
     Ok(())
 }
 
 #[test]
 fn states_are_dropped(rt: HostRuntime) -> Result<(), Fail> {
-    let mut conn = Connection::open_in_memory(rt.alloc())?;
-    assert!(rt; is_filled(rt.alloc(), &mut conn));
-    assert!(rt; has_state(rt.alloc(), &mut conn) == Some(true));
+    let mut tables = opened(rt.alloc()).ok_or("a store")?;
+    assert!(rt; is_filled(&mut tables));
+    assert!(rt; has_state(&mut tables) == Some(true));
     let one = Write::DropState {
         object: object(),
         key: Bytes::from_static(b"k"),
     };
-    assert!(rt; is_committed(&mut conn, one));
-    assert!(rt; has_state(rt.alloc(), &mut conn) == Some(false));
-    assert!(rt; is_committed(&mut conn, Write::DropStates { object: object() }));
-    assert!(rt; state_count(rt.alloc(), &mut conn) == Some(0));
+    assert!(rt; is_committed(&mut tables, one));
+    assert!(rt; has_state(&mut tables) == Some(false));
+    assert!(rt; is_committed(&mut tables, Write::DropStates { object: object() }));
+    assert!(rt; state_count(&mut tables) == Some(0));
     Ok(())
 }
 
 #[test]
 fn foreign_rows_are_refused(rt: HostRuntime) -> Result<(), Fail> {
-    let mut conn = Connection::open_in_memory(rt.alloc())?;
-    assert!(rt; is_filled(rt.alloc(), &mut conn));
-    assert!(rt; is_spoilt(&mut conn));
-    assert!(rt; has_invocation(rt.alloc(), &mut conn).is_none());
+    let mut tables = opened(rt.alloc()).ok_or("a store")?;
+    assert!(rt; is_filled(&mut tables));
+    let mut tables = spoilt(tables).ok_or("a store")?;
+    assert!(rt; has_invocation(&mut tables).is_none());
     Ok(())
 }
