@@ -1,11 +1,10 @@
 //! What a closed invocation answers.
 
-ghost use Rattle.std.specs.Prelude.{◌≡◌, ◌<◌, ◌^◌, false, length, List, IfOk, IfSome};
+ghost use Rattle.std.specs.Prelude.{◌≡◌, ◌<◌, ◌^◌, length, List, IfOk, IfSome};
 ghost use Rattle.sqlite.specs.Held.{state};
-ghost use Rattle.sqlite.specs.State.{HasCleanDisk, Survives};
+ghost use Rattle.sqlite.specs.State.{HasCleanDisk};
 ghost use Rattle.journal_model.specs.Event.{Event};
-ghost use Rattle.sql_tables.specs.Asking.{IsKept};
-ghost use Rattle.store_rows.specs.Steps.{IsStore};
+ghost use Rattle.store_rows.specs.Looks.{Looks};
 ghost use Rattle.new_invocations.specs.Rows.{IsStoreOf};
 ghost use Rattle.invocation_reads.specs.Answered.{Answers, IsShortPayload, Reads, answer_by, failure_by, output_by, output_in};
 
@@ -16,10 +15,10 @@ use new_invocations::known_row;
 use protocol_records::{Failure, OutputCommandMessage};
 use protocol_wire::{DecodeError, decode};
 use sequence::Sequence;
-use sqlite::{Alter, Connection};
+use sqlite::Alter;
 use std::alloc::{AllocError, Global};
 use store_refusals::Refusal;
-use store_rows::{Closing, LastError, Progress};
+use store_rows::{Closing, LastError, Progress, StoreTables};
 
 /// What an output puts out.
 fn value_of(alloc: Global, payload: &[u8]) -> Result<NonEmptyValue, Refusal>
@@ -94,20 +93,14 @@ fn answer_of(alloc: Global, progress: &Progress) -> Result<Option<NonEmptyValue>
 /// What a closed invocation answers: what its last output puts out, or the failure that closed it. Nothing where it is open, and
 /// where it ended with no output. The code of a failure has sixteen bits then.
 pub fn answer<S: Alter>(
-    alloc: Global,
-    conn: &mut Connection<S>,
+    tables: &mut StoreTables<S>,
     id: &ByteStr,
 ) -> Result<Option<NonEmptyValue>, Refusal>
-    requires store { IsStore (state S.Store conn.old) }
-    requires idle { (state S.Store conn.old).in_transaction ≡ false }
-    ensures told { HasCleanDisk (state S.Store conn.new) → (events : List Event) → IsStoreOf events (state S.Store conn.old) → Answers events id.now result }
-    ensures kept { IsKept (state S.Store conn.old) (state S.Store conn.new) }
-    ensures store { IsStore (state S.Store conn.new) }
-    ensures idle { (state S.Store conn.new).in_transaction ≡ false }
-    ensures crash { Survives (state S.Store conn.old) (state S.Store conn.new) (λ _. ⊥) }
+    ensures told { HasCleanDisk (state S.Store tables.new) → (events : List Event) → IsStoreOf events (state S.Store tables.old) → Answers events id.now result }
+    ensures looks { Looks S.Store tables.old tables.new }
 {
-    let row = known_row(alloc, conn, id)?;
-    let answer = answer_of(alloc, &row.progress);
+    let row = known_row(tables, id)?;
+    let answer = answer_of(tables.alloc(), &row.progress);
     drop(row);
     answer
 }

@@ -1,21 +1,20 @@
 //! The journal of an invocation, by its requests and by its arrivals.
 
-ghost use Rattle.std.specs.Prelude.{◌≡◌, false, List, filter, map, IfOk};
+ghost use Rattle.std.specs.Prelude.{◌≡◌, List, filter, map, IfOk};
 ghost use Rattle.sqlite.specs.Held.{state};
-ghost use Rattle.sqlite.specs.State.{HasCleanDisk, Survives};
+ghost use Rattle.sqlite.specs.State.{HasCleanDisk};
 ghost use Rattle.journal_model.specs.Event.{Event};
 ghost use Rattle.journal_model.specs.Journal.{entries_of, recorded_arrivals, recorded_requests};
-ghost use Rattle.sql_tables.specs.Asking.{IsKept};
-ghost use Rattle.store_rows.specs.Steps.{IsStore};
+ghost use Rattle.store_rows.specs.Looks.{Looks};
 ghost use Rattle.store_model.specs.Kept.{journal_rows};
 ghost use Rattle.new_invocations.specs.Rows.{Decides, IsStoreOf, known_tests};
 ghost use Rattle.invocation_reads.specs.Told.{arrival_told, frame_told, is_arrival, is_request, is_row_of_arrival, is_row_of_request, request_told};
 
 use bytes::{ByteStr, Bytes};
-use sqlite::{Alter, Connection};
+use sqlite::Alter;
 use std::alloc::{AllocError, Global};
 use store_refusals::Refusal;
-use store_rows::{EntryRow, journal};
+use store_rows::{EntryRow, StoreTables, journal};
 
 // The number of the type of an input, below those of requests; and the first one that is a notification's.
 const INPUT_KIND: u32 = 0x0400;
@@ -76,20 +75,11 @@ fn arrivals_among(alloc: Global, rows: &[EntryRow]) -> Result<Vec<RecordedFrame>
 }
 
 /// The rows of a journal, the input's first. An invocation that was begun has that one at least.
-fn rows_of<S: Alter>(
-    alloc: Global,
-    conn: &mut Connection<S>,
-    id: &ByteStr,
-) -> Result<Vec<EntryRow>, Refusal>
-    requires store { IsStore (state S.Store conn.old) }
-    requires idle { (state S.Store conn.old).in_transaction ≡ false }
-    ensures told { HasCleanDisk (state S.Store conn.new) → (events : List Event) → IsStoreOf events (state S.Store conn.old) → Decides (known_tests events id.now) (λ rows. rows.items ≡ journal_rows events id.now) result }
-    ensures kept { IsKept (state S.Store conn.old) (state S.Store conn.new) }
-    ensures store { IsStore (state S.Store conn.new) }
-    ensures idle { (state S.Store conn.new).in_transaction ≡ false }
-    ensures crash { Survives (state S.Store conn.old) (state S.Store conn.new) (λ _. ⊥) }
+fn rows_of<S: Alter>(tables: &mut StoreTables<S>, id: &ByteStr) -> Result<Vec<EntryRow>, Refusal>
+    ensures told { HasCleanDisk (state S.Store tables.new) → (events : List Event) → IsStoreOf events (state S.Store tables.old) → Decides (known_tests events id.now) (λ rows. rows.items ≡ journal_rows events id.now) result }
+    ensures looks { Looks S.Store tables.old tables.new }
 {
-    let rows = journal(alloc, conn, id)?;
+    let rows = journal(tables, id)?;
     if rows.as_slice().is_empty() {
         drop(rows);
         return Err(Refusal::UnknownInvocation);
@@ -99,20 +89,14 @@ fn rows_of<S: Alter>(
 
 /// The recorded requests, by place.
 pub fn requests<S: Alter>(
-    alloc: Global,
-    conn: &mut Connection<S>,
+    tables: &mut StoreTables<S>,
     id: &ByteStr,
 ) -> Result<Vec<RecordedFrame>, Refusal>
-    requires store { IsStore (state S.Store conn.old) }
-    requires idle { (state S.Store conn.old).in_transaction ≡ false }
-    ensures told { HasCleanDisk (state S.Store conn.new) → (events : List Event) → IsStoreOf events (state S.Store conn.old) → Decides (known_tests events id.now) (λ frames. frames.items ≡ map request_told (recorded_requests events id.now)) result }
-    ensures kept { IsKept (state S.Store conn.old) (state S.Store conn.new) }
-    ensures store { IsStore (state S.Store conn.new) }
-    ensures idle { (state S.Store conn.new).in_transaction ≡ false }
-    ensures crash { Survives (state S.Store conn.old) (state S.Store conn.new) (λ _. ⊥) }
+    ensures told { HasCleanDisk (state S.Store tables.new) → (events : List Event) → IsStoreOf events (state S.Store tables.old) → Decides (known_tests events id.now) (λ frames. frames.items ≡ map request_told (recorded_requests events id.now)) result }
+    ensures looks { Looks S.Store tables.old tables.new }
 {
-    let rows = rows_of(alloc, conn, id)?;
-    let among = requests_among(alloc, rows.as_slice());
+    let rows = rows_of(tables, id)?;
+    let among = requests_among(tables.alloc(), rows.as_slice());
     drop(rows);
     let frames = among?;
     Ok(frames)
@@ -120,20 +104,14 @@ pub fn requests<S: Alter>(
 
 /// The recorded arrivals, by place, each as a frame of the type by which its request is completed.
 pub fn arrivals<S: Alter>(
-    alloc: Global,
-    conn: &mut Connection<S>,
+    tables: &mut StoreTables<S>,
     id: &ByteStr,
 ) -> Result<Vec<RecordedFrame>, Refusal>
-    requires store { IsStore (state S.Store conn.old) }
-    requires idle { (state S.Store conn.old).in_transaction ≡ false }
-    ensures told { HasCleanDisk (state S.Store conn.new) → (events : List Event) → IsStoreOf events (state S.Store conn.old) → Decides (known_tests events id.now) (λ frames. frames.items ≡ map (arrival_told (entries_of events id.now)) (recorded_arrivals events id.now)) result }
-    ensures kept { IsKept (state S.Store conn.old) (state S.Store conn.new) }
-    ensures store { IsStore (state S.Store conn.new) }
-    ensures idle { (state S.Store conn.new).in_transaction ≡ false }
-    ensures crash { Survives (state S.Store conn.old) (state S.Store conn.new) (λ _. ⊥) }
+    ensures told { HasCleanDisk (state S.Store tables.new) → (events : List Event) → IsStoreOf events (state S.Store tables.old) → Decides (known_tests events id.now) (λ frames. frames.items ≡ map (arrival_told (entries_of events id.now)) (recorded_arrivals events id.now)) result }
+    ensures looks { Looks S.Store tables.old tables.new }
 {
-    let rows = rows_of(alloc, conn, id)?;
-    let among = arrivals_among(alloc, rows.as_slice());
+    let rows = rows_of(tables, id)?;
+    let among = arrivals_among(tables.alloc(), rows.as_slice());
     drop(rows);
     let frames = among?;
     Ok(frames)

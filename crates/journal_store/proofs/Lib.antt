@@ -6,3 +6,4 @@ pub mod Taking
 pub mod Accepting
 pub mod Waiting
 pub mod Opening
+pub mod Lasting

@@ -63,3 +63,7 @@ pub record KeepsAll (events : List Event) (trees : Trees) : Type 0 where
 -- event is accepted, and the tables keep it too.
 abbrev pub Commits : Event → State → Trees → Type 0
 Commits event database trees = (events : List Event) → IsStoreOf events database → (causes_of events event ≡ []) × KeepsAll (event ∷ events) trees
+
+-- whatever a crash leaves from now on, the tables keep these events
+abbrev pub Outlasts : List Event → State → Type 0
+Outlasts events database = (trees : Trees) → database.may_leave trees → KeepsAll events trees

@@ -1,16 +1,17 @@
 // Events that are recorded: each is made ready, and then written in one transaction.
-ghost use Rattle.std.specs.Prelude.{◌≡◌, Some, [], ◌+◌, ◌<◌, ◌^◌, false, length, List, IfErr, IfOk, IsTrue, OnErr, OnOk};
+ghost use Rattle.std.specs.Prelude.{◌≡◌, ◌∷◌, Some, [], ◌+◌, ◌<◌, ◌^◌, false, length, List, IfErr, IfOk, IsTrue, OnErr, OnOk};
 ghost use Rattle.sqlite.specs.Held.{state};
 ghost use Rattle.sqlite.specs.State.{HasCleanDisk, Survives};
 ghost use Rattle.journal_model.specs.Event.{Event};
 ghost use Rattle.journal_model.specs.Journal.{entries_of};
 ghost use Rattle.sql_tables.specs.Asking.{IsKept};
+ghost use Rattle.store_rows.specs.Looks.{Lasts};
 ghost use Rattle.store_rows.specs.Records.{applied_all};
-ghost use Rattle.store_rows.specs.Steps.{IsStore, Lands, Turns};
+ghost use Rattle.store_rows.specs.Steps.{Lands, Turns};
 ghost use Rattle.store_refusals.specs.Refused.{is_circumstance};
 ghost use Rattle.live_attempts.specs.Attempts.{ByInvocation, Changes, IsNow, after_put};
 ghost use Rattle.journal_store.specs.Attempts.{IsBegunAttempt, IsToldAs, TakesIn, fresh};
-ghost use Rattle.journal_store.specs.Stands.{AreAsBefore, Commits, Does, KeepsOutputs, Stands, WaitsAfter};
+ghost use Rattle.journal_store.specs.Stands.{AreAsBefore, Commits, Does, KeepsOutputs, Outlasts, Stands, WaitsAfter};
 
 use crate::begun::BegunAttempt;
 use begun_attempts::{AttemptFrames, JournalFrames, PreparedAttempt, prepare_begin};
@@ -19,28 +20,25 @@ use journal_model::{NewInvocation, NotificationResult};
 use live_attempts::{AttemptInput, AttemptOutput, LiveAttempt, LiveAttempts};
 use new_arrivals::{PreparedArrival, prepare_result};
 use new_invocations::prepare_invoke;
-use sqlite::{Alter, Connection};
+use sqlite::Alter;
 use std::alloc::{AllocError, Global};
 use store_refusals::Refusal;
-use store_rows::{Write, commit_all};
+use store_rows::{StoreTables, Write, commit_all};
 
 /// Records a new invocation.
 pub(crate) fn record_new<S: Alter>(
-    alloc: Global,
-    conn: &mut Connection<S>,
+    tables: &mut StoreTables<S>,
     new: NewInvocation,
 ) -> Result<(), Refusal>
-    requires store { IsStore (state S.Store conn.old) }
-    requires idle { (state S.Store conn.old).in_transaction ≡ false }
-    ensures does { HasCleanDisk (state S.Store conn.new) → (events : List Event) (attempts : ByInvocation) → Stands events (state S.Store conn.old) attempts → Does events (Event.Invoke new) (λ _. Unit {0}) result (state S.Store conn.new) attempts }
-    ensures store { IsStore (state S.Store conn.new) }
-    ensures idle { (state S.Store conn.new).in_transaction ≡ false }
-    ensures crash { Survives (state S.Store conn.old) (state S.Store conn.new) (Commits (Event.Invoke new) (state S.Store conn.old)) }
+    ensures does { HasCleanDisk (state S.Store tables.new) → (events : List Event) (attempts : ByInvocation) → Stands events (state S.Store tables.old) attempts → Does events (Event.Invoke new) (λ _. Unit {0}) result (state S.Store tables.new) attempts }
+    ensures settled { HasCleanDisk (state S.Store tables.new) → (events : List Event) (attempts : ByInvocation) → Stands events (state S.Store tables.old) attempts → OnOk result (Outlasts (Event.Invoke new ∷ events) (state S.Store tables.new)) }
+    ensures kept { OnErr result (IsKept (state S.Store tables.old) (state S.Store tables.new)) }
+    ensures crash { Survives (state S.Store tables.old) (state S.Store tables.new) (Commits (Event.Invoke new) (state S.Store tables.old)) }
 {
-    let prepared = prepare_invoke(alloc, conn, &new);
+    let prepared = prepare_invoke(tables, &new);
     drop(new);
     let writes = prepared?;
-    let done = commit_all(conn, writes.as_slice());
+    let done = commit_all(tables, writes.as_slice());
     drop(writes);
     done?;
     Ok(())
@@ -49,29 +47,26 @@ pub(crate) fn record_new<S: Alter>(
 /// Writes an arrival that was made ready, and puts its frame behind the input of the live attempt, if one is live: it is recorded
 /// before a byte of it is handed out.
 fn record_arrival<S: Alter>(
-    conn: &mut Connection<S>,
+    tables: &mut StoreTables<S>,
     live: &mut LiveAttempts,
     id: &ByteStr,
     made: PreparedArrival,
 ) -> Result<u32, Refusal>
-    requires store { IsStore (state S.Store conn.old) }
-    requires idle { (state S.Store conn.old).in_transaction ≡ false }
     requires place { made.place + 1 < 2 ^ 32 }
     ensures place { IfOk result (λ place. place ≡ made.place) }
-    ensures written { HasCleanDisk (state S.Store conn.new) → OnOk result (IsTrue (state S.Store conn.old).is_open × Turns (applied_all made.writes.items) (state S.Store conn.old).now.trees (state S.Store conn.new).now.trees) }
+    ensures written { HasCleanDisk (state S.Store tables.new) → OnOk result (IsTrue (state S.Store tables.old).is_open × Turns (applied_all made.writes.items) (state S.Store tables.old).now.trees (state S.Store tables.new).now.trees) }
     ensures put { OnOk result (Changes id.now (after_put made.place made.frame) live.old.attempts live.new.attempts) }
     ensures why { IfErr result (λ why. IsTrue (is_circumstance why)) }
-    ensures undone { OnErr result (IsKept (state S.Store conn.old) (state S.Store conn.new) × AreAsBefore live.old.attempts live.new.attempts) }
-    ensures store { IsStore (state S.Store conn.new) }
-    ensures idle { (state S.Store conn.new).in_transaction ≡ false }
-    ensures crash { Survives (state S.Store conn.old) (state S.Store conn.new) (Lands made.writes.items (state S.Store conn.old)) }
+    ensures undone { OnErr result (IsKept (state S.Store tables.old) (state S.Store tables.new) × AreAsBefore live.old.attempts live.new.attempts) }
+    ensures settled { HasCleanDisk (state S.Store tables.new) → OnOk result (Lasts (state S.Store tables.new)) }
+    ensures crash { Survives (state S.Store tables.old) (state S.Store tables.new) (Lands made.writes.items (state S.Store tables.old)) }
 {
     let room = live.reserve(id, made.frame.len());
     if room.is_err() {
         drop(made);
         return Err(Refusal::OutOfMemory);
     }
-    match commit_all(conn, made.writes.as_slice()) {
+    match commit_all(tables, made.writes.as_slice()) {
         Ok(()) => {
             let place = made.place;
             live.put(id, place, made.frame.as_slice(), &[]);
@@ -87,23 +82,20 @@ fn record_arrival<S: Alter>(
 
 /// Records the result of a request, as an arrival.
 pub(crate) fn record_result<S: Alter>(
-    alloc: Global,
-    conn: &mut Connection<S>,
+    tables: &mut StoreTables<S>,
     live: &mut LiveAttempts,
     id: &ByteStr,
     completion: u32,
     brought: NotificationResult,
 ) -> Result<u32, Refusal>
-    requires store { IsStore (state S.Store conn.old) }
-    requires idle { (state S.Store conn.old).in_transaction ≡ false }
-    ensures does { HasCleanDisk (state S.Store conn.new) → (events : List Event) → Stands events (state S.Store conn.old) live.old.attempts → Does events (Event.Complete id.now completion brought) (λ place. place ≡ 1 + length (entries_of events id.now)) result (state S.Store conn.new) live.new.attempts }
+    ensures does { HasCleanDisk (state S.Store tables.new) → (events : List Event) → Stands events (state S.Store tables.old) live.old.attempts → Does events (Event.Complete id.now completion brought) (λ place. place ≡ 1 + length (entries_of events id.now)) result (state S.Store tables.new) live.new.attempts }
     ensures waits { KeepsOutputs live.old.attempts live.new.attempts }
-    ensures store { IsStore (state S.Store conn.new) }
-    ensures idle { (state S.Store conn.new).in_transaction ≡ false }
-    ensures crash { Survives (state S.Store conn.old) (state S.Store conn.new) (Commits (Event.Complete id.now completion brought) (state S.Store conn.old)) }
+    ensures settled { HasCleanDisk (state S.Store tables.new) → (events : List Event) → Stands events (state S.Store tables.old) live.old.attempts → OnOk result (Outlasts (Event.Complete id.now completion brought ∷ events) (state S.Store tables.new)) }
+    ensures kept { OnErr result (IsKept (state S.Store tables.old) (state S.Store tables.new)) }
+    ensures crash { Survives (state S.Store tables.old) (state S.Store tables.new) (Commits (Event.Complete id.now completion brought) (state S.Store tables.old)) }
 {
-    match prepare_result(alloc, conn, id, completion, brought) {
-        Ok(made) => record_arrival(conn, live, id, made),
+    match prepare_result(tables, id, completion, brought) {
+        Ok(made) => record_arrival(tables, live, id, made),
         Err(why) => Err(why),
     }
 }
@@ -142,27 +134,24 @@ fn room_for(live: &mut LiveAttempts, id: &ByteStr) -> Result<ByteStr, AllocError
 
 /// Writes what was made ready of a begin, and takes the attempt in, for which room is made before.
 fn begin_fresh<S: Alter>(
-    conn: &mut Connection<S>,
+    tables: &mut StoreTables<S>,
     live: &mut LiveAttempts,
     id: &ByteStr,
     writes: &[Write],
     attempt: LiveAttempt,
 ) -> Result<(), Refusal>
-    requires store { IsStore (state S.Store conn.old) }
-    requires idle { (state S.Store conn.old).in_transaction ≡ false }
-    ensures written { HasCleanDisk (state S.Store conn.new) → OnOk result (IsTrue (state S.Store conn.old).is_open × Turns (applied_all writes.now) (state S.Store conn.old).now.trees (state S.Store conn.new).now.trees) }
+    ensures written { HasCleanDisk (state S.Store tables.new) → OnOk result (IsTrue (state S.Store tables.old).is_open × Turns (applied_all writes.now) (state S.Store tables.old).now.trees (state S.Store tables.new).now.trees) }
     ensures put { OnOk result (IsNow id.now (Some attempt) live.old.attempts live.new.attempts) }
     ensures why { IfErr result (λ why. IsTrue (is_circumstance why)) }
-    ensures undone { OnErr result (IsKept (state S.Store conn.old) (state S.Store conn.new) × (live.new.attempts ≡ live.old.attempts)) }
-    ensures store { IsStore (state S.Store conn.new) }
-    ensures idle { (state S.Store conn.new).in_transaction ≡ false }
-    ensures crash { Survives (state S.Store conn.old) (state S.Store conn.new) (Lands writes.now (state S.Store conn.old)) }
+    ensures undone { OnErr result (IsKept (state S.Store tables.old) (state S.Store tables.new) × (live.new.attempts ≡ live.old.attempts)) }
+    ensures settled { HasCleanDisk (state S.Store tables.new) → OnOk result (Lasts (state S.Store tables.new)) }
+    ensures crash { Survives (state S.Store tables.old) (state S.Store tables.new) (Lands writes.now (state S.Store tables.old)) }
 {
     let Ok(own) = room_for(live, id) else {
         drop(attempt);
         return Err(Refusal::OutOfMemory);
     };
-    match commit_all(conn, writes) {
+    match commit_all(tables, writes) {
         Ok(()) => {
             live.put_begun(own, attempt);
             Ok(())
@@ -177,8 +166,7 @@ fn begin_fresh<S: Alter>(
 
 /// Makes the attempt that is begun, and begins it.
 fn begin_made<S: Alter>(
-    alloc: Global,
-    conn: &mut Connection<S>,
+    tables: &mut StoreTables<S>,
     live: &mut LiveAttempts,
     id: &ByteStr,
     writes: &[Write],
@@ -186,42 +174,35 @@ fn begin_made<S: Alter>(
     version: u32,
     journal: JournalFrames,
 ) -> Result<(), Refusal>
-    requires store { IsStore (state S.Store conn.old) }
-    requires idle { (state S.Store conn.old).in_transaction ≡ false }
-    ensures written { HasCleanDisk (state S.Store conn.new) → OnOk result (IsTrue (state S.Store conn.old).is_open × Turns (applied_all writes.now) (state S.Store conn.old).now.trees (state S.Store conn.new).now.trees) }
+    ensures written { HasCleanDisk (state S.Store tables.new) → OnOk result (IsTrue (state S.Store tables.old).is_open × Turns (applied_all writes.now) (state S.Store tables.old).now.trees (state S.Store tables.new).now.trees) }
     ensures put { OnOk result (TakesIn id.now number version journal live.old.attempts live.new.attempts) }
     ensures waits { WaitsAfter id.now (Some []) result live.old.attempts live.new.attempts }
     ensures why { IfErr result (λ why. IsTrue (is_circumstance why)) }
-    ensures undone { OnErr result (IsKept (state S.Store conn.old) (state S.Store conn.new) × (live.new.attempts ≡ live.old.attempts)) }
-    ensures store { IsStore (state S.Store conn.new) }
-    ensures idle { (state S.Store conn.new).in_transaction ≡ false }
-    ensures crash { Survives (state S.Store conn.old) (state S.Store conn.new) (Lands writes.now (state S.Store conn.old)) }
+    ensures undone { OnErr result (IsKept (state S.Store tables.old) (state S.Store tables.new) × (live.new.attempts ≡ live.old.attempts)) }
+    ensures settled { HasCleanDisk (state S.Store tables.new) → OnOk result (Lasts (state S.Store tables.new)) }
+    ensures crash { Survives (state S.Store tables.old) (state S.Store tables.new) (Lands writes.now (state S.Store tables.old)) }
 {
-    match fresh_attempt(alloc, number, version, journal) {
-        Ok(attempt) => begin_fresh(conn, live, id, writes, attempt),
+    match fresh_attempt(tables.alloc(), number, version, journal) {
+        Ok(attempt) => begin_fresh(tables, live, id, writes, attempt),
         Err(_) => Err(Refusal::OutOfMemory),
     }
 }
 
 /// Begins an attempt that was made ready.
 fn begin_prepared<S: Alter>(
-    alloc: Global,
-    conn: &mut Connection<S>,
+    tables: &mut StoreTables<S>,
     live: &mut LiveAttempts,
     id: &ByteStr,
     made: PreparedAttempt,
 ) -> Result<BegunAttempt, Refusal>
-    requires store { IsStore (state S.Store conn.old) }
-    requires idle { (state S.Store conn.old).in_transaction ≡ false }
     ensures told { IfOk result (IsToldAs made) }
-    ensures written { HasCleanDisk (state S.Store conn.new) → OnOk result (IsTrue (state S.Store conn.old).is_open × Turns (applied_all made.writes.items) (state S.Store conn.old).now.trees (state S.Store conn.new).now.trees) }
+    ensures written { HasCleanDisk (state S.Store tables.new) → OnOk result (IsTrue (state S.Store tables.old).is_open × Turns (applied_all made.writes.items) (state S.Store tables.old).now.trees (state S.Store tables.new).now.trees) }
     ensures put { OnOk result (TakesIn id.now made.number made.version made.frames.journal live.old.attempts live.new.attempts) }
     ensures waits { WaitsAfter id.now (Some []) result live.old.attempts live.new.attempts }
     ensures why { IfErr result (λ why. IsTrue (is_circumstance why)) }
-    ensures undone { OnErr result (IsKept (state S.Store conn.old) (state S.Store conn.new) × (live.new.attempts ≡ live.old.attempts)) }
-    ensures store { IsStore (state S.Store conn.new) }
-    ensures idle { (state S.Store conn.new).in_transaction ≡ false }
-    ensures crash { Survives (state S.Store conn.old) (state S.Store conn.new) (Lands made.writes.items (state S.Store conn.old)) }
+    ensures undone { OnErr result (IsKept (state S.Store tables.old) (state S.Store tables.new) × (live.new.attempts ≡ live.old.attempts)) }
+    ensures settled { HasCleanDisk (state S.Store tables.new) → OnOk result (Lasts (state S.Store tables.new)) }
+    ensures crash { Survives (state S.Store tables.old) (state S.Store tables.new) (Lands made.writes.items (state S.Store tables.old)) }
 {
     let PreparedAttempt {
         writes,
@@ -231,8 +212,7 @@ fn begin_prepared<S: Alter>(
     } = made;
     let AttemptFrames { start, journal } = frames;
     let done = begin_made(
-        alloc,
-        conn,
+        tables,
         live,
         id,
         writes.as_slice(),
@@ -256,22 +236,19 @@ fn begin_prepared<S: Alter>(
 
 /// Records the begin of an attempt.
 pub(crate) fn record_begin<S: Alter>(
-    alloc: Global,
-    conn: &mut Connection<S>,
+    tables: &mut StoreTables<S>,
     live: &mut LiveAttempts,
     id: &ByteStr,
     now: u64,
 ) -> Result<BegunAttempt, Refusal>
-    requires store { IsStore (state S.Store conn.old) }
-    requires idle { (state S.Store conn.old).in_transaction ≡ false }
-    ensures does { HasCleanDisk (state S.Store conn.new) → (events : List Event) → Stands events (state S.Store conn.old) live.old.attempts → Does events (Event.Begin id.now now) (IsBegunAttempt events id.now now) result (state S.Store conn.new) live.new.attempts }
+    ensures does { HasCleanDisk (state S.Store tables.new) → (events : List Event) → Stands events (state S.Store tables.old) live.old.attempts → Does events (Event.Begin id.now now) (IsBegunAttempt events id.now now) result (state S.Store tables.new) live.new.attempts }
     ensures waits { WaitsAfter id.now (Some []) result live.old.attempts live.new.attempts }
-    ensures store { IsStore (state S.Store conn.new) }
-    ensures idle { (state S.Store conn.new).in_transaction ≡ false }
-    ensures crash { Survives (state S.Store conn.old) (state S.Store conn.new) (Commits (Event.Begin id.now now) (state S.Store conn.old)) }
+    ensures settled { HasCleanDisk (state S.Store tables.new) → (events : List Event) → Stands events (state S.Store tables.old) live.old.attempts → OnOk result (Outlasts (Event.Begin id.now now ∷ events) (state S.Store tables.new)) }
+    ensures kept { OnErr result (IsKept (state S.Store tables.old) (state S.Store tables.new)) }
+    ensures crash { Survives (state S.Store tables.old) (state S.Store tables.new) (Commits (Event.Begin id.now now) (state S.Store tables.old)) }
 {
-    match prepare_begin(alloc, conn, id, now) {
-        Ok(made) => begin_prepared(alloc, conn, live, id, made),
+    match prepare_begin(tables, id, now) {
+        Ok(made) => begin_prepared(tables, live, id, made),
         Err(why) => Err(why),
     }
 }

@@ -18,7 +18,7 @@ use live_attempts::LiveAttempts;
 use sqlite::{Alter, Connection};
 use std::alloc::Global;
 use store_refusals::Refusal;
-use store_rows::open;
+use store_rows::{StoreTables, open};
 
 /// A database that was not taken.
 #[derive(Drop)]
@@ -63,8 +63,7 @@ impl<S: Alter + Drop> Store<S> {
         let mut taken = connection;
         match take_tables(alloc, &mut taken) {
             Ok(()) => Ok(Store {
-                alloc,
-                connection: taken,
+                tables: StoreTables::of(alloc, taken),
                 live: LiveAttempts::new(alloc),
             }),
             Err(refusal) => Err(NotOpened {

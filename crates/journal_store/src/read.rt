@@ -25,7 +25,7 @@ impl<S: Alter + Drop> Store<S> {
         ensures live { self.new.live ≡ self.old.live }
         ensures crash { Survives (state S.Store self.old.connection) (state S.Store self.new.connection) (λ _. ⊥) }
     {
-        requests(self.alloc, &mut self.connection, id)
+        requests(&mut self.tables, id)
     }
 
     /// The recorded arrivals, by place, each as a frame of the type by which its request is completed.
@@ -34,7 +34,7 @@ impl<S: Alter + Drop> Store<S> {
         ensures live { self.new.live ≡ self.old.live }
         ensures crash { Survives (state S.Store self.old.connection) (state S.Store self.new.connection) (λ _. ⊥) }
     {
-        arrivals(self.alloc, &mut self.connection, id)
+        arrivals(&mut self.tables, id)
     }
 
     /// What a closed invocation answers: what its last output put out, or the failure that closed it. Nothing where it is open, and
@@ -44,7 +44,7 @@ impl<S: Alter + Drop> Store<S> {
         ensures live { self.new.live ≡ self.old.live }
         ensures crash { Survives (state S.Store self.old.connection) (state S.Store self.new.connection) (λ _. ⊥) }
     {
-        answer(self.alloc, &mut self.connection, id)
+        answer(&mut self.tables, id)
     }
 
     /// The last error that an attempt told: its code, what was to be done, its delay and its message.
@@ -53,7 +53,7 @@ impl<S: Alter + Drop> Store<S> {
         ensures live { self.new.live ≡ self.old.live }
         ensures crash { Survives (state S.Store self.old.connection) (state S.Store self.new.connection) (λ _. ⊥) }
     {
-        failure(self.alloc, &mut self.connection, id)
+        failure(&mut self.tables, id)
     }
 
     /// Whether an invocation is open.
@@ -62,6 +62,6 @@ impl<S: Alter + Drop> Store<S> {
         ensures live { self.new.live ≡ self.old.live }
         ensures crash { Survives (state S.Store self.old.connection) (state S.Store self.new.connection) (λ _. ⊥) }
     {
-        is_open(self.alloc, &mut self.connection, id)
+        is_open(&mut self.tables, id)
     }
 }

@@ -1,11 +1,10 @@
 // Frames of an attempt are taken one by one: what a frame asks for is recorded, and then it is passed.
-ghost use Rattle.std.specs.Prelude.{◌≡◌, ◌≤◌, false, true, length, List, ℕ, IfErr, IfOk, IsTrue, OnErr, OnOk};
+ghost use Rattle.std.specs.Prelude.{◌≡◌, ◌≤◌, true, length, List, ℕ, IfErr, IfOk, IsTrue, OnErr, OnOk};
 ghost use Rattle.std.specs.Option.{ForSome};
 ghost use Rattle.sqlite.specs.Held.{state};
 ghost use Rattle.sqlite.specs.State.{HasCleanDisk, Survives};
 ghost use Rattle.journal_model.specs.Event.{Event};
 ghost use Rattle.sql_tables.specs.Asking.{IsKept};
-ghost use Rattle.store_rows.specs.Steps.{IsStore};
 ghost use Rattle.store_refusals.specs.Refused.{is_circumstance};
 ghost use Rattle.taken_frames.specs.Taken.{does_end, lies_in_frame};
 ghost use Rattle.live_attempts.specs.Attempts.{IsNow, attempt_of};
@@ -21,7 +20,7 @@ use live_attempts::{FirstItem, HEADER_LEN, LiveAttempt, LiveAttempts};
 use sqlite::{Alter, Connection, Error};
 use std::alloc::{AllocError, Global};
 use store_refusals::Refusal;
-use store_rows::{Write, commit_all};
+use store_rows::{StoreTables, Write, commit_all};
 use taken_frames::{FrameReply, LiveFacts, PreparedFrame, prepare_frame, refusal_ends_attempt};
 
 /// A whole frame that stands first.
@@ -78,19 +77,15 @@ fn first_of(alloc: Global, live: &LiveAttempts, id: &ByteStr) -> Result<FirstSee
 }
 
 /// Writes in one transaction what is to be written, if there is anything.
-fn commit_some<S: Alter>(conn: &mut Connection<S>, writes: &[Write]) -> Result<(), Error>
-    requires store { IsStore (state S.Store conn.old) }
-    requires idle { (state S.Store conn.old).in_transaction ≡ false }
-    ensures written { HasCleanDisk (state S.Store conn.new) → OnOk result (HasWritten writes.now (state S.Store conn.old) (state S.Store conn.new)) }
-    ensures undone { OnErr result (IsKept (state S.Store conn.old) (state S.Store conn.new)) }
-    ensures store { IsStore (state S.Store conn.new) }
-    ensures idle { (state S.Store conn.new).in_transaction ≡ false }
-    ensures crash { Survives (state S.Store conn.old) (state S.Store conn.new) (LandsSome writes.now (state S.Store conn.old)) }
+fn commit_some<S: Alter>(tables: &mut StoreTables<S>, writes: &[Write]) -> Result<(), Error>
+    ensures written { HasCleanDisk (state S.Store tables.new) → OnOk result (HasWritten writes.now (state S.Store tables.old) (state S.Store tables.new)) }
+    ensures undone { OnErr result (IsKept (state S.Store tables.old) (state S.Store tables.new)) }
+    ensures crash { Survives (state S.Store tables.old) (state S.Store tables.new) (LandsSome writes.now (state S.Store tables.old)) }
 {
     if writes.is_empty() {
         return Ok(());
     }
-    commit_all(conn, writes)
+    commit_all(tables, writes)
 }
 
 /// Passes a frame of so many bytes that was taken and answered so: its attempt goes on behind it, or is over.
@@ -107,26 +102,22 @@ fn pass_frame(live: &mut LiveAttempts, id: &ByteStr, len: usize, reply: FrameRep
 
 /// Writes what was made ready of a frame of so many bytes, and passes the frame.
 fn take_prepared<S: Alter>(
-    conn: &mut Connection<S>,
+    tables: &mut StoreTables<S>,
     live: &mut LiveAttempts,
     id: &ByteStr,
     len: usize,
     made: PreparedFrame,
 ) -> Result<FrameReply, Refusal>
-    requires store { IsStore (state S.Store conn.old) }
-    requires idle { (state S.Store conn.old).in_transaction ≡ false }
     requires len { ForSome (attempt_of live.old.attempts id.now) (λ attempt. len ≤ length attempt.output) }
     ensures reply { IfOk result (λ reply. reply ≡ made.reply) }
-    ensures written { HasCleanDisk (state S.Store conn.new) → OnOk result (HasWritten made.writes.items (state S.Store conn.old) (state S.Store conn.new)) }
+    ensures written { HasCleanDisk (state S.Store tables.new) → OnOk result (HasWritten made.writes.items (state S.Store tables.old) (state S.Store tables.new)) }
     ensures left { OnOk result (IsNow id.now (passed (does_end made.reply) len (attempt_of live.old.attempts id.now)) live.old.attempts live.new.attempts) }
     ensures why { IfErr result (λ why. IsTrue (is_circumstance why)) }
-    ensures undone { OnErr result (IsKept (state S.Store conn.old) (state S.Store conn.new) × (live.new.attempts ≡ live.old.attempts)) }
-    ensures store { IsStore (state S.Store conn.new) }
-    ensures idle { (state S.Store conn.new).in_transaction ≡ false }
-    ensures crash { Survives (state S.Store conn.old) (state S.Store conn.new) (LandsSome made.writes.items (state S.Store conn.old)) }
+    ensures undone { OnErr result (IsKept (state S.Store tables.old) (state S.Store tables.new) × (live.new.attempts ≡ live.old.attempts)) }
+    ensures crash { Survives (state S.Store tables.old) (state S.Store tables.new) (LandsSome made.writes.items (state S.Store tables.old)) }
 {
     let reply = made.reply;
-    let done = commit_some(conn, made.writes.as_slice());
+    let done = commit_some(tables, made.writes.as_slice());
     drop(made);
     match done {
         Ok(()) => {
@@ -148,23 +139,19 @@ fn end_refused(live: &mut LiveAttempts, id: &ByteStr, why: Refusal)
 
 /// Takes the frame that stands first. One that is refused waits, unless the cause lies in it: then its attempt is over.
 fn take_seen<S: Alter>(
-    alloc: Global,
-    conn: &mut Connection<S>,
+    tables: &mut StoreTables<S>,
     live: &mut LiveAttempts,
     id: &ByteStr,
     seen: SeenFrame,
 ) -> Result<FrameReply, Refusal>
-    requires store { IsStore (state S.Store conn.old) }
-    requires idle { (state S.Store conn.old).in_transaction ≡ false }
     requires seen { IsSeenOf (attempt_of live.old.attempts id.now) seen }
-    ensures does { HasCleanDisk (state S.Store conn.new) → (events : List Event) (number : ℕ) → Stands events (state S.Store conn.old) live.old.attempts → has_number number (attempt_of live.old.attempts id.now) ≡ true → TakesSeen events id.now number result (state S.Store conn.new) live.old.attempts live.new.attempts }
-    ensures store { IsStore (state S.Store conn.new) }
-    ensures idle { (state S.Store conn.new).in_transaction ≡ false }
-    ensures crash { (number : ℕ) → has_number number (attempt_of live.old.attempts id.now) ≡ true → Survives (state S.Store conn.old) (state S.Store conn.new) (CommitsItem id.now number live.old.attempts (state S.Store conn.old)) }
+    ensures does { HasCleanDisk (state S.Store tables.new) → (events : List Event) (number : ℕ) → Stands events (state S.Store tables.old) live.old.attempts → has_number number (attempt_of live.old.attempts id.now) ≡ true → TakesSeen events id.now number result (state S.Store tables.new) live.old.attempts live.new.attempts }
+    ensures kept { OnErr result (IsKept (state S.Store tables.old) (state S.Store tables.new)) }
+    ensures crash { (number : ℕ) → has_number number (attempt_of live.old.attempts id.now) ≡ true → Survives (state S.Store tables.old) (state S.Store tables.new) (CommitsItem id.now number live.old.attempts (state S.Store tables.old)) }
 {
     let SeenFrame { frame, len, facts } = seen;
-    match prepare_frame(alloc, conn, id, facts, frame) {
-        Ok(made) => take_prepared(conn, live, id, len, made),
+    match prepare_frame(tables, id, facts, frame) {
+        Ok(made) => take_prepared(tables, live, id, len, made),
         Err(why) => {
             end_refused(live, id, why);
             Err(why)
@@ -174,29 +161,25 @@ fn take_seen<S: Alter>(
 
 /// Takes the next frame of an attempt, if a whole one waits.
 pub(crate) fn step<S: Alter>(
-    alloc: Global,
-    conn: &mut Connection<S>,
+    tables: &mut StoreTables<S>,
     live: &mut LiveAttempts,
     id: &ByteStr,
     attempt: u32,
 ) -> Result<Option<FrameReply>, Refusal>
-    requires store { IsStore (state S.Store conn.old) }
-    requires idle { (state S.Store conn.old).in_transaction ≡ false }
-    ensures does { HasCleanDisk (state S.Store conn.new) → (events : List Event) → Stands events (state S.Store conn.old) live.old.attempts → Steps events id.now attempt result (state S.Store conn.new) live.old.attempts live.new.attempts }
-    ensures store { IsStore (state S.Store conn.new) }
-    ensures idle { (state S.Store conn.new).in_transaction ≡ false }
-    ensures crash { Survives (state S.Store conn.old) (state S.Store conn.new) (CommitsItem id.now attempt live.old.attempts (state S.Store conn.old)) }
+    ensures does { HasCleanDisk (state S.Store tables.new) → (events : List Event) → Stands events (state S.Store tables.old) live.old.attempts → Steps events id.now attempt result (state S.Store tables.new) live.old.attempts live.new.attempts }
+    ensures kept { OnErr result (IsKept (state S.Store tables.old) (state S.Store tables.new)) }
+    ensures crash { Survives (state S.Store tables.old) (state S.Store tables.new) (CommitsItem id.now attempt live.old.attempts (state S.Store tables.old)) }
 {
     if !is_live(live, id, attempt) {
-        return Err(stale_refusal(alloc, conn, id));
+        return Err(stale_refusal(tables, id));
     }
-    match first_of(alloc, live, id) {
+    match first_of(tables.alloc(), live, id) {
         Ok(FirstSeen::Partial) => Ok(None),
         Ok(FirstSeen::Unknown) => {
             live.remove(id);
             Err(Refusal::FrameNotAccepted)
         }
-        Ok(FirstSeen::Frame(seen)) => match take_seen(alloc, conn, live, id, seen) {
+        Ok(FirstSeen::Frame(seen)) => match take_seen(tables, live, id, seen) {
             Ok(reply) => Ok(Some(reply)),
             Err(why) => Err(why),
         },

@@ -2,12 +2,11 @@
 
 ghost use Rattle.std.specs.Prelude.{◌≡◌, false, not, List, option_and_then, option_map};
 ghost use Rattle.sqlite.specs.Held.{state};
-ghost use Rattle.sqlite.specs.State.{HasCleanDisk, Survives};
+ghost use Rattle.sqlite.specs.State.{HasCleanDisk};
 ghost use Rattle.journal_model.specs.Event.{Event};
 ghost use Rattle.journal_model.specs.Journal.{entries_of, is_awaited, open_request, request_asking};
 ghost use Rattle.journal_model.specs.Cause.{is_failure as is_a_failure, is_invocation_id as is_an_id, is_outcome as is_an_outcome, is_void as is_a_void};
-ghost use Rattle.sql_tables.specs.Asking.{IsKept};
-ghost use Rattle.store_rows.specs.Steps.{IsStore};
+ghost use Rattle.store_rows.specs.Looks.{Looks};
 ghost use Rattle.store_refusals.specs.Prepared.{Tells};
 ghost use Rattle.new_invocations.specs.Rows.{IsStoreOf};
 ghost use Rattle.new_arrivals.specs.Asked.{as_second, asked_by, first_kind as the_first_kind, may_complete_kind, second_kind as the_second_kind, type_that_completes};
@@ -15,10 +14,12 @@ ghost use Rattle.new_arrivals.specs.Asked.{as_second, asked_by, first_kind as th
 use bytes::ByteStr;
 use journal_model::NotificationResult;
 use journal_protocol::MessageType;
-use sqlite::{Alter, Connection};
+use sqlite::Alter;
 use std::alloc::Global;
 use store_refusals::Refusal;
-use store_rows::{EntryRow, entry_by_answered, entry_by_completion, entry_by_second_completion};
+use store_rows::{
+    EntryRow, StoreTables, entry_by_answered, entry_by_completion, entry_by_second_completion,
+};
 
 // The numbers of the commands that are completed from outside.
 const GET_PROMISE: u32 = 0x0409;
@@ -67,20 +68,14 @@ fn asked_second(kind: Option<u32>) -> Option<AskedCompletion>
 
 /// Whether a completion has come.
 fn has_come<S: Alter>(
-    alloc: Global,
-    conn: &mut Connection<S>,
+    tables: &mut StoreTables<S>,
     id: &ByteStr,
     completion: u32,
 ) -> Result<bool, Refusal>
-    requires store { IsStore (state S.Store conn.old) }
-    requires idle { (state S.Store conn.old).in_transaction ≡ false }
-    ensures told { HasCleanDisk (state S.Store conn.new) → (events : List Event) → IsStoreOf events (state S.Store conn.old) → Tells (λ come. come ≡ not (is_awaited (entries_of events id.now) completion)) result }
-    ensures kept { IsKept (state S.Store conn.old) (state S.Store conn.new) }
-    ensures store { IsStore (state S.Store conn.new) }
-    ensures idle { (state S.Store conn.new).in_transaction ≡ false }
-    ensures crash { Survives (state S.Store conn.old) (state S.Store conn.new) (λ _. ⊥) }
+    ensures told { HasCleanDisk (state S.Store tables.new) → (events : List Event) → IsStoreOf events (state S.Store tables.old) → Tells (λ come. come ≡ not (is_awaited (entries_of events id.now) completion)) result }
+    ensures looks { Looks S.Store tables.old tables.new }
 {
-    let row = entry_by_answered(alloc, conn, id, completion)?;
+    let row = entry_by_answered(tables, id, completion)?;
     let come = row.is_some();
     drop(row);
     Ok(come)
@@ -88,20 +83,14 @@ fn has_come<S: Alter>(
 
 /// The number of the request's command, where the completion is its first.
 fn first_kind<S: Alter>(
-    alloc: Global,
-    conn: &mut Connection<S>,
+    tables: &mut StoreTables<S>,
     id: &ByteStr,
     completion: u32,
 ) -> Result<Option<u32>, Refusal>
-    requires store { IsStore (state S.Store conn.old) }
-    requires idle { (state S.Store conn.old).in_transaction ≡ false }
-    ensures told { HasCleanDisk (state S.Store conn.new) → (events : List Event) → IsStoreOf events (state S.Store conn.old) → Tells (λ kind. kind ≡ option_and_then (the_first_kind completion) (request_asking (entries_of events id.now) completion)) result }
-    ensures kept { IsKept (state S.Store conn.old) (state S.Store conn.new) }
-    ensures store { IsStore (state S.Store conn.new) }
-    ensures idle { (state S.Store conn.new).in_transaction ≡ false }
-    ensures crash { Survives (state S.Store conn.old) (state S.Store conn.new) (λ _. ⊥) }
+    ensures told { HasCleanDisk (state S.Store tables.new) → (events : List Event) → IsStoreOf events (state S.Store tables.old) → Tells (λ kind. kind ≡ option_and_then (the_first_kind completion) (request_asking (entries_of events id.now) completion)) result }
+    ensures looks { Looks S.Store tables.old tables.new }
 {
-    let row = entry_by_completion(alloc, conn, id, completion)?;
+    let row = entry_by_completion(tables, id, completion)?;
     let kind = kind_of(&row);
     drop(row);
     Ok(kind)
@@ -109,20 +98,14 @@ fn first_kind<S: Alter>(
 
 /// The number of the request's command, where the completion is its second.
 fn second_kind<S: Alter>(
-    alloc: Global,
-    conn: &mut Connection<S>,
+    tables: &mut StoreTables<S>,
     id: &ByteStr,
     completion: u32,
 ) -> Result<Option<u32>, Refusal>
-    requires store { IsStore (state S.Store conn.old) }
-    requires idle { (state S.Store conn.old).in_transaction ≡ false }
-    ensures told { HasCleanDisk (state S.Store conn.new) → (events : List Event) → IsStoreOf events (state S.Store conn.old) → Tells (λ kind. kind ≡ option_and_then (the_second_kind completion) (request_asking (entries_of events id.now) completion)) result }
-    ensures kept { IsKept (state S.Store conn.old) (state S.Store conn.new) }
-    ensures store { IsStore (state S.Store conn.new) }
-    ensures idle { (state S.Store conn.new).in_transaction ≡ false }
-    ensures crash { Survives (state S.Store conn.old) (state S.Store conn.new) (λ _. ⊥) }
+    ensures told { HasCleanDisk (state S.Store tables.new) → (events : List Event) → IsStoreOf events (state S.Store tables.old) → Tells (λ kind. kind ≡ option_and_then (the_second_kind completion) (request_asking (entries_of events id.now) completion)) result }
+    ensures looks { Looks S.Store tables.old tables.new }
 {
-    let row = entry_by_second_completion(alloc, conn, id, completion)?;
+    let row = entry_by_second_completion(tables, id, completion)?;
     let kind = kind_of(&row);
     drop(row);
     Ok(kind)
@@ -130,27 +113,21 @@ fn second_kind<S: Alter>(
 
 /// The request that asks for a completion.
 fn request_of<S: Alter>(
-    alloc: Global,
-    conn: &mut Connection<S>,
+    tables: &mut StoreTables<S>,
     id: &ByteStr,
     completion: u32,
 ) -> Result<Option<AskedCompletion>, Refusal>
-    requires store { IsStore (state S.Store conn.old) }
-    requires idle { (state S.Store conn.old).in_transaction ≡ false }
-    ensures told { HasCleanDisk (state S.Store conn.new) → (events : List Event) → IsStoreOf events (state S.Store conn.old) → Tells (λ asked. asked ≡ option_map (asked_by completion) (request_asking (entries_of events id.now) completion)) result }
-    ensures kept { IsKept (state S.Store conn.old) (state S.Store conn.new) }
-    ensures store { IsStore (state S.Store conn.new) }
-    ensures idle { (state S.Store conn.new).in_transaction ≡ false }
-    ensures crash { Survives (state S.Store conn.old) (state S.Store conn.new) (λ _. ⊥) }
+    ensures told { HasCleanDisk (state S.Store tables.new) → (events : List Event) → IsStoreOf events (state S.Store tables.old) → Tells (λ asked. asked ≡ option_map (asked_by completion) (request_asking (entries_of events id.now) completion)) result }
+    ensures looks { Looks S.Store tables.old tables.new }
 {
-    let first = first_kind(alloc, conn, id, completion)?;
+    let first = first_kind(tables, id, completion)?;
     match first {
         Some(kind) => Ok(Some(AskedCompletion {
             kind,
             is_second: false,
         })),
         None => {
-            let second = second_kind(alloc, conn, id, completion)?;
+            let second = second_kind(tables, id, completion)?;
             Ok(asked_second(second))
         }
     }
@@ -158,24 +135,18 @@ fn request_of<S: Alter>(
 
 /// The request whose completion is open.
 pub(crate) fn open_request_of<S: Alter>(
-    alloc: Global,
-    conn: &mut Connection<S>,
+    tables: &mut StoreTables<S>,
     id: &ByteStr,
     completion: u32,
 ) -> Result<Option<AskedCompletion>, Refusal>
-    requires store { IsStore (state S.Store conn.old) }
-    requires idle { (state S.Store conn.old).in_transaction ≡ false }
-    ensures told { HasCleanDisk (state S.Store conn.new) → (events : List Event) → IsStoreOf events (state S.Store conn.old) → Tells (λ asked. asked ≡ option_map (asked_by completion) (open_request (entries_of events id.now) completion)) result }
-    ensures kept { IsKept (state S.Store conn.old) (state S.Store conn.new) }
-    ensures store { IsStore (state S.Store conn.new) }
-    ensures idle { (state S.Store conn.new).in_transaction ≡ false }
-    ensures crash { Survives (state S.Store conn.old) (state S.Store conn.new) (λ _. ⊥) }
+    ensures told { HasCleanDisk (state S.Store tables.new) → (events : List Event) → IsStoreOf events (state S.Store tables.old) → Tells (λ asked. asked ≡ option_map (asked_by completion) (open_request (entries_of events id.now) completion)) result }
+    ensures looks { Looks S.Store tables.old tables.new }
 {
-    let come = has_come(alloc, conn, id, completion)?;
+    let come = has_come(tables, id, completion)?;
     if come {
         return Ok(None);
     }
-    request_of(alloc, conn, id, completion)
+    request_of(tables, id, completion)
 }
 
 fn is_void(brought: &NotificationResult) -> bool

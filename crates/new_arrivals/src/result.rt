@@ -1,16 +1,15 @@
 //! What the result of a request makes ready.
 
-ghost use Rattle.std.specs.Prelude.{◌≡◌, ◌+◌, ◌<◌, ◌^◌, false, List, IfOk};
+ghost use Rattle.std.specs.Prelude.{◌≡◌, ◌+◌, ◌<◌, ◌^◌, List, IfOk};
 ghost use Rattle.sqlite.specs.Held.{state};
-ghost use Rattle.sqlite.specs.State.{HasCleanDisk, Survives};
+ghost use Rattle.sqlite.specs.State.{HasCleanDisk};
 ghost use Rattle.journal_model.specs.declared.notification.NotificationId.TheVariants.{CompletionId as ModelId};
 ghost use Rattle.journal_model.specs.Event.{Event};
 ghost use Rattle.journal_model.specs.Journal.{completion as arrival_of, entries_of};
 ghost use Rattle.journal_model.specs.Attempt.{notification_type};
 ghost use Rattle.journal_model.specs.Cause.{own_tests};
 ghost use Rattle.journal_protocol.specs.MessageType.{number_of};
-ghost use Rattle.sql_tables.specs.Asking.{IsKept};
-ghost use Rattle.store_rows.specs.Steps.{IsStore};
+ghost use Rattle.store_rows.specs.Looks.{Looks};
 ghost use Rattle.store_refusals.specs.Prepared.{Prepares};
 ghost use Rattle.new_invocations.specs.Rows.{Decides, IsRowOf, IsStoreOf};
 ghost use Rattle.new_arrivals.specs.Arrivals.{IsMadeReady};
@@ -22,10 +21,10 @@ use bytes::ByteStr;
 use journal_model::{Notification, NotificationId, NotificationResult};
 use journal_protocol::MessageType;
 use new_invocations::open_row;
-use sqlite::{Alter, Connection};
+use sqlite::Alter;
 use std::alloc::Global;
 use store_refusals::Refusal;
-use store_rows::InvocationRow;
+use store_rows::{InvocationRow, StoreTables};
 
 impl AskedCompletion {
     /// The type of the notification by which it is given this, if it may be.
@@ -47,22 +46,16 @@ impl AskedCompletion {
 
 /// The type of the notification by which an open completion is given this.
 fn type_of_result<S: Alter>(
-    alloc: Global,
-    conn: &mut Connection<S>,
+    tables: &mut StoreTables<S>,
     id: &ByteStr,
     completion: u32,
     brought: &NotificationResult,
 ) -> Result<MessageType, Refusal>
-    requires store { IsStore (state S.Store conn.old) }
-    requires idle { (state S.Store conn.old).in_transaction ≡ false }
-    ensures decided { HasCleanDisk (state S.Store conn.new) → (events : List Event) → IsStoreOf events (state S.Store conn.old)
+    ensures decided { HasCleanDisk (state S.Store tables.new) → (events : List Event) → IsStoreOf events (state S.Store tables.old)
         → Decides (completion_tests events id.now completion brought.now) (λ ty. number_of ty ≡ notification_type (entries_of events id.now) (ModelId completion)) result }
-    ensures kept { IsKept (state S.Store conn.old) (state S.Store conn.new) }
-    ensures store { IsStore (state S.Store conn.new) }
-    ensures idle { (state S.Store conn.new).in_transaction ≡ false }
-    ensures crash { Survives (state S.Store conn.old) (state S.Store conn.new) (λ _. ⊥) }
+    ensures looks { Looks S.Store tables.old tables.new }
 {
-    let open = open_request_of(alloc, conn, id, completion)?;
+    let open = open_request_of(tables, id, completion)?;
     match open {
         Some(asked) => asked.type_of(brought),
         None => Err(Refusal::CompletionNotOpen),
@@ -71,26 +64,20 @@ fn type_of_result<S: Alter>(
 
 /// What a result makes ready, of the open invocation that has this row.
 fn prepare_for<S: Alter>(
-    alloc: Global,
-    conn: &mut Connection<S>,
+    tables: &mut StoreTables<S>,
     row: InvocationRow,
     id: &ByteStr,
     completion: u32,
     brought: NotificationResult,
 ) -> Result<PreparedArrival, Refusal>
-    requires store { IsStore (state S.Store conn.old) }
-    requires idle { (state S.Store conn.old).in_transaction ≡ false }
-    ensures decided { HasCleanDisk (state S.Store conn.new) → (events : List Event) → IsStoreOf events (state S.Store conn.old) → IsRowOf events id.now row
+    ensures decided { HasCleanDisk (state S.Store tables.new) → (events : List Event) → IsStoreOf events (state S.Store tables.old) → IsRowOf events id.now row
         → Decides (own_tests events (Event.Complete id.now completion brought)) (IsMadeReady events (Event.Complete id.now completion brought) id.now (arrival_of completion brought)) result }
     ensures place { IfOk result (λ made. made.place + 1 < 2 ^ 32) }
-    ensures kept { IsKept (state S.Store conn.old) (state S.Store conn.new) }
-    ensures store { IsStore (state S.Store conn.new) }
-    ensures idle { (state S.Store conn.new).in_transaction ≡ false }
-    ensures crash { Survives (state S.Store conn.old) (state S.Store conn.new) (λ _. ⊥) }
+    ensures looks { Looks S.Store tables.old tables.new }
 {
-    match type_of_result(alloc, conn, id, completion, &brought) {
+    match type_of_result(tables, id, completion, &brought) {
         Ok(ty) => prepare_arrival(
-            alloc,
+            tables.alloc(),
             row,
             ty,
             Notification {
@@ -108,24 +95,18 @@ fn prepare_for<S: Alter>(
 
 /// What a result of a recorded request makes ready, or why it is refused: its entry, and its frame for a live attempt.
 pub fn prepare_result<S: Alter>(
-    alloc: Global,
-    conn: &mut Connection<S>,
+    tables: &mut StoreTables<S>,
     id: &ByteStr,
     completion: u32,
     brought: NotificationResult,
 ) -> Result<PreparedArrival, Refusal>
-    requires store { IsStore (state S.Store conn.old) }
-    requires idle { (state S.Store conn.old).in_transaction ≡ false }
-    ensures prepared { HasCleanDisk (state S.Store conn.new) → (events : List Event) → IsStoreOf events (state S.Store conn.old)
+    ensures prepared { HasCleanDisk (state S.Store tables.new) → (events : List Event) → IsStoreOf events (state S.Store tables.old)
         → Prepares events (Event.Complete id.now completion brought) (IsMadeReady events (Event.Complete id.now completion brought) id.now (arrival_of completion brought)) result }
     ensures place { IfOk result (λ made. made.place + 1 < 2 ^ 32) }
-    ensures kept { IsKept (state S.Store conn.old) (state S.Store conn.new) }
-    ensures store { IsStore (state S.Store conn.new) }
-    ensures idle { (state S.Store conn.new).in_transaction ≡ false }
-    ensures crash { Survives (state S.Store conn.old) (state S.Store conn.new) (λ _. ⊥) }
+    ensures looks { Looks S.Store tables.old tables.new }
 {
-    match open_row(alloc, conn, id) {
-        Ok(row) => prepare_for(alloc, conn, row, id, completion, brought),
+    match open_row(tables, id) {
+        Ok(row) => prepare_for(tables, row, id, completion, brought),
         Err(why) => {
             drop(brought);
             Err(why)

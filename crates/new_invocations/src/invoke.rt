@@ -1,12 +1,11 @@
 //! What a new invocation makes ready.
 
-ghost use Rattle.std.specs.Prelude.{◌≡◌, ◌∷◌, [], false, nat_lt, ◌||◌, List, IfOk};
+ghost use Rattle.std.specs.Prelude.{◌≡◌, ◌∷◌, [], nat_lt, ◌||◌, List, IfOk};
 ghost use Rattle.sqlite.specs.Held.{state};
-ghost use Rattle.sqlite.specs.State.{HasCleanDisk, Survives};
+ghost use Rattle.sqlite.specs.State.{HasCleanDisk};
 ghost use Rattle.journal_model.specs.Event.{Event};
 ghost use Rattle.journal_model.specs.Journal.{is_busy};
-ghost use Rattle.sql_tables.specs.Asking.{IsKept};
-ghost use Rattle.store_rows.specs.Steps.{IsStore};
+ghost use Rattle.store_rows.specs.Looks.{Looks};
 ghost use Rattle.store_rows.specs.declared.row.Write.{Write as RowWrite};
 ghost use Rattle.store_model.specs.Writes.{writes_of};
 ghost use Rattle.store_refusals.specs.Prepared.{Prepares, Tells};
@@ -17,10 +16,10 @@ use crate::input::payload_of_input;
 use crate::row::row_of;
 use bytes::{ByteStr, Bytes};
 use journal_model::{NewInvocation, StateMode};
-use sqlite::{Alter, Connection};
+use sqlite::Alter;
 use std::alloc::{AllocError, Global};
 use store_refusals::Refusal;
-use store_rows::{EntryRow, InvocationRow, Progress, Write, open_invocation};
+use store_rows::{EntryRow, InvocationRow, Progress, StoreTables, Write, open_invocation};
 
 // The versions of the protocol that are supported.
 const OLDEST_VERSION: u32 = 5;
@@ -43,40 +42,22 @@ fn is_unsupported(version: u32) -> bool
 }
 
 /// Whether an object has an open invocation.
-fn has_open<S: Alter>(
-    alloc: Global,
-    conn: &mut Connection<S>,
-    object: &ByteStr,
-) -> Result<bool, Refusal>
-    requires store { IsStore (state S.Store conn.old) }
-    requires idle { (state S.Store conn.old).in_transaction ≡ false }
-    ensures told { HasCleanDisk (state S.Store conn.new) → (events : List Event) → IsStoreOf events (state S.Store conn.old) → Tells (λ busy. busy ≡ is_busy events object.now) result }
-    ensures kept { IsKept (state S.Store conn.old) (state S.Store conn.new) }
-    ensures store { IsStore (state S.Store conn.new) }
-    ensures idle { (state S.Store conn.new).in_transaction ≡ false }
-    ensures crash { Survives (state S.Store conn.old) (state S.Store conn.new) (λ _. ⊥) }
+fn has_open<S: Alter>(tables: &mut StoreTables<S>, object: &ByteStr) -> Result<bool, Refusal>
+    ensures told { HasCleanDisk (state S.Store tables.new) → (events : List Event) → IsStoreOf events (state S.Store tables.old) → Tells (λ busy. busy ≡ is_busy events object.now) result }
+    ensures looks { Looks S.Store tables.old tables.new }
 {
-    let row = open_invocation(alloc, conn, object)?;
+    let row = open_invocation(tables, object)?;
     let busy = row.is_some();
     drop(row);
     Ok(busy)
 }
 
 /// The object of a new invocation is free, and nothing of it is without a name.
-fn take_object<S: Alter>(
-    alloc: Global,
-    conn: &mut Connection<S>,
-    new: &NewInvocation,
-) -> Result<(), Refusal>
-    requires store { IsStore (state S.Store conn.old) }
-    requires idle { (state S.Store conn.old).in_transaction ≡ false }
-    ensures decided { HasCleanDisk (state S.Store conn.new) → (events : List Event) → IsStoreOf events (state S.Store conn.old) → Decides (object_tests events new.now) (λ _. Unit {0}) result }
-    ensures kept { IsKept (state S.Store conn.old) (state S.Store conn.new) }
-    ensures store { IsStore (state S.Store conn.new) }
-    ensures idle { (state S.Store conn.new).in_transaction ≡ false }
-    ensures crash { Survives (state S.Store conn.old) (state S.Store conn.new) (λ _. ⊥) }
+fn take_object<S: Alter>(tables: &mut StoreTables<S>, new: &NewInvocation) -> Result<(), Refusal>
+    ensures decided { HasCleanDisk (state S.Store tables.new) → (events : List Event) → IsStoreOf events (state S.Store tables.old) → Decides (object_tests events new.now) (λ _. Unit {0}) result }
+    ensures looks { Looks S.Store tables.old tables.new }
 {
-    let busy = has_open(alloc, conn, &new.object)?;
+    let busy = has_open(tables, &new.object)?;
     if busy {
         return Err(Refusal::ObjectBusy);
     }
@@ -87,20 +68,11 @@ fn take_object<S: Alter>(
 }
 
 /// The id of a new invocation was not used, and its version is supported.
-fn take_id<S: Alter>(
-    alloc: Global,
-    conn: &mut Connection<S>,
-    new: &NewInvocation,
-) -> Result<(), Refusal>
-    requires store { IsStore (state S.Store conn.old) }
-    requires idle { (state S.Store conn.old).in_transaction ≡ false }
-    ensures decided { HasCleanDisk (state S.Store conn.new) → (events : List Event) → IsStoreOf events (state S.Store conn.old) → Decides (id_tests events new.now) (λ _. Unit {0}) result }
-    ensures kept { IsKept (state S.Store conn.old) (state S.Store conn.new) }
-    ensures store { IsStore (state S.Store conn.new) }
-    ensures idle { (state S.Store conn.new).in_transaction ≡ false }
-    ensures crash { Survives (state S.Store conn.old) (state S.Store conn.new) (λ _. ⊥) }
+fn take_id<S: Alter>(tables: &mut StoreTables<S>, new: &NewInvocation) -> Result<(), Refusal>
+    ensures decided { HasCleanDisk (state S.Store tables.new) → (events : List Event) → IsStoreOf events (state S.Store tables.old) → Decides (id_tests events new.now) (λ _. Unit {0}) result }
+    ensures looks { Looks S.Store tables.old tables.new }
 {
-    let row = row_of(alloc, conn, &new.id)?;
+    let row = row_of(tables, &new.id)?;
     let used = row.is_some();
     drop(row);
     if used {
@@ -191,20 +163,14 @@ fn writes_at_first(alloc: Global, new: &NewInvocation) -> Result<Vec<Write>, Ref
 
 /// What a new invocation writes, or why it is refused: its row, and its input as the entry at place 0.
 pub fn prepare_invoke<S: Alter>(
-    alloc: Global,
-    conn: &mut Connection<S>,
+    tables: &mut StoreTables<S>,
     new: &NewInvocation,
 ) -> Result<Vec<Write>, Refusal>
-    requires store { IsStore (state S.Store conn.old) }
-    requires idle { (state S.Store conn.old).in_transaction ≡ false }
-    ensures prepared { HasCleanDisk (state S.Store conn.new) → (events : List Event) → IsStoreOf events (state S.Store conn.old)
+    ensures prepared { HasCleanDisk (state S.Store tables.new) → (events : List Event) → IsStoreOf events (state S.Store tables.old)
         → Prepares events (Event.Invoke new.now) (λ writes. writes.items ≡ writes_of events (Event.Invoke new.now)) result }
-    ensures kept { IsKept (state S.Store conn.old) (state S.Store conn.new) }
-    ensures store { IsStore (state S.Store conn.new) }
-    ensures idle { (state S.Store conn.new).in_transaction ≡ false }
-    ensures crash { Survives (state S.Store conn.old) (state S.Store conn.new) (λ _. ⊥) }
+    ensures looks { Looks S.Store tables.old tables.new }
 {
-    take_object(alloc, conn, new)?;
-    take_id(alloc, conn, new)?;
-    writes_at_first(alloc, new)
+    take_object(tables, new)?;
+    take_id(tables, new)?;
+    writes_at_first(tables.alloc(), new)
 }

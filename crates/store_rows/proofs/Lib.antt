@@ -4,6 +4,7 @@ pub mod AskingInvocations
 pub mod AskingMarks
 pub mod AskingStates
 pub mod Back
+pub mod Chained
 pub mod Columns
 pub mod Entries
 pub mod Found

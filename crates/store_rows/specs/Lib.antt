@@ -4,4 +4,5 @@ pub mod Records
 pub mod Statements
 pub mod Steps
 pub mod Tables
+pub mod Looks
 pub mod Orders

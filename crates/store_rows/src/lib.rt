@@ -8,6 +8,7 @@ mod opening;
 mod order;
 mod read;
 mod row;
+mod tables;
 mod write;
 
 pub use layout::{is_empty_schema, is_store_schema};
@@ -19,4 +20,5 @@ pub use read::{
 };
 pub use row::{Closing, EntryRow, InvocationRow, LastError, Progress, StateRow, Write};
 pub use sql_tables::read::ReadError;
+pub use tables::StoreTables;
 pub use write::commit_all;

@@ -2,42 +2,36 @@
 //! has the key, that one is found, and no row is foreign. What is answered was asked of an open connection, so questions in turn
 //! are all about the same tables.
 
-ghost use Rattle.std.specs.Prelude.{◌≡◌, false, IfErr, IfOk};
+ghost use Rattle.std.specs.Prelude.{◌≡◌, IfErr, IfOk};
 ghost use Rattle.sqlite.specs.Held.{state};
-ghost use Rattle.sqlite.specs.State.{HasCleanDisk, Survives};
-ghost use Rattle.sql_tables.specs.Asking.{IsKept};
+ghost use Rattle.sqlite.specs.State.{HasCleanDisk};
+ghost use Rattle.store_rows.specs.Looks.{Looks};
 ghost use Rattle.store_rows.specs.Questions.{AreFound, IsAmbiguous, IsFound, IsJournal, IsNoJournal, answers, asks_for, asks_second_for, has_id, is_any, is_at_key, is_at_place, is_of_object, is_open_of};
 ghost use Rattle.store_rows.specs.Orders.{IsArranged, IsUnarranged};
-ghost use Rattle.store_rows.specs.Steps.{IsStore, WasAsked};
+ghost use Rattle.store_rows.specs.Steps.{WasAsked};
 
 use crate::order::{are_in_place, do_invocations_ascend, do_states_ascend};
 use crate::row::{EntryRow, InvocationRow, StateRow};
+use crate::tables::StoreTables;
 use bytes::{ByteStr, Bytes};
 use sql_tables::cell::{blob, short, text};
 use sql_tables::read::ReadError;
 use sql_tables::stored::{all_by, one_by};
-use sqlite::{Alter, Connection};
-use std::alloc::Global;
+use sqlite::Alter;
 
 /// The invocation of that id.
 pub fn invocation_by_id<S: Alter>(
-    alloc: Global,
-    conn: &mut Connection<S>,
+    tables: &mut StoreTables<S>,
     id: &ByteStr,
 ) -> Result<Option<InvocationRow>, ReadError>
-    requires store { IsStore (state S.Store conn.old) }
-    requires idle { (state S.Store conn.old).in_transaction ≡ false }
-    ensures found { HasCleanDisk (state S.Store conn.new) → IfOk result (IsFound (λ r. r.invocations) (has_id id.now) (state S.Store conn.old).now.trees) }
-    ensures foreign { HasCleanDisk (state S.Store conn.new) → IfErr result (λ e. e ≡ ReadError.Foreign → IsAmbiguous (λ r. r.invocations) (has_id id.now) (state S.Store conn.old).now.trees) }
-    ensures kept { IsKept (state S.Store conn.old) (state S.Store conn.new) }
-    ensures store { IsStore (state S.Store conn.new) }
-    ensures idle { (state S.Store conn.new).in_transaction ≡ false }
-    ensures crash { Survives (state S.Store conn.old) (state S.Store conn.new) (λ _. ⊥) }
-    ensures open { HasCleanDisk (state S.Store conn.new) → WasAsked result (state S.Store conn.old) }
+    ensures found { HasCleanDisk (state S.Store tables.new) → IfOk result (IsFound (λ r. r.invocations) (has_id id.now) (state S.Store tables.old).now.trees) }
+    ensures foreign { HasCleanDisk (state S.Store tables.new) → IfErr result (λ e. e ≡ ReadError.Foreign → IsAmbiguous (λ r. r.invocations) (has_id id.now) (state S.Store tables.old).now.trees) }
+    ensures looks { Looks S.Store tables.old tables.new }
+    ensures open { HasCleanDisk (state S.Store tables.new) → WasAsked result (state S.Store tables.old) }
 {
     one_by(
-        alloc,
-        conn,
+        tables.alloc,
+        &mut tables.connection,
         "SELECT * FROM invocation WHERE id = ?1",
         &[text(id)],
     )
@@ -45,23 +39,17 @@ pub fn invocation_by_id<S: Alter>(
 
 /// The open invocation of an object.
 pub fn open_invocation<S: Alter>(
-    alloc: Global,
-    conn: &mut Connection<S>,
+    tables: &mut StoreTables<S>,
     object: &ByteStr,
 ) -> Result<Option<InvocationRow>, ReadError>
-    requires store { IsStore (state S.Store conn.old) }
-    requires idle { (state S.Store conn.old).in_transaction ≡ false }
-    ensures found { HasCleanDisk (state S.Store conn.new) → IfOk result (IsFound (λ r. r.invocations) (is_open_of object.now) (state S.Store conn.old).now.trees) }
-    ensures foreign { HasCleanDisk (state S.Store conn.new) → IfErr result (λ e. e ≡ ReadError.Foreign → IsAmbiguous (λ r. r.invocations) (is_open_of object.now) (state S.Store conn.old).now.trees) }
-    ensures kept { IsKept (state S.Store conn.old) (state S.Store conn.new) }
-    ensures store { IsStore (state S.Store conn.new) }
-    ensures idle { (state S.Store conn.new).in_transaction ≡ false }
-    ensures crash { Survives (state S.Store conn.old) (state S.Store conn.new) (λ _. ⊥) }
-    ensures open { HasCleanDisk (state S.Store conn.new) → WasAsked result (state S.Store conn.old) }
+    ensures found { HasCleanDisk (state S.Store tables.new) → IfOk result (IsFound (λ r. r.invocations) (is_open_of object.now) (state S.Store tables.old).now.trees) }
+    ensures foreign { HasCleanDisk (state S.Store tables.new) → IfErr result (λ e. e ≡ ReadError.Foreign → IsAmbiguous (λ r. r.invocations) (is_open_of object.now) (state S.Store tables.old).now.trees) }
+    ensures looks { Looks S.Store tables.old tables.new }
+    ensures open { HasCleanDisk (state S.Store tables.new) → WasAsked result (state S.Store tables.old) }
 {
     one_by(
-        alloc,
-        conn,
+        tables.alloc,
+        &mut tables.connection,
         "SELECT * FROM invocation WHERE open_object = ?1",
         &[text(object)],
     )
@@ -69,24 +57,18 @@ pub fn open_invocation<S: Alter>(
 
 /// The entry at a place of an invocation.
 pub fn entry_by_place<S: Alter>(
-    alloc: Global,
-    conn: &mut Connection<S>,
+    tables: &mut StoreTables<S>,
     invocation: &ByteStr,
     place: u32,
 ) -> Result<Option<EntryRow>, ReadError>
-    requires store { IsStore (state S.Store conn.old) }
-    requires idle { (state S.Store conn.old).in_transaction ≡ false }
-    ensures found { HasCleanDisk (state S.Store conn.new) → IfOk result (IsFound (λ r. r.entries) (is_at_place invocation.now place) (state S.Store conn.old).now.trees) }
-    ensures foreign { HasCleanDisk (state S.Store conn.new) → IfErr result (λ e. e ≡ ReadError.Foreign → IsAmbiguous (λ r. r.entries) (is_at_place invocation.now place) (state S.Store conn.old).now.trees) }
-    ensures kept { IsKept (state S.Store conn.old) (state S.Store conn.new) }
-    ensures store { IsStore (state S.Store conn.new) }
-    ensures idle { (state S.Store conn.new).in_transaction ≡ false }
-    ensures crash { Survives (state S.Store conn.old) (state S.Store conn.new) (λ _. ⊥) }
-    ensures open { HasCleanDisk (state S.Store conn.new) → WasAsked result (state S.Store conn.old) }
+    ensures found { HasCleanDisk (state S.Store tables.new) → IfOk result (IsFound (λ r. r.entries) (is_at_place invocation.now place) (state S.Store tables.old).now.trees) }
+    ensures foreign { HasCleanDisk (state S.Store tables.new) → IfErr result (λ e. e ≡ ReadError.Foreign → IsAmbiguous (λ r. r.entries) (is_at_place invocation.now place) (state S.Store tables.old).now.trees) }
+    ensures looks { Looks S.Store tables.old tables.new }
+    ensures open { HasCleanDisk (state S.Store tables.new) → WasAsked result (state S.Store tables.old) }
 {
     one_by(
-        alloc,
-        conn,
+        tables.alloc,
+        &mut tables.connection,
         "SELECT * FROM entry WHERE invocation = ?1 AND place = ?2",
         &[text(invocation), short(place)],
     )
@@ -94,24 +76,18 @@ pub fn entry_by_place<S: Alter>(
 
 /// The request that asks for a completion as its first.
 pub fn entry_by_completion<S: Alter>(
-    alloc: Global,
-    conn: &mut Connection<S>,
+    tables: &mut StoreTables<S>,
     invocation: &ByteStr,
     completion: u32,
 ) -> Result<Option<EntryRow>, ReadError>
-    requires store { IsStore (state S.Store conn.old) }
-    requires idle { (state S.Store conn.old).in_transaction ≡ false }
-    ensures found { HasCleanDisk (state S.Store conn.new) → IfOk result (IsFound (λ r. r.entries) (asks_for invocation.now completion) (state S.Store conn.old).now.trees) }
-    ensures foreign { HasCleanDisk (state S.Store conn.new) → IfErr result (λ e. e ≡ ReadError.Foreign → IsAmbiguous (λ r. r.entries) (asks_for invocation.now completion) (state S.Store conn.old).now.trees) }
-    ensures kept { IsKept (state S.Store conn.old) (state S.Store conn.new) }
-    ensures store { IsStore (state S.Store conn.new) }
-    ensures idle { (state S.Store conn.new).in_transaction ≡ false }
-    ensures crash { Survives (state S.Store conn.old) (state S.Store conn.new) (λ _. ⊥) }
-    ensures open { HasCleanDisk (state S.Store conn.new) → WasAsked result (state S.Store conn.old) }
+    ensures found { HasCleanDisk (state S.Store tables.new) → IfOk result (IsFound (λ r. r.entries) (asks_for invocation.now completion) (state S.Store tables.old).now.trees) }
+    ensures foreign { HasCleanDisk (state S.Store tables.new) → IfErr result (λ e. e ≡ ReadError.Foreign → IsAmbiguous (λ r. r.entries) (asks_for invocation.now completion) (state S.Store tables.old).now.trees) }
+    ensures looks { Looks S.Store tables.old tables.new }
+    ensures open { HasCleanDisk (state S.Store tables.new) → WasAsked result (state S.Store tables.old) }
 {
     one_by(
-        alloc,
-        conn,
+        tables.alloc,
+        &mut tables.connection,
         "SELECT * FROM entry WHERE invocation = ?1 AND completion = ?2",
         &[text(invocation), short(completion)],
     )
@@ -119,24 +95,18 @@ pub fn entry_by_completion<S: Alter>(
 
 /// The request that asks for a completion as its second.
 pub fn entry_by_second_completion<S: Alter>(
-    alloc: Global,
-    conn: &mut Connection<S>,
+    tables: &mut StoreTables<S>,
     invocation: &ByteStr,
     completion: u32,
 ) -> Result<Option<EntryRow>, ReadError>
-    requires store { IsStore (state S.Store conn.old) }
-    requires idle { (state S.Store conn.old).in_transaction ≡ false }
-    ensures found { HasCleanDisk (state S.Store conn.new) → IfOk result (IsFound (λ r. r.entries) (asks_second_for invocation.now completion) (state S.Store conn.old).now.trees) }
-    ensures foreign { HasCleanDisk (state S.Store conn.new) → IfErr result (λ e. e ≡ ReadError.Foreign → IsAmbiguous (λ r. r.entries) (asks_second_for invocation.now completion) (state S.Store conn.old).now.trees) }
-    ensures kept { IsKept (state S.Store conn.old) (state S.Store conn.new) }
-    ensures store { IsStore (state S.Store conn.new) }
-    ensures idle { (state S.Store conn.new).in_transaction ≡ false }
-    ensures crash { Survives (state S.Store conn.old) (state S.Store conn.new) (λ _. ⊥) }
-    ensures open { HasCleanDisk (state S.Store conn.new) → WasAsked result (state S.Store conn.old) }
+    ensures found { HasCleanDisk (state S.Store tables.new) → IfOk result (IsFound (λ r. r.entries) (asks_second_for invocation.now completion) (state S.Store tables.old).now.trees) }
+    ensures foreign { HasCleanDisk (state S.Store tables.new) → IfErr result (λ e. e ≡ ReadError.Foreign → IsAmbiguous (λ r. r.entries) (asks_second_for invocation.now completion) (state S.Store tables.old).now.trees) }
+    ensures looks { Looks S.Store tables.old tables.new }
+    ensures open { HasCleanDisk (state S.Store tables.new) → WasAsked result (state S.Store tables.old) }
 {
     one_by(
-        alloc,
-        conn,
+        tables.alloc,
+        &mut tables.connection,
         "SELECT * FROM entry WHERE invocation = ?1 AND second_completion = ?2",
         &[text(invocation), short(completion)],
     )
@@ -144,24 +114,18 @@ pub fn entry_by_second_completion<S: Alter>(
 
 /// The arrival that answers a completion.
 pub fn entry_by_answered<S: Alter>(
-    alloc: Global,
-    conn: &mut Connection<S>,
+    tables: &mut StoreTables<S>,
     invocation: &ByteStr,
     completion: u32,
 ) -> Result<Option<EntryRow>, ReadError>
-    requires store { IsStore (state S.Store conn.old) }
-    requires idle { (state S.Store conn.old).in_transaction ≡ false }
-    ensures found { HasCleanDisk (state S.Store conn.new) → IfOk result (IsFound (λ r. r.entries) (answers invocation.now completion) (state S.Store conn.old).now.trees) }
-    ensures foreign { HasCleanDisk (state S.Store conn.new) → IfErr result (λ e. e ≡ ReadError.Foreign → IsAmbiguous (λ r. r.entries) (answers invocation.now completion) (state S.Store conn.old).now.trees) }
-    ensures kept { IsKept (state S.Store conn.old) (state S.Store conn.new) }
-    ensures store { IsStore (state S.Store conn.new) }
-    ensures idle { (state S.Store conn.new).in_transaction ≡ false }
-    ensures crash { Survives (state S.Store conn.old) (state S.Store conn.new) (λ _. ⊥) }
-    ensures open { HasCleanDisk (state S.Store conn.new) → WasAsked result (state S.Store conn.old) }
+    ensures found { HasCleanDisk (state S.Store tables.new) → IfOk result (IsFound (λ r. r.entries) (answers invocation.now completion) (state S.Store tables.old).now.trees) }
+    ensures foreign { HasCleanDisk (state S.Store tables.new) → IfErr result (λ e. e ≡ ReadError.Foreign → IsAmbiguous (λ r. r.entries) (answers invocation.now completion) (state S.Store tables.old).now.trees) }
+    ensures looks { Looks S.Store tables.old tables.new }
+    ensures open { HasCleanDisk (state S.Store tables.new) → WasAsked result (state S.Store tables.old) }
 {
     one_by(
-        alloc,
-        conn,
+        tables.alloc,
+        &mut tables.connection,
         "SELECT * FROM entry WHERE invocation = ?1 AND answered = ?2",
         &[text(invocation), short(completion)],
     )
@@ -169,24 +133,18 @@ pub fn entry_by_answered<S: Alter>(
 
 /// The value of a key in the state of an object.
 pub fn state_by_key<S: Alter>(
-    alloc: Global,
-    conn: &mut Connection<S>,
+    tables: &mut StoreTables<S>,
     object: &ByteStr,
     key: &Bytes,
 ) -> Result<Option<StateRow>, ReadError>
-    requires store { IsStore (state S.Store conn.old) }
-    requires idle { (state S.Store conn.old).in_transaction ≡ false }
-    ensures found { HasCleanDisk (state S.Store conn.new) → IfOk result (IsFound (λ r. r.states) (is_at_key object.now key.now) (state S.Store conn.old).now.trees) }
-    ensures foreign { HasCleanDisk (state S.Store conn.new) → IfErr result (λ e. e ≡ ReadError.Foreign → IsAmbiguous (λ r. r.states) (is_at_key object.now key.now) (state S.Store conn.old).now.trees) }
-    ensures kept { IsKept (state S.Store conn.old) (state S.Store conn.new) }
-    ensures store { IsStore (state S.Store conn.new) }
-    ensures idle { (state S.Store conn.new).in_transaction ≡ false }
-    ensures crash { Survives (state S.Store conn.old) (state S.Store conn.new) (λ _. ⊥) }
-    ensures open { HasCleanDisk (state S.Store conn.new) → WasAsked result (state S.Store conn.old) }
+    ensures found { HasCleanDisk (state S.Store tables.new) → IfOk result (IsFound (λ r. r.states) (is_at_key object.now key.now) (state S.Store tables.old).now.trees) }
+    ensures foreign { HasCleanDisk (state S.Store tables.new) → IfErr result (λ e. e ≡ ReadError.Foreign → IsAmbiguous (λ r. r.states) (is_at_key object.now key.now) (state S.Store tables.old).now.trees) }
+    ensures looks { Looks S.Store tables.old tables.new }
+    ensures open { HasCleanDisk (state S.Store tables.new) → WasAsked result (state S.Store tables.old) }
 {
     one_by(
-        alloc,
-        conn,
+        tables.alloc,
+        &mut tables.connection,
         "SELECT * FROM state WHERE object = ?1 AND key = ?2",
         &[text(object), blob(key)],
     )
@@ -194,23 +152,17 @@ pub fn state_by_key<S: Alter>(
 
 /// The journal of an invocation, by place, where its places count up from 0.
 pub fn journal<S: Alter>(
-    alloc: Global,
-    conn: &mut Connection<S>,
+    tables: &mut StoreTables<S>,
     invocation: &ByteStr,
 ) -> Result<Vec<EntryRow>, ReadError>
-    requires store { IsStore (state S.Store conn.old) }
-    requires idle { (state S.Store conn.old).in_transaction ≡ false }
-    ensures found { HasCleanDisk (state S.Store conn.new) → IfOk result (λ es. IsJournal invocation.now (state S.Store conn.old).now.trees es.items) }
-    ensures foreign { HasCleanDisk (state S.Store conn.new) → IfErr result (λ e. e ≡ ReadError.Foreign → IsNoJournal invocation.now (state S.Store conn.old).now.trees) }
-    ensures kept { IsKept (state S.Store conn.old) (state S.Store conn.new) }
-    ensures store { IsStore (state S.Store conn.new) }
-    ensures idle { (state S.Store conn.new).in_transaction ≡ false }
-    ensures crash { Survives (state S.Store conn.old) (state S.Store conn.new) (λ _. ⊥) }
-    ensures open { HasCleanDisk (state S.Store conn.new) → WasAsked result (state S.Store conn.old) }
+    ensures found { HasCleanDisk (state S.Store tables.new) → IfOk result (λ es. IsJournal invocation.now (state S.Store tables.old).now.trees es.items) }
+    ensures foreign { HasCleanDisk (state S.Store tables.new) → IfErr result (λ e. e ≡ ReadError.Foreign → IsNoJournal invocation.now (state S.Store tables.old).now.trees) }
+    ensures looks { Looks S.Store tables.old tables.new }
+    ensures open { HasCleanDisk (state S.Store tables.new) → WasAsked result (state S.Store tables.old) }
 {
     let records: Vec<EntryRow> = all_by(
-        alloc,
-        conn,
+        tables.alloc,
+        &mut tables.connection,
         "SELECT * FROM entry WHERE invocation = ?1 ORDER BY place",
         &[text(invocation)],
     )?;
@@ -222,24 +174,18 @@ pub fn journal<S: Alter>(
 
 /// The state of an object, in the order of the bytes of its keys.
 pub fn states_of<S: Alter>(
-    alloc: Global,
-    conn: &mut Connection<S>,
+    tables: &mut StoreTables<S>,
     object: &ByteStr,
 ) -> Result<Vec<StateRow>, ReadError>
-    requires store { IsStore (state S.Store conn.old) }
-    requires idle { (state S.Store conn.old).in_transaction ≡ false }
-    ensures found { HasCleanDisk (state S.Store conn.new) → IfOk result (λ es. AreFound (λ r. r.states) (is_of_object object.now) (λ s. s.key) (state S.Store conn.old).now.trees es.items) }
-    ensures arranged { HasCleanDisk (state S.Store conn.new) → IfOk result (λ es. IsArranged (λ r. r.states) (is_of_object object.now) (λ s. s.key) (state S.Store conn.old).now.trees es.items) }
-    ensures foreign { HasCleanDisk (state S.Store conn.new) → IfErr result (λ e. e ≡ ReadError.Foreign → IsUnarranged (λ r. r.states) (is_of_object object.now) (λ s. s.key) (state S.Store conn.old).now.trees) }
-    ensures kept { IsKept (state S.Store conn.old) (state S.Store conn.new) }
-    ensures store { IsStore (state S.Store conn.new) }
-    ensures idle { (state S.Store conn.new).in_transaction ≡ false }
-    ensures crash { Survives (state S.Store conn.old) (state S.Store conn.new) (λ _. ⊥) }
-    ensures open { HasCleanDisk (state S.Store conn.new) → WasAsked result (state S.Store conn.old) }
+    ensures found { HasCleanDisk (state S.Store tables.new) → IfOk result (λ es. AreFound (λ r. r.states) (is_of_object object.now) (λ s. s.key) (state S.Store tables.old).now.trees es.items) }
+    ensures arranged { HasCleanDisk (state S.Store tables.new) → IfOk result (λ es. IsArranged (λ r. r.states) (is_of_object object.now) (λ s. s.key) (state S.Store tables.old).now.trees es.items) }
+    ensures foreign { HasCleanDisk (state S.Store tables.new) → IfErr result (λ e. e ≡ ReadError.Foreign → IsUnarranged (λ r. r.states) (is_of_object object.now) (λ s. s.key) (state S.Store tables.old).now.trees) }
+    ensures looks { Looks S.Store tables.old tables.new }
+    ensures open { HasCleanDisk (state S.Store tables.new) → WasAsked result (state S.Store tables.old) }
 {
     let records: Vec<StateRow> = all_by(
-        alloc,
-        conn,
+        tables.alloc,
+        &mut tables.connection,
         "SELECT * FROM state WHERE object = ?1 ORDER BY key",
         &[text(object)],
     )?;
@@ -251,23 +197,17 @@ pub fn states_of<S: Alter>(
 
 /// Every invocation, in the order of the bytes of their ids.
 pub fn all_invocations<S: Alter>(
-    alloc: Global,
-    conn: &mut Connection<S>,
+    tables: &mut StoreTables<S>,
 ) -> Result<Vec<InvocationRow>, ReadError>
-    requires store { IsStore (state S.Store conn.old) }
-    requires idle { (state S.Store conn.old).in_transaction ≡ false }
-    ensures found { HasCleanDisk (state S.Store conn.new) → IfOk result (λ es. AreFound (λ r. r.invocations) is_any (λ i. i.id) (state S.Store conn.old).now.trees es.items) }
-    ensures arranged { HasCleanDisk (state S.Store conn.new) → IfOk result (λ es. IsArranged (λ r. r.invocations) is_any (λ i. i.id) (state S.Store conn.old).now.trees es.items) }
-    ensures foreign { HasCleanDisk (state S.Store conn.new) → IfErr result (λ e. e ≡ ReadError.Foreign → IsUnarranged (λ r. r.invocations) is_any (λ i. i.id) (state S.Store conn.old).now.trees) }
-    ensures kept { IsKept (state S.Store conn.old) (state S.Store conn.new) }
-    ensures store { IsStore (state S.Store conn.new) }
-    ensures idle { (state S.Store conn.new).in_transaction ≡ false }
-    ensures crash { Survives (state S.Store conn.old) (state S.Store conn.new) (λ _. ⊥) }
-    ensures open { HasCleanDisk (state S.Store conn.new) → WasAsked result (state S.Store conn.old) }
+    ensures found { HasCleanDisk (state S.Store tables.new) → IfOk result (λ es. AreFound (λ r. r.invocations) is_any (λ i. i.id) (state S.Store tables.old).now.trees es.items) }
+    ensures arranged { HasCleanDisk (state S.Store tables.new) → IfOk result (λ es. IsArranged (λ r. r.invocations) is_any (λ i. i.id) (state S.Store tables.old).now.trees es.items) }
+    ensures foreign { HasCleanDisk (state S.Store tables.new) → IfErr result (λ e. e ≡ ReadError.Foreign → IsUnarranged (λ r. r.invocations) is_any (λ i. i.id) (state S.Store tables.old).now.trees) }
+    ensures looks { Looks S.Store tables.old tables.new }
+    ensures open { HasCleanDisk (state S.Store tables.new) → WasAsked result (state S.Store tables.old) }
 {
     let records: Vec<InvocationRow> = all_by(
-        alloc,
-        conn,
+        tables.alloc,
+        &mut tables.connection,
         "SELECT * FROM invocation ORDER BY id",
         &[],
     )?;

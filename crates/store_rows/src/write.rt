@@ -1,24 +1,25 @@
 //! Changes of the records, and one transaction over a list of them.
 
-ghost use Rattle.std.specs.Prelude.{◌≡◌, false, IfSome, IsTrue, IsUtf8, OnErr, OnOk, pos};
+ghost use Rattle.std.specs.Prelude.{◌≡◌, IfSome, IsUtf8, OnOk};
 ghost use Rattle.sqlite.specs.Held.{state};
 ghost use Rattle.sqlite.specs.State.{HasCleanDisk, KeepsCommit, Survives};
 ghost use Rattle.sqlite.specs.Values.{bound_value, or_null};
 ghost use Rattle.sqlite_value.specs.Value.{owned};
 ghost use Rattle.sqlite_value.specs.declared.value.Value.TheVariants.{Text as Words};
-ghost use Rattle.sql_tables.specs.Asking.{IsKept};
 ghost use Rattle.sql_tables.specs.Cells.{IsLong, IsShort, long_cell, short_cell};
-ghost use Rattle.store_rows.specs.Records.{applied, applied_all, closing_cell, delay_of, with_entry, with_invocation, with_progress, with_state, without_state, without_states};
-ghost use Rattle.store_rows.specs.Steps.{IsStore, Lands, Steps, Turns};
+ghost use Rattle.store_rows.specs.Looks.{Lasts, Makes};
+ghost use Rattle.store_rows.specs.Records.{applied, closing_cell, delay_of, with_entry, with_invocation, with_progress, with_state, without_state, without_states};
+ghost use Rattle.store_rows.specs.Steps.{IsStore, Steps};
 
 use crate::row::{Closing, EntryRow, InvocationRow, LastError, Progress, StateRow, Write};
+use crate::tables::StoreTables;
 use bytes::{ByteStr, Bytes};
 use sql_tables::cell::{
     blob, blob_or_null, flag, long, long_or_null, short, short_or_null, text, text_or_null,
 };
 use sql_tables::query::run;
 use sqlite::types::ValueRef;
-use sqlite::{Alter, Connection, Error, Transaction};
+use sqlite::{Alter, Error, Transaction};
 
 fn closing<'a>(value: Option<Closing>) -> ValueRef<'a>
     ensures { bound_value (owned result) ≡ or_null closing_cell value }
@@ -235,16 +236,13 @@ fn apply<S: Alter>(tx: &mut Transaction<'_, S>, write: &Write) -> Result<(), Err
     }
 }
 
-/// All of the writes or none of them, also over a crash.
-pub fn commit_all<S: Alter>(conn: &mut Connection<S>, writes: &[Write]) -> Result<(), Error>
-    requires store { IsStore (state S.Store conn.old) }
-    requires idle { (state S.Store conn.old).in_transaction ≡ false }
-    ensures done { HasCleanDisk (state S.Store conn.new) → OnOk result (IsTrue (state S.Store conn.old).is_open × Turns (applied_all writes.now) (state S.Store conn.old).now.trees (state S.Store conn.new).now.trees) }
-    ensures undone { OnErr result (IsKept (state S.Store conn.old) (state S.Store conn.new)) }
-    ensures store { IsStore (state S.Store conn.new) }
-    ensures idle { (state S.Store conn.new).in_transaction ≡ false }
-    ensures crash { Survives (state S.Store conn.old) (state S.Store conn.new) (Lands writes.now (state S.Store conn.old)) }
+/// All of the writes or none of them, also over a crash. Once they are told to be made, a crash leaves them alone.
+#[tactic(auto, using(crate::proofs::Chained::lasts))]
+pub fn commit_all<S: Alter>(tables: &mut StoreTables<S>, writes: &[Write]) -> Result<(), Error>
+    ensures made { Makes S.Store writes.now tables.old tables.new result }
+    ensures settled { HasCleanDisk (state S.Store tables.new) → OnOk result (Lasts (state S.Store tables.new)) }
 {
+    let conn = &mut tables.connection;
     let _settled = conn.is_autocommit();
     let mut tx = conn.transaction();
     for write in writes {

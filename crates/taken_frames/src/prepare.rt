@@ -1,9 +1,8 @@
 // Taking a frame of a live attempt: what is asked of the database, and what is decided by it.
-ghost use Rattle.std.specs.Prelude.{◌≡◌, false, List, IfErr, IfOk};
+ghost use Rattle.std.specs.Prelude.{◌≡◌, List, IfErr, IfOk};
 ghost use Rattle.sqlite.specs.Held.{state};
-ghost use Rattle.sqlite.specs.State.{HasCleanDisk, Survives};
-ghost use Rattle.sql_tables.specs.Asking.{IsKept};
-ghost use Rattle.store_rows.specs.Steps.{IsStore};
+ghost use Rattle.sqlite.specs.State.{HasCleanDisk};
+ghost use Rattle.store_rows.specs.Looks.{Looks};
 ghost use Rattle.journal_model.specs.Event.{Event};
 ghost use Rattle.new_invocations.specs.Rows.{IsStoreOf};
 ghost use Rattle.taken_frames.specs.Taken.{IsMade, IsWhy, Takes};
@@ -13,10 +12,10 @@ use crate::refuse::frame_refusal;
 use crate::write::{frame_writes, reply_to};
 use attempt_frames::AttemptFrame;
 use bytes::ByteStr;
-use sqlite::{Alter, Connection};
+use sqlite::Alter;
 use std::alloc::Global;
 use store_refusals::Refusal;
-use store_rows::{InvocationRow, Progress, invocation_by_id};
+use store_rows::{InvocationRow, Progress, StoreTables, invocation_by_id};
 
 /// What is made ready of a frame, by how far its invocation is.
 fn decide(
@@ -60,22 +59,16 @@ fn decide_by_row(
 /// Decides on a frame that the live attempt of the invocation has written, and makes ready what is written of it. The row of the
 /// invocation is all that is read. Whether the attempt is live is the caller's to know.
 pub fn prepare_frame<S: Alter>(
-    alloc: Global,
-    conn: &mut Connection<S>,
+    tables: &mut StoreTables<S>,
     id: &ByteStr,
     attempt: LiveFacts,
     frame: AttemptFrame,
 ) -> Result<PreparedFrame, Refusal>
-    requires store { IsStore (state S.Store conn.old) }
-    requires idle { (state S.Store conn.old).in_transaction ≡ false }
-    ensures prepared { HasCleanDisk (state S.Store conn.new) → (events : List Event) → IsStoreOf events (state S.Store conn.old) → Takes events id.now attempt frame result }
-    ensures kept { IsKept (state S.Store conn.old) (state S.Store conn.new) }
-    ensures store { IsStore (state S.Store conn.new) }
-    ensures idle { (state S.Store conn.new).in_transaction ≡ false }
-    ensures crash { Survives (state S.Store conn.old) (state S.Store conn.new) (λ _. ⊥) }
+    ensures prepared { HasCleanDisk (state S.Store tables.new) → (events : List Event) → IsStoreOf events (state S.Store tables.old) → Takes events id.now attempt frame result }
+    ensures looks { Looks S.Store tables.old tables.new }
 {
-    match invocation_by_id(alloc, conn, id) {
-        Ok(Some(row)) => decide_by_row(alloc, id, row, attempt, frame),
+    match invocation_by_id(tables, id) {
+        Ok(Some(row)) => decide_by_row(tables.alloc(), id, row, attempt, frame),
         Ok(None) => {
             drop(frame);
             Err(Refusal::UnknownInvocation)

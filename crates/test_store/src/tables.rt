@@ -9,14 +9,14 @@ use journal_protocol::MessageType;
 use journal_store::Store;
 use new_arrivals::prepare_arrival;
 use script_lines::text::Hex;
-use sqlite::{Connection, MemStore};
+use sqlite::MemStore;
 use std::alloc::Global;
 use store_rows::{
-    InvocationRow, StateRow, Write, all_invocations, commit_all, entry_by_place, invocation_by_id,
-    is_ready, state_by_key, states_of,
+    InvocationRow, StateRow, StoreTables, Write, all_invocations, commit_all, entry_by_place,
+    invocation_by_id, is_ready, state_by_key, states_of,
 };
 
-type Memory = Connection<MemStore>;
+type Tables = StoreTables<MemStore>;
 
 fn i1() -> ByteStr {
     ByteStr::from_static("i1")
@@ -40,6 +40,15 @@ fn invoked(alloc: Global) -> Result<Store<MemStore>, Fault> {
     Ok(store)
 }
 
+/// Its tables.
+fn tables_of(alloc: Global) -> Result<Tables, Fault> {
+    let connection = invoked(alloc)?.into_connection();
+    if !is_ready(&connection) {
+        return Err(Fault::Memory);
+    }
+    Ok(StoreTables::of(alloc, connection))
+}
+
 fn put(key: &'static [u8], value: &'static [u8]) -> Write {
     Write::PutState(StateRow {
         object: object(),
@@ -48,23 +57,16 @@ fn put(key: &'static [u8], value: &'static [u8]) -> Write {
     })
 }
 
-fn is_written(conn: &mut Memory, write: Write) -> bool {
-    if !is_ready(conn) {
-        drop(write);
-        return false;
-    }
+fn is_written(tables: &mut Tables, write: Write) -> bool {
     let writes = [write];
-    let done = commit_all(conn, &writes);
+    let done = commit_all(tables, &writes);
     drop(writes);
     done.is_ok()
 }
 
 /// How many values the object's state has.
-fn state_count(alloc: Global, conn: &mut Memory) -> Option<usize> {
-    if !is_ready(conn) {
-        return None;
-    }
-    match states_of(alloc, conn, &object()) {
+fn state_count(tables: &mut Tables) -> Option<usize> {
+    match states_of(tables, &object()) {
         Ok(states) => {
             let count = states.len();
             drop(states);
@@ -75,11 +77,8 @@ fn state_count(alloc: Global, conn: &mut Memory) -> Option<usize> {
 }
 
 /// How many bytes the value of the key `k` has.
-fn value_len(alloc: Global, conn: &mut Memory) -> Option<usize> {
-    if !is_ready(conn) {
-        return None;
-    }
-    match state_by_key(alloc, conn, &object(), &Bytes::from_static(b"k")) {
+fn value_len(tables: &mut Tables) -> Option<usize> {
+    match state_by_key(tables, &object(), &Bytes::from_static(b"k")) {
         Ok(Some(state)) => {
             let len = state.value.len();
             drop(state);
@@ -92,47 +91,40 @@ fn value_len(alloc: Global, conn: &mut Memory) -> Option<usize> {
 /// Writes to the state of the object, and prints what it is then.
 fn print_write<R: Print>(
     rt: &R,
-    alloc: Global,
-    conn: &mut Memory,
+    tables: &mut Tables,
     name: &str,
     write: Write,
 ) -> Result<(), Fault> {
-    let is_written = is_written(conn, write);
-    let count = state_count(alloc, conn);
-    let len = value_len(alloc, conn);
+    let is_written = is_written(tables, write);
+    let count = state_count(tables);
+    let len = value_len(tables);
     Ok(println!(rt; "{name} -> {is_written} values {count:?} bytes of k {len:?}")?)
 }
 
-fn print_states<R: Print>(rt: &R, alloc: Global, conn: &mut Memory) -> Result<(), Fault> {
-    print_write(rt, alloc, conn, "put k", put(b"k", b""))?;
-    print_write(rt, alloc, conn, "put j", put(b"j", b"x"))?;
-    print_write(rt, alloc, conn, "put k again", put(b"k", b"xyz"))?;
+fn print_states<R: Print>(rt: &R, tables: &mut Tables) -> Result<(), Fault> {
+    print_write(rt, tables, "put k", put(b"k", b""))?;
+    print_write(rt, tables, "put j", put(b"j", b"x"))?;
+    print_write(rt, tables, "put k again", put(b"k", b"xyz"))?;
     let drop_one = Write::DropState {
         object: object(),
         key: Bytes::from_static(b"k"),
     };
-    print_write(rt, alloc, conn, "drop k", drop_one)?;
-    print_write(rt, alloc, conn, "put k", put(b"k", b""))?;
+    print_write(rt, tables, "drop k", drop_one)?;
+    print_write(rt, tables, "put k", put(b"k", b""))?;
     let drop_all = Write::DropStates { object: object() };
-    print_write(rt, alloc, conn, "drop all", drop_all)
+    print_write(rt, tables, "drop all", drop_all)
 }
 
 /// The number of the type of the entry at a place.
-fn kind_at(alloc: Global, conn: &mut Memory, place: u32) -> Option<u32> {
-    if !is_ready(conn) {
-        return None;
-    }
-    match entry_by_place(alloc, conn, &i1(), place) {
+fn kind_at(tables: &mut Tables, place: u32) -> Option<u32> {
+    match entry_by_place(tables, &i1(), place) {
         Ok(Some(entry)) => Some(entry.kind),
         _ => None,
     }
 }
 
-fn invocation_count(alloc: Global, conn: &mut Memory) -> Option<usize> {
-    if !is_ready(conn) {
-        return None;
-    }
-    match all_invocations(alloc, conn) {
+fn invocation_count(tables: &mut Tables) -> Option<usize> {
+    match all_invocations(tables) {
         Ok(rows) => {
             let count = rows.len();
             drop(rows);
@@ -142,26 +134,23 @@ fn invocation_count(alloc: Global, conn: &mut Memory) -> Option<usize> {
     }
 }
 
-fn print_found<R: Print>(rt: &R, alloc: Global, conn: &mut Memory) -> Result<(), Fault> {
-    let first = kind_at(alloc, conn, 0);
-    let second = kind_at(alloc, conn, 1);
-    let count = invocation_count(alloc, conn);
+fn print_found<R: Print>(rt: &R, tables: &mut Tables) -> Result<(), Fault> {
+    let first = kind_at(tables, 0);
+    let second = kind_at(tables, 1);
+    let count = invocation_count(tables);
     Ok(println!(rt; "kind at 0 {first:?} at 1 {second:?} invocations {count:?}")?)
 }
 
-fn row_of(alloc: Global, conn: &mut Memory) -> Option<InvocationRow> {
-    if !is_ready(conn) {
-        return None;
-    }
-    match invocation_by_id(alloc, conn, &i1()) {
+fn row_of(tables: &mut Tables) -> Option<InvocationRow> {
+    match invocation_by_id(tables, &i1()) {
         Ok(row) => row,
         Err(_) => None,
     }
 }
 
 /// Makes the signal 17 ready, and prints its place and its frame.
-fn print_signal<R: Print>(rt: &R, alloc: Global, conn: &mut Memory) -> Result<(), Fault> {
-    let row = row_of(alloc, conn).ok_or(Fault::Memory)?;
+fn print_signal<R: Print>(rt: &R, alloc: Global, tables: &mut Tables) -> Result<(), Fault> {
+    let row = row_of(tables).ok_or(Fault::Memory)?;
     let signal = Notification {
         id: NotificationId::SignalId(17),
         result: NotificationResult::Void,
@@ -180,8 +169,8 @@ fn print_signal<R: Print>(rt: &R, alloc: Global, conn: &mut Memory) -> Result<()
 /// Writes and finds records, and prints what is found.
 pub fn run_tables<R: Print + AllocGlobal>(rt: &R) -> Result<(), Fault> {
     let alloc = rt.alloc();
-    let mut conn = invoked(alloc)?.into_connection();
-    print_states(rt, alloc, &mut conn)?;
-    print_found(rt, alloc, &mut conn)?;
-    print_signal(rt, alloc, &mut conn)
+    let mut tables = tables_of(alloc)?;
+    print_states(rt, &mut tables)?;
+    print_found(rt, &mut tables)?;
+    print_signal(rt, alloc, &mut tables)
 }

@@ -1,18 +1,17 @@
 use Rattle.std.proofs.Common.{sym, subst, arith}
-use Rattle.sqlite.specs.Held.{state}
 use Rattle.journal_model.specs.Cause.{those_that_hold}
 use Rattle.store_refusals.specs.Refused.{IsRefused}
 use Rattle.new_invocations.proofs.Reading.{decided_err}
 use Rattle.new_invocations.proofs.Refusing.{refused_anyway}
-use Rattle.new_invocations.proofs.Standing.{kept_on, store_kept, survives_on}
+use Rattle.new_invocations.proofs.Standing.{store_kept}
 use Rattle.begun_attempts.specs.Begun.{AreHanded, shown_states}
 use Rattle.begun_attempts.specs.Start.{start_of, start_tests}
 use Rattle.begun_attempts.proofs.prepare.attempt_frames.Goals as goal
 
 pub returns-clause-decided : goal.returns-clause-decided
 returns-clause-decided g c clean events store =
-    let first = c.in_ok-start.ensures.decided (omega (arith, c.read_journal.ensures.crash.clean, clean)) events store in
-    (first.0, (first.1, c.in_ok-journal.ensures.told clean events (store_kept events _ _ c.begun_start.ensures.crash c.begun_start.ensures.kept store)))
+    let first = c.in_ok-start.ensures.decided (omega (arith, c.read_journal.ensures.looks.crash.clean, clean)) events store in
+    (first.0, (first.1, c.in_ok-journal.ensures.told clean events (store_kept events _ _ c.begun_start.ensures.looks.crash c.begun_start.ensures.looks.kept store)))
 
 pub returns-in_err-start-clause-decided : goal.returns-in_err-start-clause-decided
 returns-in_err-start-clause-decided g c clean events store =
@@ -25,16 +24,4 @@ returns-in_err-journal-clause-decided g c clean events store =
     let tests = start_tests (start_of c.args.row.now (shown_states events c.args.row.now) c.args.now) in
     decided_err tests (AreHanded events c.args.row.now c.args.now) c.from_residual-in_err-journal.result c.from_residual-in_err-journal.ensures.1 (λ why gives.
     subst (IsRefused (those_that_hold tests)) (sym gives)
-    (refused_anyway tests _ (c.in_err-journal.ensures.told clean events (store_kept events _ _ c.begun_start.ensures.crash c.begun_start.ensures.kept store))))
-
-pub returns-clause-kept : goal.returns-clause-kept
-returns-clause-kept g c = kept_on (state g.S.Store c.args.conn.now) _ _ c.read_journal.ensures.crash c.begun_start.ensures.kept c.read_journal.ensures.kept
-
-pub returns-clause-crash : goal.returns-clause-crash
-returns-clause-crash g c = survives_on _ _ _ c.begun_start.ensures.crash c.read_journal.ensures.crash
-
-pub returns-in_err-journal-clause-kept : goal.returns-in_err-journal-clause-kept
-returns-in_err-journal-clause-kept g c = kept_on (state g.S.Store c.args.conn.now) _ _ c.read_journal.ensures.crash c.begun_start.ensures.kept c.read_journal.ensures.kept
-
-pub returns-in_err-journal-clause-crash : goal.returns-in_err-journal-clause-crash
-returns-in_err-journal-clause-crash g c = survives_on _ _ _ c.begun_start.ensures.crash c.read_journal.ensures.crash
+    (refused_anyway tests _ (c.in_err-journal.ensures.told clean events (store_kept events _ _ c.begun_start.ensures.looks.crash c.begun_start.ensures.looks.kept store))))

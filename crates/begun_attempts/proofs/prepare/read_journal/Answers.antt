@@ -13,8 +13,8 @@ use Rattle.begun_attempts.proofs.prepare.read_journal.Goals as goal
 
 pub returns-clause-told : goal.returns-clause-told
 returns-clause-told g c clean events store =
-    let old : State = state g.S.Store c.args.conn.now in
-    let early : HasCleanDisk old = omega (arith, c.journal.ensures.crash.clean) in
+    let old : State = state g.S.Store c.args.tables.now in
+    let early : HasCleanDisk old = omega (arith, c.journal.ensures.looks.crash.clean) in
     let k = store.keeps early (c.in_ok-rows.ensures.open clean) in
     let frames = c.in_ok-frames.frames in
     journal_framed events c.args.id.now frames
@@ -22,8 +22,8 @@ returns-clause-told g c clean events store =
 
 pub returns-in_err-rows-clause-told : goal.returns-in_err-rows-clause-told
 returns-in_err-rows-clause-told g c clean events store =
-    let old : State = state g.S.Store c.args.conn.now in
-    let early : HasCleanDisk old = omega (arith, c.journal.ensures.crash.clean) in
+    let old : State = state g.S.Store c.args.tables.now in
+    let early : HasCleanDisk old = omega (arith, c.journal.ensures.looks.crash.clean) in
     told_err (AreFrames row_frame (journal_rows events c.args.id.now)) c.from_residual.result c.from_residual.ensures.1 (λ why gives.
     subst (IsRefused []) (sym gives) (inr (journal_known events old c.args.id.now _ (store.keeps early) (c.in_err-rows.ensures.open clean) (c.in_err-rows.ensures.foreign clean))))
 

@@ -10,7 +10,7 @@ use Rattle.journal_store.proofs.accept.accept.Goals as goal
 
 pub returns-in-Ok-clause-does : goal.returns-in-Ok-clause-does
 returns-in-Ok-clause-does g c clean events stands =
-    let mid : State = state g.S.Store c.feed.new.conn in
+    let mid : State = state g.S.Store c.feed.new.tables in
     let id = c.args.id.now in
     let fed : ByInvocation = c.feed.new.live.attempts in
     let early : HasCleanDisk mid = omega (arith, c.take_all.ensures.crash.clean, clean) in
@@ -20,9 +20,9 @@ returns-in-Ok-clause-does g c clean events stands =
 
 pub returns-in-Ok-clause-crash : goal.returns-in-Ok-clause-crash
 returns-in-Ok-clause-crash g c =
-    let old : State = state g.S.Store c.args.conn.now in
-    let mid : State = state g.S.Store c.feed.new.conn in
-    let new : State = state g.S.Store c.take_all.new.conn in
+    let old : State = state g.S.Store c.args.tables.now in
+    let mid : State = state g.S.Store c.feed.new.tables in
+    let new : State = state g.S.Store c.take_all.new.tables in
     let id = c.args.id.now in
     let fed : ByInvocation = c.feed.new.live.attempts in
     survives_then old mid new _ (CommitsSteps id c.args.attempt fed mid) (CommitsFed id c.args.attempt c.args.bytes.now c.args.live.now.attempts old) (λ _ db none. absurd none)

@@ -9,23 +9,19 @@ use Rattle.journal_store.proofs.accept.take_all.Goals as goal
 
 pub loop-replies-init : goal.loop-replies-init
 loop-replies-init g c = record {
-  store = c.requires.store;
-  idle = c.requires.idle;
-  taken = λ clean events stands here. none_passed events c.args.id.now c.args.attempt _ (state g.S.Store c.args.conn.now) c.args.live.now.attempts (search rules) stands here;
-  survives = lives_still (state g.S.Store c.args.conn.now) _;
+  taken = λ clean events stands here. none_passed events c.args.id.now c.args.attempt _ (state g.S.Store c.args.tables.now) c.args.live.now.attempts (search rules) stands here;
+  survives = lives_still (state g.S.Store c.args.tables.now) _;
 }
 
 pub loop-replies-preserved : goal.loop-replies-preserved
 loop-replies-preserved g c =
-    let start : State = state g.S.Store c.args.conn.now in
-    let now : State = state g.S.Store c.loop-replies.conn in
-    let next : State = state g.S.Store c.take_next.new.conn in
+    let start : State = state g.S.Store c.args.tables.now in
+    let now : State = state g.S.Store c.loop-replies.tables in
+    let next : State = state g.S.Store c.take_next.new.tables in
     let id = c.args.id.now in
     let old : ByInvocation = c.args.live.now.attempts in
     let more : c.in-Ok-true.field-0 ≡ true = search rules in
     record {
-      store = c.take_next.ensures.store;
-      idle = c.take_next.ensures.idle;
       taken = λ clean events stands here.
           let early : HasCleanDisk now = omega (arith, c.take_next.ensures.crash.clean, clean) in
           let done = c.loop-replies.invariant.taken early events stands here in
@@ -37,8 +33,8 @@ loop-replies-preserved g c =
 
 pub returns-in-Ok-false-clause-does : goal.returns-in-Ok-false-clause-does
 returns-in-Ok-false-clause-does g c clean events stands here =
-    let now : State = state g.S.Store c.loop-replies.conn in
-    let next : State = state g.S.Store c.take_next.new.conn in
+    let now : State = state g.S.Store c.loop-replies.tables in
+    let next : State = state g.S.Store c.take_next.new.tables in
     let id = c.args.id.now in
     let accepted : Accepted = record { replies = c.take_next.new.replies; refusal = None } in
     let more : c.in-Ok-false.field-0 ≡ false = search rules in
@@ -50,13 +46,13 @@ returns-in-Ok-false-clause-does g c clean events stands here =
 
 pub returns-in-Ok-false-clause-crash : goal.returns-in-Ok-false-clause-crash
 returns-in-Ok-false-clause-crash g c =
-    steps_commit c.args.id.now c.args.attempt c.loop-replies.replies.items (state g.S.Store c.args.conn.now) (state g.S.Store c.loop-replies.conn) (state g.S.Store c.take_next.new.conn)
+    steps_commit c.args.id.now c.args.attempt c.loop-replies.replies.items (state g.S.Store c.args.tables.now) (state g.S.Store c.loop-replies.tables) (state g.S.Store c.take_next.new.tables)
     c.args.live.now.attempts c.loop-replies.live.attempts c.loop-replies.invariant.taken c.loop-replies.invariant.survives c.take_next.ensures.crash
 
 pub returns-in-Err-clause-does : goal.returns-in-Err-clause-does
 returns-in-Err-clause-does g c clean events stands here =
-    let now : State = state g.S.Store c.loop-replies.conn in
-    let next : State = state g.S.Store c.take_next.new.conn in
+    let now : State = state g.S.Store c.loop-replies.tables in
+    let next : State = state g.S.Store c.take_next.new.tables in
     let id = c.args.id.now in
     let accepted : Accepted = record { replies = c.take_next.new.replies; refusal = Some c.in-Err.why } in
     let early : HasCleanDisk now = omega (arith, c.take_next.ensures.crash.clean, clean) in
@@ -66,5 +62,5 @@ returns-in-Err-clause-does g c clean events stands here =
 
 pub returns-in-Err-clause-crash : goal.returns-in-Err-clause-crash
 returns-in-Err-clause-crash g c =
-    steps_commit c.args.id.now c.args.attempt c.loop-replies.replies.items (state g.S.Store c.args.conn.now) (state g.S.Store c.loop-replies.conn) (state g.S.Store c.take_next.new.conn)
+    steps_commit c.args.id.now c.args.attempt c.loop-replies.replies.items (state g.S.Store c.args.tables.now) (state g.S.Store c.loop-replies.tables) (state g.S.Store c.take_next.new.tables)
     c.args.live.now.attempts c.loop-replies.live.attempts c.loop-replies.invariant.taken c.loop-replies.invariant.survives c.take_next.ensures.crash

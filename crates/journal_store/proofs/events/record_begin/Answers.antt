@@ -2,22 +2,33 @@ use Rattle.std.proofs.Common.{refl, arith}
 use Rattle.sqlite.specs.State.{State, HasCleanDisk}
 use Rattle.sqlite.specs.Held.{state}
 use Rattle.journal_model.specs.Event.{Event}
+use Rattle.journal_store.proofs.Lasting.{outlasts, refused_kept}
 use Rattle.journal_store.proofs.Beginning.{begin_recorded, other_tests}
 use Rattle.journal_store.proofs.Standing.{commits_after}
 use Rattle.journal_store.proofs.events.record_begin.Goals as goal
 
 pub returns-in-Ok-clause-does : goal.returns-in-Ok-clause-does
 returns-in-Ok-clause-does g c clean events stands =
-    let old : State = state g.S.Store c.args.conn.now in
-    let mid : State = state g.S.Store c.prepare_begin.new.conn in
-    let new : State = state g.S.Store c.begin_prepared.new.conn in
+    let old : State = state g.S.Store c.args.tables.now in
+    let mid : State = state g.S.Store c.prepare_begin.new.tables in
+    let new : State = state g.S.Store c.begin_prepared.new.tables in
     let early : HasCleanDisk mid = omega (arith, c.begin_prepared.ensures.crash.clean, clean) in
     begin_recorded events c.args.id.now c.args.now old mid new _ _ c.args.live.now.attempts c.begin_prepared.new.live.attempts c.in-Ok.made (other_tests events c.args.id.now c.args.now) c.begin_prepared.result refl
-    c.prepare_begin.ensures.crash c.prepare_begin.ensures.kept c.begin_prepared.ensures.crash clean (c.in-Ok.ensures.prepared early events stands.kept)
+    c.prepare_begin.ensures.looks.crash c.prepare_begin.ensures.looks.kept c.begin_prepared.ensures.crash clean (c.in-Ok.ensures.prepared early events stands.kept)
     c.begin_prepared.ensures.told (c.begin_prepared.ensures.written clean) c.begin_prepared.ensures.put c.begin_prepared.ensures.why c.begin_prepared.ensures.undone stands
 
 pub returns-in-Ok-clause-crash : goal.returns-in-Ok-clause-crash
 returns-in-Ok-clause-crash g c =
-    commits_after (state g.S.Store c.args.conn.now) (state g.S.Store c.prepare_begin.new.conn) (state g.S.Store c.begin_prepared.new.conn)
-    (Event.Begin c.args.id.now c.args.now) c.in-Ok.made.writes.items c.prepare_begin.ensures.crash c.prepare_begin.ensures.kept
+    commits_after (state g.S.Store c.args.tables.now) (state g.S.Store c.prepare_begin.new.tables) (state g.S.Store c.begin_prepared.new.tables)
+    (Event.Begin c.args.id.now c.args.now) c.in-Ok.made.writes.items c.prepare_begin.ensures.looks.crash c.prepare_begin.ensures.looks.kept
     c.begin_prepared.ensures.crash (λ clean events store. let ready = c.in-Ok.ensures.prepared clean events store in (ready.0, ready.1.writes)) (λ events none. cc)
+
+pub returns-in-Ok-clause-settled : goal.returns-in-Ok-clause-settled
+returns-in-Ok-clause-settled g c clean events stands =
+    outlasts events (Event.Begin c.args.id.now c.args.now) _ c.begin_prepared.result (state g.S.Store c.begin_prepared.new.tables) c.begin_prepared.new.live.attempts clean (returns-in-Ok-clause-does g c clean events stands) (c.begin_prepared.ensures.settled clean)
+
+pub returns-in-Ok-clause-kept : goal.returns-in-Ok-clause-kept
+returns-in-Ok-clause-kept g c =
+    let mid : State = state g.S.Store c.prepare_begin.new.tables in
+    refused_kept _ c.begin_prepared.result (state g.S.Store c.args.tables.now) mid (state g.S.Store c.begin_prepared.new.tables)
+    (λ clean. omega (arith, c.begin_prepared.ensures.crash.clean, clean)) c.prepare_begin.ensures.looks.kept c.begin_prepared.ensures.undone

@@ -8,5 +8,5 @@ use Rattle.journal_store.proofs.step.step.Goals as goal
 pub returns-in-Ok-Unknown-clause-does : goal.returns-in-Ok-Unknown-clause-does
 returns-in-Ok-Unknown-clause-does g c clean events stands =
     let here : has_number c.args.attempt (attempt_of c.args.live.now.attempts c.args.id.now) ≡ true = search rules in
-    inr (header_refused events (state g.S.Store c.args.conn.now) c.args.live.now.attempts c.remove.new.self.attempts c.args.id.now c.args.attempt here
+    inr (header_refused events (state g.S.Store c.args.tables.now) c.args.live.now.attempts c.remove.new.self.attempts c.args.id.now c.args.attempt here
     (rw c.in-Ok-Unknown.field-0-is at c.in-Ok-Unknown.ensures.seen) c.remove.ensures stands)

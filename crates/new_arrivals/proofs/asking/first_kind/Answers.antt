@@ -16,8 +16,8 @@ use Rattle.new_arrivals.proofs.asking.first_kind.Goals as goal
 
 pub returns-clause-told : goal.returns-clause-told
 returns-clause-told g c clean events store =
-    let old : State = state g.S.Store c.args.conn.now in
-    let early : HasCleanDisk old = omega (arith, c.entry_by_completion.ensures.crash.clean) in
+    let old : State = state g.S.Store c.args.tables.now in
+    let early : HasCleanDisk old = omega (arith, c.entry_by_completion.ensures.looks.crash.clean) in
     let id = c.args.id.now in
     let n = c.args.completion in
     let k = store.keeps early (c.in_ok-row.ensures.open clean) in
@@ -29,8 +29,8 @@ returns-clause-told g c clean events store =
 
 pub returns-in_err-row-clause-told : goal.returns-in_err-row-clause-told
 returns-in_err-row-clause-told g c clean events store =
-    let old : State = state g.S.Store c.args.conn.now in
-    let early : HasCleanDisk old = omega (arith, c.entry_by_completion.ensures.crash.clean) in
+    let old : State = state g.S.Store c.args.tables.now in
+    let early : HasCleanDisk old = omega (arith, c.entry_by_completion.ensures.looks.crash.clean) in
     let id = c.args.id.now in
     let n = c.args.completion in
     told_err (λ kind. kind ≡ option_and_then (first_kind n) (request_asking (entries_of events id) n)) c.from_residual.result c.from_residual.ensures.1 (λ why gives.

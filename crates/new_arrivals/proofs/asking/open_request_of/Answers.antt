@@ -24,10 +24,10 @@ returns-then-come-clause-told g c clean events store =
 
 pub returns-clause-told : goal.returns-clause-told
 returns-clause-told g c clean events store =
-    let old : State = state g.S.Store c.args.conn.now in
-    let mid : State = state g.S.Store c.has_come.new.conn in
-    let early : HasCleanDisk mid = omega (arith, c.request_of.ensures.crash.clean) in
+    let old : State = state g.S.Store c.args.tables.now in
+    let mid : State = state g.S.Store c.has_come.new.tables in
+    let early : HasCleanDisk mid = omega (arith, c.request_of.ensures.looks.crash.clean) in
     let n = c.args.completion in
-    let stands = store_kept events old mid c.has_come.ensures.crash c.has_come.ensures.kept store in
+    let stands = store_kept events old mid c.has_come.ensures.looks.crash c.has_come.ensures.looks.kept store in
     let same = open_if n (entries_of events c.args.id.now) (sym (c.in_ok-come.ensures.told early events store) ∙ c.if-come.false) in
     told_open n same c.request_of.result (c.request_of.ensures.told clean events stands)

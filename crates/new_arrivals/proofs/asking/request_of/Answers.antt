@@ -25,21 +25,21 @@ returns-in-Some-clause-told g c clean events store =
 
 pub returns-in_err-second-in-None-clause-told : goal.returns-in_err-second-in-None-clause-told
 returns-in_err-second-in-None-clause-told g c clean events store =
-    let old : State = state g.S.Store c.args.conn.now in
-    let mid : State = state g.S.Store c.first_kind.new.conn in
+    let old : State = state g.S.Store c.args.tables.now in
+    let mid : State = state g.S.Store c.first_kind.new.tables in
     let id = c.args.id.now in
     let n = c.args.completion in
-    let stands = store_kept events old mid c.first_kind.ensures.crash c.first_kind.ensures.kept store in
+    let stands = store_kept events old mid c.first_kind.ensures.looks.crash c.first_kind.ensures.looks.kept store in
     told_err (λ asked. asked ≡ option_map (asked_by n) (request_asking (entries_of events id) n)) c.from_residual-in_err-second-in-None.result c.from_residual-in_err-second-in-None.ensures.1 (λ why gives.
     subst (IsRefused []) (sym gives) (c.in_err-second-in-None.ensures.told clean events stands))
 
 pub returns-in_ok-second-in-None-clause-told : goal.returns-in_ok-second-in-None-clause-told
 returns-in_ok-second-in-None-clause-told g c clean events store =
-    let old : State = state g.S.Store c.args.conn.now in
-    let mid : State = state g.S.Store c.first_kind.new.conn in
-    let early : HasCleanDisk mid = omega (arith, c.second_kind.ensures.crash.clean) in
+    let old : State = state g.S.Store c.args.tables.now in
+    let mid : State = state g.S.Store c.first_kind.new.tables in
+    let early : HasCleanDisk mid = omega (arith, c.second_kind.ensures.looks.crash.clean) in
     let id = c.args.id.now in
     let n = c.args.completion in
-    let stands = store_kept events old mid c.first_kind.ensures.crash c.first_kind.ensures.kept store in
+    let stands = store_kept events old mid c.first_kind.ensures.looks.crash c.first_kind.ensures.looks.kept store in
     let none = sym c.in-None.is ∙ c.in_ok-first.ensures.told early events store in
     c.asked_second.ensures ∙ ap (option_map as_second) (c.in_ok-second-in-None.ensures.told clean events stands) ∙ second_asked n (entries_of events id) none

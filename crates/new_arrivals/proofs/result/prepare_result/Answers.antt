@@ -11,13 +11,13 @@ use Rattle.new_arrivals.proofs.result.prepare_result.Goals as goal
 
 pub returns-in-Ok-clause-prepared : goal.returns-in-Ok-clause-prepared
 returns-in-Ok-clause-prepared g c clean events store =
-    let old : State = state g.S.Store c.args.conn.now in
-    let mid : State = state g.S.Store c.open_row.new.conn in
-    let early : HasCleanDisk mid = omega (arith, c.prepare_for.ensures.crash.clean) in
+    let old : State = state g.S.Store c.args.tables.now in
+    let mid : State = state g.S.Store c.open_row.new.tables in
+    let early : HasCleanDisk mid = omega (arith, c.prepare_for.ensures.looks.crash.clean) in
     let event = Event.Complete c.args.id.now c.args.completion c.args.brought in
     let found = c.in-Ok.ensures.decided early events store in
     decided_later (open_tests events c.args.id.now) (own_tests events event) (IsMadeReady events event c.args.id.now (completion c.args.completion c.args.brought)) c.prepare_for.result found.0
-    (c.prepare_for.ensures.decided clean events (store_kept events old mid c.open_row.ensures.crash c.open_row.ensures.kept store) found.1.0)
+    (c.prepare_for.ensures.decided clean events (store_kept events old mid c.open_row.ensures.looks.crash c.open_row.ensures.looks.kept store) found.1.0)
 
 pub returns-in-Err-clause-prepared : goal.returns-in-Err-clause-prepared
 returns-in-Err-clause-prepared g c clean events store =

@@ -23,12 +23,12 @@ returns-in_err-take_object-clause-prepared g c clean events store =
 
 pub returns-in_err-take_id-clause-prepared : goal.returns-in_err-take_id-clause-prepared
 returns-in_err-take_id-clause-prepared g c clean events store =
-    let old : State = state g.S.Store c.args.conn.now in
-    let mid : State = state g.S.Store c.take_object.new.conn in
-    let early : HasCleanDisk mid = omega (arith, c.take_id.ensures.crash.clean) in
+    let old : State = state g.S.Store c.args.tables.now in
+    let mid : State = state g.S.Store c.take_object.new.tables in
+    let early : HasCleanDisk mid = omega (arith, c.take_id.ensures.looks.crash.clean) in
     let new = c.args.new.now in
     let tests = tests_of events (Event.Invoke new) in
-    let stands = store_kept events old mid c.take_object.ensures.crash c.take_object.ensures.kept store in
+    let stands = store_kept events old mid c.take_object.ensures.looks.crash c.take_object.ensures.looks.kept store in
     decided_err tests (λ writes. writes.items ≡ writes_of events (Event.Invoke new)) c.from_residual-in_err-take_id.result c.from_residual-in_err-take_id.ensures.1 (λ why gives.
     subst (IsRefused (those_that_hold tests)) (sym gives)
     (refused_later (object_tests events new) (id_tests events new ++ input_tests new) _ (c.in_ok-take_object.ensures.decided early events store).0
@@ -36,9 +36,9 @@ returns-in_err-take_id-clause-prepared g c clean events store =
 
 pub returns-clause-prepared : goal.returns-clause-prepared
 returns-clause-prepared g c clean events store =
-    let old : State = state g.S.Store c.args.conn.now in
-    let mid : State = state g.S.Store c.take_object.new.conn in
-    let early : HasCleanDisk mid = omega (arith, c.take_id.ensures.crash.clean) in
-    let stands = store_kept events old mid c.take_object.ensures.crash c.take_object.ensures.kept store in
+    let old : State = state g.S.Store c.args.tables.now in
+    let mid : State = state g.S.Store c.take_object.new.tables in
+    let early : HasCleanDisk mid = omega (arith, c.take_id.ensures.looks.crash.clean) in
+    let stands = store_kept events old mid c.take_object.ensures.looks.crash c.take_object.ensures.looks.kept store in
     prepared_by events c.args.new.now store.accepted (c.in_ok-take_object.ensures.decided early events store).0
     (c.in_ok-take_id.ensures.decided clean events stands).0 (λ writes. writes.items) c.writes_at_first.result c.writes_at_first.ensures

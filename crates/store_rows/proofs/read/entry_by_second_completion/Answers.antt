@@ -17,21 +17,24 @@ use Rattle.store_rows.proofs.read.entry_by_second_completion.Goals as goal
 
 pub returns-clause-found : goal.returns-clause-found
 returns-clause-found g c clean =
-    let old : State = state g.S.Store c.args.conn.now in
+    rw (← c.tables.view_is) (
+    let old : State = state g.S.Store c.tables.inside.connection in
     let early : HasCleanDisk old = omega (arith, c.one_by.ensures.crash.clean) in
     ok_then c.one_by.result (c.one_by.ensures.answers clean) (λ o it.
     let answer : IsAnswer entry_by_second_completion_text (Text c.args.invocation.now ∷ short_cell c.args.completion ∷ []) old (map entry_cells (option_to_list o)) = rw (c.text.ensures.cell, c.short.ensures.cell) at it.1 in
-    one_found entry_cells entry_back FitsEntry entry_back_is entry_by_second_completion_text (Text c.args.invocation.now ∷ short_cell c.args.completion ∷ []) old (λ r. r.entries) (asks_second_for c.args.invocation.now c.args.completion) (λ r h. h.fit_entries) (λ rows. entry_by_second_completion_read old c.args.invocation.now c.args.completion rows (c.requires.store early it.0)) o answer it.2)
+    one_found entry_cells entry_back FitsEntry entry_back_is entry_by_second_completion_text (Text c.args.invocation.now ∷ short_cell c.args.completion ∷ []) old (λ r. r.entries) (asks_second_for c.args.invocation.now c.args.completion) (λ r h. h.fit_entries) (λ rows. entry_by_second_completion_read old c.args.invocation.now c.args.completion rows (c.tables.invariant.0 early it.0)) o answer it.2))
 
 pub returns-clause-foreign : goal.returns-clause-foreign
 returns-clause-foreign g c clean =
-    let old : State = state g.S.Store c.args.conn.now in
+    rw (← c.tables.view_is) (
+    let old : State = state g.S.Store c.tables.inside.connection in
     let early : HasCleanDisk old = omega (arith, c.one_by.ensures.crash.clean) in
     err_then c.one_by.result (c.one_by.ensures.foreign clean) (λ e it is.
     let other = rw (c.text.ensures.cell, c.short.ensures.cell) at (it is).1 in
-    one_ambiguous entry_cells entry_back FitsEntry entry_back_is entry_by_second_completion_text (Text c.args.invocation.now ∷ short_cell c.args.completion ∷ []) old (λ r. r.entries) (asks_second_for c.args.invocation.now c.args.completion) (λ r h. h.fit_entries) (λ rows. entry_by_second_completion_read old c.args.invocation.now c.args.completion rows (c.requires.store early (it is).0)) other)
+    one_ambiguous entry_cells entry_back FitsEntry entry_back_is entry_by_second_completion_text (Text c.args.invocation.now ∷ short_cell c.args.completion ∷ []) old (λ r. r.entries) (asks_second_for c.args.invocation.now c.args.completion) (λ r h. h.fit_entries) (λ rows. entry_by_second_completion_read old c.args.invocation.now c.args.completion rows (c.tables.invariant.0 early (it is).0)) other))
 
 pub returns-clause-open : goal.returns-clause-open
 returns-clause-open g c clean =
-    was_asked (state g.S.Store c.args.conn.now) c.one_by.result (ok_then c.one_by.result (c.one_by.ensures.answers clean) (λ o it. it.0))
-    (err_then c.one_by.result (c.one_by.ensures.foreign clean) (λ e it is. (it is).0))
+    rw (← c.tables.view_is) (
+    was_asked (state g.S.Store c.tables.inside.connection) c.one_by.result (ok_then c.one_by.result (c.one_by.ensures.answers clean) (λ o it. it.0))
+    (err_then c.one_by.result (c.one_by.ensures.foreign clean) (λ e it is. (it is).0)))

@@ -16,21 +16,24 @@ use Rattle.store_rows.proofs.read.open_invocation.Goals as goal
 
 pub returns-clause-found : goal.returns-clause-found
 returns-clause-found g c clean =
-    let old : State = state g.S.Store c.args.conn.now in
+    rw (← c.tables.view_is) (
+    let old : State = state g.S.Store c.tables.inside.connection in
     let early : HasCleanDisk old = omega (arith, c.one_by.ensures.crash.clean) in
     ok_then c.one_by.result (c.one_by.ensures.answers clean) (λ o it.
     let answer : IsAnswer open_invocation_text (Text c.args.object.now ∷ []) old (map invocation_cells (option_to_list o)) = rw c.text.ensures.cell at it.1 in
-    one_found invocation_cells invocation_back FitsInvocation invocation_back_is open_invocation_text (Text c.args.object.now ∷ []) old (λ r. r.invocations) (is_open_of c.args.object.now) (λ r h. h.fit_invocations) (λ rows. open_invocation_read old c.args.object.now rows (c.requires.store early it.0)) o answer it.2)
+    one_found invocation_cells invocation_back FitsInvocation invocation_back_is open_invocation_text (Text c.args.object.now ∷ []) old (λ r. r.invocations) (is_open_of c.args.object.now) (λ r h. h.fit_invocations) (λ rows. open_invocation_read old c.args.object.now rows (c.tables.invariant.0 early it.0)) o answer it.2))
 
 pub returns-clause-foreign : goal.returns-clause-foreign
 returns-clause-foreign g c clean =
-    let old : State = state g.S.Store c.args.conn.now in
+    rw (← c.tables.view_is) (
+    let old : State = state g.S.Store c.tables.inside.connection in
     let early : HasCleanDisk old = omega (arith, c.one_by.ensures.crash.clean) in
     err_then c.one_by.result (c.one_by.ensures.foreign clean) (λ e it is.
     let other = rw c.text.ensures.cell at (it is).1 in
-    one_ambiguous invocation_cells invocation_back FitsInvocation invocation_back_is open_invocation_text (Text c.args.object.now ∷ []) old (λ r. r.invocations) (is_open_of c.args.object.now) (λ r h. h.fit_invocations) (λ rows. open_invocation_read old c.args.object.now rows (c.requires.store early (it is).0)) other)
+    one_ambiguous invocation_cells invocation_back FitsInvocation invocation_back_is open_invocation_text (Text c.args.object.now ∷ []) old (λ r. r.invocations) (is_open_of c.args.object.now) (λ r h. h.fit_invocations) (λ rows. open_invocation_read old c.args.object.now rows (c.tables.invariant.0 early (it is).0)) other))
 
 pub returns-clause-open : goal.returns-clause-open
 returns-clause-open g c clean =
-    was_asked (state g.S.Store c.args.conn.now) c.one_by.result (ok_then c.one_by.result (c.one_by.ensures.answers clean) (λ o it. it.0))
-    (err_then c.one_by.result (c.one_by.ensures.foreign clean) (λ e it is. (it is).0))
+    rw (← c.tables.view_is) (
+    was_asked (state g.S.Store c.tables.inside.connection) c.one_by.result (ok_then c.one_by.result (c.one_by.ensures.answers clean) (λ o it. it.0))
+    (err_then c.one_by.result (c.one_by.ensures.foreign clean) (λ e it is. (it is).0)))

@@ -14,8 +14,8 @@ use Rattle.taken_frames.proofs.prepare.prepare_frame.Goals as goal
 
 pub returns-in-Ok-Some-clause-prepared : goal.returns-in-Ok-Some-clause-prepared
 returns-in-Ok-Some-clause-prepared g c clean events store =
-    let old : State = state g.S.Store c.args.conn.now in
-    let early : HasCleanDisk old = omega (arith, c.invocation_by_id.ensures.crash.clean) in
+    let old : State = state g.S.Store c.args.tables.now in
+    let early : HasCleanDisk old = omega (arith, c.invocation_by_id.ensures.looks.crash.clean) in
     let keeps : Keeps events old = store.keeps early (c.in-Ok-Some.ensures.open clean) in
     let found : IsFound (λ r. r.invocations) (has_id c.args.id.now) old.now.trees (Some c.in-Ok-Some.row) =
     subst (λ (o : Option InvocationRow). IsFound (λ r. r.invocations) (has_id c.args.id.now) old.now.trees o) c.in-Ok-Some.field-0-is (c.in-Ok-Some.ensures.found clean) in
@@ -23,8 +23,8 @@ returns-in-Ok-Some-clause-prepared g c clean events store =
 
 pub returns-in-Ok-None-clause-prepared : goal.returns-in-Ok-None-clause-prepared
 returns-in-Ok-None-clause-prepared g c clean events store =
-    let old : State = state g.S.Store c.args.conn.now in
-    let early : HasCleanDisk old = omega (arith, c.invocation_by_id.ensures.crash.clean) in
+    let old : State = state g.S.Store c.args.tables.now in
+    let early : HasCleanDisk old = omega (arith, c.invocation_by_id.ensures.looks.crash.clean) in
     let keeps : Keeps events old = store.keeps early (c.in-Ok-None.ensures.open clean) in
     let found : IsFound (λ r. r.invocations) (has_id c.args.id.now) old.now.trees None =
     subst (λ (o : Option InvocationRow). IsFound (λ r. r.invocations) (has_id c.args.id.now) old.now.trees o) c.in-Ok-None.field-0-is (c.in-Ok-None.ensures.found clean) in
@@ -32,8 +32,8 @@ returns-in-Ok-None-clause-prepared g c clean events store =
 
 pub returns-in-Err-clause-prepared : goal.returns-in-Err-clause-prepared
 returns-in-Err-clause-prepared g c clean events store =
-    let old : State = state g.S.Store c.args.conn.now in
-    let early : HasCleanDisk old = omega (arith, c.invocation_by_id.ensures.crash.clean) in
+    let old : State = state g.S.Store c.args.tables.now in
+    let early : HasCleanDisk old = omega (arith, c.invocation_by_id.ensures.looks.crash.clean) in
     subst (λ (why : Refusal). Takes events c.args.id.now c.args.attempt c.args.frame (Err why)) (sym c.from.ensures)
     (read_failed events c.args.id.now c.in-Err.error
     (λ is. never_foreign events old (store.keeps early (c.in-Err.ensures.open clean is)) c.args.id.now (c.in-Err.ensures.foreign clean is))

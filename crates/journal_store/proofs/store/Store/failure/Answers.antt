@@ -7,9 +7,9 @@ use Rattle.journal_store.proofs.store.Store.failure.Goals as goal
 
 pub returns-clause-told : goal.returns-clause-told
 returns-clause-told g c clean events stands =
-    let old = state g.S.Store c.self.inside.connection in
+    let old = state g.S.Store c.self.inside.tables in
     let here : Stands events old c.self.inside.live.attempts =
     subst (λ (store : Stored g.row.S.Denot). Stands events (state g.S.Store store.connection) store.live.attempts) (sym c.self.view_is) stands in (
       c.failure.ensures.told clean events here.kept,
-      stands_asked events old (state g.S.Store c.failure.new.conn) c.self.inside.live.attempts c.failure.ensures.crash c.failure.ensures.kept here,
+      stands_asked events old (state g.S.Store c.failure.new.tables) c.self.inside.live.attempts c.failure.ensures.looks.crash c.failure.ensures.looks.kept here,
     )
