@@ -15,9 +15,9 @@ mod promises;
 mod relationship;
 mod state;
 
-use protocol_headers::CommandMessageHeaderEq;
 pub use laws::differences_are_shown;
 pub use mismatch::CommandMismatchError;
+use protocol_headers::CommandMessageHeaderEq;
 pub use relationship::CommandRelationship;
 use std::fmt;
 
