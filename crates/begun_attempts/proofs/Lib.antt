@@ -1,7 +1,5 @@
 pub mod Attempts
 pub mod Beginning
-pub mod Headers
-pub mod Lengths
 pub mod Next
 pub mod ShortKinds
 pub mod Starts

@@ -16,12 +16,12 @@ use Rattle.progress_steps.specs.Steps.{after_begin}
 use Rattle.store_refusals.specs.declared.refusal.Refusal.{Refusal}
 use Rattle.store_refusals.specs.declared.refusal.Refusal.TheVariants.{NumbersUsedUp}
 use Rattle.store_refusals.specs.Refused.{IsRefused}
-use Rattle.new_invocations.specs.Rows.{IsRowOf}
+use Rattle.new_invocations.specs.Rows.{IsRowOf, payload_tests}
 use Rattle.new_invocations.proofs.Refusing.{none_of_both, refused_by, refused_later}
 use Rattle.begun_attempts.specs.declared.attempt.PreparedAttempt.{PreparedAttempt}
 use Rattle.begun_attempts.specs.Begun.{AreHanded, IsBegun, shown_states}
 use Rattle.begun_attempts.specs.Frames.{AreFrames}
-use Rattle.begun_attempts.specs.Start.{start_of, start_tests}
+use Rattle.begun_attempts.specs.Start.{start_of}
 use Rattle.begun_attempts.proofs.Attempts.{attempts_among}
 use Rattle.begun_attempts.proofs.Beginning.{attempts_is, begin_writes_are, progress_is, row_named, start_payload_is, version_is}
 use Rattle.begun_attempts.proofs.Telling.{none_at_least}
@@ -34,19 +34,19 @@ module _ (events : List Event) (id : Text) (now : ℕ) (row : InvocationRow) (it
   left room = let same = attempts_is events id now row it in omega arith
 
   -- a number is left
-  pub next_none : row.progress.attempts + 1 < 2 ^ 32 → those_that_hold (start_tests (start_of row (shown_states events row) now)) ≡ []
+  pub next_none : row.progress.attempts + 1 < 2 ^ 32 → those_that_hold (payload_tests (start_of row (shown_states events row) now)) ≡ []
       → those_that_hold (own_tests events (Event.Begin id now)) ≡ []
   next_none room none =
-      none_of_both ((nat_le (2 ^ 32 - 1) (attempts_begun events id), Cause.NumbersUsedUp) ∷ []) (start_tests (start_payload events id now))
+      none_of_both ((nat_le (2 ^ 32 - 1) (attempts_begun events id), Cause.NumbersUsedUp) ∷ []) (payload_tests (start_payload events id now))
       (none_at_least (2 ^ 32 - 1) (attempts_begun events id) Cause.NumbersUsedUp (left room))
-      (subst (λ (payload : Bytes). those_that_hold (start_tests payload) ≡ []) (start_payload_is events id now row it) none)
+      (subst (λ (payload : Bytes). those_that_hold (payload_tests payload) ≡ []) (start_payload_is events id now row it) none)
 
-  pub next_refused : (why : Refusal) → row.progress.attempts + 1 < 2 ^ 32 → IsRefused (those_that_hold (start_tests (start_of row (shown_states events row) now))) why
+  pub next_refused : (why : Refusal) → row.progress.attempts + 1 < 2 ^ 32 → IsRefused (those_that_hold (payload_tests (start_of row (shown_states events row) now))) why
       → IsRefused (those_that_hold (own_tests events (Event.Begin id now))) why
   next_refused why room refused =
-      refused_later ((nat_le (2 ^ 32 - 1) (attempts_begun events id), Cause.NumbersUsedUp) ∷ []) (start_tests (start_payload events id now)) why
+      refused_later ((nat_le (2 ^ 32 - 1) (attempts_begun events id), Cause.NumbersUsedUp) ∷ []) (payload_tests (start_payload events id now)) why
       (none_at_least (2 ^ 32 - 1) (attempts_begun events id) Cause.NumbersUsedUp (left room))
-      (subst (λ (payload : Bytes). IsRefused (those_that_hold (start_tests payload)) why) (start_payload_is events id now row it) refused)
+      (subst (λ (payload : Bytes). IsRefused (those_that_hold (payload_tests payload)) why) (start_payload_is events id now row it) refused)
 
   -- none is left
   pub next_used_up : 2 ^ 32 ≤ row.progress.attempts + 1 → IsRefused (those_that_hold (own_tests events (Event.Begin id now))) NumbersUsedUp

@@ -1,8 +1,7 @@
 -- The start of an attempt, by the rows of its invocation and of its object's state.
-use Rattle.std.specs.Prelude.{ℕ, ◌-◌, ◌==◌, Bool, true, false, not, if◌then◌else◌, List, [], ◌∷◌, ◌++◌, map, None}
+use Rattle.std.specs.Prelude.{ℕ, ◌-◌, ◌==◌, Bool, true, false, not, if◌then◌else◌, List, ◌++◌, map, None}
 use Rattle.journal_model.specs.Notification.{Bytes}
 use Rattle.journal_model.specs.Spelling.{plain_number, plain_bytes, repeated_bytes}
-use Rattle.journal_model.specs.Cause.{Cause, Tests, is_too_long}
 use Rattle.protocol_records.specs.declared.start.StateEntry.{StateEntry}
 use Rattle.protocol_records.specs.declared.start.StartMessage.{StartMessage}
 use Rattle.store_rows.specs.declared.row.InvocationRow.{InvocationRow}
@@ -46,7 +45,3 @@ start_of row states now =
     ++ (repeated_bytes 4 (map state_bytes states) ++ (plain_number 5 (partial_number row.is_whole)
     ++ (plain_bytes 6 row.object ++ (plain_number 7 row.progress.attempts_since_entry
     ++ (plain_number 8 (since_first row.progress now) ++ plain_number 9 row.seed)))))))
-
--- a payload is refused where it is too long
-abbrev pub start_tests : Bytes → Tests
-start_tests payload = (is_too_long payload, Cause.PayloadTooLong) ∷ []

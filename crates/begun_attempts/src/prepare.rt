@@ -9,10 +9,10 @@ ghost use Rattle.store_rows.specs.Looks.{Looks};
 ghost use Rattle.store_model.specs.Kept.{journal_rows};
 ghost use Rattle.store_lookups.specs.Lookups.{row_frame};
 ghost use Rattle.store_refusals.specs.Prepared.{Tells};
-ghost use Rattle.new_invocations.specs.Rows.{Decides, IsOpenRow, IsStoreOf};
+ghost use Rattle.new_invocations.specs.Rows.{Decides, IsOpenRow, IsStoreOf, payload_tests};
 ghost use Rattle.begun_attempts.specs.Begun.{AreHanded, IsBegun, shown_states};
 ghost use Rattle.begun_attempts.specs.Frames.{AreFrames};
-ghost use Rattle.begun_attempts.specs.Start.{start_of, start_tests};
+ghost use Rattle.begun_attempts.specs.Start.{start_of};
 
 use crate::attempt::{AttemptFrames, PreparedAttempt};
 use crate::frames::{JournalFrames, journal_frames};
@@ -45,7 +45,7 @@ fn begun_start<S: Alter>(
     row: &InvocationRow,
     now: u64,
 ) -> Result<Bytes, Refusal>
-    ensures decided { HasCleanDisk (state S.Store tables.new) → (events : List Event) → IsStoreOf events (state S.Store tables.old) → Decides (start_tests (start_of row.now (shown_states events row.now) now)) (λ start. start ≡ frame_bytes 0x0000 (start_of row.now (shown_states events row.now) now)) result }
+    ensures decided { HasCleanDisk (state S.Store tables.new) → (events : List Event) → IsStoreOf events (state S.Store tables.old) → Decides (payload_tests (start_of row.now (shown_states events row.now) now)) (λ start. start ≡ frame_bytes 0x0000 (start_of row.now (shown_states events row.now) now)) result }
     ensures looks { Looks S.Store tables.old tables.new }
 {
     let states = shown_states(tables, row)?;
@@ -75,7 +75,7 @@ fn attempt_frames<S: Alter>(
     row: &InvocationRow,
     now: u64,
 ) -> Result<AttemptFrames, Refusal>
-    ensures decided { HasCleanDisk (state S.Store tables.new) → (events : List Event) → IsStoreOf events (state S.Store tables.old) → Decides (start_tests (start_of row.now (shown_states events row.now) now)) (AreHanded events row.now now) result }
+    ensures decided { HasCleanDisk (state S.Store tables.new) → (events : List Event) → IsStoreOf events (state S.Store tables.old) → Decides (payload_tests (start_of row.now (shown_states events row.now) now)) (AreHanded events row.now now) result }
     ensures looks { Looks S.Store tables.old tables.new }
 {
     let start = begun_start(tables, row, now)?;

@@ -1,20 +1,18 @@
 // The start of an attempt.
 ghost use Rattle.std.specs.Prelude.{◌≡◌, map, IfOk};
-ghost use Rattle.begun_attempts.specs.Start.{since_first, start_of, start_record, start_tests, state_record};
+ghost use Rattle.begun_attempts.specs.Start.{since_first, start_of, start_record, state_record};
 ghost use Rattle.journal_model.specs.Spelling.{frame_bytes};
-ghost use Rattle.new_invocations.specs.Rows.{Decides};
+ghost use Rattle.new_invocations.specs.Rows.{Decides, payload_tests};
 
-use crate::frames::put_frame;
-use bytes::{Bytes, BytesMut};
+use bytes::Bytes;
+use journal_protocol::MessageType;
+use new_invocations::payload_frame;
 use protocol_records::{StartMessage, StateEntry};
 use protocol_wire::encode;
 use sequence::Sequence;
 use std::alloc::{AllocError, Global};
 use store_refusals::Refusal;
 use store_rows::{InvocationRow, Progress, StateRow};
-
-/// The number of the type of a start.
-const START: u32 = 0x0000;
 
 /// A value of the state as the record of a start has it.
 fn entry_of(row: &StateRow) -> Result<StateEntry, AllocError>
@@ -97,13 +95,8 @@ pub(crate) fn start_frame(
     states: &[StateRow],
     now: u64,
 ) -> Result<Bytes, Refusal>
-    ensures { Decides (start_tests (start_of row.now states.now now)) (λ start. start ≡ frame_bytes 0x0000 (start_of row.now states.now now)) result }
+    ensures { Decides (payload_tests (start_of row.now states.now now)) (λ start. start ≡ frame_bytes 0x0000 (start_of row.now states.now now)) result }
 {
     let payload = start_payload(alloc, row, states, now)?;
-    if payload.len() > u32::MAX as usize {
-        return Err(Refusal::PayloadTooLong);
-    }
-    let mut frame = BytesMut::new(alloc);
-    put_frame(&mut frame, START, payload.as_slice())?;
-    Ok(frame.freeze()?)
+    payload_frame(alloc, MessageType::Start, payload.as_slice())
 }

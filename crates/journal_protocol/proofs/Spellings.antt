@@ -114,6 +114,20 @@ header_spelling number len p q =
     let b0 : word % 256 ≡ len % 256 = omega arith in
     λ i. b7 i ∷ b6 i ∷ b5 i ∷ b4 i ∷ b3 i ∷ b2 i ∷ b1 i ∷ b0 i ∷ []
 
+-- a header has the lowest thirty-two bits of a length
+low_length : (number len : ℕ) → model.header_bytes number (len % 2 ^ 32) ≡ model.header_bytes number len
+low_length number len =
+    let b3 : len % 2 ^ 32 / 2 ^ 24 % 256 ≡ len / 2 ^ 24 % 256 = omega arith in
+    let b2 : len % 2 ^ 32 / 2 ^ 16 % 256 ≡ len / 2 ^ 16 % 256 = omega arith in
+    let b1 : len % 2 ^ 32 / 2 ^ 8 % 256 ≡ len / 2 ^ 8 % 256 = omega arith in
+    let b0 : len % 2 ^ 32 % 256 ≡ len % 256 = omega arith in
+    λ i. (number / 256) ∷ (number % 256) ∷ 0 ∷ 0 ∷ b3 i ∷ b2 i ∷ b1 i ∷ b0 i ∷ []
+
+pub header_is : (number len : ℕ) → number < 2 ^ 16 → to_be_bytes w64 (number * 2 ^ 48 + len % 2 ^ 32) ≡ model.header_bytes number len
+header_is number len p =
+    let same : number * 2 ^ 48 + len % 2 ^ 32 ≡ number * 2 ^ 48 + 0 + len % 2 ^ 32 = omega arith in
+    ap (to_be_bytes w64) same ∙ header_spelling number (len % 2 ^ 32) p (omega arith) ∙ low_length number len
+
 -- A message that requests no acknowledgement is spelled as a frame of its type's number.
 pub spelled-frame_bytes : (ty : MessageType) (payload : List ℕ) → number_of ty < 2 ^ 16 → length payload < 2 ^ 32 → spelled (message_of ty payload) ≡ model.frame_bytes (number_of ty) payload
 unfolding spelled

@@ -1,5 +1,6 @@
 pub mod CommandType
 pub mod Decoder
+pub mod First
 pub mod Frame
 pub mod Header
 pub mod Item

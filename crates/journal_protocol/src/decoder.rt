@@ -3,6 +3,7 @@ ghost use Rattle.std.specs.Prelude.{◌≡◌, ◌++◌, [], length, OnOk, OnErr
 ghost use Rattle.journal_protocol.specs.Header.{message_type};
 ghost use Rattle.journal_protocol.specs.Decoder.{ConsumesNext};
 
+use crate::frame::HEADER_LEN;
 use crate::{MessageHeader, MessageType, UnknownMessageType};
 use bytes::{Bytes, BytesMut};
 use protocol_wire::Fault;
@@ -10,9 +11,6 @@ use std::alloc::{AllocError, Global};
 use std::fmt;
 use std::marker::Model;
 use thiserror::Error;
-
-/// The bytes of a header.
-pub(crate) const HEADER_LEN: usize = 8;
 
 /// A header with its payload, which is not read yet.
 #[derive(Debug, Drop)]

@@ -2,7 +2,7 @@
 ghost use Rattle.std.specs.Prelude.{◌≡◌, ◌≤◌, ◌^◌, ◌++◌, ◌↔◌, Err, length, OnOk, OnErr};
 ghost use Rattle.journal_protocol.specs.Frame.{spelled, message_of};
 
-use crate::decoder::HEADER_LEN;
+use crate::frame::HEADER_LEN;
 use crate::{MessageHeader, MessageType};
 use bytes::BytesMut;
 use std::alloc::AllocError;

@@ -5,6 +5,8 @@ mod command_type;
 mod conversion;
 mod decoder;
 mod encoder;
+mod first;
+mod frame;
 mod header;
 pub mod laws;
 mod message_type;
@@ -18,6 +20,8 @@ pub use conversion::{
 };
 pub use decoder::{Decoder, DecodingError, NotificationField, RawMessage};
 pub use encoder::{EncodingError, write_message};
+pub use first::{FirstItem, first_item};
+pub use frame::{HEADER_LEN, frame_of, payload_of_frame, put_frame};
 pub use header::MessageHeader;
 pub use message_type::{MessageType, UnknownMessageType};
 pub use request_headers::HeaderMap;

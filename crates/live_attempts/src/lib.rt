@@ -10,4 +10,5 @@ mod output;
 pub use attempt::LiveAttempt;
 pub use attempts::LiveAttempts;
 pub use input::{AttemptInput, PieceLeft};
-pub use output::{AttemptOutput, FirstItem, HEADER_LEN};
+pub use journal_protocol::{FirstItem, HEADER_LEN};
+pub use output::AttemptOutput;

@@ -1,14 +1,11 @@
 // The bytes of an attempt that wait to be taken.
 ghost use Rattle.std.specs.Prelude.{◌≡◌, ◌≤◌, ◌++◌, [], length, drop, OnOk, OnErr};
-ghost use Rattle.live_attempts.specs.Output.{IsFirst};
+ghost use Rattle.journal_protocol.specs.First.{IsFirst};
 
 use bytes::BytesMut;
-use journal_protocol::MessageHeader;
+use journal_protocol::{FirstItem, first_item};
 use std::alloc::{AllocError, Global};
 use std::marker::Model;
-
-/// The bytes of a header.
-pub const HEADER_LEN: usize = 8;
 
 /// What came from an attempt and was not taken: whole frames, and the beginning of one.
 ///
@@ -25,19 +22,6 @@ impl Model for AttemptOutput {
     ghost Value = { List ℕ };
 
     ghost view = { λ output. output.buffer.items };
-}
-
-/// What stands first.
-#[derive(Clone, Copy, Debug)]
-pub enum FirstItem<'a> {
-    /// No whole frame.
-    Partial,
-    /// A header of unknown type.
-    Unknown,
-    Frame {
-        header: MessageHeader,
-        payload: &'a [u8],
-    },
 }
 
 impl AttemptOutput {
@@ -66,20 +50,10 @@ impl AttemptOutput {
     }
 
     /// Looks at the first item.
-    #[tactic(auto, unfolding(journal_protocol::specs::Item::item_at))]
     pub fn first(&self) -> FirstItem<'_>
         ensures { IsFirst self.now result }
     {
-        let Some((word, rest)) = self.buffer.as_slice().split_first_chunk::<HEADER_LEN>() else {
-            return FirstItem::Partial;
-        };
-        let Ok(header) = MessageHeader::try_from(u64::from_be_bytes(*word)) else {
-            return FirstItem::Unknown;
-        };
-        match rest.get(..header.message_length() as usize) {
-            Some(payload) => FirstItem::Frame { header, payload },
-            None => FirstItem::Partial,
-        }
+        first_item(self.buffer.as_slice())
     }
 
     /// Drops the first bytes, which were taken.

@@ -5,7 +5,7 @@ use Rattle.journal_model.specs.Event.{Event}
 use Rattle.journal_model.specs.Spelling.{frame_bytes, notification_payload}
 use Rattle.journal_model.specs.Journal.{entries_of}
 use Rattle.journal_model.specs.Attempt.{notification_type}
-use Rattle.journal_model.specs.Cause.{Cause, Tests, is_too_long}
+use Rattle.journal_model.specs.Cause.{Cause, Tests}
 use Rattle.notification_records.specs.declared.notification.NotificationMessage.{NotificationMessage}
 use Rattle.request_spellings.specs.Records.{id_record, result_record}
 use Rattle.store_rows.specs.declared.row.InvocationRow.{InvocationRow}
@@ -14,6 +14,7 @@ use Rattle.store_rows.specs.declared.row.Write.TheVariants.{SetProgress, AddEntr
 use Rattle.store_model.specs.Kept.{answered_by}
 use Rattle.store_model.specs.Writes.{writes_of}
 use Rattle.progress_steps.specs.Steps.{grown}
+use Rattle.new_invocations.specs.Rows.{payload_tests}
 use Rattle.new_arrivals.specs.declared.arrival.PreparedArrival.{PreparedArrival}
 
 -- its record
@@ -33,10 +34,7 @@ entry_of_arrival row kind answered payload = record {
   moment = 0;
 }
 
--- the tests of its payload, and those of one more entry
-abbrev pub payload_tests : Bytes → Tests
-payload_tests payload = (is_too_long payload, Cause.PayloadTooLong) ∷ []
-
+-- the tests of one more entry
 abbrev pub arrival_tests : InvocationRow → Arrival → Tests
 arrival_tests row arrival = (nat_lt (2 ^ 32 - 2) row.progress.entries, Cause.NumbersUsedUp) ∷ payload_tests (notification_payload arrival)
 

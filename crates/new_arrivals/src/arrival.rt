@@ -6,19 +6,17 @@ ghost use Rattle.journal_protocol.specs.MessageType.{number_of};
 ghost use Rattle.store_rows.specs.declared.row.Write.{Write as RowWrite};
 ghost use Rattle.store_model.specs.Kept.{answered_by};
 ghost use Rattle.progress_steps.specs.Steps.{grown};
-ghost use Rattle.new_invocations.specs.Rows.{Decides};
-ghost use Rattle.new_arrivals.specs.Arrivals.{IsArrival, IsWritten, arrival_tests, entry_of_arrival, payload_tests};
+ghost use Rattle.new_invocations.specs.Rows.{Decides, payload_tests};
+ghost use Rattle.new_arrivals.specs.Arrivals.{IsArrival, IsWritten, arrival_tests, entry_of_arrival};
 
 use crate::payload::payload_of;
-use bytes::{ByteStr, Bytes, BytesMut};
+use bytes::{ByteStr, Bytes};
 use journal_model::{Notification, NotificationId};
-use journal_protocol::{MessageType, write_message};
+use journal_protocol::{MessageType, payload_of_frame};
+use new_invocations::payload_frame;
 use std::alloc::{AllocError, Global};
 use store_refusals::Refusal;
 use store_rows::{EntryRow, InvocationRow, Progress, Write};
-
-// How long the header of a frame is.
-const HEADER_LEN: usize = 8;
 
 /// What an arrival writes, and what it adds to the input of a live attempt.
 #[derive(Debug, Drop)]
@@ -39,46 +37,29 @@ fn answered_id(id: &NotificationId) -> Option<u32>
     }
 }
 
-/// The frame of a payload, if its length fits 32 bits.
-fn framed(alloc: Global, ty: MessageType, kind: u16, payload: &[u8]) -> Result<Bytes, Refusal>
-    requires { kind ≡ number_of ty }
-    ensures { Decides (payload_tests payload.now) (λ frame. frame ≡ frame_bytes kind payload.now) result }
-{
-    let mut out = BytesMut::new(alloc);
-    write_message(&mut out, ty, payload)?;
-    let frame = out.freeze()?;
-    Ok(frame)
-}
-
 /// The frame of an arrival.
-fn frame_of(
-    alloc: Global,
-    ty: MessageType,
-    kind: u16,
-    arrival: Notification,
-) -> Result<Bytes, Refusal>
-    requires { kind ≡ number_of ty }
-    ensures { Decides (payload_tests (notification_payload arrival)) (λ frame. frame ≡ frame_bytes kind (notification_payload arrival)) result }
+fn arrival_frame(alloc: Global, ty: MessageType, arrival: Notification) -> Result<Bytes, Refusal>
+    ensures { Decides (payload_tests (notification_payload arrival)) (λ frame. frame ≡ frame_bytes (number_of ty) (notification_payload arrival)) result }
 {
     let payload = payload_of(alloc, arrival)?;
-    framed(alloc, ty, kind, payload.as_slice())
+    payload_frame(alloc, ty, payload.as_slice())
 }
 
 /// The entry of an arrival, whose payload is cut off its frame.
 fn entry_of(
     row: &InvocationRow,
-    kind: u16,
+    ty: MessageType,
     answered: Option<u32>,
     frame: &Bytes,
 ) -> Result<EntryRow, AllocError>
     requires { 8 ≤ length frame.now }
-    ensures { IfOk result (λ entry. entry ≡ entry_of_arrival row.now kind answered (without 8 frame.now)) }
+    ensures { IfOk result (λ entry. entry ≡ entry_of_arrival row.now (number_of ty) answered (without 8 frame.now)) }
 {
-    let payload = frame.slice(HEADER_LEN..)?;
+    let payload = payload_of_frame(frame)?;
     Ok(EntryRow {
         invocation: row.id.clone()?,
         place: row.progress.entries,
-        kind: u32::from(kind),
+        kind: u32::from(u16::from(ty)),
         payload,
         completion: None,
         second_completion: None,
@@ -132,17 +113,17 @@ fn writes_of(alloc: Global, row: InvocationRow, entry: EntryRow) -> Result<Vec<W
 fn arrival_with(
     alloc: Global,
     row: InvocationRow,
-    kind: u16,
+    ty: MessageType,
     answered: Option<u32>,
     frame: Bytes,
 ) -> Result<PreparedArrival, AllocError>
     requires room { row.progress.entries + 1 < 2 ^ 32 }
     requires framed { 8 ≤ length frame }
-    ensures written { IfOk result (IsWritten row kind answered frame) }
+    ensures written { IfOk result (IsWritten row (number_of ty) answered frame) }
     ensures place { IfOk result (λ made. made.place + 1 < 2 ^ 32) }
 {
     let place = row.progress.entries;
-    match entry_of(&row, kind, answered, &frame) {
+    match entry_of(&row, ty, answered, &frame) {
         Ok(entry) => Ok(PreparedArrival {
             writes: writes_of(alloc, row, entry)?,
             place,
@@ -166,11 +147,10 @@ fn arrival_in(
     ensures decided { Decides (payload_tests (notification_payload arrival)) (IsArrival row (number_of ty) arrival) result }
     ensures place { IfOk result (λ made. made.place + 1 < 2 ^ 32) }
 {
-    let kind = u16::from(ty);
     let answered = answered_id(&arrival.id);
-    match frame_of(alloc, ty, kind, arrival) {
+    match arrival_frame(alloc, ty, arrival) {
         Ok(frame) => {
-            let made = arrival_with(alloc, row, kind, answered, frame)?;
+            let made = arrival_with(alloc, row, ty, answered, frame)?;
             Ok(made)
         }
         Err(why) => {

@@ -1,5 +1,6 @@
 pub mod Standing
 pub mod Reading
 pub mod Refusing
+pub mod Framing
 pub mod Opened
 pub mod Beginning

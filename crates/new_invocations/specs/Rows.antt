@@ -1,11 +1,11 @@
 -- What the row of an invocation says of the accepted events.
 use Rattle.std.specs.Prelude.{◌≡◌, true, not, List, [], ◌∷◌, Option, Some, Result, Ok, Err, is_some, option_map, IsTrue}
 use Rattle.sqlite.specs.State.{State, HasCleanDisk}
-use Rattle.journal_model.specs.Notification.{Text}
+use Rattle.journal_model.specs.Notification.{Bytes, Text}
 use Rattle.journal_model.specs.declared.invocation.NewInvocation.{NewInvocation}
 use Rattle.journal_model.specs.Event.{Event}
 use Rattle.journal_model.specs.Journal.{invocation_begun, is_open}
-use Rattle.journal_model.specs.Cause.{Cause, Tests, those_that_hold, IsAccepted}
+use Rattle.journal_model.specs.Cause.{Cause, Tests, those_that_hold, is_too_long, IsAccepted}
 use Rattle.store_rows.specs.declared.row.InvocationRow.{InvocationRow}
 use Rattle.store_model.specs.Kept.{invocation_row}
 use Rattle.store_refusals.specs.declared.refusal.Refusal.{Refusal}
@@ -39,3 +39,7 @@ IsOpenRow events id row = IsRowOf events id row × (is_open events id ≡ true)
 -- the invocation was begun
 abbrev pub known_tests : List Event → Text → Tests
 known_tests events id = (not (is_some (invocation_begun events id)), Cause.UnknownInvocation) ∷ []
+
+-- a payload of which a frame is made is not too long
+abbrev pub payload_tests : Bytes → Tests
+payload_tests payload = (is_too_long payload, Cause.PayloadTooLong) ∷ []

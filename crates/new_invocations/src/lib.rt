@@ -2,9 +2,11 @@
 //! otherwise the writes by which it is recorded. Nothing is written here.
 #![tactic(auto)]
 
+mod frame;
 mod input;
 mod invoke;
 mod row;
 
+pub use frame::payload_frame;
 pub use invoke::prepare_invoke;
 pub use row::{known_row, open_row, row_of};

@@ -6,12 +6,9 @@ ghost use Rattle.typed_messages.specs.Encoded.{is_before_7 as is_before, record_
 
 use crate::message::PlainMessage;
 use bytes::Bytes;
-use journal_protocol::{EncodingError, MessageHeader, MessageType, Version};
+use journal_protocol::{EncodingError, HEADER_LEN, MessageHeader, MessageType, Version};
 use protocol_wire::{Record, encoded_len};
 use std::alloc::Global;
-
-/// The bytes of a header.
-const HEADER_LEN: usize = 8;
 
 /// Whether run proposals are not to be acknowledged yet, and suspensions are lists and no tree.
 pub(crate) fn is_before_7(version: Version) -> bool

@@ -5,7 +5,8 @@ use Rattle.new_invocations.proofs.Reading.{decided_err}
 use Rattle.new_invocations.proofs.Refusing.{refused_anyway}
 use Rattle.new_invocations.proofs.Standing.{store_kept}
 use Rattle.begun_attempts.specs.Begun.{AreHanded, shown_states}
-use Rattle.begun_attempts.specs.Start.{start_of, start_tests}
+use Rattle.new_invocations.specs.Rows.{payload_tests}
+use Rattle.begun_attempts.specs.Start.{start_of}
 use Rattle.begun_attempts.proofs.prepare.attempt_frames.Goals as goal
 
 pub returns-clause-decided : goal.returns-clause-decided
@@ -15,13 +16,13 @@ returns-clause-decided g c clean events store =
 
 pub returns-in_err-start-clause-decided : goal.returns-in_err-start-clause-decided
 returns-in_err-start-clause-decided g c clean events store =
-    let tests = start_tests (start_of c.args.row.now (shown_states events c.args.row.now) c.args.now) in
+    let tests = payload_tests (start_of c.args.row.now (shown_states events c.args.row.now) c.args.now) in
     decided_err tests (AreHanded events c.args.row.now c.args.now) c.from_residual.result c.from_residual.ensures.1 (λ why gives.
     subst (IsRefused (those_that_hold tests)) (sym gives) (c.in_err-start.ensures.decided clean events store))
 
 pub returns-in_err-journal-clause-decided : goal.returns-in_err-journal-clause-decided
 returns-in_err-journal-clause-decided g c clean events store =
-    let tests = start_tests (start_of c.args.row.now (shown_states events c.args.row.now) c.args.now) in
+    let tests = payload_tests (start_of c.args.row.now (shown_states events c.args.row.now) c.args.now) in
     decided_err tests (AreHanded events c.args.row.now c.args.now) c.from_residual-in_err-journal.result c.from_residual-in_err-journal.ensures.1 (λ why gives.
     subst (IsRefused (those_that_hold tests)) (sym gives)
     (refused_anyway tests _ (c.in_err-journal.ensures.told clean events (store_kept events _ _ c.begun_start.ensures.looks.crash c.begun_start.ensures.looks.kept store))))

@@ -1,8 +1,8 @@
-use Rattle.std.proofs.Common.{subst}
 use Rattle.journal_model.specs.Spelling.{notification_payload}
 use Rattle.journal_protocol.specs.MessageType.{number_of}
 use Rattle.new_invocations.proofs.Refusing.{refused_memory}
-use Rattle.new_arrivals.specs.Arrivals.{IsArrival, payload_tests}
+use Rattle.new_invocations.specs.Rows.{payload_tests}
+use Rattle.new_arrivals.specs.Arrivals.{IsArrival}
 use Rattle.new_arrivals.proofs.Framing.{long_enough}
 use Rattle.new_arrivals.proofs.Written.{arrival_made}
 use Rattle.new_arrivals.proofs.arrival.arrival_in.Goals as goal
@@ -13,8 +13,8 @@ arrival_with-requires-clause-framed c = long_enough _ (notification_payload c.ar
 pub returns-in_ok-made-in-Ok-clause-decided : goal.returns-in_ok-made-in-Ok-clause-decided
 returns-in_ok-made-in-Ok-clause-decided c = (
   c.in-Ok.ensures.0,
-  subst (λ kind. IsArrival c.args.row kind c.args.arrival c.in_ok-made-in-Ok.made) c.from-kind.ensures
-      (arrival_made c.args.row _ c.args.arrival c.in-Ok.frame c.in_ok-made-in-Ok.made c.in-Ok.ensures.1 (rw c.answered_id-answered.ensures at c.in_ok-made-in-Ok.ensures.written)),
+  arrival_made c.args.row (number_of c.args.ty) c.args.arrival c.in-Ok.frame c.in_ok-made-in-Ok.made c.in-Ok.ensures.1
+      (rw c.answered_id-answered.ensures at c.in_ok-made-in-Ok.ensures.written),
 )
 
 pub returns-in_err-made-in-Ok-clause-decided : goal.returns-in_err-made-in-Ok-clause-decided

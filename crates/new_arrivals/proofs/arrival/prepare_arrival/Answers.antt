@@ -3,7 +3,8 @@ use Rattle.journal_model.specs.Spelling.{notification_payload}
 use Rattle.journal_model.specs.Cause.{Cause, is_too_long}
 use Rattle.journal_protocol.specs.MessageType.{number_of}
 use Rattle.new_invocations.proofs.Refusing.{decided_later, first_of_two, none_of_one}
-use Rattle.new_arrivals.specs.Arrivals.{IsArrival, payload_tests}
+use Rattle.new_invocations.specs.Rows.{payload_tests}
+use Rattle.new_arrivals.specs.Arrivals.{IsArrival}
 use Rattle.new_arrivals.proofs.Framing.{not_used_up, used_up}
 use Rattle.new_arrivals.proofs.arrival.prepare_arrival.Goals as goal
 

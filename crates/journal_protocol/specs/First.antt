@@ -1,9 +1,9 @@
--- What stands first of an attempt's bytes.
+-- What stands first among bytes.
 use Rattle.std.specs.Prelude.{◌≡◌, ℕ, ◌+◌, ◌≤◌, List, length, drop, Some, None}
 use Rattle.journal_protocol.specs.declared.message_type.UnknownMessageType.{UnknownMessageType}
+use Rattle.journal_protocol.specs.declared.first.FirstItem.{FirstItem}
+use Rattle.journal_protocol.specs.declared.first.FirstItem.TheVariants.{Partial, Unknown, Frame}
 use Rattle.journal_protocol.specs.Item.{item_at, unknown, message}
-use Rattle.live_attempts.specs.declared.output.FirstItem.{FirstItem}
-use Rattle.live_attempts.specs.declared.output.FirstItem.TheVariants.{Partial, Unknown, Frame}
 
 -- the first item of the bytes, as it is seen in its place
 abbrev pub IsFirst : List ℕ → FirstItem → Type 0
