@@ -1,9 +1,9 @@
 -- One line more, and each way to come to an end.
-use Rattle.std.proofs.Common.{◌≡◌, ℕ, ◌<◌, false, List, [], ◌∷◌, ◌++◌, length, take, Option, Result, Ok, Err, refl, sym, ap, subst, ◌∙◌, append_assoc}
+use Rattle.std.proofs.Common.{◌≡◌, ℕ, ◌<◌, false, List, [], ◌∷◌, ◌++◌, length, take, Option, Result, Ok, Err, refl, sym, ap, subst, ◌∙◌, append_assoc, inl, inr}
 use Rattle.std.specs.Io.KnownBytes.{Appends}
 use Rattle.std.proofs.KnownBytes.{Appends-trans}
 use Rattle.sqlite_trees.specs.declared.store.Store.{Ghosts}
-use Rattle.built_in_handlers.specs.declared.handlers.Nap.{Nap}
+use Rattle.built_in_handlers.specs.declared.built_in.BuiltIn.{BuiltIn}
 use Rattle.durable_schedule.specs.declared.scheduler.Scheduler.{Scheduler}
 use Rattle.script_lines.specs.Line.{spelled}
 use Rattle.durable_script.specs.declared.fault.ScriptFault.{ScriptFault}
@@ -14,13 +14,13 @@ use Rattle.durable_script.specs.Asked.{is_second, asked_after, IsNotUnderstood}
 use Rattle.durable_script.specs.Line.{DoesLine, DoesSomeLine}
 use Rattle.durable_script.specs.Reaching.{Reaches}
 use Rattle.durable_script.specs.Runner.{DoesNext, StopsAt}
-use Rattle.durable_script.specs.Run.{DoneLine, lines_of, texts_of, asked_by, AreUnderstood, DoesAll, DoesSome, HasDone, DoesLines, ComesTo}
+use Rattle.durable_script.specs.Run.{DoneLine, lines_of, texts_of, asked_by, AreUnderstood, DoesAll, DoesFirst, HasDone, DoesLines, ComesTo}
 use Rattle.durable_script.proofs.Reaching.{reaches_then}
 
-module _ {S : Type 0} (g : Ghosts S) (lines : List (ℕ × List ℕ)) (start : Scheduler Nap S) where
+module _ {S : Type 0} (g : Ghosts S) (lines : List (ℕ × List ℕ)) (start : Scheduler BuiltIn S) where
   -- a scheduler that came from the start by these lines
-  abbrev pub Did : Scheduler Nap S → List DoneLine → Type 0
-  Did now done = Reaches g DoesSome (DoesAll done) start now
+  abbrev pub Did : Scheduler BuiltIn S → List DoneLine → Type 0
+  Did now done = Reaches g (DoesFirst done) (DoesAll done) start now
 
   module _ (done : List DoneLine) where
     -- the line that was done next
@@ -36,14 +36,8 @@ module _ {S : Type 0} (g : Ghosts S) (lines : List (ℕ × List ℕ)) (start : S
           ∙ ap (λ (ls : List (ℕ × List ℕ)). lines_of done ++ ls) (e ∙ ap (λ (bs : List ℕ). (number, bs) ∷ after) d.understood.spelling)
           ∙ sym (append_assoc (lines_of done) ((number, spelled d.line) ∷ []) after);
       understood = (h.understood, d.understood.is_line, subst (λ (a : Asked). is_second a d.line ≡ false) asked d.understood.first);
-      does = reaches_then g DoesSome (DoesSomeLine d.line) DoesSome (DoesAll done) (DoesLine d.line text) (DoesAll (next_line number bytes text old new d ∷ done)) start old.scheduler new.scheduler
-          (λ x y some. some)
-          (λ x y z p q. (
-            record { number = number; line = d.line; text = q.0 } ∷ done,
-            (h.understood, d.understood.is_line, subst (λ (a : Asked). is_second a d.line ≡ false) asked d.understood.first),
-            (y, p, q.1),
-          ))
-          (λ x y z p q. (y, p, q)) h.does d.does;
+      does = reaches_then g (DoesFirst done) (DoesSomeLine d.line) (DoesFirst (next_line number bytes text old new d ∷ done)) (DoesAll done) (DoesLine d.line text)
+          (DoesAll (next_line number bytes text old new d ∷ done)) start old.scheduler new.scheduler (λ x y earlier. inl earlier) (λ x y z p q. inr (y, p, q)) (λ x y z p q. (y, p, q)) h.does d.does;
     }
 
     pub asked_more : (number : ℕ) (bytes text : List ℕ) (old new : Runner S) (d : DoesNext g bytes text old new) → old.asked ≡ asked_by done
@@ -64,7 +58,7 @@ module _ {S : Type 0} (g : Ghosts S) (lines : List (ℕ × List ℕ)) (start : S
         has_done = record {
           lines_are = h.lines_are ∙ ap (λ (ls : List (ℕ × List ℕ)). lines_of done ++ ls) (e ∙ ap (λ (m : ℕ). (m, bytes) ∷ after) (sym s.0));
           understood = h.understood;
-          does = subst (λ (x : Scheduler Nap S). Did x done) (sym s.2) h.does;
+          does = subst (λ (x : Scheduler BuiltIn S). Did x done) (sym s.2) h.does;
         };
         unknown = subst (λ (a : Asked). IsNotUnderstood a bytes) asked s.1;
         written = refl;
@@ -80,7 +74,7 @@ module _ {S : Type 0} (g : Ghosts S) (lines : List (ℕ × List ℕ)) (start : S
         has_done = record {
           lines_are = h.lines_are ∙ ap (λ (ls : List (ℕ × List ℕ)). lines_of done ++ ls) e;
           understood = h.understood;
-          does = subst (λ (x : Scheduler Nap S). Did x done) (sym s) h.does;
+          does = subst (λ (x : Scheduler BuiltIn S). Did x done) (sym s) h.does;
         };
         written = refl;
       };
@@ -118,7 +112,7 @@ module _ {S : Type 0} (g : Ghosts S) (lines : List (ℕ × List ℕ)) (start : S
     }
 
     -- no line is left
-    pub whole : (new : Scheduler Nap S) (rest : List (ℕ × List ℕ)) (had has : Option (List ℕ)) → HasDone lines (Did new) done rest → rest ≡ [] → Appends had has (texts_of done)
+    pub whole : (new : Scheduler BuiltIn S) (rest : List (ℕ × List ℕ)) (had has : Option (List ℕ)) → HasDone lines (Did new) done rest → rest ≡ [] → Appends had has (texts_of done)
         → DoesLines lines (Did new) had has (Ok tt)
     whole new rest had has h e written = record {
       output = texts_of done;
@@ -132,20 +126,10 @@ module _ {S : Type 0} (g : Ghosts S) (lines : List (ℕ × List ℕ)) (start : S
 
 -- ---- what is told of the lines that were done
 
--- however far it came, some lines were done
-pub some_done : (lines : List (ℕ × List ℕ)) (Does : List DoneLine → Type 0) (output : List ℕ) (result : Result (Unit {0}) ScriptFault) → ComesTo lines Does output result
-    → (done : List DoneLine) × AreUnderstood done × Does done
-some_done lines Does output (Ok done) c = (c.done, c.has_done.understood, c.has_done.does)
-some_done lines Does output (Err (LineNotUnderstood number)) c = (c.done, c.has_done.understood, c.has_done.does)
-some_done lines Does output (Err LineOutOfMemory) c = (c.done, c.has_done.understood, c.has_done.does)
-some_done lines Does output (Err TextOutOfMemory) c = (c.last ∷ c.before, c.has_done.understood, c.has_done.does)
-some_done lines Does output (Err OutputUnwritable) c = (c.last ∷ c.before, c.has_done.understood, c.has_done.does)
-some_done lines Does output (Err ScriptUnreadable) c = absurd c
-
 -- it may be told in another way
-module _ (lines : List (ℕ × List ℕ)) (Does Tells : List DoneLine → Type 0) (so : (done : List DoneLine) → Does done → Tells done) where
+module _ (lines : List (ℕ × List ℕ)) (Does Tells : List DoneLine → Type 0) (so : (done : List DoneLine) → AreUnderstood done → Does done → Tells done) where
   has_done_so : (done : List DoneLine) (rest : List (ℕ × List ℕ)) → HasDone lines Does done rest → HasDone lines Tells done rest
-  has_done_so done rest h = record { lines_are = h.lines_are; understood = h.understood; does = so done h.does }
+  has_done_so done rest h = record { lines_are = h.lines_are; understood = h.understood; does = so done h.understood h.does }
 
   pub comes_so : (output : List ℕ) (result : Result (Unit {0}) ScriptFault) → ComesTo lines Does output result → ComesTo lines Tells output result
   comes_so output (Ok done) c = record { done = c.done; has_done = has_done_so c.done [] c.has_done; written = c.written }

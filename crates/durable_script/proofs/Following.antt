@@ -1,90 +1,140 @@
--- Each line keeps each invocation in the run of `nap`.
-use Rattle.std.proofs.Common.{◌≡◌, ℕ, suc, zero, List, [], ◌∷◌, Result, Ok, Err, OnErr, refl, sym, ap, subst}
-use Rattle.built_in_handlers.specs.declared.handlers.Nap.{Nap}
-use Rattle.built_in_handlers.specs.Handlers.{nap_until}
+-- Lines are a schedule, so each invocation is in the run of the handler that they name.
+use Rattle.std.proofs.Common.{◌≡◌, ℕ, suc, zero, List, [], ◌∷◌, ◌++◌, sym, subst, inl, inr}
+use Rattle.std.specs.List.{AllByRecursion}
+use Rattle.built_in_handlers.specs.declared.built_in.BuiltIn.{BuiltIn}
+use Rattle.built_in_handlers.specs.BuiltIn.{function_of}
 use Rattle.journal_model.specs.Notification.{Text}
+use Rattle.journal_model.specs.Run.{Handler}
 use Rattle.invocation_vm.specs.declared.progress.Turn.TheVariants.{Answered}
 use Rattle.invocation_vm.specs.Options.{default_options}
 use Rattle.schedule_events.specs.declared.event.Event.{Event}
 use Rattle.schedule_events.specs.declared.event.Event.TheVariants as event
 use Rattle.schedule_events.specs.declared.event.Reply.{Reply}
 use Rattle.schedule_events.specs.declared.event.Reply.TheVariants.{Turned}
-use Rattle.schedule_events.specs.declared.held.HeldAttempt.{HeldAttempt}
-use Rattle.schedule_events.specs.Following.{Follows}
-use Rattle.schedule_events.specs.Schedule.{Scheduled, Applies, Brings, FitsEvent}
-use Rattle.schedule_events.proofs.Leaving.{follows_at_first, kept_by_each, begins_run}
-use Rattle.durable_schedule.proofs.Growing.{Grows, grows_on, same_grows, does_grow}
+use Rattle.schedule_events.specs.Schedule.{Scheduled, Applies, AppliesAll, Brings, FitsEvent}
+use Rattle.schedule_events.proofs.Applying.{schedules_grow}
+use Rattle.schedule_events.proofs.Leaving.{leaves_runs}
+use Rattle.durable_schedule.proofs.Growing.{Grows, all_grow}
+use Rattle.durable_schedule.proofs.Scheduling.{each_more}
 use Rattle.script_lines.specs.declared.line.Line.{Line}
 use Rattle.script_lines.specs.declared.line.Line.TheVariants.{Invoke, Begin, Feed, Turn, Move, Stop, Show}
 use Rattle.script_lines.specs.Line.{IsLine}
-use Rattle.durable_script.specs.Line.{nap_function, nap, new_invocation, AnsweredTurns, DoesLine}
-use Rattle.durable_script.specs.Run.{DoneLine, AreUnderstood, DoesAll, LinesFollow}
+use Rattle.durable_script.specs.Line.{new_invocation, AnsweredTurns, DoesLine, BringsFunction}
+use Rattle.durable_script.specs.Run.{DoneLine, AreUnderstood, AllBring, DoesAll, DoesFirst, FollowLines, LinesFollow}
 
-module _ (want : Text) where
-  -- the invocation is in the run
-  abbrev Stays : Scheduled Nap → Type 0
-  Stays now = Follows nap_function (nap_until 10) default_options want now.standing now.held
+-- Some events lead from the one to the other, and their begins bring what is told of the lines.
+pub record IsSchedule (Told : Text → Handler → Type 0) (start end : Scheduled BuiltIn) : Type 0 where
+  pub events : List (Event BuiltIn)
+  pub replies : List Reply
+  pub applies : AppliesAll function_of default_options events replies start end
+  pub fits : AllByRecursion FitsEvent events
+  pub brings : (id : Text) (next : Handler) → Told id next → AllByRecursion (Brings function_of id next) events
 
-  event_stays : (one : Event Nap) (answer : Reply) (old new : Scheduled Nap) → FitsEvent one → Brings nap_function want (nap_until 10) one
-      → Applies nap_function default_options one answer old new → Stays old → Stays new
-  event_stays one answer old new fits brings a s =
-      kept_by_each nap_function (nap_until 10) default_options want one answer old.standing new.standing old.held new.held fits brings a s
+-- one more event
+event_more : (Told More : Text → Handler → Type 0) (one : Event BuiltIn) (answer : Reply) (start old new : Scheduled BuiltIn) → FitsEvent one
+    → ((id : Text) (next : Handler) → More id next → Told id next) → ((id : Text) (next : Handler) → More id next → Brings function_of id next one)
+    → Applies function_of default_options one answer old new → IsSchedule Told start old → IsSchedule More start new
+event_more Told More one answer start old new fits told brings applies s = record {
+  events = s.events ++ one ∷ [];
+  replies = s.replies ++ answer ∷ [];
+  applies = schedules_grow function_of default_options s.events s.replies start old new one answer s.applies applies;
+  fits = each_more FitsEvent s.events one s.fits fits;
+  brings = λ id next more. each_more (Brings function_of id next) s.events one (s.brings id next (told id next more)) (brings id next more);
+}
 
-  turns_stay : (id : Text) (n turns : ℕ) (old new : Scheduled Nap) → AnsweredTurns id n turns old new → Stays old → Stays new
-  turns_stay id n zero old new t s = subst Stays (sym t) s
-  turns_stay id n (suc turns) old new t s = event_stays (event.Turn id n) (Turned Answered) t.0 new tt tt t.2 (turns_stay id n turns old t.0 t.1 s)
+-- no event more
+none_more : (Told More : Text → Handler → Type 0) (start old new : Scheduled BuiltIn) → ((id : Text) (next : Handler) → More id next → Told id next) → new ≡ old
+    → IsSchedule Told start old → IsSchedule More start new
+none_more Told More start old new told same s = record {
+  events = s.events;
+  replies = s.replies;
+  applies = subst (λ (end : Scheduled BuiltIn). AppliesAll function_of default_options s.events s.replies start end) (sym same) s.applies;
+  fits = s.fits;
+  brings = λ id next more. s.brings id next (told id next more);
+}
 
-  line_stays : (line : Line) (text : List ℕ) (old new : Scheduled Nap) → IsLine line → DoesLine line text old new → Stays old → Stays new
-  line_stays (Invoke id object version state seed input) text old new l d s =
-      event_stays (event.Invoke (new_invocation id object version state seed input)) d.reply old new l.3 tt d.applied s
-  line_stays (Begin id handler now) text old new l d s = event_stays (event.Begin id (nap d.0) now) d.1.reply old new l.1 (λ is. refl) d.1.applied s
-  line_stays (Feed id n count) text old new l d s = event_stays (event.Feed id n count) d.reply old new tt tt d.applied s
-  line_stays (Turn id n count) text old new l d s =
-      event_stays (event.Turn id n) d.last d.took.between new tt tt d.took.applied (turns_stay id n d.took.before old d.took.between d.took.answered s)
-  line_stays (Move id n count) text old new l d s = event_stays (event.Move id n count) d.reply old new tt tt d.applied s
-  line_stays (Stop id n) text old new l d s = event_stays (event.Stop id n) d.reply old new tt tt d.applied s
-  line_stays (Show id) text old new l d s = subst Stays (sym d.1) s
+turns_more : (Told : Text → Handler → Type 0) (id : Text) (n turns : ℕ) (start old new : Scheduled BuiltIn) → AnsweredTurns id n turns old new → IsSchedule Told start old
+    → IsSchedule Told start new
+turns_more Told id n zero start old new t s = none_more Told Told start old new (λ id next told. told) t s
+turns_more Told id n (suc turns) start old new t s =
+    event_more Told Told (event.Turn id n) (Turned Answered) start t.0 new tt (λ id next told. told) (λ id next told. tt) t.2 (turns_more Told id n turns start old t.0 t.1 s)
 
-  lines_stay : (done : List DoneLine) (old new : Scheduled Nap) → AreUnderstood done → DoesAll done old new → Stays old → Stays new
-  lines_stay [] old new u d s = subst Stays (sym d) s
-  lines_stay (one ∷ before) old new u d s = line_stays one.line one.text d.0 new u.1 d.2 (lines_stay before old d.0 u.0 d.1 s)
+-- ---- of lines
 
--- what is recorded then is the beginning of the run
-pub follows_nap : LinesFollow
-follows_nap start end done none understood does = λ id fresh invocation begun.
-    begins_run nap_function (nap_until 10) default_options id end.standing end.held invocation begun
-    (lines_stay id done start end understood does
-    (subst (λ (held : List (HeldAttempt Nap)). Follows nap_function (nap_until 10) default_options id start.standing held) (sym none)
-    (follows_at_first nap_function (nap_until 10) default_options id start.standing fresh)))
+-- what is told of the lines before, and of one more
+abbrev Also : (Text → Handler → Type 0) → Line → Text → Handler → Type 0
+Also Told line id next = Told id next × BringsFunction id next line
 
--- ---- the accepted events stay
+module _ (Told : Text → Handler → Type 0) (text : List ℕ) (start old new : Scheduled BuiltIn) where
+  line_more : (line : Line) → IsLine line → DoesLine line text old new → IsSchedule Told start old → IsSchedule (Also Told line) start new
+  line_more (Invoke id object version state seed input) l d s =
+      event_more Told (Also Told (Invoke id object version state seed input)) (event.Invoke (new_invocation id object version state seed input)) d.reply start old new l.3
+      (λ id next told. told.0) (λ id next told. tt) d.applied s
+  line_more (Begin id name now) l d s =
+      event_more Told (Also Told (Begin id name now)) (event.Begin id d.0 now) d.2.reply start old new l.1
+      (λ want next told. told.0) (λ want next told is. told.1 is d.0 d.1) d.2.applied s
+  line_more (Feed id n count) l d s =
+      event_more Told (Also Told (Feed id n count)) (event.Feed id n count) d.reply start old new tt (λ id next told. told.0) (λ id next told. tt) d.applied s
+  line_more (Turn id n count) l d s =
+      event_more Told (Also Told (Turn id n count)) (event.Turn id n) d.last start d.took.between new tt (λ id next told. told.0) (λ id next told. tt) d.took.applied
+      (turns_more Told id n d.took.before start old d.took.between d.took.answered s)
+  line_more (Move id n count) l d s =
+      event_more Told (Also Told (Move id n count)) (event.Move id n count) d.reply start old new tt (λ id next told. told.0) (λ id next told. tt) d.applied s
+  line_more (Stop id n) l d s =
+      event_more Told (Also Told (Stop id n)) (event.Stop id n) d.reply start old new tt (λ id next told. told.0) (λ id next told. tt) d.applied s
+  line_more (Show id) l d s = none_more Told (Also Told (Show id)) start old new (λ id next told. told.0) d.1 s
 
-event_grows : (one : Event Nap) (answer : Reply) (old new : Scheduled Nap) → Applies nap_function default_options one answer old new → Grows old.standing new.standing
-event_grows one answer old new a = does_grow nap_function default_options one old.standing new.standing old.held new.held answer a
+-- what is told of lines that were done
+abbrev Bring : List DoneLine → Text → Handler → Type 0
+Bring done id next = AllBring id next done
 
-stays_grown : (old new : Scheduled Nap) → new ≡ old → Grows old.standing new.standing
-stays_grown old new same = same_grows old.standing new.standing (ap (λ (s : Scheduled Nap). s.standing.events) same)
+lines_are : (done : List DoneLine) (start end : Scheduled BuiltIn) → AreUnderstood done → DoesAll done start end → IsSchedule (Bring done) start end
+lines_are [] start end u d = record { events = []; replies = []; applies = d; fits = tt; brings = λ id next told. tt }
+lines_are (one ∷ before) start end u d = line_more (Bring before) one.text start d.0 end one.line u.1 d.2 (lines_are before start d.0 u.0 d.1)
 
-turns_grow : (id : Text) (n turns : ℕ) (old new : Scheduled Nap) → AnsweredTurns id n turns old new → Grows old.standing new.standing
-turns_grow id n zero old new t = stays_grown old new t
-turns_grow id n (suc turns) old new t =
-    grows_on old.standing t.0.standing new.standing (turns_grow id n turns old t.0 t.1) (event_grows (event.Turn id n) (Turned Answered) t.0 new t.2)
+-- ---- what lines leave
 
-line_grows : (line : Line) (text : List ℕ) (old new : Scheduled Nap) → DoesLine line text old new → Grows old.standing new.standing
-line_grows (Invoke id object version state seed input) text old new d = event_grows (event.Invoke (new_invocation id object version state seed input)) d.reply old new d.applied
-line_grows (Begin id handler now) text old new d = event_grows (event.Begin id (nap d.0) now) d.1.reply old new d.1.applied
-line_grows (Feed id n count) text old new d = event_grows (event.Feed id n count) d.reply old new d.applied
-line_grows (Turn id n count) text old new d =
-    grows_on old.standing d.took.between.standing new.standing (turns_grow id n d.took.before old d.took.between d.took.answered) (event_grows (event.Turn id n) d.last d.took.between new d.took.applied)
-line_grows (Move id n count) text old new d = event_grows (event.Move id n count) d.reply old new d.applied
-line_grows (Stop id n) text old new d = event_grows (event.Stop id n) d.reply old new d.applied
-line_grows (Show id) text old new d = stays_grown old new d.1
+pub follow_lines : LinesFollow
+follow_lines start end done none understood does id next fresh bring invocation begun =
+    let s = lines_are done start end understood does in
+    leaves_runs function_of default_options s.events s.replies start end none s.applies next id fresh s.fits (s.brings id next bring) invocation begun
 
-pub lines_grow : (done : List DoneLine) (old new : Scheduled Nap) → DoesAll done old new → Grows old.standing new.standing
-lines_grow [] old new d = stays_grown old new d
-lines_grow (one ∷ before) old new d = grows_on old.standing d.0.standing new.standing (lines_grow before old d.0 d.1) (line_grows one.line one.text d.0 new d.2)
+-- the accepted events stay
+lines_grow : (done : List DoneLine) (start end : Scheduled BuiltIn) → AreUnderstood done → DoesAll done start end → Grows start.standing end.standing
+lines_grow done start end understood does =
+    let s = lines_are done start end understood does in
+    all_grow function_of default_options s.events s.replies start end s.applies
 
--- a fact that holds, holds at an error
-pub on_err : {T E : Type 0} {P : Type 0} (r : Result T E) → P → OnErr r P
-on_err (Ok x) p = tt
-on_err (Err e) p = p
+-- ---- where a crash comes into them
+
+-- some of the lines were done
+record IsCut (done : List DoneLine) (start end : Scheduled BuiltIn) : Type 0 where
+  first : List DoneLine
+  understood : AreUnderstood first
+  does : DoesAll first start end
+  brings : (id : Text) (next : Handler) → AllBring id next done → AllBring id next first
+
+cut_of : (done : List DoneLine) (start end : Scheduled BuiltIn) → AreUnderstood done → DoesFirst done start end → IsCut done start end
+cut_of [] start end u d = absurd d
+cut_of (one ∷ before) start end u d = elim d [
+  | inl earlier ↦
+      let cut = cut_of before start end u.0 earlier in
+      record { first = cut.first; understood = cut.understood; does = cut.does; brings = λ id next all. cut.brings id next all.0 }
+  | inr last ↦ record {
+    first = record { number = one.number; line = one.line; text = last.2.0 } ∷ before;
+    understood = u;
+    does = (last.0, last.1, last.2.1);
+    brings = λ id next all. all;
+  }
+]
+
+module _ (done : List DoneLine) (start end : Scheduled BuiltIn) (understood : AreUnderstood done) (does : DoesFirst done start end) where
+  pub first_follow : start.held ≡ [] → FollowLines done start.standing.events end.standing.events
+  first_follow none id next fresh bring invocation begun =
+      let cut = cut_of done start end understood does in
+      follow_lines start end cut.first none cut.understood cut.does id next fresh (cut.brings id next bring) invocation begun
+
+  pub first_grow : Grows start.standing end.standing
+  first_grow =
+      let cut = cut_of done start end understood does in
+      lines_grow cut.first start end cut.understood cut.does

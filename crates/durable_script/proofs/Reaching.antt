@@ -4,7 +4,8 @@ use Rattle.sqlite_trees.specs.declared.store.Store.{Ghosts}
 use Rattle.sqlite.specs.Held.{state}
 use Rattle.sqlite.specs.State.{HasCleanDisk, Survives}
 use Rattle.sqlite.proofs.StateLemmas.{survives_then, survives_weaker}
-use Rattle.built_in_handlers.specs.declared.handlers.Nap.{Nap}
+use Rattle.built_in_handlers.specs.declared.built_in.BuiltIn.{BuiltIn}
+use Rattle.built_in_handlers.specs.BuiltIn.{function_of}
 use Rattle.journal_model.specs.Event as model
 use Rattle.invocation_vm.specs.declared.options.VMOptions.{VMOptions}
 use Rattle.invocation_vm.specs.Options.{default_options}
@@ -15,20 +16,19 @@ use Rattle.schedule_events.specs.declared.held.HeldAttempt.{HeldAttempt}
 use Rattle.schedule_events.specs.Schedule.{Scheduled, Does, Applies}
 use Rattle.durable_schedule.specs.declared.scheduler.Scheduler.{Scheduler}
 use Rattle.durable_schedule.specs.Scheduled.{AppliesWith, Endures, Keeps, IsScheduled}
-use Rattle.durable_script.specs.Line.{nap_function}
 use Rattle.durable_script.specs.Reaching.{KeepsCut, Leaves, Reaches, Nowhere}
 use Rattle.durable_script.specs.Shown.{Looks}
 
 -- an event was applied, with some reply
-abbrev pub Applied : Event Nap → Scheduled Nap → Scheduled Nap → Type 0
-Applied one old new = (reply : Reply) × Applies nap_function default_options one reply old new
+abbrev pub Applied : Event BuiltIn → Scheduled BuiltIn → Scheduled BuiltIn → Type 0
+Applied one old new = (reply : Reply) × Applies function_of default_options one reply old new
 
 module _ {S : Type 0} (g : Ghosts S) where
-  early : (C : Scheduled Nap → Scheduled Nap → Type 0) (old new : Scheduler Nap S) → Leaves g C old new → HasCleanDisk (state g new.store.connection) → HasCleanDisk (state g old.store.connection)
+  early : (C : Scheduled BuiltIn → Scheduled BuiltIn → Type 0) (old new : Scheduler BuiltIn S) → Leaves g C old new → HasCleanDisk (state g new.store.connection) → HasCleanDisk (state g old.store.connection)
   early C old new leaves clean = omega (arith, leaves.clean, clean)
 
   -- nothing was done to the store
-  same_leaves : (C : Scheduled Nap → Scheduled Nap → Type 0) (a : Scheduler Nap S) → Leaves g C a a
+  same_leaves : (C : Scheduled BuiltIn → Scheduled BuiltIn → Type 0) (a : Scheduler BuiltIn S) → Leaves g C a a
   same_leaves C a = record {
     clean = omega arith;
     shield = λ it. it;
@@ -39,12 +39,12 @@ module _ {S : Type 0} (g : Ghosts S) where
   }
 
   -- nothing was done
-  pub reaches_none : (C P : Scheduled Nap → Scheduled Nap → Type 0) (a : Scheduler Nap S) → ((s : Scheduled Nap) → P s s) → Reaches g C P a a
+  pub reaches_none : (C P : Scheduled BuiltIn → Scheduled BuiltIn → Type 0) (a : Scheduler BuiltIn S) → ((s : Scheduled BuiltIn) → P s s) → Reaches g C P a a
   reaches_none C P a same = record { leaves = same_leaves C a; reaches = λ clean before at. (before, at, same before) }
 
   -- one thing behind another
-  pub reaches_then : (C D E P Q R : Scheduled Nap → Scheduled Nap → Type 0) (a b c : Scheduler Nap S) → ((x y : Scheduled Nap) → C x y → E x y) → ((x y z : Scheduled Nap) → P x y → D y z → E x z)
-      → ((x y z : Scheduled Nap) → P x y → Q y z → R x z) → Reaches g C P a b → Reaches g D Q b c → Reaches g E R a c
+  pub reaches_then : (C D E P Q R : Scheduled BuiltIn → Scheduled BuiltIn → Type 0) (a b c : Scheduler BuiltIn S) → ((x y : Scheduled BuiltIn) → C x y → E x y) → ((x y z : Scheduled BuiltIn) → P x y → D y z → E x z)
+      → ((x y z : Scheduled BuiltIn) → P x y → Q y z → R x z) → Reaches g C P a b → Reaches g D Q b c → Reaches g E R a c
   reaches_then C D E P Q R a b c first behind join one two = record {
     leaves = survives_then (state g a.store.connection) (state g b.store.connection) (state g c.store.connection) (KeepsCut g C a) (KeepsCut g D b) (KeepsCut g E a)
         (λ clean db it before at. let kept = it before at in (kept.0, first before kept.0 kept.1, kept.2))
@@ -60,7 +60,7 @@ module _ {S : Type 0} (g : Ghosts S) where
   }
 
   -- what it comes to is said in another way
-  pub reaches_so : (C D P Q : Scheduled Nap → Scheduled Nap → Type 0) (a b : Scheduler Nap S) → ((x y : Scheduled Nap) → C x y → D x y) → ((x y : Scheduled Nap) → P x y → Q x y)
+  pub reaches_so : (C D P Q : Scheduled BuiltIn → Scheduled BuiltIn → Type 0) (a b : Scheduler BuiltIn S) → ((x y : Scheduled BuiltIn) → C x y → D x y) → ((x y : Scheduled BuiltIn) → P x y → Q x y)
       → Reaches g C P a b → Reaches g D Q a b
   reaches_so C D P Q a b cut so one = record {
     leaves = survives_weaker (state g a.store.connection) (state g b.store.connection) (KeepsCut g C a) (KeepsCut g D a)
@@ -71,56 +71,56 @@ module _ {S : Type 0} (g : Ghosts S) where
   }
 
   -- the promise of a call that applies an event
-  abbrev pub Promised : Event Nap → Reply → Scheduler Nap S → Scheduler Nap S → Type 0
+  abbrev pub Promised : Event BuiltIn → Reply → Scheduler BuiltIn S → Scheduler BuiltIn S → Type 0
   Promised one reply old new =
-      HasCleanDisk (state g new.store.connection) → (s : Scheduled Nap) → IsScheduled g s old → (t : Scheduled Nap) × IsScheduled g t new × Applies nap_function old.options one reply s t
+      HasCleanDisk (state g new.store.connection) → (s : Scheduled BuiltIn) → IsScheduled g s old → (t : Scheduled BuiltIn) × IsScheduled g t new × Applies function_of old.options one reply s t
 
-  reaches_promised : (C : Scheduled Nap → Scheduled Nap → Type 0) (one : Event Nap) (reply : Reply) (old new : Scheduler Nap S) → Leaves g C old new → Promised one reply old new
-      → new.options ≡ old.options → Reaches g C (Applies nap_function default_options one reply) old new
+  reaches_promised : (C : Scheduled BuiltIn → Scheduled BuiltIn → Type 0) (one : Event BuiltIn) (reply : Reply) (old new : Scheduler BuiltIn S) → Leaves g C old new → Promised one reply old new
+      → new.options ≡ old.options → Reaches g C (Applies function_of default_options one reply) old new
   reaches_promised C one reply old new leaves does options = record {
     leaves = leaves;
     reaches = λ clean before at.
         let it = does clean before at.scheduled in
-        (it.0, record { options = options ∙ at.options; scheduled = it.1 }, subst (λ (o : VMOptions). Applies nap_function o one reply before it.0) at.options it.2);
+        (it.0, record { options = options ∙ at.options; scheduled = it.1 }, subst (λ (o : VMOptions). Applies function_of o one reply before it.0) at.options it.2);
   }
 
-  pub reaches_applied : (one : Event Nap) (reply : Reply) (old new : Scheduler Nap S) → Endures g (AppliesWith nap_function old.options one old.held.items) old.store new.store → Promised one reply old new
-      → new.options ≡ old.options → Reaches g (Applied one) (Applies nap_function default_options one reply) old new
+  pub reaches_applied : (one : Event BuiltIn) (reply : Reply) (old new : Scheduler BuiltIn S) → Endures g (AppliesWith function_of old.options one old.held.items) old.store new.store → Promised one reply old new
+      → new.options ≡ old.options → Reaches g (Applied one) (Applies function_of default_options one reply) old new
   reaches_applied one reply old new endures does options =
       reaches_promised (Applied one) one reply old new
-      (survives_weaker (state g old.store.connection) (state g new.store.connection) (Keeps g (AppliesWith nap_function old.options one old.held.items) old.store) (KeepsCut g (Applied one) old)
+      (survives_weaker (state g old.store.connection) (state g new.store.connection) (Keeps g (AppliesWith function_of old.options one old.held.items) old.store) (KeepsCut g (Applied one) old)
       (λ clean db it before at.
       let kept = it before.standing at.scheduled.standing in
-      let by_options = subst (λ (o : VMOptions). Does nap_function o one before.standing old.held.items kept.1.0 kept.0 kept.1.1) at.options kept.1.2 in (
+      let by_options = subst (λ (o : VMOptions). Does function_of o one before.standing old.held.items kept.1.0 kept.0 kept.1.1) at.options kept.1.2 in (
         record { standing = kept.0; held = kept.1.1 },
-        (kept.1.0, subst (λ (held : List (HeldAttempt Nap)). Does nap_function default_options one before.standing held kept.1.0 kept.0 kept.1.1) (sym at.scheduled.held) by_options),
+        (kept.1.0, subst (λ (held : List (HeldAttempt BuiltIn)). Does function_of default_options one before.standing held kept.1.0 kept.0 kept.1.1) (sym at.scheduled.held) by_options),
         kept.2,
       )) endures)
       does options
 
   -- of a turn, which leaves the store alone
-  pub reaches_turned : (one : Event Nap) (reply : Reply) (old new : Scheduler Nap S) → new.store ≡ old.store → Promised one reply old new
-      → new.options ≡ old.options → Reaches g Nowhere (Applies nap_function default_options one reply) old new
+  pub reaches_turned : (one : Event BuiltIn) (reply : Reply) (old new : Scheduler BuiltIn S) → new.store ≡ old.store → Promised one reply old new
+      → new.options ≡ old.options → Reaches g Nowhere (Applies function_of default_options one reply) old new
   reaches_turned one reply old new same does options =
       reaches_promised Nowhere one reply old new
       (subst (λ (store : Stored S). Survives (state g old.store.connection) (state g store.connection) (KeepsCut g Nowhere old)) (sym same) (same_leaves Nowhere old)) does options
 
   -- a call that tells of the accepted events
-  pub reaches_told : (Told : List model.Event → Type 0) (old new : Scheduler Nap S) → Survives (state g old.store.connection) (state g new.store.connection) (λ _. ⊥)
-      → (HasCleanDisk (state g new.store.connection) → (s : Scheduled Nap) → IsScheduled g s old → Told s.standing.events × IsScheduled g s new)
+  pub reaches_told : (Told : List model.Event → Type 0) (old new : Scheduler BuiltIn S) → Survives (state g old.store.connection) (state g new.store.connection) (λ _. ⊥)
+      → (HasCleanDisk (state g new.store.connection) → (s : Scheduled BuiltIn) → IsScheduled g s old → Told s.standing.events × IsScheduled g s new)
       → new ≡ record old { store = new.store } → Reaches g Nowhere (Looks Told) old new
   reaches_told Told old new survives tells kept = record {
     leaves = survives_weaker (state g old.store.connection) (state g new.store.connection) (λ _. ⊥) (KeepsCut g Nowhere old) (λ clean db none. absurd none) survives;
     reaches = λ clean before at.
         let it = tells clean before at.scheduled in
-        (before, record { options = ap (λ (s : Scheduler Nap S). s.options) kept ∙ at.options; scheduled = it.1 }, (it.0, refl));
+        (before, record { options = ap (λ (s : Scheduler BuiltIn S). s.options) kept ∙ at.options; scheduled = it.1 }, (it.0, refl));
   }
 
   -- two questions, one behind the other
-  pub reaches_both : (P Q R : List model.Event → Type 0) (a b c : Scheduler Nap S) → ((events : List model.Event) → P events → Q events → R events)
+  pub reaches_both : (P Q R : List model.Event → Type 0) (a b c : Scheduler BuiltIn S) → ((events : List model.Event) → P events → Q events → R events)
       → Reaches g Nowhere (Looks P) a b → Reaches g Nowhere (Looks Q) b c → Reaches g Nowhere (Looks R) a c
   reaches_both P Q R a b c both one two =
       reaches_then Nowhere Nowhere Nowhere (Looks P) (Looks Q) (Looks R) a b c (λ x y none. none) (λ x y z p none. none) (joined P Q R both) one two
     where
-      joined : (P Q R : List model.Event → Type 0) → ((events : List model.Event) → P events → Q events → R events) → (x y z : Scheduled Nap) → Looks P x y → Looks Q y z → Looks R x z
-      joined P Q R both x y z p q = (both x.standing.events p.0 (subst (λ (s : Scheduled Nap). Q s.standing.events) p.1 q.0), q.1 ∙ p.1)
+      joined : (P Q R : List model.Event → Type 0) → ((events : List model.Event) → P events → Q events → R events) → (x y z : Scheduled BuiltIn) → Looks P x y → Looks Q y z → Looks R x z
+      joined P Q R both x y z p q = (both x.standing.events p.0 (subst (λ (s : Scheduled BuiltIn). Q s.standing.events) p.1 q.0), q.1 ∙ p.1)

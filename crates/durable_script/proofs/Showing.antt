@@ -1,7 +1,7 @@
 -- What is shown of an invocation.
 use Rattle.std.proofs.Common.{◌≡◌, ℕ, ◌+◌, Bool, List, [], ◌∷◌, ◌++◌, length, map, Option, Ok, refl, sym, ap, ◌∙◌, inl, inr, append_assoc, append-nil, arith}
 use Rattle.sqlite_trees.specs.declared.store.Store.{Ghosts}
-use Rattle.built_in_handlers.specs.declared.handlers.Nap.{Nap}
+use Rattle.built_in_handlers.specs.declared.built_in.BuiltIn.{BuiltIn}
 use Rattle.journal_model.specs.Notification.{Text}
 use Rattle.journal_model.specs.declared.value.NonEmptyValue.{NonEmptyValue}
 use Rattle.journal_model.specs.Event.{Event}
@@ -46,7 +46,7 @@ KnownRequests id requests events = (those_that_hold (known_tests events id) ≡ 
 abbrev pub IsNotTold : Text → Refusal → List Event → Type 0
 IsNotTold id refusal events = IsRefused (those_that_hold (known_tests events id)) refusal
 
-module _ {S : Type 0} (g : Ghosts S) (id : Text) (a b c d : Scheduler Nap S) where
+module _ {S : Type 0} (g : Ghosts S) (id : Text) (a b c d : Scheduler BuiltIn S) where
   pub shown_all : (requests : List RecordedFrame) (answer : Option NonEmptyValue) (now : Bool) → Reaches g Nowhere (Looks (KnownOpen id now)) a b
       → Reaches g Nowhere (Looks (λ events. Answers events id (Ok answer))) b c → Reaches g Nowhere (Looks (KnownRequests id requests)) c d
       → Reaches g Nowhere (Looks (HasRecords id requests answer now)) a d
@@ -71,7 +71,7 @@ module _ {S : Type 0} (g : Ghosts S) (id : Text) (a b c d : Scheduler Nap S) whe
 
 -- ---- as text
 
-module _ {S : Type 0} (g : Ghosts S) (id : Text) (old new : Scheduler Nap S) where
+module _ {S : Type 0} (g : Ghosts S) (id : Text) (old new : Scheduler BuiltIn S) where
   pub records_printed : (requests : List RecordedFrame) (answer : Option NonEmptyValue) (now : Bool) → Reaches g Nowhere (Looks (HasRecords id requests answer now)) old new
       → Reaches g Nowhere (Looks (Shows id (shown_text requests answer now))) old new
   records_printed requests answer now has =

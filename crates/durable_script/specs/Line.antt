@@ -1,8 +1,8 @@
 -- What a line does to what the scheduler stands for, and its text with the line feed.
-use Rattle.std.specs.Prelude.{◌≡◌, ℕ, Bool, true, false, suc, zero, ◌+◌, ◌≤◌, List, [], ◌∷◌, ◌++◌}
+use Rattle.std.specs.Prelude.{◌≡◌, ℕ, Bool, true, false, suc, zero, ◌+◌, ◌≤◌, List, [], ◌∷◌, ◌++◌, Some}
 use Rattle.std.specs.declared.alloc.Global.{Global}
-use Rattle.built_in_handlers.specs.declared.handlers.Nap.{Nap}
-use Rattle.built_in_handlers.specs.Handlers.{nap_until}
+use Rattle.built_in_handlers.specs.declared.built_in.BuiltIn.{BuiltIn}
+use Rattle.built_in_handlers.specs.BuiltIn.{built_in, function_of}
 use Rattle.journal_model.specs.Run.{Handler}
 use Rattle.journal_model.specs.declared.invocation.NewInvocation.{NewInvocation}
 use Rattle.journal_model.specs.declared.invocation.StateMode as model
@@ -16,18 +16,16 @@ use Rattle.schedule_events.specs.declared.event.Reply.TheVariants.{Turned}
 use Rattle.schedule_events.specs.Schedule.{Scheduled, Applies}
 use Rattle.script_lines.specs.declared.line.Line.{Line}
 use Rattle.script_lines.specs.declared.line.Line.TheVariants.{Invoke, Begin, Feed, Turn, Move, Stop, Show}
+use Rattle.script_lines.specs.Word.{handler_word}
+use Rattle.script_lines.specs.declared.word.HandlerName.{HandlerName}
 use Rattle.script_lines.specs.declared.word.StateMode.{StateMode}
 use Rattle.script_lines.specs.declared.word.StateMode.TheVariants.{Whole, Hidden}
 use Rattle.durable_script.specs.Printed.{printed}
 use Rattle.durable_script.specs.Shown.{Looks, Shows}
 
--- the next-call function of the handler `nap`
-abbrev pub nap_function : Nap → Handler
-nap_function nap = nap_until nap.until_ms
-
--- the handler `nap`: it sleeps until 10
-abbrev pub nap : Global → Nap
-nap alloc = record { alloc = alloc; until_ms = 10 }
+-- the handler that a name stands for
+abbrev pub IsNamed : HandlerName → BuiltIn → Type 0
+IsNamed name handler = (alloc : Global) × (built_in alloc (handler_word name) ≡ Some handler)
 
 abbrev pub state_mode : StateMode → model.StateMode
 state_mode Whole = mode.Whole
@@ -38,14 +36,18 @@ abbrev pub new_invocation : List ℕ → List ℕ → ℕ → StateMode → ℕ 
 new_invocation id object version state seed input =
     record { id = id; object = object; input = input; headers = []; version = version; seed = seed; state = state_mode state }
 
+-- a begin of an invocation with the handler that a name stands for
+abbrev pub IsBegin : List ℕ → HandlerName → ℕ → Event BuiltIn → Type 0
+IsBegin id name now one = (handler : BuiltIn) × IsNamed name handler × (one ≡ event.Begin id handler now)
+
 -- one event is applied, and its reply printed
-pub record DoesEvent (one : Event Nap) (text : List ℕ) (old new : Scheduled Nap) : Type 0 where
+pub record DoesEvent (one : Event BuiltIn) (text : List ℕ) (old new : Scheduled BuiltIn) : Type 0 where
   pub reply : Reply
-  pub applied : Applies nap_function default_options one reply old new
+  pub applied : Applies function_of default_options one reply old new
   pub text_is : text ≡ printed 1 reply ++ 10 ∷ []
 
 -- the same with some text
-abbrev pub DoesSomeEvent : Event Nap → Scheduled Nap → Scheduled Nap → Type 0
+abbrev pub DoesSomeEvent : Event BuiltIn → Scheduled BuiltIn → Scheduled BuiltIn → Type 0
 DoesSomeEvent one old new = (text : List ℕ) × DoesEvent one text old new
 
 -- whether a reply is that of a turn that was answered
@@ -54,31 +56,31 @@ was_answered (Turned Answered) = true
 was_answered _ = false
 
 -- so many turns, each of which is answered
-abbrev pub AnsweredTurns : List ℕ → ℕ → ℕ → Scheduled Nap → Scheduled Nap → Type 0
+abbrev pub AnsweredTurns : List ℕ → ℕ → ℕ → Scheduled BuiltIn → Scheduled BuiltIn → Type 0
 AnsweredTurns id attempt zero old new = new ≡ old
 AnsweredTurns id attempt (suc turns) old new =
-    (between : Scheduled Nap) × AnsweredTurns id attempt turns old between × Applies nap_function default_options (event.Turn id attempt) (Turned Answered) between new
+    (between : Scheduled BuiltIn) × AnsweredTurns id attempt turns old between × Applies function_of default_options (event.Turn id attempt) (Turned Answered) between new
 
 -- so many turns were taken, of as many as were asked for: behind the first that is not answered there is none
-pub record TookTurns (id : List ℕ) (attempt asked taken : ℕ) (last : Reply) (old new : Scheduled Nap) : Type 0 where
+pub record TookTurns (id : List ℕ) (attempt asked taken : ℕ) (last : Reply) (old new : Scheduled BuiltIn) : Type 0 where
   pub before : ℕ
-  pub between : Scheduled Nap
+  pub between : Scheduled BuiltIn
   pub answered : AnsweredTurns id attempt before old between
-  pub applied : Applies nap_function default_options (event.Turn id attempt) last between new
+  pub applied : Applies function_of default_options (event.Turn id attempt) last between new
   pub taken_are : taken ≡ before + 1
   pub within : taken ≤ asked
   pub all : was_answered last ≡ true → taken ≡ asked
 
-pub record TakesTurns (id : List ℕ) (attempt asked : ℕ) (text : List ℕ) (old new : Scheduled Nap) : Type 0 where
+pub record TakesTurns (id : List ℕ) (attempt asked : ℕ) (text : List ℕ) (old new : Scheduled BuiltIn) : Type 0 where
   pub taken : ℕ
   pub last : Reply
   pub took : TookTurns id attempt asked taken last old new
   pub text_is : text ≡ printed taken last ++ 10 ∷ []
 
 -- Each line is one event, but for the turns, and for what is shown, which changes nothing.
-abbrev pub DoesLine : Line → List ℕ → Scheduled Nap → Scheduled Nap → Type 0
+abbrev pub DoesLine : Line → List ℕ → Scheduled BuiltIn → Scheduled BuiltIn → Type 0
 DoesLine (Invoke id object version state seed input) text old new = DoesEvent (event.Invoke (new_invocation id object version state seed input)) text old new
-DoesLine (Begin id handler now) text old new = (alloc : Global) × DoesEvent (event.Begin id (nap alloc) now) text old new
+DoesLine (Begin id name now) text old new = (handler : BuiltIn) × IsNamed name handler × DoesEvent (event.Begin id handler now) text old new
 DoesLine (Feed id attempt count) text old new = DoesEvent (event.Feed id attempt count) text old new
 DoesLine (Turn id attempt count) text old new = TakesTurns id attempt count text old new
 DoesLine (Move id attempt count) text old new = DoesEvent (event.Move id attempt count) text old new
@@ -86,5 +88,10 @@ DoesLine (Stop id attempt) text old new = DoesEvent (event.Stop id attempt) text
 DoesLine (Show id) text old new = Looks (Shows id text) old new
 
 -- the same with some text
-abbrev pub DoesSomeLine : Line → Scheduled Nap → Scheduled Nap → Type 0
+abbrev pub DoesSomeLine : Line → Scheduled BuiltIn → Scheduled BuiltIn → Type 0
 DoesSomeLine line old new = (text : List ℕ) × DoesLine line text old new
+
+-- A line brings this function to an invocation: if it begins an attempt of it, the handler that it names has this function.
+abbrev pub BringsFunction : List ℕ → Handler → Line → Type 0
+BringsFunction id next (Begin invocation name now) = invocation ≡ id → (handler : BuiltIn) → IsNamed name handler → function_of handler ≡ next
+BringsFunction id next _ = Unit {0}

@@ -1,5 +1,5 @@
 -- What a line prints for the reply that it got, without its line feed.
-use Rattle.std.specs.Prelude.{ℕ, List, Some, None}
+use Rattle.std.specs.Prelude.{◌≡◌, ℕ, List, Some, None, Result, IfOk}
 use Rattle.invocation_vm.specs.declared.progress.Turn.{Turn}
 use Rattle.invocation_vm.specs.declared.progress.Turn.TheVariants as turn
 use Rattle.invocation_vm.specs.Failure.{code_of}
@@ -27,3 +27,7 @@ printed turns (reply.Turned turn) = reply_text (Turned turns (word_of turn))
 printed turns (reply.Moved bytes frames None) = moved_text bytes frames
 printed turns (reply.Moved bytes frames (Some why)) = moved_until_text bytes frames (store.name_of why)
 printed turns (reply.Refused why) = refused_text (name_of why)
+
+-- This holds of a text, which was made, or for which there was no memory.
+abbrev pub Makes : {T E : Type 0} → (T → List ℕ) → Result T E → (List ℕ → Type 0) → Type 0
+Makes bytes_of result Holds = (text : List ℕ) × IfOk result (λ made. bytes_of made ≡ text) × Holds text

@@ -4,12 +4,12 @@ use Rattle.std.specs.Io.KnownBytes.{Appends, Keeps, IsAtEnd}
 use Rattle.sqlite_trees.specs.declared.store.Store.{Ghosts}
 use Rattle.sqlite.specs.State.{HasCleanDisk}
 use Rattle.sqlite.specs.Held.{state}
-use Rattle.built_in_handlers.specs.declared.handlers.Nap.{Nap}
-use Rattle.built_in_handlers.specs.Handlers.{nap_until}
+use Rattle.built_in_handlers.specs.declared.built_in.BuiltIn.{BuiltIn}
 use Rattle.journal_model.specs.Notification.{Text}
 use Rattle.journal_model.specs.declared.invocation.NewInvocation.{NewInvocation}
 use Rattle.journal_model.specs.Event.{Event}
 use Rattle.journal_model.specs.Journal.{invocation_begun, starting_state, recorded_requests}
+use Rattle.journal_model.specs.Run.{Handler}
 use Rattle.invocation_vm.specs.Options.{default_options}
 use Rattle.invocation_vm.specs.First.{given_by}
 use Rattle.journal_store.specs.Stored.{Stored}
@@ -17,14 +17,17 @@ use Rattle.journal_store.specs.Stands.{Stands}
 use Rattle.schedule_events.specs.Standing.{Standing}
 use Rattle.schedule_events.specs.Following.{IsBeginningOfRun}
 use Rattle.schedule_events.specs.Schedule.{Scheduled}
-use Rattle.durable_schedule.specs.Scheduled.{IsStanding, at_first}
+use Rattle.durable_schedule.specs.Scheduled.{IsStanding, Extends, at_first}
+use Rattle.built_in_handlers.specs.BuiltIn.{function_of}
+use Rattle.built_in_handlers.specs.Handlers.{nap_until}
+use Rattle.script_lines.specs.declared.word.HandlerName.TheVariants as name
 use Rattle.script_lines.specs.declared.line.Line.{Line}
 use Rattle.script_lines.specs.Line.{spelled, IsLine}
 use Rattle.script_lines.specs.Script.{numbered_lines}
 use Rattle.durable_script.specs.declared.fault.ScriptFault.{ScriptFault}
 use Rattle.durable_script.specs.declared.fault.ScriptFault.TheVariants.{LineNotUnderstood, ScriptUnreadable, LineOutOfMemory, TextOutOfMemory, OutputUnwritable}
 use Rattle.durable_script.specs.declared.runner.Asked.{Asked}
-use Rattle.durable_script.specs.Line.{DoesLine}
+use Rattle.durable_script.specs.Line.{IsNamed, DoesLine, DoesSomeLine, BringsFunction}
 use Rattle.durable_script.specs.Asked.{none_asked, is_second, asked_after, IsNotUnderstood}
 
 -- a line that was done, with its text
@@ -52,13 +55,27 @@ AreUnderstood [] = Unit {0}
 AreUnderstood (one ∷ before) = AreUnderstood before × IsLine one.line × (is_second (asked_by before) one.line ≡ false)
 
 -- each line was done on what those before it left
-abbrev pub DoesAll : List DoneLine → Scheduled Nap → Scheduled Nap → Type 0
+abbrev pub DoesAll : List DoneLine → Scheduled BuiltIn → Scheduled BuiltIn → Type 0
 DoesAll [] old new = new ≡ old
-DoesAll (one ∷ before) old new = (between : Scheduled Nap) × DoesAll before old between × DoesLine one.line one.text between new
+DoesAll (one ∷ before) old new = (between : Scheduled BuiltIn) × DoesAll before old between × DoesLine one.line one.text between new
 
--- some lines were done, with some texts
-abbrev pub DoesSome : Scheduled Nap → Scheduled Nap → Type 0
-DoesSome old new = (done : List DoneLine) × AreUnderstood done × DoesAll done old new
+-- the first of these lines were done, the last of them with some text
+abbrev pub DoesFirst : List DoneLine → Scheduled BuiltIn → Scheduled BuiltIn → Type 0
+DoesFirst [] old new = ⊥
+DoesFirst (one ∷ before) old new = DoesFirst before old new ⊎ ((between : Scheduled BuiltIn) × DoesAll before old between × DoesSomeLine one.line between new)
+
+-- all of them that begin an attempt of an invocation name handlers of this function
+abbrev pub AllBring : Text → Handler → List DoneLine → Type 0
+AllBring id next [] = Unit {0}
+AllBring id next (one ∷ before) = AllBring id next before × BringsFunction id next one.line
+
+-- Of each invocation that was not begun before these lines, and whose begins in them all name handlers of one function, the requests
+-- that are recorded behind them are the first requests of the one uninterrupted run of that function.
+abbrev pub FollowLines : List DoneLine → (before after : List Event) → Type 0
+FollowLines done before after =
+    (id : Text) (next : Handler) → invocation_begun before id ≡ None → AllBring id next done
+    → (invocation : NewInvocation) → invocation_begun after id ≡ Some invocation
+    → IsBeginningOfRun next (given_by default_options invocation (starting_state after id)) (recorded_requests after id)
 
 -- What was done is all that `Does` tells of.
 module _ (lines : List (ℕ × List ℕ)) (Does : List DoneLine → Type 0) where
@@ -133,7 +150,22 @@ module _ {S : Type 0} (g : Ghosts S) where
   abbrev pub LeadsAll : Stored S → Stored S → List DoneLine → Type 0
   LeadsAll store after done =
       HasCleanDisk (state g after.connection) → (s : Standing) → IsStanding g s store
-      → (end : Scheduled Nap) × IsStanding g end.standing after × DoesAll done (at_first s) end
+      → (end : Scheduled BuiltIn) × IsStanding g end.standing after × DoesAll done (at_first s) end
+
+  -- Whatever events a store stood for, the one that is left stands for such, unless the disk failed.
+  abbrev pub LeavesRuns : Stored S → Stored S → List DoneLine → Type 0
+  LeavesRuns store after done =
+      HasCleanDisk (state g after.connection) → (before : List Event) → Stands before (state g store.connection) store.live.attempts
+      → (events : List Event) × Stands events (state g after.connection) after.live.attempts × FollowLines done before events
+
+  -- these lines were done on a store, of which this is left
+  pub record AreDone (store after : Stored S) (done : List DoneLine) : Type 0 where
+    -- what each of them came to
+    pub leads : LeadsAll store after done
+    -- what is recorded of an invocation are the first requests of the one uninterrupted run of the handler that they name
+    pub headline : LeavesRuns store after done
+    -- a crash leaves what it left before, or accepted events of which the same holds, with those from before behind them
+    pub crash : Extends g (FollowLines done) store after
 
   -- the script was read whole, and its lines were done
   pub record RunsLines (input left had has : Option (List ℕ)) (store after : Stored S) (result : Result (Unit {0}) ScriptFault) : Type 0 where
@@ -142,7 +174,7 @@ module _ {S : Type 0} (g : Ghosts S) where
     pub at_end : IsAtEnd left
     pub small : length script ≤ 16777216
     pub reached : Result (Unit {0}) ScriptFault
-    pub does : DoesLines (numbered_lines script) (LeadsAll store after) had has reached
+    pub does : DoesLines (numbered_lines script) (AreDone store after) had has reached
     pub ends : EndsWith reached result
 
   -- A script that cannot be read does nothing.
@@ -150,18 +182,11 @@ module _ {S : Type 0} (g : Ghosts S) where
   RunsScript input left had has store after result =
       ((result ≡ Err ScriptUnreadable) × (after ≡ store) × Keeps had has) ⊎ RunsLines input left had has store after result
 
--- What is recorded of each invocation that was not begun before are the first requests of the run of `nap`.
-abbrev pub FollowsNap : List Event → List Event → Type 0
-FollowsNap before after = (id : Text) → invocation_begun before id ≡ None → (invocation : NewInvocation) → invocation_begun after id ≡ Some invocation
-    → IsBeginningOfRun (nap_until 10) (given_by default_options invocation (starting_state after id)) (recorded_requests after id)
-
--- Whatever events a store stood for, the one that is left stands for such, unless the disk failed.
-abbrev pub LeavesRuns : {S : Type 0} → Ghosts S → Stored S → Stored S → Type 0
-LeavesRuns g store after =
-    HasCleanDisk (state g after.connection) → (before : List Event) → Stands before (state g store.connection) store.live.attempts
-    → (events : List Event) × Stands events (state g after.connection) after.live.attempts × FollowsNap before events
-
 -- It holds behind each line.
 abbrev pub LinesFollow : Type 0
-LinesFollow = (start end : Scheduled Nap) (done : List DoneLine) → start.held ≡ [] → AreUnderstood done → DoesAll done start end
-    → FollowsNap start.standing.events end.standing.events
+LinesFollow = (start end : Scheduled BuiltIn) (done : List DoneLine) → start.held ≡ [] → AreUnderstood done → DoesAll done start end
+    → FollowLines done start.standing.events end.standing.events
+
+-- The handler `nap` of a line sleeps until 10.
+abbrev pub NapIsNamed : Type 0
+NapIsNamed = (handler : BuiltIn) → IsNamed name.Nap handler → function_of handler ≡ nap_until 10

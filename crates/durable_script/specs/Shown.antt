@@ -1,6 +1,6 @@
 -- What a line that shows an invocation prints.
 use Rattle.std.specs.Prelude.{◌≡◌, ◌⊎◌, ℕ, ◌+◌, Bool, List, [], ◌∷◌, ◌++◌, map, Option, Some, None, Ok, Err, codes}
-use Rattle.built_in_handlers.specs.declared.handlers.Nap.{Nap}
+use Rattle.built_in_handlers.specs.declared.built_in.BuiltIn.{BuiltIn}
 use Rattle.journal_model.specs.Notification.{Text}
 use Rattle.journal_model.specs.declared.value.NonEmptyValue.{NonEmptyValue}
 use Rattle.journal_model.specs.declared.value.NonEmptyValue.TheVariants.{Success, Failure}
@@ -52,5 +52,5 @@ abbrev pub Shows : Text → List ℕ → List Event → Type 0
 Shows id text events = ShowsRecords id text events ⊎ ShowsRefusal id text events
 
 -- what is told of the accepted events, and nothing changes
-abbrev pub Looks : (List Event → Type 0) → Scheduled Nap → Scheduled Nap → Type 0
+abbrev pub Looks : (List Event → Type 0) → Scheduled BuiltIn → Scheduled BuiltIn → Type 0
 Looks Told old new = Told old.standing.events × (new ≡ old)

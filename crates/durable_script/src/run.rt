@@ -1,11 +1,10 @@
 //! A whole script, from a reader to a writer.
 ghost use Rattle.std.specs.Prelude.{◌≡◌, Err};
 ghost use Rattle.std.specs.Io.KnownBytes.{Keeps};
-ghost use Rattle.durable_schedule.specs.Scheduled.{Extends};
 ghost use Rattle.script_lines.specs.Script.{numbered_lines};
 ghost use Rattle.durable_script.specs.Asked.{none_asked};
 ghost use Rattle.durable_script.specs.Reaching.{Reaches};
-ghost use Rattle.durable_script.specs.Run.{DoesAll, DoesLines, DoesSome, EndsWith, FollowsNap, LeavesRuns, RunsScript};
+ghost use Rattle.durable_script.specs.Run.{DoesAll, DoesFirst, DoesLines, EndsWith, RunsScript};
 
 use crate::fault::ScriptFault;
 use crate::output::write_text;
@@ -33,7 +32,7 @@ fn do_lines<W: Write, S: Alter + Drop>(
     writer: &mut W,
 ) -> Result<(), ScriptFault>
     requires { runner.old.asked ≡ none_asked }
-    ensures { DoesLines (numbered_lines script.now) (λ done. Reaches S.Store DoesSome (DoesAll done) runner.old.scheduler runner.new.scheduler) (W.contents writer.old) (W.contents writer.new) result }
+    ensures { DoesLines (numbered_lines script.now) (λ done. Reaches S.Store (DoesFirst done) (DoesAll done) runner.old.scheduler runner.new.scheduler) (W.contents writer.old) (W.contents writer.new) result }
 {
     for line in ScriptLines::new(script) {
         let text = runner.do_line(line.number, line.bytes)?;
@@ -65,13 +64,11 @@ pub fn run_script<R: Read, W: Write, S: Alter + Drop>(
     writer: &mut W,
     store: Store<S>,
 ) -> ScriptEnd<S>
-    // What was done and written, and why no more.
+    // What was done and written, and why no more. Of the lines that were done: what is recorded of an invocation are the first
+    // requests of the one uninterrupted run of the handler that they name, and what a crash leaves is what it left before, or has
+    // accepted events of which the same holds, with those from before behind them.
     ensures runs { RunsScript S.Store (R.remaining reader.old) (R.remaining reader.new) (W.contents writer.old) (W.contents writer.new) store result.store result.result }
     ensures unread { result.result ≡ Err ScriptFault.ScriptUnreadable → writer.new ≡ writer.old }
-    // What is recorded of an invocation are the first requests of the one uninterrupted run of its handler.
-    ensures headline { LeavesRuns S.Store store result.store }
-    // What a crash leaves is what it left before, or has accepted events of which the same holds, with those from before behind them.
-    ensures crash { Extends S.Store FollowsNap store result.store }
 {
     let Ok(script) = read_script(alloc, reader) else {
         let result = Err(ScriptFault::ScriptUnreadable);

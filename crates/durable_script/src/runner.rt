@@ -1,16 +1,18 @@
 //! A line of a script, from its bytes to its text.
-ghost use Rattle.std.specs.Prelude.{◌≡◌, ◌<◌, ◌≤◌, ◌+◌, ◌∷◌, [], ◌++◌, List, ℕ, not, IfOk, IfErr, OnErr, string_bytes};
+ghost use Rattle.std.specs.Prelude.{◌≡◌, ◌≤◌, [], not, IfOk, IfErr, string_bytes};
+ghost use Rattle.script_lines.specs.Word.{handler_word};
 ghost use Rattle.script_lines.specs.Line.{IsLine};
 ghost use Rattle.invocation_vm.specs.Options.{default_options};
 ghost use Rattle.durable_script.specs.Reaching.{Nowhere, Reaches};
-ghost use Rattle.durable_script.specs.Line.{new_invocation, nap, was_answered, DoesEvent, DoesSomeEvent, TakesTurns, TookTurns, DoesLine, DoesSomeLine};
+ghost use Rattle.durable_script.specs.Printed.{Makes};
+ghost use Rattle.durable_script.specs.Line.{new_invocation, was_answered, IsBegin, DoesEvent, DoesSomeEvent, TakesTurns, TookTurns, DoesLine, DoesSomeLine};
 ghost use Rattle.durable_script.specs.Asked.{none_asked, is_second, asked_after, Understands};
 ghost use Rattle.durable_script.specs.Runner.{DoesNext, StopsAt};
 
 use crate::fault::ScriptFault;
 use crate::reply::{line_reply, reply_line};
 use crate::show::show;
-use built_in_handlers::handlers::Nap;
+use built_in_handlers::BuiltIn;
 use bytes::{ByteStr, Bytes};
 use durable_schedule::Scheduler;
 use invocation_vm::{Turn, VMOptions};
@@ -25,9 +27,6 @@ use sqlite::Alter;
 use std::alloc::{AllocError, Global};
 use std::mem;
 
-/// The moment until which the handler `nap` sleeps, in milliseconds.
-const NAP_UNTIL: u64 = 10;
-
 /// What earlier lines have asked for, whether it was refused or not: a script asks for each once.
 #[derive(Clone, Copy)]
 pub(crate) struct Asked {
@@ -40,7 +39,7 @@ pub(crate) struct Asked {
 /// A scheduler that the lines of a script are done on.
 #[derive(Drop)]
 pub(crate) struct Runner<S: Alter> {
-    pub scheduler: Scheduler<Nap, S>,
+    pub scheduler: Scheduler<BuiltIn, S>,
     pub asked: Asked,
 }
 
@@ -53,7 +52,7 @@ fn invoke(
     state: StateMode,
     seed: u64,
     input: Bytes,
-) -> Event<Nap>
+) -> Event<BuiltIn>
     ensures { result ≡ Event.Invoke (new_invocation id object version state seed input) }
 {
     Event::Invoke(NewInvocation {
@@ -70,12 +69,20 @@ fn invoke(
     })
 }
 
-/// An attempt is begun, with the handler `nap`.
-fn begin(alloc: Global, invocation: ByteStr, now: u64) -> Event<Nap>
-    ensures { result ≡ Event.Begin invocation (nap alloc) now }
+/// The word that a handler is named by.
+fn handler_word(name: HandlerName) -> &'static [u8]
+    ensures { result.now ≡ handler_word name }
 {
-    let until_ms = NAP_UNTIL;
-    let handler = Nap { alloc, until_ms };
+    match name {
+        HandlerName::Nap => b"nap".as_slice(),
+    }
+}
+
+/// An attempt is begun, with the handler of this name.
+fn begin(alloc: Global, invocation: ByteStr, name: HandlerName, now: u64) -> Event<BuiltIn>
+    ensures { IsBegin invocation name now result }
+{
+    let handler = BuiltIn::from_name(alloc, handler_word(name)).unwrap();
     Event::Begin {
         invocation,
         handler,
@@ -85,11 +92,10 @@ fn begin(alloc: Global, invocation: ByteStr, now: u64) -> Event<Nap>
 
 /// Applies one event.
 fn do_event<S: Alter + Drop>(
-    scheduler: &mut Scheduler<Nap, S>,
-    event: Event<Nap>,
+    scheduler: &mut Scheduler<BuiltIn, S>,
+    event: Event<BuiltIn>,
 ) -> Result<String, AllocError>
-    ensures ok { IfOk result (λ text. Reaches S.Store (DoesSomeEvent event) (DoesEvent event (string_bytes text)) scheduler.old scheduler.new) }
-    ensures err { OnErr result ((text : List ℕ) × Reaches S.Store (DoesSomeEvent event) (DoesEvent event text) scheduler.old scheduler.new) }
+    ensures { Makes string_bytes result (λ text. Reaches S.Store (DoesSomeEvent event) (DoesEvent event text) scheduler.old scheduler.new) }
 {
     let reply = scheduler.apply(event);
     reply_line(scheduler.alloc, line_reply(1, reply))
@@ -104,7 +110,7 @@ fn was_answered(reply: Reply) -> bool
 
 /// Takes up to so many turns, and answers how many, and the last reply.
 fn take_turns<S: Alter + Drop>(
-    scheduler: &mut Scheduler<Nap, S>,
+    scheduler: &mut Scheduler<BuiltIn, S>,
     id: &ByteStr,
     attempt: u32,
     count: u32,
@@ -124,14 +130,13 @@ fn take_turns<S: Alter + Drop>(
 
 /// Takes up to so many turns, and makes their text.
 fn do_turns<S: Alter + Drop>(
-    scheduler: &mut Scheduler<Nap, S>,
+    scheduler: &mut Scheduler<BuiltIn, S>,
     id: &ByteStr,
     attempt: u32,
     count: u32,
 ) -> Result<String, AllocError>
     requires { 1 ≤ count }
-    ensures ok { IfOk result (λ text. Reaches S.Store Nowhere (TakesTurns id.now attempt count (string_bytes text)) scheduler.old scheduler.new) }
-    ensures err { OnErr result ((text : List ℕ) × Reaches S.Store Nowhere (TakesTurns id.now attempt count text) scheduler.old scheduler.new) }
+    ensures { Makes string_bytes result (λ text. Reaches S.Store Nowhere (TakesTurns id.now attempt count text) scheduler.old scheduler.new) }
 {
     let (taken, reply) = take_turns(scheduler, id, attempt, count);
     reply_line(scheduler.alloc, line_reply(taken, reply))
@@ -139,12 +144,11 @@ fn do_turns<S: Alter + Drop>(
 
 /// Does what a line says, and makes its text.
 fn carry_out<S: Alter + Drop>(
-    scheduler: &mut Scheduler<Nap, S>,
+    scheduler: &mut Scheduler<BuiltIn, S>,
     line: Line,
 ) -> Result<String, AllocError>
     requires { IsLine line }
-    ensures ok { IfOk result (λ text. Reaches S.Store (DoesSomeLine line) (DoesLine line (string_bytes text)) scheduler.old scheduler.new) }
-    ensures err { OnErr result ((text : List ℕ) × Reaches S.Store (DoesSomeLine line) (DoesLine line text) scheduler.old scheduler.new) }
+    ensures { Makes string_bytes result (λ text. Reaches S.Store (DoesSomeLine line) (DoesLine line text) scheduler.old scheduler.new) }
 {
     let alloc = scheduler.alloc;
     match line {
@@ -161,9 +165,12 @@ fn carry_out<S: Alter + Drop>(
         }
         Line::Begin {
             id,
-            handler: HandlerName::Nap,
+            handler: name,
             now,
-        } => do_event(scheduler, begin(alloc, id, now)),
+        } => {
+            let event = begin(alloc, id, name, now);
+            do_event(scheduler, event)
+        }
         Line::Feed { id, attempt, count } => do_event(
             scheduler,
             Event::Feed {

@@ -1,11 +1,12 @@
 //! What is recorded of an invocation, as a line shows it.
-ghost use Rattle.std.specs.Prelude.{◌≡◌, ◌∷◌, [], ◌++◌, ℕ, List, Some, IfOk, IfErr, OnErr, string_bytes};
+ghost use Rattle.std.specs.Prelude.{◌≡◌, Some, IfOk, IfErr, string_bytes};
 ghost use Rattle.script_lines.specs.Text.{request_line, request_text, answer_text};
+ghost use Rattle.durable_script.specs.Printed.{Makes};
 ghost use Rattle.durable_script.specs.Reaching.{Nowhere, Reaches};
 ghost use Rattle.durable_script.specs.Shown.{shown_text, answer_line, Looks, RefusesShow, HasRecords, Shows};
 
 use crate::reply::reply_line;
-use built_in_handlers::handlers::Nap;
+use built_in_handlers::BuiltIn;
 use bytes::ByteStr;
 use durable_schedule::Scheduler;
 use invocation_reads::RecordedFrame;
@@ -64,7 +65,7 @@ impl fmt::Display for ShownInvocation {
 
 /// What the store holds of an invocation.
 fn shown<S: Alter + Drop>(
-    scheduler: &mut Scheduler<Nap, S>,
+    scheduler: &mut Scheduler<BuiltIn, S>,
     id: &ByteStr,
 ) -> Result<ShownInvocation, Refusal>
     ensures ok { IfOk result (λ shown. Reaches S.Store Nowhere (Looks (HasRecords id.now shown.requests.items shown.answer shown.is_open)) scheduler.old scheduler.new) }
@@ -87,11 +88,10 @@ fn shown<S: Alter + Drop>(
 
 /// What a line that shows an invocation prints.
 pub(crate) fn show<S: Alter + Drop>(
-    scheduler: &mut Scheduler<Nap, S>,
+    scheduler: &mut Scheduler<BuiltIn, S>,
     id: &ByteStr,
 ) -> Result<String, AllocError>
-    ensures ok { IfOk result (λ text. Reaches S.Store Nowhere (Looks (Shows id.now (string_bytes text))) scheduler.old scheduler.new) }
-    ensures err { OnErr result ((text : List ℕ) × Reaches S.Store Nowhere (Looks (Shows id.now text)) scheduler.old scheduler.new) }
+    ensures { Makes string_bytes result (λ text. Reaches S.Store Nowhere (Looks (Shows id.now text)) scheduler.old scheduler.new) }
 {
     let alloc = scheduler.alloc;
     match shown(scheduler, id) {

@@ -6,7 +6,7 @@ use Rattle.std.specs.Prelude.{string_bytes}
 use Rattle.script_lines.specs.Script.{numbered_lines}
 use Rattle.script_lines.specs.ScriptLines.{lines_left}
 use Rattle.durable_script.specs.Runner.{DoesNext}
-use Rattle.durable_script.specs.Run.{texts_of, DoesAll, DoesSome}
+use Rattle.durable_script.specs.Run.{texts_of, DoesAll, DoesFirst}
 use Rattle.durable_script.proofs.Reaching.{reaches_none}
 use Rattle.durable_script.proofs.Doing.{next_line, one_more, asked_more, stops, breaks}
 use Rattle.durable_script.proofs.run.do_lines.Goals as goal
@@ -16,7 +16,7 @@ loop-line-init g c = record {
   can = tt;
   finite = tt;
   done = [];
-  has_done = record { lines_are = search rules; understood = tt; does = reaches_none g.S.Store DoesSome (DoesAll []) c.args.runner.now.scheduler (λ s. refl) };
+  has_done = record { lines_are = search rules; understood = tt; does = reaches_none g.S.Store (DoesFirst []) (DoesAll []) c.args.runner.now.scheduler (λ s. refl) };
   asked = c.requires;
   written = search rules;
 }

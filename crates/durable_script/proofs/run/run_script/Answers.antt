@@ -1,9 +1,9 @@
 use Rattle.std.proofs.Common.{ℕ, List, subst, inr}
 use Rattle.script_lines.specs.Script.{numbered_lines}
 use Rattle.durable_script.specs.Reaching.{Reaches}
-use Rattle.durable_script.specs.Run.{DoneLine, DoesAll, DoesSome, DoesLines, LeadsAll}
-use Rattle.durable_script.proofs.Doing.{comes_so, some_done}
-use Rattle.durable_script.proofs.Leaving.{crash_follows, leads_all, leaves_runs}
+use Rattle.durable_script.specs.Run.{DoneLine, DoesAll, DoesFirst, DoesLines, AreDone}
+use Rattle.durable_script.proofs.Doing.{comes_so}
+use Rattle.durable_script.proofs.Leaving.{are_done}
 use Rattle.durable_script.proofs.Writing.{appends_kept}
 use Rattle.durable_script.proofs.run.run_script.Goals as goal
 
@@ -18,8 +18,8 @@ returns-clause-runs g c =
     let after = c.into_store-store.result in
     let reached = c.do_lines-reached.result in
     let lines = numbered_lines c.in-Ok.script.items in
-    let does : DoesLines lines (λ (done : List DoneLine). Reaches g.S.Store DoesSome (DoesAll done) start end) had between reached =
-    subst (λ (bs : List ℕ). DoesLines (numbered_lines bs) (λ (done : List DoneLine). Reaches g.S.Store DoesSome (DoesAll done) start end) had between reached) c.deref.ensures.value c.do_lines-reached.ensures in
+    let does : DoesLines lines (λ (done : List DoneLine). Reaches g.S.Store (DoesFirst done) (DoesAll done) start end) had between reached =
+    subst (λ (bs : List ℕ). DoesLines (numbered_lines bs) (λ (done : List DoneLine). Reaches g.S.Store (DoesFirst done) (DoesAll done) start end) had between reached) c.deref.ensures.value c.do_lines-reached.ensures in
     inr (record {
       script = c.in-Ok.script.items;
       known = c.in-Ok.ensures.bytes;
@@ -29,28 +29,9 @@ returns-clause-runs g c =
       does = record {
         output = does.output;
         appended = appends_kept had between has does.output does.appended c.finish-result.ensures.bytes;
-        comes_to = comes_so lines (λ (done : List DoneLine). Reaches g.S.Store DoesSome (DoesAll done) start end) (LeadsAll g.S.Store store after)
-            (λ done. leads_all g.S.Store store after start end done c.new-runner.ensures.store c.new-runner.ensures.options c.new-runner.ensures.held c.into_store-store.ensures)
+        comes_to = comes_so lines (λ (done : List DoneLine). Reaches g.S.Store (DoesFirst done) (DoesAll done) start end) (AreDone g.S.Store store after)
+            (are_done g.S.Store store after start end c.new-runner.ensures.store c.new-runner.ensures.options c.new-runner.ensures.held c.into_store-store.ensures)
             does.output reached does.comes_to;
       };
       ends = c.finish-result.ensures.ends;
     })
-
-pub returns-clause-headline : goal.returns-clause-headline
-returns-clause-headline g c =
-    let start = c.new-runner.result.scheduler in
-    let end = c.do_lines-reached.new.runner.scheduler in
-    let store = c.args.store in
-    let after = c.into_store-store.result in
-    let d = c.do_lines-reached.ensures in
-    let done = some_done _ (λ (done : List DoneLine). Reaches g.S.Store DoesSome (DoesAll done) start end) d.output c.do_lines-reached.result d.comes_to in
-    leaves_runs g.S.Store store after done.0 done.1
-    (leads_all g.S.Store store after start end done.0 c.new-runner.ensures.store c.new-runner.ensures.options c.new-runner.ensures.held c.into_store-store.ensures done.2)
-
-pub returns-clause-crash : goal.returns-clause-crash
-returns-clause-crash g c =
-    let start = c.new-runner.result.scheduler in
-    let end = c.do_lines-reached.new.runner.scheduler in
-    let d = c.do_lines-reached.ensures in
-    let done = some_done _ (λ (done : List DoneLine). Reaches g.S.Store DoesSome (DoesAll done) start end) d.output c.do_lines-reached.result d.comes_to in
-    crash_follows g.S.Store c.args.store c.into_store-store.result (DoesAll done.0) start end c.new-runner.ensures.store c.new-runner.ensures.options c.new-runner.ensures.held c.into_store-store.ensures done.2
