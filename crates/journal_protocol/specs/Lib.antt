@@ -1,3 +1,4 @@
+pub mod CommandFacts
 pub mod CommandType
 pub mod Decoder
 pub mod First

@@ -1,5 +1,6 @@
 //! Laws of types, headers and streams. Each function does nothing: its contract is the law.
 
+ghost use Rattle.journal_protocol.specs.CommandFacts.{RequestsTyped, RequestsHaveLines};
 ghost use Rattle.journal_protocol.specs.Laws.{NamesReadBack, CustomEntriesReadBack, NumbersReadBack, RestIsUnknown, CommandTypesReadBack, CancellationsAreSignals, ContentTypesReadBack, VersionsReadBack, HeadersReadBack, FramesStandAlone, StreamsAreRead, StreamsCutAnywhere, DecodersAnswerItems, SleepsSpelled, OutputsSpelled, InputsSpelled, StartsSpelled, FuturesSpelled, AwaitingOnSpelled, FramesSpelled, TerminalFailuresReadBack};
 
 /// Each named type is read back from its number, and a custom entry exactly where its number is no named type's and
@@ -17,6 +18,13 @@ pub fn types_read_back()
 pub fn command_types_read_back()
     ensures commands { CommandTypesReadBack }
     ensures cancellation { CancellationsAreSignals }
+{}
+
+/// The line of a command, by the type of its message, is what the definitions of durable execution say of its requests: which
+/// completions they ask for, by which notification each comes, what it may be given from outside, and what is kept.
+pub fn commands_have_lines()
+    ensures types { RequestsTyped }
+    ensures lines { RequestsHaveLines }
 {}
 
 /// Each version is read back from its content type, and from its number.

@@ -1,6 +1,7 @@
 //! What stands on the stream between a runtime and an invocation: types, headers and framing.
 #![tactic(auto)]
 
+mod command_facts;
 mod command_type;
 mod conversion;
 mod decoder;
@@ -13,6 +14,7 @@ mod message_type;
 mod request_headers;
 mod version;
 
+pub use command_facts::{CommandFacts, CompletedBy, Completion, Completions, Kept};
 pub use command_type::CommandType;
 pub use conversion::{
     to_failure, to_failure_record, to_header, to_header_record, to_header_records, to_headers,

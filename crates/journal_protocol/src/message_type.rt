@@ -139,14 +139,6 @@ macro_rules! name_in_table {
     };
 }
 
-// The type with a name that has this number.
-#[tactic(auto, unfolding(crate::specs::MessageType::named_type))]
-fn named_type_of(number: u16) -> Option<MessageType>
-    ensures { result ≡ named_type number }
-{
-    with_numbers!(type_in_table number)
-}
-
 impl From<MessageType> for u16 {
     ghost from_gives = { λ ty number. number ≡ number_of ty };
 
@@ -161,7 +153,7 @@ impl TryFrom<u16> for MessageType {
     ghost try_from_gives = { λ number read. read ≡ type_numbered number };
 
     fn try_from(number: u16) -> Result<MessageType, UnknownMessageType> {
-        match named_type_of(number) {
+        match MessageType::with_number(u32::from(number)) {
             Some(ty) => Ok(ty),
             None if number & 0xFC00 == 0 => Err(UnknownMessageType(number)),
             None => Ok(MessageType::CustomEntry(number)),
@@ -170,6 +162,14 @@ impl TryFrom<u16> for MessageType {
 }
 
 impl MessageType {
+    /// The type with a name that has this number.
+    #[tactic(auto, unfolding(crate::specs::MessageType::named_type))]
+    pub fn with_number(number: u32) -> Option<MessageType>
+        ensures { result ≡ named_type number }
+    {
+        with_numbers!(type_in_table number)
+    }
+
     /// Whether the number has the command bit: `number & 0xFC00` is `0x0400`.
     pub fn is_command(self) -> bool
         ensures { result ≡ is_command self }

@@ -3,9 +3,12 @@ use Rattle.std.proofs.Common.{true≢false, arith, ℕ, ◌≤◌, ◌==◌, ◌
 use Rattle.std.specs.List.{list_any, find}
 use Rattle.journal_model.specs.Notification.{Text}
 use Rattle.journal_model.specs.Request.{Request, completions_asked}
-use Rattle.journal_model.specs.Spelling.{request_type}
 use Rattle.journal_model.specs.Journal.{Entry, asks_for as is_asking, requests_in, request_asking, open_request, is_awaited}
 use Rattle.journal_laws.proofs.Leaving.{or-true}
+use Rattle.journal_protocol.specs.declared.message_type.MessageType.{MessageType}
+use Rattle.journal_protocol.specs.MessageType.{named_type}
+use Rattle.journal_protocol.specs.CommandFacts.{type_of_request}
+use Rattle.journal_protocol.proofs.Facts.{requests_typed}
 use Rattle.store_refusals.specs.declared.refusal.Refusal.{Refusal}
 use Rattle.store_refusals.specs.Prepared.{Tells}
 use Rattle.store_rows.specs.declared.row.EntryRow.{EntryRow}
@@ -14,24 +17,26 @@ use Rattle.store_model.specs.Progress.{first_of, second_of}
 use Rattle.store_lookups.specs.Lookups.{row_if, first_row, second_row}
 use Rattle.store_lookups.proofs.Opening.{or_nothing}
 use Rattle.new_arrivals.specs.declared.asking.AskedCompletion.{AskedCompletion}
-use Rattle.new_arrivals.specs.Asked.{as_second, is_first, is_second, first_kind, second_kind, asked_by}
+use Rattle.new_arrivals.specs.Asked.{as_second, is_first, is_second, first_type, second_type, asked_by}
 
--- ---- the kinds of the rows
+-- ---- the types of the rows
 
-kind_if : (id : Text) (b : Bool) (asked : ℕ × Request)
-    → option_map (λ (e : EntryRow). e.kind) (row_if id b asked) ≡ (if b then Some (request_type asked.1) else None)
-kind_if id true asked = refl
-kind_if id false asked = refl
+type_if : (id : Text) (b : Bool) (asked : ℕ × Request)
+    → option_and_then (λ (e : EntryRow). named_type e.kind) (row_if id b asked) ≡ (if b then Some (type_of_request asked.1) else None)
+type_if id true asked = requests_typed asked.1
+type_if id false asked = refl
 
-pub kind_first : (id : Text) (n : ℕ) (asked : Option (ℕ × Request))
-    → option_map (λ (e : EntryRow). e.kind) (option_and_then (first_row id n) asked) ≡ option_and_then (first_kind n) (option_map (λ (a : ℕ × Request). a.1) asked)
-kind_first id n None = refl
-kind_first id n (Some asked) = kind_if id (is_first n asked.1) asked
+pub type_first : (id : Text) (n : ℕ) (asked : Option (ℕ × Request))
+    → option_and_then (λ (e : EntryRow). named_type e.kind) (option_and_then (first_row id n) asked)
+    ≡ option_and_then (first_type n) (option_map (λ (a : ℕ × Request). a.1) asked)
+type_first id n None = refl
+type_first id n (Some asked) = type_if id (is_first n asked.1) asked
 
-pub kind_second : (id : Text) (n : ℕ) (asked : Option (ℕ × Request))
-    → option_map (λ (e : EntryRow). e.kind) (option_and_then (second_row id n) asked) ≡ option_and_then (second_kind n) (option_map (λ (a : ℕ × Request). a.1) asked)
-kind_second id n None = refl
-kind_second id n (Some asked) = kind_if id (is_second n asked.1) asked
+pub type_second : (id : Text) (n : ℕ) (asked : Option (ℕ × Request))
+    → option_and_then (λ (e : EntryRow). named_type e.kind) (option_and_then (second_row id n) asked)
+    ≡ option_and_then (second_type n) (option_map (λ (a : ℕ × Request). a.1) asked)
+type_second id n None = refl
+type_second id n (Some asked) = type_if id (is_second n asked.1) asked
 
 -- ---- a request asks for two completions at most
 
@@ -59,30 +64,30 @@ passes p (y ∷ ys) x e = by_test (p y) refl e (passes p ys x)
 
 -- ---- the request, from both
 
-pub first_asked : (n : ℕ) (o : Option Request) (kind : ℕ) → Some kind ≡ option_and_then (first_kind n) o
-    → ◌≡◌ {A = Option AskedCompletion} (Some (record { kind = kind; is_second = false })) (option_map (asked_by n) o)
-first_asked n None kind e = cc
-first_asked n (Some request) kind e = by_test (is_first n request) refl e
+pub first_asked : (n : ℕ) (o : Option Request) (ty : MessageType) → Some ty ≡ option_and_then (first_type n) o
+    → ◌≡◌ {A = Option AskedCompletion} (Some (record { ty = ty; is_second = false })) (option_map (asked_by n) o)
+first_asked n None ty e = cc
+first_asked n (Some request) ty e = by_test (is_first n request) refl e
   where
-    by_test : (b : Bool) → is_first n request ≡ b → Some kind ≡ (if b then Some (request_type request) else None)
-        → ◌≡◌ {A = Option AskedCompletion} (Some (record { kind = kind; is_second = false })) (Some (asked_by n request))
-    by_test true t e = let same : kind ≡ request_type request = cc in λ i. Some (record { kind = same i; is_second = not (sym t i) })
+    by_test : (b : Bool) → is_first n request ≡ b → Some ty ≡ (if b then Some (type_of_request request) else None)
+        → ◌≡◌ {A = Option AskedCompletion} (Some (record { ty = ty; is_second = false })) (Some (asked_by n request))
+    by_test true t e = let same : ty ≡ type_of_request request = cc in λ i. Some (record { ty = same i; is_second = not (sym t i) })
     by_test false t e = cc
 
-pub second_asked : (n : ℕ) (entries : List Entry) → None ≡ option_and_then (first_kind n) (request_asking entries n)
-    → option_map as_second (option_and_then (second_kind n) (request_asking entries n)) ≡ option_map (asked_by n) (request_asking entries n)
+pub second_asked : (n : ℕ) (entries : List Entry) → None ≡ option_and_then (first_type n) (request_asking entries n)
+    → option_map as_second (option_and_then (second_type n) (request_asking entries n)) ≡ option_map (asked_by n) (request_asking entries n)
 second_asked n entries none = by_request (request_asking entries n) refl none
   where
-    by_tests : (request : Request) (a b : Bool) → is_first n request ≡ a → is_second n request ≡ b → None ≡ (if a then Some (request_type request) else None)
+    by_tests : (request : Request) (a b : Bool) → is_first n request ≡ a → is_second n request ≡ b → None ≡ (if a then Some (type_of_request request) else None)
         → (is_first n request ≡ true) ⊎ (is_second n request ≡ true)
-        → option_map as_second (if b then Some (request_type request) else None) ≡ Some (asked_by n request)
+        → option_map as_second (if b then Some (type_of_request request) else None) ≡ Some (asked_by n request)
     by_tests request true b first second none e = cc
-    by_tests request false true first second none e = λ i. Some (record { kind = request_type request; is_second = not (sym first i) })
+    by_tests request false true first second none e = λ i. Some (record { ty = type_of_request request; is_second = not (sym first i) })
     by_tests request false false first second none (inl e) = absurd (true≢false (sym e ∙ first))
     by_tests request false false first second none (inr e) = absurd (true≢false (sym e ∙ second))
 
-    by_request : (o : Option Request) → request_asking entries n ≡ o → None ≡ option_and_then (first_kind n) o
-        → option_map as_second (option_and_then (second_kind n) o) ≡ option_map (asked_by n) o
+    by_request : (o : Option Request) → request_asking entries n ≡ o → None ≡ option_and_then (first_type n) o
+        → option_map as_second (option_and_then (second_type n) o) ≡ option_map (asked_by n) o
     by_request None is none = refl
     by_request (Some request) is none =
         by_tests request (is_first n request) (is_second n request) refl refl none

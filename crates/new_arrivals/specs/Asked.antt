@@ -1,15 +1,15 @@
--- A request as one that asks for a completion, and what it may be given from outside: by the number of its command, and by whether
--- the completion is its second.
-use Rattle.std.specs.Prelude.{◌≡◌, ◌⊎◌, Result, Ok, Err, ℕ, ◌==◌, Bool, true, false, not, ◌&&◌, ◌||◌, if◌then◌else◌, List, [], ◌∷◌, Option, Some, None, is_some}
+-- A request as one that asks for a completion, and what it may be given from outside: by the line of its command, and by whether the
+-- completion is its second.
+use Rattle.std.specs.Prelude.{◌≡◌, Result, Ok, Err, ℕ, Bool, true, not, if◌then◌else◌, List, [], ◌∷◌, Option, Some, None, is_some, option_and_then}
 use Rattle.journal_model.specs.Notification.{Text}
 use Rattle.journal_model.specs.declared.notification.NotificationResult.{NotificationResult}
 use Rattle.journal_model.specs.Request.{Request, completions_asked}
 use Rattle.journal_model.specs.Event.{Event}
-use Rattle.journal_model.specs.Spelling.{request_type}
 use Rattle.journal_model.specs.Journal.{entries_of, open_request}
-use Rattle.journal_model.specs.Cause.{Cause, Tests, is_outcome, is_void, is_failure, is_invocation_id, refuses_kind}
+use Rattle.journal_model.specs.Cause.{Cause, Tests, refuses_kind}
 use Rattle.journal_protocol.specs.declared.message_type.MessageType.{MessageType}
-use Rattle.journal_protocol.specs.declared.message_type.MessageType.TheVariants.{GetPromiseCompletionNotification, PeekPromiseCompletionNotification, CompletePromiseCompletionNotification, CallCompletionNotification, CallInvocationIdCompletionNotification, AttachInvocationCompletionNotification, GetInvocationOutputCompletionNotification}
+use Rattle.journal_protocol.specs.declared.command_facts.Completion.{Completion}
+use Rattle.journal_protocol.specs.CommandFacts.{accepts, completion_at, facts_of, type_of_request}
 use Rattle.store_rows.specs.Questions.{is_number}
 use Rattle.store_model.specs.Progress.{first_of, second_of}
 use Rattle.store_refusals.specs.declared.refusal.Refusal.{Refusal}
@@ -23,42 +23,26 @@ is_first n request = is_number n (first_of (completions_asked request))
 abbrev pub is_second : ℕ → Request → Bool
 is_second n request = is_number n (second_of (completions_asked request))
 
-abbrev pub first_kind : ℕ → Request → Option ℕ
-first_kind n request = if is_first n request then Some (request_type request) else None
+abbrev pub first_type : ℕ → Request → Option MessageType
+first_type n request = if is_first n request then Some (type_of_request request) else None
 
-abbrev pub second_kind : ℕ → Request → Option ℕ
-second_kind n request = if is_second n request then Some (request_type request) else None
+abbrev pub second_type : ℕ → Request → Option MessageType
+second_type n request = if is_second n request then Some (type_of_request request) else None
 
 abbrev pub asked_by : ℕ → Request → AskedCompletion
-asked_by n request = record { kind = request_type request; is_second = not (is_first n request) }
+asked_by n request = record { ty = type_of_request request; is_second = not (is_first n request) }
 
-abbrev pub as_second : ℕ → AskedCompletion
-as_second kind = record { kind = kind; is_second = true }
+abbrev pub as_second : MessageType → AskedCompletion
+as_second ty = record { ty = ty; is_second = true }
 
-abbrev pub may_complete_kind : ℕ → Bool → NotificationResult → Bool
-may_complete_kind kind second brought =
-    if (kind == 0x040d) && second then is_outcome brought
-    else (if (kind == 0x040d) || (kind == 0x040e) then is_invocation_id brought
-    else (if (kind == 0x0409) || (kind == 0x0411) then is_outcome brought
-    else (if (kind == 0x040a) || (kind == 0x0412) then is_void brought || is_outcome brought
-    else (if kind == 0x040b then is_void brought || is_failure brought else false))))
+-- the completion, by the line of the request's command
+abbrev pub completion_for : AskedCompletion → Option Completion
+completion_for asked = option_and_then (λ facts. completion_at asked.is_second facts.completions) (facts_of asked.ty)
 
--- the type of the notification that completes such a request, where it may be completed from outside
-abbrev pub type_that_completes : AskedCompletion → Option MessageType
-type_that_completes asked =
-    if asked.kind == 0x0409 then Some GetPromiseCompletionNotification
-    else (if asked.kind == 0x040a then Some PeekPromiseCompletionNotification
-    else (if asked.kind == 0x040b then Some CompletePromiseCompletionNotification
-    else (if (asked.kind == 0x040d) && asked.is_second then Some CallCompletionNotification
-    else (if (asked.kind == 0x040d) || (asked.kind == 0x040e) then Some CallInvocationIdCompletionNotification
-    else (if asked.kind == 0x0411 then Some AttachInvocationCompletionNotification
-    else (if asked.kind == 0x0412 then Some GetInvocationOutputCompletionNotification else None))))))
-
--- the type by which it may be given this
-abbrev pub TypeGiven : AskedCompletion → NotificationResult → Result MessageType Refusal → Type 0
-TypeGiven asked brought (Ok ty) = (type_that_completes asked ≡ Some ty) × (may_complete_kind asked.kind asked.is_second brought ≡ true)
-TypeGiven asked brought (Err why) =
-    (why ≡ WrongKind) × ((type_that_completes asked ≡ None) ⊎ (may_complete_kind asked.kind asked.is_second brought ≡ false))
+-- the type of the notification by which a completion is given this from outside, where it may be
+abbrev pub type_for : Option Completion → NotificationResult → Result MessageType Refusal
+type_for None brought = Err WrongKind
+type_for (Some one) brought = if accepts one.completed_by brought then Ok one.notification else Err WrongKind
 
 -- the tests of a result, whether a request waits for it and may be given it
 abbrev pub completion_tests : List Event → Text → ℕ → NotificationResult → Tests

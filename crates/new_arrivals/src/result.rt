@@ -13,10 +13,10 @@ ghost use Rattle.store_rows.specs.Looks.{Looks};
 ghost use Rattle.store_refusals.specs.Prepared.{Prepares};
 ghost use Rattle.new_invocations.specs.Rows.{Decides, IsRowOf, IsStoreOf};
 ghost use Rattle.new_arrivals.specs.Arrivals.{IsMadeReady};
-ghost use Rattle.new_arrivals.specs.Asked.{TypeGiven, completion_tests};
+ghost use Rattle.new_arrivals.specs.Asked.{completion_tests};
 
 use crate::arrival::{PreparedArrival, prepare_arrival};
-use crate::asking::{AskedCompletion, open_request_of};
+use crate::asking::open_request_of;
 use bytes::ByteStr;
 use journal_model::{Notification, NotificationId, NotificationResult};
 use journal_protocol::MessageType;
@@ -25,24 +25,6 @@ use sqlite::Alter;
 use std::alloc::Global;
 use store_refusals::Refusal;
 use store_rows::{InvocationRow, StoreTables};
-
-impl AskedCompletion {
-    /// The type of the notification by which it is given this, if it may be.
-    fn type_of(self, brought: &NotificationResult) -> Result<MessageType, Refusal>
-        ensures { TypeGiven self brought.now result }
-    {
-        match self.completed_by() {
-            Some(ty) => {
-                if self.may_be_given(brought) {
-                    Ok(ty)
-                } else {
-                    Err(Refusal::WrongKind)
-                }
-            }
-            None => Err(Refusal::WrongKind),
-        }
-    }
-}
 
 /// The type of the notification by which an open completion is given this.
 fn type_of_result<S: Alter>(
@@ -57,7 +39,7 @@ fn type_of_result<S: Alter>(
 {
     let open = open_request_of(tables, id, completion)?;
     match open {
-        Some(asked) => asked.type_of(brought),
+        Some(asked) => asked.type_given(brought),
         None => Err(Refusal::CompletionNotOpen),
     }
 }

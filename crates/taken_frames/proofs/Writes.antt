@@ -27,7 +27,10 @@ use Rattle.progress_steps.specs.Steps.{grown, payload_or, after_command, after_f
 use Rattle.progress_steps.proofs.Following.{follows}
 use Rattle.taken_frames.specs.Stateless.{is_of_state, LeavesState}
 use Rattle.taken_frames.specs.Taken.{IsReply}
-use Rattle.taken_frames.specs.Told.{value_put_out, command_row, tests_of_told, reply_to_told, after_recorded, number_of_behavior, does_fail, after_suspension, after_error, after_end, error_told, writes_of_told}
+use Rattle.journal_protocol.specs.MessageType.{number_of}
+use Rattle.journal_protocol.specs.CommandFacts.{facts_of, type_of_request}
+use Rattle.journal_protocol.proofs.Facts.{request_number}
+use Rattle.taken_frames.specs.Told.{puts_out, value_put_out, command_row, tests_of_told, reply_to_told, after_recorded, number_of_behavior, does_fail, after_suspension, after_error, after_end, error_told, writes_of_told}
 use Rattle.taken_frames.proofs.Stateless.{no_answer, none_at_once, no_writes, nothing_written}
 use Rattle.taken_frames.proofs.Tests.{asked_same}
 use Rattle.taken_frames.proofs.Lists.{payload_kept}
@@ -51,7 +54,7 @@ row_same : (id : Text) (before : List Entry) (place : ℕ) (request : Request) (
 row_same id before place request command h = λ i. record {
   invocation = id;
   place = place;
-  kind = sym h.kind i;
+  kind = kind i;
   payload = sym h.payload i;
   completion = first i;
   second_completion = second i;
@@ -59,6 +62,9 @@ row_same id before place request command h = λ i. record {
   moment = moment i;
 }
   where
+    kind : request_type request ≡ number_of command.kind
+    kind = sym (request_number request) ∙ ap number_of (sym h.kind)
+
     first : first_of (completions_asked request) ≡ command.completion
     first = first_same (completions_asked request) ∙ sym h.completion
 
@@ -68,7 +74,7 @@ row_same id before place request command h = λ i. record {
     moment : moment_of (sleep_in request) ≡ command.moment
     moment = moment_same request ∙ sym h.moment
 
-output_same : (request : Request) → output_payload request ≡ (if request_type request == 0x0401 then Some (request_payload request) else None)
+output_same : (request : Request) → output_payload request ≡ (if puts_out (facts_of (type_of_request request)) then Some (request_payload request) else None)
 output_same (Request.Output value name) = refl
 output_same _ = refl
 
@@ -80,7 +86,7 @@ command_progress request command p stateless h = λ i. record (grown (1 + none_a
 }
   where
     put_out : output_payload request ≡ value_put_out command
-    put_out = output_same request ∙ (λ i. if sym h.kind i == 0x0401 then Some (sym h.payload i) else None)
+    put_out = output_same request ∙ (λ i. if puts_out (facts_of (sym h.kind i)) then Some (sym h.payload i) else None)
 
 -- ---- errors
 

@@ -2,6 +2,8 @@
 use Rattle.std.specs.Prelude.{ℕ, ◌<◌, ◌-◌, ◌^◌, max, nat_lt, nat_le, ◌==◌, Bool, true, false, not, if◌then◌else◌, List, [], ◌∷◌, Option, Some, None, option_to_list}
 use Rattle.journal_model.specs.Notification.{Bytes, Text}
 use Rattle.journal_model.specs.Cause.{BrokenPayload, NestedTooDeep, FrameNotAccepted, BadCompletion, InputNotClosed, NumbersUsedUp, PayloadTooLong, Tests, do_ascend, greatest, is_too_long}
+use Rattle.journal_protocol.specs.declared.command_facts.CommandFacts.{CommandFacts}
+use Rattle.journal_protocol.specs.CommandFacts.{facts_of, is_answer}
 use Rattle.journal_protocol.specs.MessageType.{number_of}
 use Rattle.attempt_frames.specs.declared.frame.RecordedCommand.{RecordedCommand}
 use Rattle.attempt_frames.specs.declared.frame.ErrorBehavior.{ErrorBehavior}
@@ -28,9 +30,14 @@ asked (Some n) second = n ∷ option_to_list second
 abbrev pub asked_by : RecordedCommand → List ℕ
 asked_by command = asked command.completion command.second_completion
 
+-- whether a command of this line puts a value out
+abbrev pub puts_out : Option CommandFacts → Bool
+puts_out None = false
+puts_out (Some facts) = is_answer facts.kept
+
 -- the payload of a command that puts a value out
 abbrev pub value_put_out : RecordedCommand → Option Bytes
-value_put_out command = if number_of command.kind == 0x0401 then Some command.payload else None
+value_put_out command = if puts_out (facts_of command.kind) then Some command.payload else None
 
 abbrev pub command_row : Text → ℕ → RecordedCommand → EntryRow
 command_row id place command = record {

@@ -3,7 +3,8 @@ ghost use Rattle.std.specs.Prelude.{◌≡◌, ◌<◌, ◌-◌, ◌^◌, max, [
 ghost use Rattle.journal_model.specs.Cause.{greatest};
 ghost use Rattle.store_rows.specs.declared.row.Write.TheVariants.{AddEntry, SetProgress};
 ghost use Rattle.progress_steps.specs.Steps.{payload_or};
-ghost use Rattle.taken_frames.specs.Told.{HasRoom, after_end, after_error, after_recorded, after_suspension, asked, command_row, does_fail, number_of_behavior, reply_to_told, value_put_out, writes_of_told};
+ghost use Rattle.journal_protocol.specs.CommandFacts.{facts_of};
+ghost use Rattle.taken_frames.specs.Told.{HasRoom, after_end, after_error, after_recorded, after_suspension, asked, command_row, does_fail, number_of_behavior, puts_out as puts_value_out, reply_to_told, value_put_out, writes_of_told};
 
 use crate::frame::FrameReply;
 use attempt_frames::{AttemptFrame, ErrorBehavior, RecordedCommand};
@@ -13,9 +14,6 @@ use store_rows::{Closing, EntryRow, LastError, Progress, Write};
 
 /// From this version on an error can close its invocation.
 const FIRST_WITH_FAILURES: u32 = 7;
-
-/// The number of an output's type.
-const OUTPUT: u16 = 0x0401;
 
 /// How a frame is answered. One that is always refused is not asked for.
 pub(crate) fn reply_to(progress: &Progress, frame: &AttemptFrame) -> FrameReply
@@ -46,11 +44,21 @@ fn greatest_of(last: u32, first: Option<u32>, second: Option<u32>) -> u32
     }
 }
 
+/// Whether a command puts a value out.
+fn puts_out(command: &RecordedCommand) -> bool
+    ensures { result ≡ puts_value_out (facts_of command.now.kind) }
+{
+    match command.kind.command_facts() {
+        Some(facts) => facts.kept.is_answer(),
+        None => false,
+    }
+}
+
 /// What is put out last is the invocation's answer.
 fn note_answer(answer: &mut Option<Bytes>, command: &RecordedCommand) -> Result<(), AllocError>
     ensures { OnOk result (answer.new ≡ payload_or (value_put_out command.now) answer.old) }
 {
-    if u16::from(command.kind) == OUTPUT {
+    if puts_out(command) {
         let payload = command.payload.clone()?;
         drop(answer.replace(payload));
     }

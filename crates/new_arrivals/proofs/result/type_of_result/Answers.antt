@@ -5,6 +5,7 @@ use Rattle.journal_model.specs.Attempt.{notification_type}
 use Rattle.journal_model.specs.Cause.{those_that_hold}
 use Rattle.journal_protocol.specs.MessageType.{number_of}
 use Rattle.store_refusals.specs.Refused.{IsRefused}
+use Rattle.new_invocations.specs.Rows.{Decides}
 use Rattle.new_invocations.proofs.Reading.{decided_err}
 use Rattle.new_invocations.proofs.Refusing.{refused_anyway}
 use Rattle.new_arrivals.specs.Asked.{completion_tests}
@@ -27,5 +28,6 @@ returns-in-None-clause-decided g c clean events store =
 pub returns-in-Some-clause-decided : goal.returns-in-Some-clause-decided
 returns-in-Some-clause-decided g c clean events store =
     let n = c.args.completion in
-    given (entries_of events c.args.id.now) n c.args.brought.now c.in-Some.asked (sym c.in-Some.is ∙ c.in_ok-open.ensures.told clean events store)
-    c.type_of.result c.type_of.ensures
+    subst (λ r. Decides (completion_tests events c.args.id.now n c.args.brought.now) (λ ty. number_of ty ≡ notification_type (entries_of events c.args.id.now) (CompletionId n)) r)
+    (sym c.type_given.ensures)
+    (given (entries_of events c.args.id.now) n c.args.brought.now c.in-Some.asked (sym c.in-Some.is ∙ c.in_ok-open.ensures.told clean events store))

@@ -1,8 +1,9 @@
 use Rattle.std.proofs.Common.{◌≡◌, ◌∙◌, sym, ap, subst, arith, inr, IsTrue}
 use Rattle.sqlite.specs.Held.{state}
 use Rattle.sqlite.specs.State.{State, HasCleanDisk}
-use Rattle.std.proofs.Common.{option_and_then, option_map}
+use Rattle.std.proofs.Common.{option_and_then}
 use Rattle.journal_model.specs.Journal.{entries_of, request_asking}
+use Rattle.journal_protocol.specs.MessageType.{named_type}
 use Rattle.store_rows.specs.declared.row.EntryRow.{EntryRow}
 use Rattle.store_rows.specs.Questions.{asks_second_for}
 use Rattle.store_lookups.specs.Lookups.{asked_at, second_row}
@@ -10,9 +11,9 @@ use Rattle.store_lookups.proofs.Asking.{asked_found}
 use Rattle.store_lookups.proofs.Only.{only_one}
 use Rattle.store_refusals.specs.Refused.{is_circumstance}
 use Rattle.new_invocations.proofs.Reading.{asked_once, found_is, told_err}
-use Rattle.new_arrivals.specs.Asked.{second_kind}
-use Rattle.new_arrivals.proofs.Waiting.{kind_second}
-use Rattle.new_arrivals.proofs.asking.second_kind.Goals as goal
+use Rattle.new_arrivals.specs.Asked.{second_type}
+use Rattle.new_arrivals.proofs.Waiting.{type_second}
+use Rattle.new_arrivals.proofs.asking.second_type.Goals as goal
 
 pub returns-clause-told : goal.returns-clause-told
 returns-clause-told g c clean events store =
@@ -24,8 +25,8 @@ returns-clause-told g c clean events store =
     let asked = asked_at 1 (entries_of events id) n in
     let found = found_is events old (λ r. r.entries) (asks_second_for id n) (option_and_then (second_row id n) asked) c.in_ok-row.row k
     (λ r accepted kept. (asked_found events r id n accepted kept).1) (c.in_ok-row.ensures.found clean) in
-    c.kind_of-kind.ensures ∙ ap (option_map (λ (e : EntryRow). e.kind)) found ∙ kind_second id n asked
-    ∙ ap (option_and_then (second_kind n)) (asked_found events k.records id n k.accepted k.kept).2
+    c.type_of-ty.ensures ∙ ap (option_and_then (λ (e : EntryRow). named_type e.kind)) found ∙ type_second id n asked
+    ∙ ap (option_and_then (second_type n)) (asked_found events k.records id n k.accepted k.kept).2
 
 pub returns-in_err-row-clause-told : goal.returns-in_err-row-clause-told
 returns-in_err-row-clause-told g c clean events store =
@@ -33,7 +34,7 @@ returns-in_err-row-clause-told g c clean events store =
     let early : HasCleanDisk old = omega (arith, c.entry_by_second_completion.ensures.looks.crash.clean) in
     let id = c.args.id.now in
     let n = c.args.completion in
-    told_err (λ kind. kind ≡ option_and_then (second_kind n) (request_asking (entries_of events id) n)) c.from_residual.result c.from_residual.ensures.1 (λ why gives.
+    told_err (λ ty. ty ≡ option_and_then (second_type n) (request_asking (entries_of events id) n)) c.from_residual.result c.from_residual.ensures.1 (λ why gives.
     inr (subst (λ w. IsTrue (is_circumstance w)) (sym gives)
     (asked_once events old (λ r. r.entries) (asks_second_for id n) _ (c.in_err-row.ensures.open clean) (c.in_err-row.ensures.foreign clean) (store.keeps early)
     (λ r accepted kept. only_one (asks_second_for id n) r.entries _ (asked_found events r id n accepted kept).1))))
