@@ -1,5 +1,5 @@
 -- Which frame of an attempt a message is.
-use Rattle.std.specs.Prelude.{ℕ, nat_lt, Bool, true, false, List, Option, Some, None}
+use Rattle.std.specs.Prelude.{ℕ, Bool, true, false, List, Option, Some, None}
 use Rattle.protocol_table.specs.declared.table.RecordType.{RecordType}
 use Rattle.protocol_table.specs.declared.table.RecordType.TheVariants as records
 use Rattle.protocol_wire.specs.Wire.{Field}
@@ -20,6 +20,8 @@ use Rattle.control_records.specs.declared.error.ErrorMessage.{ErrorMessage}
 use Rattle.journal_protocol.specs.declared.message_type.MessageType.{MessageType}
 use Rattle.journal_protocol.specs.declared.decoder.RawMessage.{RawMessage}
 use Rattle.journal_protocol.specs.Header.{message_type}
+use Rattle.journal_protocol.specs.declared.feature.Feature.TheVariants.{AwaitTree}
+use Rattle.journal_protocol.specs.Feature.{lacks_feature}
 use Rattle.attempt_frames.specs.declared.kind.FrameKind.{FrameKind}
 use Rattle.attempt_frames.specs.declared.kind.FrameKind.TheVariants as kinds
 use Rattle.attempt_frames.specs.Kind.{kind_of, record_of}
@@ -58,7 +60,7 @@ frame_by version kinds.Sleep ty payload = read_as records.SleepCommand (λ fs. F
 frame_by version kinds.Call ty payload = read_as records.CallCommand (λ fs. Frame.Command (request_of_call (call_command_of LEVELS fs))) payload
 frame_by version kinds.Output ty payload = read_as records.OutputCommand (λ fs. command_or_broken (request_of_output (output_command_of LEVELS fs))) payload
 frame_by version kinds.AwaitingOn ty payload = read_as records.AwaitingOn (λ fs. Frame.AwaitingOn) payload
-frame_by version kinds.Suspension ty payload = suspension_frame (nat_lt version 7) payload
+frame_by version kinds.Suspension ty payload = suspension_frame (lacks_feature version AwaitTree) payload
 frame_by version kinds.Error ty payload = read_as records.Error (λ fs. error_frame version (error_of LEVELS fs)) payload
 frame_by version kinds.End ty payload = read_as records.End (λ fs. Frame.End) payload
 frame_by version kinds.Other ty payload = other_frame (record_of ty) payload

@@ -1,5 +1,5 @@
 -- The requests, and what is waited for, that records stand for.
-use Rattle.std.specs.Prelude.{ℕ, ◌==◌, nat_lt, if◌then◌else◌, map, Option, option_map}
+use Rattle.std.specs.Prelude.{ℕ, ◌==◌, if◌then◌else◌, map, Option, option_map}
 use Rattle.journal_model.specs.declared.value.NonEmptyValue.{NonEmptyValue}
 use Rattle.journal_model.specs.declared.value.TerminalFailure.{TerminalFailure}
 use Rattle.journal_model.specs.Request.{Request, CallRecord}
@@ -13,6 +13,8 @@ use Rattle.protocol_records.specs.declared.suspension.SuspensionMessage.{Suspens
 use Rattle.protocol_records.specs.declared.suspension_v6.SuspensionMessageV6.{SuspensionMessageV6}
 use Rattle.call_records.specs.declared.call_command.CallCommandMessage.{CallCommandMessage}
 use Rattle.journal_protocol.specs.Records.{header_told, pair_told}
+use Rattle.journal_protocol.specs.declared.feature.Feature.TheVariants.{ErrorBehavior}
+use Rattle.journal_protocol.specs.Feature.{lacks_feature}
 use Rattle.await_trees.specs.Future.{ids_in, future_tree}
 
 -- ---- commands
@@ -64,4 +66,4 @@ behavior_numbered number = if number == 1 then Pause else (if number == 2 then F
 
 -- before version 7 each is
 abbrev pub behavior_in : ℕ → ℕ → Behavior
-behavior_in version number = if nat_lt version 7 then Retry else behavior_numbered number
+behavior_in version number = if lacks_feature version ErrorBehavior then Retry else behavior_numbered number

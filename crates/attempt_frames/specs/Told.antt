@@ -1,5 +1,5 @@
 -- What is kept of each record, and of a payload.
-use Rattle.std.specs.Prelude.{ℕ, ◌==◌, nat_lt, Bool, true, false, if◌then◌else◌, List, Option, Some, None}
+use Rattle.std.specs.Prelude.{ℕ, ◌==◌, Bool, true, false, if◌then◌else◌, List, Option, Some, None}
 use Rattle.protocol_table.specs.declared.table.RecordType.{RecordType}
 use Rattle.protocol_table.specs.declared.table.RecordType.TheVariants as records
 use Rattle.protocol_wire.specs.Wire.{Field}
@@ -26,6 +26,8 @@ use Rattle.control_records.specs.Error.{error_of}
 use Rattle.control_records.specs.declared.error.ErrorMessage.{ErrorMessage}
 use Rattle.journal_protocol.specs.declared.message_type.MessageType.{MessageType}
 use Rattle.journal_protocol.specs.declared.message_type.MessageType.TheVariants as types
+use Rattle.journal_protocol.specs.declared.feature.Feature.TheVariants as features
+use Rattle.journal_protocol.specs.Feature.{lacks_feature}
 use Rattle.attempt_frames.specs.Kind.{record_of}
 use Rattle.attempt_frames.specs.declared.kind.FrameKind.{FrameKind}
 use Rattle.attempt_frames.specs.declared.kind.FrameKind.TheVariants as kinds
@@ -81,7 +83,7 @@ abbrev pub told_number : ℕ → ErrorBehavior
 told_number number = if number == 1 then behaviors.Pause else (if number == 2 then behaviors.Fail else behaviors.Retry)
 
 abbrev pub told_behavior : ℕ → ℕ → ErrorBehavior
-told_behavior version number = if nat_lt version 7 then behaviors.Retry else told_number number
+told_behavior version number = if lacks_feature version features.ErrorBehavior then behaviors.Retry else told_number number
 
 abbrev pub told_error : ℕ → ErrorMessage → AttemptFrame
 told_error version one = answers.Error one.code one.message (told_behavior version one.behavior) one.next_retry_delay
@@ -99,7 +101,7 @@ told_by version kinds.Sleep ty = told_as records.SleepCommand (λ fs. told_sleep
 told_by version kinds.Call ty = told_as records.CallCommand (λ fs. told_call (call_command_of LEVELS fs))
 told_by version kinds.Output ty = told_as records.OutputCommand (λ fs. told_output (output_command_of LEVELS fs))
 told_by version kinds.AwaitingOn ty = told_as records.AwaitingOn (λ fs. answers.AwaitingOn)
-told_by version kinds.Suspension ty = told_suspension (nat_lt version 7)
+told_by version kinds.Suspension ty = told_suspension (lacks_feature version features.AwaitTree)
 told_by version kinds.Error ty = told_as records.Error (λ fs. told_error version (error_of LEVELS fs))
 told_by version kinds.End ty = told_as records.End (λ fs. answers.End)
 told_by version kinds.Other ty = told_other (record_of ty)

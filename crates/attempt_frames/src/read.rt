@@ -1,7 +1,9 @@
 // Reading a message from an attempt.
-ghost use Rattle.std.specs.Prelude.{◌≡◌, nat_lt, IfOk};
+ghost use Rattle.std.specs.Prelude.{◌≡◌, IfOk};
 ghost use Rattle.protocol_wire.specs.Check.{payload_fault};
 ghost use Rattle.protocol_wire.specs.declared.record.TheConstants.{LEVELS as the_levels};
+ghost use Rattle.journal_protocol.specs.declared.feature.Feature.TheVariants.{AwaitTree};
+ghost use Rattle.journal_protocol.specs.Feature.{lacks_feature};
 ghost use Rattle.attempt_frames.specs.Answer.{IsFrame};
 ghost use Rattle.attempt_frames.specs.Kind.{kind_of as the_kind_of, record_of as the_record_of};
 ghost use Rattle.attempt_frames.specs.Meaning.{frame_of};
@@ -9,10 +11,10 @@ ghost use Rattle.attempt_frames.specs.Told.{told_faulty, told_unless_faulty, tol
 
 use crate::frame::AttemptFrame;
 use crate::kind::{FrameKind, kind_of, record_of};
-use crate::record::{FIRST_WITH_TREES, FrameRecord};
+use crate::record::FrameRecord;
 use call_records::CallCommandMessage;
 use control_records::ErrorMessage;
-use journal_protocol::{MessageHeader, MessageType, RawMessage};
+use journal_protocol::{Feature, MessageHeader, MessageType, RawMessage};
 use protocol_records::{
     OutputCommandMessage, SleepCommandMessage, SuspensionMessage, SuspensionMessageV6,
 };
@@ -61,9 +63,9 @@ fn read_as<R: FrameRecord>(
 }
 
 fn read_suspension(alloc: Global, version: u32, payload: &[u8]) -> Result<AttemptFrame, AllocError>
-    ensures { IfOk result (λ frame. frame ≡ told_suspension (nat_lt version 7) payload.now) }
+    ensures { IfOk result (λ frame. frame ≡ told_suspension (lacks_feature version AwaitTree) payload.now) }
 {
-    if version < FIRST_WITH_TREES {
+    if Feature::AwaitTree.is_later_than(version) {
         read_as::<SuspensionMessageV6>(alloc, version, payload)
     } else {
         read_as::<SuspensionMessage>(alloc, version, payload)

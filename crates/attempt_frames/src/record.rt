@@ -9,15 +9,12 @@ use crate::tree::tree_payload;
 use bytes::Bytes;
 use call_records::CallCommandMessage;
 use control_records::ErrorMessage;
-use journal_protocol::MessageType;
+use journal_protocol::{Feature, MessageType};
 use protocol_records::{
     OutputCommandMessage, SleepCommandMessage, SuspensionMessage, SuspensionMessageV6,
 };
 use protocol_wire::{Record, encode};
 use std::alloc::{AllocError, Global};
-
-/// From this version on a suspension is a tree, and an error says what becomes of its invocation.
-pub(crate) const FIRST_WITH_TREES: u32 = 7;
 
 /// A record that a frame of an attempt is the payload of.
 pub(crate) trait FrameRecord: Record {
@@ -140,7 +137,7 @@ fn numbered(number: u32) -> ErrorBehavior
 fn behavior_of(version: u32, number: u32) -> ErrorBehavior
     ensures { result ≡ told_behavior version number }
 {
-    if version < FIRST_WITH_TREES {
+    if Feature::ErrorBehavior.is_later_than(version) {
         ErrorBehavior::Retry
     } else {
         numbered(number)

@@ -1,9 +1,10 @@
 -- The accepted events stay, and more are put in front of them.
-use Rattle.std.proofs.Common.{◌≡◌, sym, ap, ◌∙◌, ℕ, zero, suc, ◌++◌, append_assoc, List, [], ◌∷◌, Option, Some, None, inl, inr, Result, Ok, Err}
-use Rattle.journal_model.specs.Notification.{Text}
+use Rattle.std.proofs.Common.{◌≡◌, sym, ap, ◌∙◌, ℕ, Bool, true, false, ◌++◌, append_assoc, take, List, [], ◌∷◌, Option, Some, None, inl, inr, Result, Ok, Err}
+use Rattle.journal_model.specs.Notification.{Bytes, Text}
 use Rattle.journal_model.specs.declared.invocation.NewInvocation.{NewInvocation}
 use Rattle.journal_model.specs.Run.{Handler}
 use Rattle.journal_model.specs.Event.{Event}
+use Rattle.journal_model.specs.Attempt.{is_live}
 use Rattle.invocation_vm.specs.declared.options.VMOptions.{VMOptions}
 use Rattle.invocation_vm.specs.View.{AttemptView}
 use Rattle.store_refusals.specs.declared.refusal.Refusal.{Refusal}
@@ -13,9 +14,14 @@ use Rattle.schedule_events.specs.declared.event.Reply.{Reply}
 use Rattle.schedule_events.specs.declared.event.Reply.TheVariants as reply
 use Rattle.schedule_events.specs.declared.event.Refusal.TheVariants as refusal
 use Rattle.schedule_events.specs.declared.held.HeldAttempt.{HeldAttempt}
-use Rattle.schedule_events.specs.Standing.{Standing, Refuses, Invokes, Stops, RefusesFrame}
+use Rattle.taken_frames.specs.declared.frame.FrameReply.{FrameReply}
+use Rattle.taken_frames.specs.Taken.{lies_in_frame}
+use Rattle.store_calls.specs.Standing.{Standing, Stays, Refuses}
+use Rattle.store_calls.specs.Calls.{Invokes, Stops}
+use Rattle.store_calls.specs.Frames.{Accepts, LeavesRefused, Rests, TakesEach}
+use Rattle.store_calls.proofs.Taking.{bytes_stay}
 use Rattle.schedule_events.specs.Following.{held_of}
-use Rattle.schedule_events.specs.Schedule.{RepliesDone, Took, TakesFrames, BeginDoes, FeedsOne, TurnsOne, MovesOne, IfHeld, Does, Scheduled, AppliesAll}
+use Rattle.schedule_events.specs.Schedule.{RepliesDone, BeginDoes, FeedsOne, TurnsOne, MovesOne, IfHeld, Does, Scheduled, AppliesAll}
 
 -- the events of the one are the first of the other's
 abbrev pub Grows : Standing → Standing → Type 0
@@ -30,23 +36,26 @@ same_grows s t same = ([], same)
 pub more_grows : (s t : Standing) (last : Event) → t.events ≡ last ∷ s.events → Grows s t
 more_grows s t last more = (last ∷ [], more)
 
-pub took_grows : (id : Text) (n frames : ℕ) (s t : Standing) → Took id n frames s t → Grows s t
-took_grows id n zero s t it = same_grows s t it.events
-took_grows id n (suc frames) s t it =
-    grows_on s it.0 t (took_grows id n frames s it.0 it.1) (more_grows it.0 t (Event.Take id n it.2.frame) it.2.leaves.events)
+pub stays_grows : (s t : Standing) → Stays s t → Grows s t
+stays_grows s t it = same_grows s t it.events
 
-pub refused_grows : (id : Text) (n : ℕ) (why : Refusal) (s t : Standing) → RefusesFrame id n why s t → Grows s t
-refused_grows id n why s t it = elim it [
-  | inl stopped ↦ more_grows s t (Event.Stop id n) stopped.leaves.events
-  | inr other ↦ elim other [ inl waits ↦ same_grows s t waits.stays.events | inr refused ↦ same_grows s t refused.stays.events ]
-]
+each_grows : (id : Text) (n : ℕ) (replies : List FrameReply) (s t : Standing) → TakesEach id n replies s t → Grows s t
+each_grows id n [] s t it = stays_grows s t it
+each_grows id n (first ∷ replies) s t it =
+    grows_on s it.0 t (more_grows s it.0 (Event.Take id n it.1.frame) it.1.leaves.events) (each_grows id n replies it.0 t it.2)
 
-pub frames_grow : (id : Text) (n frames : ℕ) (why : Option Refusal) (s t : Standing) → TakesFrames id n frames why s t → Grows s t
-frames_grow id n frames (Some why) s t it = grows_on s it.between t (took_grows id n frames s it.between it.took) (refused_grows id n why it.between t it.refused)
-frames_grow id n frames None s t it = elim it [
-  | inl all ↦ grows_on s all.between t (took_grows id n frames s all.between all.took) (same_grows all.between t all.none_left.stays.events)
-  | inr ended ↦ grows_on s ended.between t (took_grows id n ended.before s ended.between ended.took) (more_grows ended.between t (Event.Take id n ended.ended.frame) ended.ended.leaves.events)
-]
+refused_grows : (b : Bool) (id : Text) (n : ℕ) (s t : Standing) → LeavesRefused b id n s t → Grows s t
+refused_grows true id n s t it = more_grows s t (Event.Stop id n) it.events
+refused_grows false id n s t it = stays_grows s t it
+
+rests_grow : (id : Text) (n : ℕ) (why : Option Refusal) (s t : Standing) → Rests id n why s t → Grows s t
+rests_grow id n (Some why) s t it = elim it [ inl none ↦ stays_grows s t none.stays | inr refused ↦ refused_grows (lies_in_frame why) id n s t refused.left ]
+rests_grow id n None s t it = elim it [ inl ended ↦ stays_grows s t ended.stays | inr none ↦ stays_grows s t none.stays ]
+
+pub accepts_grow : (id : Text) (n : ℕ) (bytes : Bytes) (taken : List FrameReply × Option Refusal) (s t : Standing) → Accepts id n bytes (Ok taken) s t → Grows s t
+accepts_grow id n bytes taken s t it =
+    grows_on s it.0 t (same_grows s it.0 it.1.events)
+    (grows_on it.0 it.2.between t (each_grows id n taken.0 it.0 it.2.between it.2.taken) (rests_grow id n taken.1 it.2.between t it.2.rests))
 
 -- ---- what an event does
 
@@ -62,13 +71,13 @@ done_grows Change (reply.Fed n) s t each it = absurd it
 done_grows Change (reply.Turned turn) s t each it = absurd it
 done_grows Change (reply.Moved bytes frames why) s t each it = absurd it
 
-invoke_grows : (one : NewInvocation) (s t : Standing) (result : Result (Unit {0}) Refusal) → Invokes one s result t → Grows s t
+invoke_grows : (one : NewInvocation) (s t : Standing) (result : Result (Unit {0}) Refusal) → Invokes one result s t → Grows s t
 invoke_grows one s t (Ok done) it = more_grows s t (Event.Invoke one) it.events
 invoke_grows one s t (Err why) it = refuses_grows (Event.Invoke one) why s t it
 
-stop_grows : (id : Text) (n : ℕ) (s t : Standing) (result : Result (Unit {0}) Refusal) → Stops id n s result t → Grows s t
+stop_grows : (id : Text) (n : ℕ) (s t : Standing) (result : Result (Unit {0}) Refusal) → Stops id n result s t → Grows s t
 stop_grows id n s t (Ok done) it = more_grows s t (Event.Stop id n) it.events
-stop_grows id n s t (Err why) it = refuses_grows (Event.Stop id n) why s t it.1
+stop_grows id n s t (Err why) it = stays_grows s t it.stays
 
 module _ {H : Type 0} (function : H → Handler) (options : VMOptions) where
   begin_grows : (id : Text) (handler : H) (now : ℕ) (s t : Standing) (held more : List (HeldAttempt H)) (answer : Reply) → BeginDoes options id handler now s held answer t more → Grows s t
@@ -101,9 +110,9 @@ module _ {H : Type 0} (function : H → Handler) (options : VMOptions) where
   turn_grows one s t (reply.Moved bytes frames why) changed it = absurd it
 
   move_grows : (count : ℕ) (one : HeldAttempt H) (s t : Standing) (answer : Reply) (changed : AttemptView H) → MovesOne count one s answer t changed → Grows s t
-  move_grows count one s t (reply.Moved bytes frames why) changed it =
-      grows_on s it.0 t (same_grows s it.0 it.2.events) (frames_grow one.invocation one.number frames why it.0 t it.4)
-  move_grows count one s t (reply.Refused (refusal.Store why)) changed it = refuses_grows (Event.Stop one.invocation one.number) why s t it.0.1
+  move_grows count one s t (reply.Moved bytes frames why) changed it = accepts_grow one.invocation one.number (take bytes one.attempt.output) (it.0, why) s t it.3
+  move_grows count one s t (reply.Refused (refusal.Store why)) changed it =
+      stays_grows s t (bytes_stay (is_live s.events one.invocation one.number) one.invocation one.number why s t it.0)
   move_grows count one s t (reply.Refused refusal.AttemptNotHeld) changed it = absurd it
   move_grows count one s t reply.Done changed it = absurd it
   move_grows count one s t (reply.Begun n) changed it = absurd it
@@ -116,12 +125,12 @@ module _ {H : Type 0} (function : H → Handler) (options : VMOptions) where
   held_grows Change s t held more answer each (Some one) it = each one it.0 it.1
 
   pub does_grow : (one : scheduled.Event H) (s t : Standing) (held more : List (HeldAttempt H)) (answer : Reply) → Does function options one s held answer t more → Grows s t
-  does_grow (event.Invoke one) s t held more answer it = done_grows (λ result. Invokes one s result t) answer s t (invoke_grows one s t) it.0
+  does_grow (event.Invoke one) s t held more answer it = done_grows (λ result. Invokes one result s t) answer s t (invoke_grows one s t) it.0
   does_grow (event.Begin id handler now) s t held more answer it = begin_grows id handler now s t held more answer it
   does_grow (event.Feed id n count) s t held more answer it = held_grows (FeedsOne count) s t held more answer (λ one. feed_grows count one s t answer) (held_of held id n) it
   does_grow (event.Turn id n) s t held more answer it = held_grows (TurnsOne function) s t held more answer (λ one. turn_grows one s t answer) (held_of held id n) it
   does_grow (event.Move id n count) s t held more answer it = held_grows (MovesOne count) s t held more answer (λ one. move_grows count one s t answer) (held_of held id n) it
-  does_grow (event.Stop id n) s t held more answer it = done_grows (λ result. Stops id n s result t) answer s t (stop_grows id n s t) it.0
+  does_grow (event.Stop id n) s t held more answer it = done_grows (λ result. Stops id n result s t) answer s t (stop_grows id n s t) it.0
 
   pub all_grow : (events : List (scheduled.Event H)) (replies : List Reply) (old new : Scheduled H) → AppliesAll function options events replies old new → Grows old.standing new.standing
   all_grow [] [] old new it = same_grows old.standing new.standing (ap (λ (s : Scheduled H). s.standing.events) it)

@@ -13,22 +13,22 @@ use Rattle.invocation_vm.specs.declared.options.VMOptions.{VMOptions}
 use Rattle.live_attempts.specs.Attempts.{Attempts}
 use Rattle.store_refusals.specs.declared.refusal.Refusal.TheVariants.{OutOfMemory}
 use Rattle.journal_store.specs.Stored.{Stored}
-use Rattle.journal_store.specs.Stands.{Stands as StandsFor, KeepsAll, output_of}
+use Rattle.journal_store.specs.Stands.{Stands as StandsFor, IsStanding, Leads, Keeps, Endures, KeepsAll, output_of}
 use Rattle.schedule_events.specs.declared.event.Event.{Event}
 use Rattle.schedule_events.specs.declared.event.Event.TheVariants as event
 use Rattle.schedule_events.specs.declared.event.Reply.{Reply}
 use Rattle.schedule_events.specs.declared.event.Reply.TheVariants as reply
 use Rattle.schedule_events.specs.declared.event.Refusal.TheVariants as refusal
 use Rattle.schedule_events.specs.declared.held.HeldAttempt.{HeldAttempt}
-use Rattle.schedule_events.specs.Standing.{Standing}
+use Rattle.store_calls.specs.Standing.{Standing}
 use Rattle.schedule_events.specs.Schedule.{Scheduled, Does, Applies, AppliesAll, Brings, FitsEvent}
 use Rattle.schedule_events.specs.Laws.{LeavesRuns}
 use Rattle.schedule_events.proofs.Applying.{schedules_grow}
 use Rattle.durable_schedule.specs.declared.scheduler.Scheduler.{Scheduler}
-use Rattle.durable_schedule.specs.Scheduled.{IsScheduled, IsStanding, Leads, Keeps, Endures, KeepsMore, Extends, AppliesWith, AppliesFirst, FollowRuns, at_first}
-use Rattle.durable_schedule.proofs.Standing.{stood}
+use Rattle.durable_schedule.specs.Scheduled.{IsScheduled, KeepsMore, Extends, AppliesWith, AppliesFirst, FollowRuns, at_first}
+use Rattle.journal_store.proofs.Leading.{stood}
+use Rattle.journal_store.proofs.Enduring.{BeginsSome, endures_so, endures_on}
 use Rattle.durable_schedule.proofs.Growing.{all_grow}
-use Rattle.durable_schedule.proofs.Enduring.{BeginsSome, endures_so, endures_on}
 
 module _ {H S : Type 0} (g : Ghosts S) where
   -- what is done to a store and to what is held is done to a scheduler

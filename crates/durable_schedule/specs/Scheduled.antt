@@ -1,10 +1,10 @@
 -- What a scheduler stands for, and what its calls make of that.
-use Rattle.std.specs.Prelude.{◌≡◌, ℕ, List, [], ◌++◌, Option, Some, None}
+use Rattle.std.specs.Prelude.{◌≡◌, ℕ, List, [], ◌++◌, Some, None}
 use Rattle.std.specs.List.{AllByRecursion}
 use Rattle.sqlite_trees.specs.declared.store.Store.{Ghosts}
 use Rattle.sqlite_trees.specs.Tree.{Trees}
 use Rattle.sqlite.specs.Held.{state}
-use Rattle.sqlite.specs.State.{HasCleanDisk, Survives}
+use Rattle.sqlite.specs.State.{Survives}
 use Rattle.journal_model.specs.Notification.{Text}
 use Rattle.journal_model.specs.declared.invocation.NewInvocation.{NewInvocation}
 use Rattle.journal_model.specs.Event.{Event}
@@ -15,37 +15,14 @@ use Rattle.invocation_vm.specs.declared.options.VMOptions.{VMOptions}
 use Rattle.invocation_vm.specs.First.{given_by}
 use Rattle.invocation_vm.specs.View.{AttemptView}
 use Rattle.journal_store.specs.Stored.{Stored}
-use Rattle.journal_store.specs.Stands.{Stands, KeepsAll, output_of}
-use Rattle.store_refusals.specs.declared.refusal.Refusal.{Refusal}
+use Rattle.journal_store.specs.Stands.{Stands, IsStanding, KeepsAll}
 use Rattle.schedule_events.specs.declared.event.Event as scheduled
 use Rattle.schedule_events.specs.declared.event.Reply.{Reply}
 use Rattle.schedule_events.specs.declared.held.HeldAttempt.{HeldAttempt}
-use Rattle.schedule_events.specs.Standing.{Standing}
-use Rattle.schedule_events.specs.Schedule.{Scheduled, TakesFrames, MovesOne, Does, AppliesAll, Brings}
+use Rattle.store_calls.specs.Standing.{Standing}
+use Rattle.schedule_events.specs.Schedule.{Scheduled, MovesOne, Does, AppliesAll, Brings}
 use Rattle.schedule_events.specs.Following.{IsBeginningOfRun}
 use Rattle.durable_schedule.specs.declared.scheduler.Scheduler.{Scheduler}
-
-module _ {S : Type 0} (g : Ghosts S) where
-  -- ---- what a store stands for
-
-  -- the accepted events, and what waits of each live attempt
-  pub record IsStanding (s : Standing) (store : Stored S) : Type 0 where
-    pub stands : Stands s.events (state g store.connection) store.live.attempts
-    pub outputs : (id : Text) → s.outputs id ≡ output_of store.live.attempts id
-
-  -- Whatever the store stood for, it stands for something in this relation to it then, if the disk returned what was written.
-  abbrev pub Leads : (Standing → Standing → Type 0) → Stored S → Stored S → Type 0
-  Leads Relation old new = HasCleanDisk (state g new.connection) → (s : Standing) → IsStanding s old → (t : Standing) × IsStanding t new × Relation s t
-
-  -- ---- what a crash leaves
-
-  -- the tables keep the events of something in this relation to what the store stood for, whatever that was
-  abbrev pub Keeps : (Standing → Standing → Type 0) → Stored S → Trees → Type 0
-  Keeps Relation store trees = (s : Standing) → IsStanding s store → (t : Standing) × Relation s t × KeepsAll t.events trees
-
-  -- What a crash leaves after some calls: what it could leave before them, or such tables.
-  abbrev pub Endures : (Standing → Standing → Type 0) → Stored S → Stored S → Type 0
-  Endures Relation old new = Survives (state g old.connection) (state g new.connection) (Keeps Relation old)
 
 -- the tables keep these events and further ones in front of them, all of which were accepted, in this relation to those from before
 pub record KeepsMore (Relation : List Event → List Event → Type 0) (events : List Event) (trees : Trees) : Type 0 where
@@ -59,10 +36,6 @@ abbrev pub Extends : {S : Type 0} → Ghosts S → (List Event → List Event �
 Extends g Relation old new =
     Survives (state g old.connection) (state g new.connection)
     (λ trees. (events : List Event) → Stands events (state g old.connection) old.live.attempts → KeepsMore Relation events trees)
-
--- some frames were taken, with some end
-abbrev pub TakesSome : Text → (number : ℕ) → Standing → Standing → Type 0
-TakesSome id number s t = (frames : ℕ) × (why : Option Refusal) × TakesFrames id number frames why s t
 
 -- so many bytes at most were moved, with some answer
 abbrev pub MovesSome : {H : Type 0} → (count : ℕ) → HeldAttempt H → Standing → Standing → Type 0

@@ -1,10 +1,9 @@
 //! The ways of the bytes between an attempt that is held and the store.
 ghost use Rattle.std.specs.Prelude.{◌≡◌, position};
-ghost use Rattle.sqlite.specs.Held.{state};
-ghost use Rattle.sqlite.specs.State.{Survives};
 ghost use Rattle.schedule_events.specs.Following.{is_held};
-ghost use Rattle.schedule_events.specs.Schedule.{FeedsOne, MovesOne, TakesFrames};
-ghost use Rattle.durable_schedule.specs.Scheduled.{Endures, Leads, MovesSome, TakesSome};
+ghost use Rattle.journal_store.specs.Stands.{Endures, IsQuiet, Leads};
+ghost use Rattle.schedule_events.specs.Schedule.{FeedsOne, MovesOne};
+ghost use Rattle.durable_schedule.specs.Scheduled.{MovesSome};
 
 use bytes::ByteStr;
 use journal_model::Handler;
@@ -38,7 +37,7 @@ pub(crate) fn hand_out<H: Handler, S: Alter + Drop>(
 ) -> Reply
     ensures does { Leads S.Store (λ s t. FeedsOne count one.old s result t one.new.attempt) store.old store.new }
     ensures kept { one.new ≡ record one.old { attempt = one.new.attempt } }
-    ensures crash { Survives (state S.Store store.old.connection) (state S.Store store.new.connection) (λ _. ⊥) }
+    ensures crash { IsQuiet S.Store store.old store.new }
 {
     match store.next_input(&one.invocation, one.number, count) {
         Ok(bytes) => {
@@ -47,30 +46,6 @@ pub(crate) fn hand_out<H: Handler, S: Alter + Drop>(
         }
         Err(refusal) => Reply::Refused(Refusal::Store(refusal)),
     }
-}
-
-/// Takes the whole frames that came from a live attempt: how many, and why no further one, where it was refused. Where there are
-/// more of them than can be counted, the next one waits.
-fn take_frames<S: Alter + Drop>(
-    store: &mut Store<S>,
-    invocation: &ByteStr,
-    number: u32,
-) -> (usize, Option<store_refusals::Refusal>)
-    ensures does { Leads S.Store (TakesFrames invocation.now number result.0 result.1) store.old store.new }
-    ensures crash { Endures S.Store (TakesSome invocation.now number) store.old store.new }
-{
-    for frames in 0..usize::MAX {
-        match store.step(invocation, number) {
-            Ok(None) => return (frames, None),
-            Ok(Some(reply)) => {
-                if reply.ends_attempt() {
-                    return (frames + 1, None);
-                }
-            }
-            Err(refusal) => return (frames, Some(refusal)),
-        }
-    }
-    (usize::MAX, Some(store_refusals::Refusal::OutOfMemory))
 }
 
 /// Moves the next bytes of its output from an attempt to the store, at most so many, and takes the whole frames.
@@ -84,11 +59,13 @@ pub(crate) fn take_in<H: Handler, S: Alter + Drop>(
     ensures crash { Endures S.Store (MovesSome count one.old) store.old store.new }
 {
     let bytes = count.min(one.attempt.output().len());
-    match store.feed(&one.invocation, one.number, &one.attempt.output()[..bytes]) {
+    match store.accept(&one.invocation, one.number, &one.attempt.output()[..bytes]) {
         Err(refusal) => Reply::Refused(Refusal::Store(refusal)),
-        Ok(()) => {
+        Ok(accepted) => {
             one.attempt.advance_output(bytes);
-            let (frames, refusal) = take_frames(store, &one.invocation, one.number);
+            let frames = accepted.replies.len();
+            let refusal = accepted.refusal;
+            drop(accepted);
             Reply::Moved {
                 bytes,
                 frames,

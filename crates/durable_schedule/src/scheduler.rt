@@ -1,18 +1,20 @@
 //! The scheduler: a store, and the attempts that were begun.
-ghost use Rattle.std.specs.Prelude.{◌≡◌, ◌<◌, ◌≤◌, ◌+◌, ◌^◌, List, [], ◌∷◌, ◌++◌, Ok, IfOk, IfErr, map, vec_len, vec_capacity};
+ghost use Rattle.std.specs.Prelude.{◌≡◌, ◌<◌, ◌≤◌, ◌+◌, ◌^◌, List, [], ◌∷◌, ◌++◌, IfOk, IfErr, map, vec_len, vec_capacity};
 ghost use Rattle.sqlite.specs.Held.{state};
-ghost use Rattle.sqlite.specs.State.{HasCleanDisk, Survives};
+ghost use Rattle.sqlite.specs.State.{HasCleanDisk};
 ghost use Rattle.journal_model.specs.Event.{Event as Accepted};
 ghost use Rattle.journal_model.specs.Journal.{entries_of, is_open as is_open_after, recorded_arrivals, recorded_requests};
 ghost use Rattle.store_model.specs.Progress.{last_error_of};
 ghost use Rattle.new_invocations.specs.Rows.{Decides, known_tests};
 ghost use Rattle.invocation_reads.specs.Told.{arrival_told, request_told};
 ghost use Rattle.invocation_reads.specs.Answered.{Answers};
-ghost use Rattle.journal_store.specs.Stands.{Stands};
-ghost use Rattle.schedule_events.specs.Standing.{Adds, Begins, Begun, Invokes, Standing, Stops};
+ghost use Rattle.store_calls.specs.declared.begun.BegunAttempt.{BegunAttempt};
+ghost use Rattle.store_calls.specs.Standing.{Adds, Standing};
+ghost use Rattle.store_calls.specs.Calls.{Begins, Invokes, Stops};
+ghost use Rattle.journal_store.specs.Stands.{Endures, IsQuiet, IsStanding, Leads, Stands};
 ghost use Rattle.schedule_events.specs.Following.{held_of};
 ghost use Rattle.schedule_events.specs.Schedule.{RepliesDone, BeginDoes, IfHeld, FeedsOne, TurnsOne, MovesOne, Applies, AppliesAll, FitsEvent, Scheduled};
-ghost use Rattle.durable_schedule.specs.Scheduled.{AppliesFirst, AppliesWith, Endures, Extends, FollowRuns, IsScheduled, IsStanding, Leads, at_first};
+ghost use Rattle.durable_schedule.specs.Scheduled.{AppliesFirst, AppliesWith, Extends, FollowRuns, IsScheduled, at_first};
 
 use crate::held::{hand_out, place_of, take_in};
 use bytes::ByteStr;
@@ -50,7 +52,7 @@ impl<H: Handler + Drop, S: Alter + Drop> Scheduler<H, S> {
 
     /// An invocation is made.
     fn invoke(&mut self, new: NewInvocation) -> Reply
-        ensures does { Leads S.Store (λ s t. RepliesDone (λ answer. Invokes new s answer t) result) self.old.store self.new.store }
+        ensures does { Leads S.Store (λ s t. RepliesDone (λ answer. Invokes new answer s t) result) self.old.store self.new.store }
         ensures kept { self.new ≡ record self.old { store = self.new.store } }
         ensures seed { new.seed < 2 ^ 64 }
         ensures crash { Endures S.Store (Adds (Accepted.Invoke new)) self.old.store self.new.store }
@@ -63,9 +65,9 @@ impl<H: Handler + Drop, S: Alter + Drop> Scheduler<H, S> {
 
     /// An attempt is stopped.
     fn stop(&mut self, invocation: &ByteStr, number: u32) -> Reply
-        ensures does { Leads S.Store (λ s t. RepliesDone (λ answer. Stops invocation.now number s answer t) result) self.old.store self.new.store }
+        ensures does { Leads S.Store (λ s t. RepliesDone (λ answer. Stops invocation.now number answer s t) result) self.old.store self.new.store }
         ensures kept { self.new ≡ record self.old { store = self.new.store } }
-        ensures crash { Survives (state S.Store self.old.store.connection) (state S.Store self.new.store.connection) (λ _. ⊥) }
+        ensures crash { IsQuiet S.Store self.old.store self.new.store }
     {
         match self.store.stop(invocation, number) {
             Ok(()) => Reply::Done,
@@ -78,7 +80,7 @@ impl<H: Handler + Drop, S: Alter + Drop> Scheduler<H, S> {
         ensures does { Leads S.Store (λ s t. BeginDoes self.old.options invocation handler now s self.old.held.items result t self.new.held.items) self.old.store self.new.store }
         ensures options { self.new.options ≡ self.old.options }
         ensures moment { now < 2 ^ 64 }
-        ensures crash { Endures S.Store (λ s t. (begun : Begun) × Begins invocation now s (Ok begun) t) self.old.store self.new.store }
+        ensures crash { Endures S.Store (λ s t. (begun : BegunAttempt) × Begins invocation now begun s t) self.old.store self.new.store }
     {
         let begun = match self.store.begin(&invocation, now) {
             Ok(begun) => begun,
@@ -101,7 +103,7 @@ impl<H: Handler + Drop, S: Alter + Drop> Scheduler<H, S> {
     fn feed(&mut self, invocation: &ByteStr, number: u32, count: usize) -> Reply
         ensures does { Leads S.Store (λ s t. IfHeld (FeedsOne count) (held_of self.old.held.items invocation.now number) s self.old.held.items result t self.new.held.items) self.old.store self.new.store }
         ensures options { self.new.options ≡ self.old.options }
-        ensures crash { Survives (state S.Store self.old.store.connection) (state S.Store self.new.store.connection) (λ _. ⊥) }
+        ensures crash { IsQuiet S.Store self.old.store self.new.store }
     {
         match place_of(&self.held, invocation, number) {
             None => Reply::Refused(Refusal::AttemptNotHeld),
@@ -184,7 +186,7 @@ impl<H: Handler + Drop, S: Alter + Drop> Scheduler<H, S> {
     pub fn requests(&mut self, id: &ByteStr) -> Result<Vec<RecordedFrame>, store_refusals::Refusal>
         ensures told { HasCleanDisk (state S.Store self.new.store.connection) → (s : Scheduled H) → IsScheduled S.Store s self.old → Decides (known_tests s.standing.events id.now) (λ frames. frames.items ≡ map request_told (recorded_requests s.standing.events id.now)) result × IsScheduled S.Store s self.new }
         ensures kept { self.new ≡ record self.old { store = self.new.store } }
-        ensures crash { Survives (state S.Store self.old.store.connection) (state S.Store self.new.store.connection) (λ _. ⊥) }
+        ensures crash { IsQuiet S.Store self.old.store self.new.store }
     {
         self.store.requests(id)
     }
@@ -193,7 +195,7 @@ impl<H: Handler + Drop, S: Alter + Drop> Scheduler<H, S> {
     pub fn arrivals(&mut self, id: &ByteStr) -> Result<Vec<RecordedFrame>, store_refusals::Refusal>
         ensures told { HasCleanDisk (state S.Store self.new.store.connection) → (s : Scheduled H) → IsScheduled S.Store s self.old → Decides (known_tests s.standing.events id.now) (λ frames. frames.items ≡ map (arrival_told (entries_of s.standing.events id.now)) (recorded_arrivals s.standing.events id.now)) result × IsScheduled S.Store s self.new }
         ensures kept { self.new ≡ record self.old { store = self.new.store } }
-        ensures crash { Survives (state S.Store self.old.store.connection) (state S.Store self.new.store.connection) (λ _. ⊥) }
+        ensures crash { IsQuiet S.Store self.old.store self.new.store }
     {
         self.store.arrivals(id)
     }
@@ -202,7 +204,7 @@ impl<H: Handler + Drop, S: Alter + Drop> Scheduler<H, S> {
     pub fn answer(&mut self, id: &ByteStr) -> Result<Option<NonEmptyValue>, store_refusals::Refusal>
         ensures told { HasCleanDisk (state S.Store self.new.store.connection) → (s : Scheduled H) → IsScheduled S.Store s self.old → Answers s.standing.events id.now result × IsScheduled S.Store s self.new }
         ensures kept { self.new ≡ record self.old { store = self.new.store } }
-        ensures crash { Survives (state S.Store self.old.store.connection) (state S.Store self.new.store.connection) (λ _. ⊥) }
+        ensures crash { IsQuiet S.Store self.old.store self.new.store }
     {
         self.store.answer(id)
     }
@@ -211,7 +213,7 @@ impl<H: Handler + Drop, S: Alter + Drop> Scheduler<H, S> {
     pub fn failure(&mut self, id: &ByteStr) -> Result<Option<LastError>, store_refusals::Refusal>
         ensures told { HasCleanDisk (state S.Store self.new.store.connection) → (s : Scheduled H) → IsScheduled S.Store s self.old → Decides (known_tests s.standing.events id.now) (λ error. error ≡ last_error_of s.standing.events id.now) result × IsScheduled S.Store s self.new }
         ensures kept { self.new ≡ record self.old { store = self.new.store } }
-        ensures crash { Survives (state S.Store self.old.store.connection) (state S.Store self.new.store.connection) (λ _. ⊥) }
+        ensures crash { IsQuiet S.Store self.old.store self.new.store }
     {
         self.store.failure(id)
     }
@@ -220,7 +222,7 @@ impl<H: Handler + Drop, S: Alter + Drop> Scheduler<H, S> {
     pub fn is_open(&mut self, id: &ByteStr) -> Result<bool, store_refusals::Refusal>
         ensures told { HasCleanDisk (state S.Store self.new.store.connection) → (s : Scheduled H) → IsScheduled S.Store s self.old → Decides (known_tests s.standing.events id.now) (λ is_open. is_open ≡ is_open_after s.standing.events id.now) result × IsScheduled S.Store s self.new }
         ensures kept { self.new ≡ record self.old { store = self.new.store } }
-        ensures crash { Survives (state S.Store self.old.store.connection) (state S.Store self.new.store.connection) (λ _. ⊥) }
+        ensures crash { IsQuiet S.Store self.old.store self.new.store }
     {
         self.store.is_open(id)
     }

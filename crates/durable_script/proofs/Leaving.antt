@@ -10,10 +10,10 @@ use Rattle.journal_model.specs.Cause.{IsAccepted}
 use Rattle.journal_model.specs.Journal.{invocation_begun}
 use Rattle.invocation_vm.specs.Options.{default_options}
 use Rattle.journal_store.specs.Stored.{Stored}
-use Rattle.journal_store.specs.Stands.{Stands, KeepsAll}
+use Rattle.journal_store.specs.Stands.{Stands, IsStanding, KeepsAll}
 use Rattle.durable_schedule.specs.declared.scheduler.Scheduler.{Scheduler}
-use Rattle.durable_schedule.specs.Scheduled.{IsStanding, KeepsMore, Extends, at_first}
-use Rattle.durable_schedule.proofs.Standing.{stood}
+use Rattle.durable_schedule.specs.Scheduled.{KeepsMore, Extends, at_first}
+use Rattle.journal_store.proofs.Leading.{stood}
 use Rattle.durable_script.specs.Reaching.{IsAt, KeepsCut, Reaches}
 use Rattle.durable_script.specs.Run.{DoneLine, AreUnderstood, DoesAll, DoesFirst, FollowLines, LeadsAll, LeavesRuns, AreDone}
 use Rattle.durable_script.proofs.Following.{follow_lines, first_follow, first_grow}

@@ -15,7 +15,8 @@ use Rattle.schedule_events.specs.declared.event.Reply.{Reply}
 use Rattle.schedule_events.specs.declared.held.HeldAttempt.{HeldAttempt}
 use Rattle.schedule_events.specs.Schedule.{Scheduled, Does, Applies}
 use Rattle.durable_schedule.specs.declared.scheduler.Scheduler.{Scheduler}
-use Rattle.durable_schedule.specs.Scheduled.{AppliesWith, Endures, Keeps, IsScheduled}
+use Rattle.journal_store.specs.Stands.{Endures, Keeps}
+use Rattle.durable_schedule.specs.Scheduled.{AppliesWith, IsScheduled}
 use Rattle.durable_script.specs.Reaching.{KeepsCut, Leaves, Reaches, Nowhere}
 use Rattle.durable_script.specs.Shown.{Looks}
 

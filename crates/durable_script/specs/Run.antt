@@ -13,11 +13,11 @@ use Rattle.journal_model.specs.Run.{Handler}
 use Rattle.invocation_vm.specs.Options.{default_options}
 use Rattle.invocation_vm.specs.First.{given_by}
 use Rattle.journal_store.specs.Stored.{Stored}
-use Rattle.journal_store.specs.Stands.{Stands}
-use Rattle.schedule_events.specs.Standing.{Standing}
+use Rattle.journal_store.specs.Stands.{Stands, IsStanding}
+use Rattle.store_calls.specs.Standing.{Standing}
 use Rattle.schedule_events.specs.Following.{IsBeginningOfRun}
 use Rattle.schedule_events.specs.Schedule.{Scheduled}
-use Rattle.durable_schedule.specs.Scheduled.{IsStanding, Extends, at_first}
+use Rattle.durable_schedule.specs.Scheduled.{Extends, at_first}
 use Rattle.built_in_handlers.specs.BuiltIn.{function_of}
 use Rattle.built_in_handlers.specs.Handlers.{nap_until}
 use Rattle.script_lines.specs.declared.word.HandlerName.TheVariants as name

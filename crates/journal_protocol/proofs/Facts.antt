@@ -1,5 +1,5 @@
 -- The line of each command is what the definitions say of its requests.
-use Rattle.std.proofs.Common.{◌≡◌, ◌≢◌, refl, sym, ap, inl, inr, ℕ, ◌==◌, Bool, true, false, if◌then◌else◌, Some}
+use Rattle.std.proofs.Common.{◌≡◌, ◌≢◌, refl, sym, ap, inl, inr, ℕ, ◌==◌, Bool, true, false, if◌then◌else◌}
 use Rattle.std.proofs.lemmas.Bool.{eqb-true, eq-eqb, cases_Bool}
 use Rattle.journal_model.specs.Request.{Request, CallRecord}
 use Rattle.journal_model.specs.Notification.{Text}

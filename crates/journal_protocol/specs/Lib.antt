@@ -1,6 +1,7 @@
 pub mod CommandFacts
 pub mod CommandType
 pub mod Decoder
+pub mod Feature
 pub mod First
 pub mod Frame
 pub mod Header

@@ -1,5 +1,5 @@
 -- Versions of the protocol, and the content types that name them.
-use Rattle.std.specs.Prelude.{ℕ, ◌==◌, if◌then◌else◌, Bool, List, [], ◌∷◌, codes, find, bytes_eq, length, take, Option, Some, None, Result, Ok, Err}
+use Rattle.std.specs.Prelude.{ℕ, ◌==◌, nat_lt, ◌||◌, if◌then◌else◌, Bool, List, [], ◌∷◌, codes, find, bytes_eq, length, take, Option, Some, None, Result, Ok, Err}
 use Rattle.journal_protocol.specs.declared.version.Version.{Version}
 use Rattle.journal_protocol.specs.declared.version.Version.TheVariants.{V1, V2, V3, V4, V5, V6, V7, V8}
 use Rattle.journal_protocol.specs.declared.version.ContentTypeError.{ContentTypeError}
@@ -31,6 +31,16 @@ versions = V1 ∷ V2 ∷ V3 ∷ V4 ∷ V5 ∷ V6 ∷ V7 ∷ V8 ∷ []
 -- the version with this number
 abbrev pub version_at : ℕ → Option Version
 version_at number = find (λ version. number == version_number version) versions
+
+-- the versions that are spoken: from this one to that
+abbrev pub oldest_version : Version
+oldest_version = V5
+
+abbrev pub newest_version : Version
+newest_version = V8
+
+abbrev pub is_unsupported : ℕ → Bool
+is_unsupported number = nat_lt number (version_number oldest_version) || nat_lt (version_number newest_version) number
 
 -- whether this is the content type of the version, to the letter
 unfoldable pub has_content_type : List ℕ → Version → Bool

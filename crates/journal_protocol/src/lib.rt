@@ -6,6 +6,7 @@ mod command_type;
 mod conversion;
 mod decoder;
 mod encoder;
+mod feature;
 mod first;
 mod frame;
 mod header;
@@ -22,6 +23,7 @@ pub use conversion::{
 };
 pub use decoder::{Decoder, DecodingError, NotificationField, RawMessage};
 pub use encoder::{EncodingError, write_message};
+pub use feature::Feature;
 pub use first::{FirstItem, first_item};
 pub use frame::{HEADER_LEN, frame_of, payload_of_frame, put_frame};
 pub use header::MessageHeader;

@@ -1,6 +1,6 @@
 // Versions of the protocol, and the content types that name them.
 ghost use Rattle.std.specs.Prelude.{◌≡◌, ◌≤◌, ◌↔◌, IsTrue, Some};
-ghost use Rattle.journal_protocol.specs.Version.{version_number, version_content_type, has_content_type, version_at, version_with, content_type_read, has_restate_prefix};
+ghost use Rattle.journal_protocol.specs.Version.{version_number, version_content_type, has_content_type, version_at, version_with, content_type_read, has_restate_prefix, is_unsupported, newest_version, oldest_version};
 
 use bytes::ByteStr;
 use std::fmt;
@@ -98,16 +98,24 @@ impl Version {
         self >= other
     }
 
+    /// Whether the version with this number is none that is spoken.
+    pub fn is_unsupported(number: u32) -> bool
+        ensures { result ≡ is_unsupported number }
+    {
+        number < Version::minimum_supported_version().number()
+            || Version::maximum_supported_version().number() < number
+    }
+
     /// The earliest version that is spoken.
     pub fn minimum_supported_version() -> Version
-        ensures { result ≡ Version.V5 }
+        ensures { result ≡ oldest_version }
     {
         Version::V5
     }
 
     /// The latest version that is spoken.
     pub fn maximum_supported_version() -> Version
-        ensures { result ≡ Version.V8 }
+        ensures { result ≡ newest_version }
     {
         Version::V8
     }

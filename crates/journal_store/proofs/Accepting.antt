@@ -1,143 +1,136 @@
--- Frames are taken one after the other.
-use Rattle.std.proofs.Common.{◌≡◌, ℕ, refl, sym, ap, subst, ◌∙◌, inl, inr, arith, Bool, true, false, List, [], ◌∷◌, ◌++◌, Option, Some, None, Ok, Err}
-use Rattle.std.proofs.lemmas.Bool.{eq-eqb}
-use Rattle.sqlite_trees.specs.Tree.{Trees}
-use Rattle.sqlite.specs.State.{State, HasCleanDisk, Survives}
-use Rattle.sqlite.proofs.StateLemmas.{survives_then}
+-- Frames are taken one after another.
+use Rattle.std.proofs.Common.{◌≡◌, refl, sym, ap, subst, ◌∙◌, ℕ, inl, inr, arith, Bool, true, false, true≢false, not, List, [], ◌∷◌, ◌++◌, Option, Some, None, Ok, Err}
+use Rattle.sqlite_trees.specs.declared.store.Store.{Ghosts}
+use Rattle.sqlite.specs.Held.{state}
+use Rattle.sqlite.specs.State.{HasCleanDisk}
 use Rattle.journal_model.specs.Notification.{Bytes, Text}
 use Rattle.journal_model.specs.Event.{Event}
+use Rattle.journal_model.specs.Attempt.{is_live}
 use Rattle.store_refusals.specs.declared.refusal.Refusal.{Refusal}
+use Rattle.store_refusals.specs.declared.refusal.Refusal.TheVariants.{OutOfMemory}
 use Rattle.taken_frames.specs.declared.frame.FrameReply.{FrameReply}
 use Rattle.taken_frames.specs.Taken.{does_end}
-use Rattle.live_attempts.specs.declared.attempt.LiveAttempt.{LiveAttempt}
-use Rattle.live_attempts.specs.Attempts.{ByInvocation, attempt_of}
-use Rattle.live_laws.specs.Agrees.{has_number}
+use Rattle.store_calls.specs.Standing.{Standing}
+use Rattle.store_calls.specs.Calls.{Feeds}
+use Rattle.store_calls.specs.Frames.{Accepts, AcceptsFirst, Rests, Steps, TakesEach, TakesFirst, TakesFrame, TakesFrames, TakesOne}
+use Rattle.store_calls.proofs.Taking.{goes_on, none_behind, same_stays, takes_first, takes_more}
 use Rattle.journal_store.specs.declared.accept.Accepted.{Accepted}
-use Rattle.journal_store.specs.Stands.{Stands}
-use Rattle.journal_store.specs.Attempts.{CommitsItem, TakesItem, attempt_left, frame_of_item}
-use Rattle.journal_store.specs.Accepting.{PassesItem, PassesItems, HasTaken, KeepsStep, CommitsSteps, Rests, TakesAll, TakesNext}
+use Rattle.journal_store.specs.Stored.{Stored}
+use Rattle.journal_store.specs.Stands.{Leads, Endures, IsQuiet}
+use Rattle.journal_store.specs.Accepting.{HasTaken, TakesNext}
+use Rattle.journal_store.proofs.Enduring.{endures_on, quiet_endures}
 
-abbrev pub passes : (events : List Event) (id : Text) (number : ℕ) (reply : FrameReply) (database : State) (old new : ByInvocation) → TakesItem events id number reply database old new
-    → PassesItem events id number reply old new
-passes events id number reply database old new it =
-    record { attempt = it.attempt; item = it.item; rest = it.rest; is_first = it.is_first; no_cause = it.no_cause; replied = it.replied; left = it.left }
+-- these frames were taken of an attempt, and it is live still
+pub record GoesOn (id : Text) (n : ℕ) (replies : List FrameReply) (s t : Standing) : Type 0 where
+  pub taken : TakesEach id n replies s t
+  pub live : is_live s.events id n ≡ true → is_live t.events id n ≡ true
 
--- one more
-pub passed_on : (events : List Event) (id : Text) (number : ℕ) (replies : List FrameReply) (reply : FrameReply) (old mid new : ByInvocation) (later : List Event)
-    → PassesItems events id number replies old later mid → (one : PassesItem later id number reply mid new)
-    → PassesItems events id number (replies ++ reply ∷ []) old (Event.Take id number (frame_of_item one.attempt.version one.item) ∷ later) new
-passed_on events id number [] reply old mid new later h one =
-    let event : Event = Event.Take id number (frame_of_item one.attempt.version one.item) in
-    subst (λ (from : List Event). PassesItems from id number (reply ∷ []) old (event ∷ later) new) h.0
-    (subst (λ (first : ByInvocation). PassesItems later id number (reply ∷ []) first (event ∷ later) new) h.1 (new, one, (refl, refl)))
-passed_on events id number (first ∷ replies) reply old mid new later h one = (
-  h.0,
-  h.1,
-  passed_on (Event.Take id number (frame_of_item h.1.attempt.version h.1.item) ∷ events) id number replies reply h.0 mid new later h.2 one,
-)
+-- frames are taken to their end, of an attempt that is live
+abbrev pub TakesLive : Text → ℕ → List FrameReply → Option Refusal → Standing → Standing → Type 0
+TakesLive id n replies why s t = is_live s.events id n ≡ true → TakesFrames id n replies why s t
 
--- what was taken so far of a live attempt, which goes on
-pub record HasPassed (events : List Event) (id : Text) (number : ℕ) (replies : List FrameReply) (database : State) (old now : ByInvocation) : Type 0 where
-  pub later : List Event
-  pub passed : PassesItems events id number replies old later now
-  pub stands : Stands later database now
-  pub here : has_number number (attempt_of now id) ≡ true
+module _ {S : Type 0} (g : Ghosts S) (id : Text) (n : ℕ) (first old new : Stored S) (replies after : List FrameReply) (so_far : Leads g (GoesOn id n replies) first old)
+    (lives : Endures g (TakesOne id n) old new) where
+  before_clean : HasCleanDisk (state g new.connection) → HasCleanDisk (state g old.connection)
+  before_clean clean = omega (arith, lives.clean, clean)
 
--- an attempt goes on behind a frame that does not end it
-here_still : (b : Bool) (rest : Bytes) (number : ℕ) (attempt : LiveAttempt) (o : Option LiveAttempt) → b ≡ false → attempt.number ≡ number → o ≡ attempt_left b rest attempt
-    → has_number number o ≡ true
-here_still true rest number attempt o e is left = cc
-here_still false rest number attempt o e is left = ap (has_number number) left ∙ eq-eqb attempt.number number is
+  -- where a crash comes
+  pub first_endures : Endures g (TakesFirst id n) first old → Endures g (TakesFirst id n) first new
+  first_endures before =
+      endures_on g (TakesFirst id n) (GoesOn id n replies) (TakesOne id n) (TakesFirst id n) first old new (λ s t it. it)
+      (λ s m t taken one. takes_first id n replies one.0 s m t taken.taken one.1) before so_far lives
 
-pub passed_one : (events : List Event) (id : Text) (number : ℕ) (before after : List FrameReply) (database next : State) (old now new : ByInvocation)
-    → (done : HasPassed events id number before database old now) → HasTaken true done.later id number before after next now new
-    → HasPassed events id number after next old new
-passed_one events id number before after database next old now new done it =
-    let taken : TakesItem done.later id number it.0 next now new = it.3 in
-    let one = passes done.later id number it.0 next now new taken in
-    record {
-      later = Event.Take id number (frame_of_item taken.attempt.version taken.item) ∷ done.later;
-      passed = subst (λ (all : List FrameReply). PassesItems events id number all old (Event.Take id number (frame_of_item taken.attempt.version taken.item) ∷ done.later) new) (sym it.2)
-          (passed_on events id number before it.0 old now new done.later done.passed one);
-      stands = taken.stands;
-      here = here_still (does_end it.0) taken.rest number taken.attempt (attempt_of new id) it.1 taken.is_first.is_this taken.left.own;
-    }
+  -- one more was taken, and there may be more
+  pub goes_further : Leads g (TakesNext id n (Ok true) replies after) old new → Leads g (GoesOn id n after) first new
+  goes_further next clean s is =
+      let m = so_far (before_clean clean) s is in
+      let t = next clean m.0 m.1 in
+      let it : HasTaken true id n replies after m.0 t.0 = t.2 in (
+        t.0,
+        t.1,
+        record {
+          taken = subst (λ (all : List FrameReply). TakesEach id n all s t.0) (sym it.2) (takes_more id n replies it.0 s m.0 t.0 m.2.taken it.3);
+          live = λ live. goes_on id n it.0 m.0 t.0 it.3 it.1 (m.2.live live);
+        },
+      )
 
-none_left : (b : Bool) (rest : Bytes) (attempt : LiveAttempt) (o : Option LiveAttempt) → b ≡ true → o ≡ attempt_left b rest attempt → o ≡ None
-none_left true rest attempt o e left = left
-none_left false rest attempt o e left = cc
+  -- no further one is
+  pub rests_so : Leads g (TakesNext id n (Ok false) replies after) old new → Leads g (TakesLive id n after None) first new
+  rests_so next clean s is =
+      let m = so_far (before_clean clean) s is in
+      let t = next clean m.0 m.1 in (
+        t.0,
+        t.1,
+        λ live. elim t.2 [
+          | inl it ↦
+              record {
+                between = t.0;
+                taken = subst (λ (all : List FrameReply). TakesEach id n all s t.0) (sym it.2) (takes_more id n replies it.0 s m.0 t.0 m.2.taken it.3);
+                rests = inl (record { over = none_behind id n it.0 m.0 t.0 it.3 it.1; stays = same_stays t.0 });
+              }
+          | inr it ↦
+              record {
+                between = m.0;
+                taken = subst (λ (all : List FrameReply). TakesEach id n all s m.0) (sym it.0) m.2.taken;
+                rests = inr it.1;
+              }
+        ],
+      )
 
--- no further frame is taken
-pub rests_so : (events : List Event) (id : Text) (number : ℕ) (before : List FrameReply) (database next : State) (old now new : ByInvocation) (accepted : Accepted)
-    → (done : HasPassed events id number before database old now) → accepted.refusal ≡ None
-    → TakesNext done.later id number (Ok false) before accepted.replies.items next now new → TakesAll events id number accepted next old new
-rests_so events id number before database next old now new accepted done none (inl it) =
-    let taken : TakesItem done.later id number it.0 next now new = it.3 in
-    let one = passes done.later id number it.0 next now new taken in
-    let later : List Event = Event.Take id number (frame_of_item taken.attempt.version taken.item) ∷ done.later in
-    record {
-      later = later;
-      between = new;
-      passed = subst (λ (all : List FrameReply). PassesItems events id number all old later new) (sym it.2) (passed_on events id number before it.0 old now new done.later done.passed one);
-      rests = subst (λ (why : Option Refusal). Rests later id number why next new new) (sym none)
-          (inl (record { over = none_left (does_end it.0) taken.rest taken.attempt (attempt_of new id) it.1 taken.left.own; stands = taken.stands; same = refl }));
-    }
-rests_so events id number before database next old now new accepted done none (inr it) = record {
-  later = done.later;
-  between = now;
-  passed = subst (λ (all : List FrameReply). PassesItems events id number all old done.later now) (sym it.0) done.passed;
-  rests = subst (λ (why : Option Refusal). Rests done.later id number why next now new) (sym none) (inr it.1);
-}
+  -- one was refused
+  pub refused_so : (why : Refusal) → Leads g (TakesNext id n (Err why) replies after) old new → Leads g (TakesLive id n after (Some why)) first new
+  refused_so why next clean s is =
+      let m = so_far (before_clean clean) s is in
+      let t = next clean m.0 m.1 in (
+        t.0,
+        t.1,
+        λ live. record {
+          between = m.0;
+          taken = subst (λ (all : List FrameReply). TakesEach id n all s m.0) (sym t.2.0) m.2.taken;
+          rests = t.2.1 (m.2.live live);
+        },
+      )
 
-pub refused_so : (events : List Event) (id : Text) (number : ℕ) (before : List FrameReply) (database next : State) (old now new : ByInvocation) (accepted : Accepted) (why : Refusal)
-    → (done : HasPassed events id number before database old now) → accepted.refusal ≡ Some why
-    → TakesNext done.later id number (Err why) before accepted.replies.items next now new → TakesAll events id number accepted next old new
-refused_so events id number before database next old now new accepted why done is it = record {
-  later = done.later;
-  between = now;
-  passed = subst (λ (all : List FrameReply). PassesItems events id number all old done.later now) (sym it.0) done.passed;
-  rests = subst (λ (o : Option Refusal). Rests done.later id number o next now new) (sym is) it.1;
-}
+module _ {S : Type 0} (g : Ghosts S) (id : Text) (n : ℕ) (old new : Stored S) (before after : List FrameReply) where
+  -- a step that took a frame
+  pub next_taken : (reply : FrameReply) (ends : Bool) → does_end reply ≡ ends → after ≡ before ++ reply ∷ [] → Leads g (Steps id n (Ok (Some reply))) old new
+      → Leads g (TakesNext id n (Ok (not ends)) before after) old new
+  next_taken reply true ends more does clean s is = let t = does clean s is in (t.0, t.1, inl (reply, ends, more, t.2))
+  next_taken reply false ends more does clean s is = let t = does clean s is in (t.0, t.1, (reply, ends, more, t.2))
 
--- ---- crashes
+  -- and one that took none
+  pub next_none : after ≡ before → Leads g (Steps id n (Ok None)) old new → Leads g (TakesNext id n (Ok false) before after) old new
+  next_none same does clean s is = let t = does clean s is in (t.0, t.1, inr (same, t.2))
 
-pub keeps_step : (events : List Event) (id : Text) (number : ℕ) (replies : List FrameReply) (database : State) (old now : ByInvocation) (trees : Trees)
-    → HasPassed events id number replies database old now → CommitsItem id number now database trees → KeepsStep events id number old trees
-keeps_step events id number replies database old now trees done it =
-    let commits = it.commits done.later done.stands in
-    record {
-      replies = replies;
-      later = done.later;
-      left = now;
-      passed = done.passed;
-      attempt = it.attempt;
-      item = it.item;
-      rest = it.rest;
-      is_first = it.is_first;
-      no_cause = commits.0;
-      kept = commits.1;
-    }
+  pub next_refused : (why : Refusal) → after ≡ before → Leads g (Steps id n (Err why)) old new → Leads g (TakesNext id n (Err why) before after) old new
+  next_refused why same does clean s is =
+      let t = does clean s is in (
+        t.0,
+        t.1,
+        (same, λ live. elim t.2 [ inl over ↦ absurd (true≢false (sym live ∙ over.dead)) | inr refused ↦ inr refused ]),
+      )
 
--- the first of the steps, and each further one
-pub steps_commit : (id : Text) (number : ℕ) (replies : List FrameReply) (start now next : State) (old attempts : ByInvocation)
-    → (HasCleanDisk now → (events : List Event) → Stands events start old → has_number number (attempt_of old id) ≡ true → HasPassed events id number replies now old attempts)
-    → Survives start now (CommitsSteps id number old start) → Survives now next (CommitsItem id number attempts now) → Survives start next (CommitsSteps id number old start)
-steps_commit id number replies start now next old attempts taken before lives =
-    survives_then start now next (CommitsSteps id number old start) (CommitsItem id number attempts now) (CommitsSteps id number old start) (λ _ db it. it)
-    (λ clean db it events stands here.
-    let early : HasCleanDisk now = omega (arith, lives.clean, clean) in
-    keeps_step events id number replies now old attempts db (taken early events stands here) it)
-    before lives
+module _ {S : Type 0} (g : Ghosts S) (id : Text) (n : ℕ) where
+  -- there is no room for an answer
+  pub next_unroomed : (before after : List FrameReply) → after ≡ before → (store : Stored S) → Leads g (TakesNext id n (Err OutOfMemory) before after) store store
+  next_unroomed before after same store clean s is = (s, is, (same, λ live. inl (record { memory = refl; stays = same_stays s })))
 
--- at first none was taken
-pub none_passed : (events : List Event) (id : Text) (number : ℕ) (replies : List FrameReply) (database : State) (attempts : ByInvocation) → replies ≡ [] → Stands events database attempts
-    → has_number number (attempt_of attempts id) ≡ true → HasPassed events id number replies database attempts attempts
-none_passed events id number replies database attempts none stands here = record {
-  later = events;
-  passed = subst (λ (all : List FrameReply). PassesItems events id number all attempts events attempts) (sym none) (refl, refl);
-  stands = stands;
-  here = here;
-}
+  -- at first none was taken
+  pub none_taken : (replies : List FrameReply) → replies ≡ [] → (store : Stored S) → Leads g (GoesOn id n replies) store store
+  none_taken replies none store clean s is =
+      (s, is, record { taken = subst (λ (all : List FrameReply). TakesEach id n all s s) (sym none) (same_stays s); live = λ live. live })
 
-pub lives_still : (s : State) (P : Trees → Type 0) → Survives s s P
-lives_still s P = record { clean = omega arith; shield = λ h. h; counts = omega arith; limit = refl; closes = λ _ still. inl still; crash = λ _ db may. inl may }
+module _ {S : Type 0} (g : Ghosts S) (id : Text) (n : ℕ) (bytes : Bytes) (old fed new : Stored S) (feeds : Leads g (Feeds id n bytes (Ok tt)) old fed) where
+  -- bytes were put behind, and the frames are taken
+  pub accepts : (accepted : Accepted) → (HasCleanDisk (state g new.connection) → HasCleanDisk (state g fed.connection))
+      → Leads g (TakesLive id n accepted.replies.items accepted.refusal) fed new → Leads g (Accepts id n bytes (Ok (accepted.replies.items, accepted.refusal))) old new
+  accepts accepted early takes clean s is =
+      let m = feeds (early clean) s is in
+      let t = takes clean m.0 m.1 in
+      (t.0, t.1, (m.0, m.2, t.2 (subst (λ (events : List Event). is_live events id n ≡ true) (sym m.2.events) m.2.live)))
+
+  -- where a crash comes
+  pub accept_endures : IsQuiet g old fed → Endures g (TakesFirst id n) fed new → Endures g (AcceptsFirst id n bytes) old new
+  accept_endures quiet lives =
+      endures_on g (AcceptsFirst id n bytes) (Feeds id n bytes (Ok tt)) (TakesFirst id n) (AcceptsFirst id n bytes) old fed new (λ s t it. it)
+      (λ s m t put taken. (m, put, taken)) (quiet_endures g (AcceptsFirst id n bytes) old fed quiet) feeds lives

@@ -16,7 +16,8 @@ use Rattle.new_arrivals.specs.declared.arrival.PreparedArrival.{PreparedArrival}
 use Rattle.new_arrivals.specs.Arrivals.{IsMadeReady}
 use Rattle.live_attempts.specs.Attempts.{ByInvocation, Changes, after_put}
 use Rattle.live_laws.specs.Agrees.{Brings}
-use Rattle.journal_store.specs.Stands.{Stands, Does, AreAsBefore}
+use Rattle.journal_store.specs.Stands.{Stands, AreAsBefore}
+use Rattle.journal_store.proofs.Leading.{Does}
 use Rattle.journal_store.proofs.Standing.{store_still, stands_arrived, stands_still, written}
 
 -- what was made ready of an event that brings an arrival was written and put behind, or nothing was

@@ -29,9 +29,10 @@ use Rattle.live_attempts.specs.Input.{pieces_from}
 use Rattle.live_attempts.specs.Attempts.{ByInvocation, attempt_of}
 use Rattle.live_laws.specs.Agrees.{Agrees, IsBegunAs, row_piece}
 use Rattle.live_laws.proofs.Begun.{begun}
-use Rattle.journal_store.specs.declared.begun.BegunAttempt.{BegunAttempt}
-use Rattle.journal_store.specs.Stands.{Stands, Does}
-use Rattle.journal_store.specs.Attempts.{IsBegunAttempt, IsToldAs, TakesIn, fresh}
+use Rattle.store_calls.specs.declared.begun.BegunAttempt.{BegunAttempt}
+use Rattle.journal_store.specs.Stands.{Stands}
+use Rattle.journal_store.specs.Attempts.{IsToldAs, TakesIn, fresh}
+use Rattle.journal_store.proofs.Leading.{Does, IsBegunAttempt}
 use Rattle.journal_store.proofs.Standing.{store_still, stands_after, written}
 
 -- ---- how many rows a journal has

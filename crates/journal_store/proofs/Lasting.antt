@@ -9,17 +9,12 @@ use Rattle.store_rows.specs.Records.{Holds}
 use Rattle.store_rows.specs.Looks.{Lasts}
 use Rattle.store_refusals.specs.declared.refusal.Refusal.{Refusal}
 use Rattle.live_attempts.specs.Attempts.{ByInvocation}
-use Rattle.journal_store.specs.Stands.{Does, Outlasts, Stands}
+use Rattle.journal_store.specs.Stands.{Outlasts, Stands}
 
 pub outlasts_now : (events : List Event) (database : State) (attempts : ByInvocation) → HasCleanDisk database → Stands events database attempts → Lasts database → Outlasts events database
 outlasts_now events database attempts clean stands lasts trees may =
     let k = stands.kept.keeps clean lasts.is_open in
     record { records = k.records; held = subst (λ (db : Trees). Holds db k.records) (sym (lasts.left trees may)) k.held; kept = k.kept }
-
-pub outlasts : {A : Type 0} (events : List Event) (event : Event) (IsAnswer : A → Type 0) (result : Result A Refusal) (database : State) (attempts : ByInvocation)
-    → HasCleanDisk database → Does events event IsAnswer result database attempts → OnOk result (Lasts database) → OnOk result (Outlasts (event ∷ events) database)
-outlasts events event IsAnswer (Ok answer) database attempts clean does lasts = outlasts_now (event ∷ events) database attempts clean does.2 lasts
-outlasts events event IsAnswer (Err why) database attempts clean does lasts = tt
 
 pub kept_then : (a b c : State) → (HasCleanDisk c → HasCleanDisk b) → IsKept a b → IsKept b c → IsKept a c
 kept_then a b c earlier one two clean is_open =
@@ -28,6 +23,9 @@ kept_then a b c earlier one two clean is_open =
     (first.0, later.1 ∙ first.1)
 
 -- what was looked at before was left too
+pub undone_kept : {A E : Type 0} (result : Result A E) (a b c : State) → (HasCleanDisk c → HasCleanDisk b) → IsKept a b → OnErr result (IsKept b c) → OnErr result (IsKept a c)
+undone_kept result a b c earlier one two = on_err_weaker result (λ it. kept_then a b c earlier one it) two
+
 pub refused_kept : {A E : Type 0} (P : Type 0) (result : Result A E) (a b c : State) → (HasCleanDisk c → HasCleanDisk b) → IsKept a b → OnErr result (IsKept b c × P) → OnErr result (IsKept a c)
 refused_kept P result a b c earlier one two = on_err_weaker result (λ it. kept_then a b c earlier one it.0) two
 

@@ -1,9 +1,13 @@
 pub mod Standing
+pub mod Waiting
+pub mod Lasting
+pub mod Leading
+pub mod Enduring
 pub mod Quiet
+pub mod Recording
 pub mod Arriving
 pub mod Beginning
+pub mod Calls
 pub mod Taking
 pub mod Accepting
-pub mod Waiting
 pub mod Opening
-pub mod Lasting

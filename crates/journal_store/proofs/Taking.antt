@@ -1,6 +1,8 @@
 -- A frame is taken, or refused.
 use Rattle.std.proofs.Common.{◌≡◌, ℕ, ◌==◌, length, refl, sym, ap, subst, ◌∙◌, inl, inr, arith, drop, Bool, true, false, not, List, [], ◌∷◌, Option, Some, None, option_map, Result, Ok, Err, IfOk, IfErr, OnOk, OnErr, IsTrue}
+use Rattle.sqlite_trees.specs.declared.store.Store.{Ghosts}
 use Rattle.sqlite_trees.specs.Tree.{Trees}
+use Rattle.sqlite.specs.Held.{Held, state}
 use Rattle.sqlite.specs.State.{State, HasCleanDisk, Survives}
 use Rattle.sqlite.proofs.StateLemmas.{survives_then}
 use Rattle.sql_tables.specs.Asking.{IsKept as Asked}
@@ -10,12 +12,12 @@ use Rattle.journal_model.specs.Event.{Event, Frame}
 use Rattle.journal_model.specs.Journal.{ends_attempt}
 use Rattle.journal_model.specs.Attempt.{is_live}
 use Rattle.journal_model.specs.Cause.{FrameNotAccepted, causes_of, those_that_hold, adding_tests}
-use Rattle.journal_protocol.specs.declared.message_type.UnknownMessageType.{UnknownMessageType}
-use Rattle.journal_protocol.specs.Item.{unknown, message, item_at}
+use Rattle.journal_protocol.specs.Item.{Item, unknown, message, item_at}
 use Rattle.attempt_frames.specs.declared.frame.AttemptFrame.{AttemptFrame}
 use Rattle.attempt_frames.specs.Answer.{IsFrame}
 use Rattle.attempt_frames.specs.Meaning.{frame_of}
 use Rattle.store_rows.specs.declared.row.Write.{Write}
+use Rattle.store_rows.specs.Looks.{Looks}
 use Rattle.store_rows.specs.Steps.{Lands}
 use Rattle.store_model.specs.Writes.{writes_of}
 use Rattle.store_refusals.specs.declared.refusal.Refusal.{Refusal}
@@ -23,36 +25,32 @@ use Rattle.store_refusals.specs.declared.refusal.Refusal.TheVariants as refusal
 use Rattle.store_refusals.specs.Refused.{first_of, is_circumstance, IsRefused}
 use Rattle.new_invocations.specs.Rows.{IsStoreOf}
 use Rattle.taken_frames.specs.declared.frame.FrameReply.{FrameReply}
-use Rattle.taken_frames.specs.declared.frame.FrameReply.TheVariants as replies
 use Rattle.taken_frames.specs.declared.frame.PreparedFrame.{PreparedFrame}
 use Rattle.taken_frames.specs.Stateless.{is_of_state, LeavesState}
 use Rattle.taken_frames.specs.Taken.{IsLive, IsReply, IsTaken, does_end, lies_in_frame}
 use Rattle.taken_frames.proofs.Live.{begun_open}
 use Rattle.taken_frames.proofs.Tests.{causes_left}
 use Rattle.live_attempts.specs.declared.attempt.LiveAttempt.{LiveAttempt}
-use Rattle.live_attempts.specs.Attempts.{ByInvocation, attempt_of, IsNow, after_take}
-use Rattle.live_laws.specs.Agrees.{Agrees, has_number, is_answered_at_once, is_silent}
+use Rattle.live_attempts.specs.Attempts.{Attempts, ByInvocation, attempt_of, IsNow, after_take}
+use Rattle.live_laws.specs.Agrees.{Agrees, IsKeptLive, has_number, is_answered_at_once, is_silent}
 use Rattle.live_laws.proofs.Steps.{taken, ended}
 use Rattle.live_laws.proofs.Tests.{live_is_open}
 use Rattle.journal_store.specs.declared.step.SeenFrame.{SeenFrame}
 use Rattle.journal_store.specs.declared.step.FirstSeen.TheVariants as firsts
-use Rattle.journal_store.specs.Stands.{Stands}
-use Rattle.journal_store.specs.Attempts.{IsFirstItem, IsLeftBy, RefusesItem, CommitsItem, attempt_left}
-use Rattle.journal_store.specs.Taking.{HasWritten, IsEndedBy, IsFirstOf, IsSeen, LandsSome, TakesSeen, passed}
+use Rattle.store_calls.specs.Standing.{Standing}
+use Rattle.store_calls.specs.Frames.{IsNext, LeavesRefused, RefusesFrame, Steps, TakesNone, TakesOne, frame_in, rest_after}
+use Rattle.store_calls.proofs.Landing.{taken as frame_landed}
+use Rattle.store_calls.proofs.Live.{told_end}
+use Rattle.store_calls.proofs.Taking.{same_stays}
+use Rattle.journal_store.specs.Stored.{Stored, stored}
+use Rattle.journal_store.specs.Stands.{Stands, IsStanding, Leads, Keeps, KeepsAll, Endures, WaitsNow}
+use Rattle.journal_store.specs.Taking.{HasMessage, HasMessageOf, HasWritten, IsEndedBy, IsFirstOf, IsSeen, LandsSome, passed}
 use Rattle.journal_store.proofs.Standing.{landed, store_still, stands_after, unwritten, written}
 use Rattle.journal_store.proofs.Quiet.{live_here, stands_stopped, this_one}
+use Rattle.journal_store.proofs.Waiting.{now_waits, same_waits, stopped_waits}
+use Rattle.journal_store.proofs.Leading.{leaves, stays}
 
--- ---- replies
-
--- a reply says whether its frame ends the attempt
-pub told_end : (events : List Event) (id : Text) (frame : Frame) (reply : FrameReply) → IsReply events id frame reply → does_end reply ≡ ends_attempt frame
-told_end events id (Frame.Command request) (replies.Recorded place) is = refl
-told_end events id (Frame.RunOutcome n value is_acknowledged) (replies.Recorded place) is = refl
-told_end events id Frame.AwaitingOn replies.Noted is = refl
-told_end events id (Frame.Suspend suspension) replies.Suspended is = refl
-told_end events id (Frame.Error code said behavior delay) replies.Failed is = refl
-told_end events id Frame.End replies.Ended is = refl
-told_end events id _ _ is = absurd is
+-- ---- what a frame leaves
 
 not_at_once : (request : Request) → is_of_state request ≡ false → not (is_answered_at_once request) ≡ true
 not_at_once (Request.GetLazyState key n name) e = cc
@@ -73,6 +71,11 @@ silent Frame.TooDeep read stateless is goes events id reply replied = absurd rep
 silent Frame.NotAccepted read stateless is goes events id reply replied = absurd replied
 
 -- ---- the attempt that is left
+
+-- the attempt whose first item was taken
+abbrev attempt_left : Bool → Bytes → LiveAttempt → Option LiveAttempt
+attempt_left true rest attempt = None
+attempt_left false rest attempt = Some (record attempt { output = rest })
 
 -- of the bytes that wait the events say nothing
 other_output : (events : List Event) (id : Text) (attempt : LiveAttempt) (rest : Bytes) → Agrees events id (Some attempt) → Agrees events id (Some (record attempt { output = rest }))
@@ -109,16 +112,6 @@ not_in_frame (refusal.StatementRefused cause) h = refl
 not_in_frame refusal.OutOfMemory h = refl
 not_in_frame _ h = cc
 
-left_waiting : (events : List Event) (id : Text) (number : ℕ) (why : Refusal) (database : State) (old new : ByInvocation) → IsTrue (is_circumstance why) → Stands events database new → new ≡ old
-    → IsLeftBy (lies_in_frame why) events id number database old new
-left_waiting events id number why database old new h stands same = rw (not_in_frame why h) (stands, same)
-
-left_by : (events : List Event) (id : Text) (number : ℕ) (database : State) (old new : ByInvocation) → has_number number (attempt_of old id) ≡ true → Stands events database old
-    → (b : Bool) → IsEndedBy b id old new → IsLeftBy b events id number database old new
-left_by events id number database old new here stands true now = let stopped = stands_stopped events database old new id number stands here now in (stopped.2, now)
-left_by events id number database old new here stands false same =
-    (subst (λ (all : ByInvocation). Stands events database all) (sym same) stands, same)
-
 -- ---- a frame that was seen
 
 -- what the events say of its attempt
@@ -126,87 +119,143 @@ pub is_live_here : (events : List Event) (id : Text) (number : ℕ) (attempt : L
     → IsLive events id number it.facts
 is_live_here events id number attempt it agrees live seen = record { live = live; closed = seen.closed ∙ agrees.closed; handed = seen.handed ∙ agrees.handed }
 
-module _ (id : Text) (number : ℕ) (attempts : ByInvocation) (attempt : LiveAttempt) (it : SeenFrame) (seen : IsSeen attempt it)
-    (found : attempt_of attempts id ≡ Some attempt) (numbered : attempt.number ≡ number) where
-  pub seen_first : IsFirstItem id number attempts attempt (message seen.message_is) (drop it.len attempt.output)
-  seen_first = record { found = found; is_this = numbered; first = seen.first }
+abbrev output_in : LiveAttempt → Bytes
+output_in attempt = attempt.output
 
-  -- what was made ready was written, and the frame is passed; or nothing was done
-  pub seen_taken : (events : List Event) (old mid new : State) (P Q : Trees → Type 0) (left : ByInvocation) (made : PreparedFrame) (result : Result FrameReply Refusal)
-      → Survives old mid P → Asked old mid → Survives mid new Q → HasCleanDisk new
-      → LeavesState (frame_of attempt.version seen.message_is)
-      → (causes_of events (Event.Take id number (frame_of attempt.version seen.message_is)) ≡ []) × IsTaken events id number (frame_of attempt.version seen.message_is) made
-      → IfOk result (λ reply. reply ≡ made.reply) → OnOk result (HasWritten made.writes.items mid new)
-      → OnOk result (IsNow id (passed (does_end made.reply) it.len (attempt_of attempts id)) attempts left)
-      → IfErr result (λ why. IsTrue (is_circumstance why)) → OnErr result (Asked mid new × (left ≡ attempts)) → Stands events old attempts
-      → TakesSeen events id number result new attempts left
-  seen_taken events old mid new P Q left made (Ok reply) before asked lives clean stateless ready replied wrote now why undone stands =
-      let frame : Frame = frame_of attempt.version seen.message_is in
-      let rest : Bytes = drop it.len attempt.output in
-      let store = store_still events old mid P before asked stands.kept in
-      let after = stands_written events (Event.Take id number frame) mid new Q made.writes.items lives clean store ready.0 ready.1.writes wrote in
-      let agrees : Agrees events id (Some attempt) = subst (Agrees events id) found (stands.live id) in
-      let is_reply : IsReply events id frame reply = subst (IsReply events id frame) (sym replied) ready.1.reply in
-      let is_now : IsNow id (attempt_left (does_end reply) rest attempt) attempts left =
-      subst (λ (o : Option LiveAttempt). IsNow id o attempts left)
-      (ap (λ (r : FrameReply). passed (does_end r) it.len (attempt_of attempts id)) (sym replied) ∙ passed_left (does_end reply) it.len (attempt_of attempts id) attempt found) now in
-      record {
-        attempt = attempt;
-        item = message seen.message_is;
-        rest = rest;
-        is_first = seen_first;
-        no_cause = ready.0;
-        replied = is_reply;
-        stands = stands_after events (Event.Take id number frame) id (attempt_left (does_end reply) rest attempt) new attempts left refl refl after
-            (agrees_left events id number frame it.frame reply attempt rest stateless seen.read is_reply agrees (does_end reply) refl) is_now stands.live;
-        left = is_now;
-      }
-  seen_taken events old mid new P Q left made (Err why) before asked lives clean stateless ready replied wrote now circumstance undone stands =
-      let store = store_still events old mid P before asked stands.kept in
-      let still : Stands events new attempts = record { kept = store_still events mid new Q lives undone.0 store; live = stands.live } in
-      record {
-        attempt = attempt;
-        item = message seen.message_is;
-        rest = drop it.len attempt.output;
-        is_first = seen_first;
-        refused = inr circumstance;
-        left = left_waiting events id number why new attempts left circumstance (subst (λ (all : ByInvocation). Stands events new all) (sym undone.1) still) undone.1;
-      }
+left_alike : (b : Bool) (rest : Bytes) (attempt : LiveAttempt) → option_map output_in (attempt_left b rest attempt) ≡ rest_after b rest
+left_alike true rest attempt = refl
+left_alike false rest attempt = refl
 
-  -- it is refused, and with it its attempt where the cause lies in it
-  pub seen_refused : (events : List Event) (old new : State) (P : Trees → Type 0) (left : ByInvocation) (why : Refusal) → Survives old new P → Asked old new
-      → IsRefused (causes_of events (Event.Take id number (frame_of attempt.version seen.message_is))) why → IsEndedBy (lies_in_frame why) id attempts left
-      → has_number number (attempt_of attempts id) ≡ true → Stands events old attempts → RefusesItem events id number why new attempts left
-  seen_refused events old new P left why lives asked refused ends here stands = record {
-    attempt = attempt;
-    item = message seen.message_is;
-    rest = drop it.len attempt.output;
-    is_first = seen_first;
-    refused = refused;
-    left = left_by events id number new attempts left here (record { kept = store_still events old new P lives asked stands.kept; live = stands.live }) (lies_in_frame why) ends;
+module _ {S : Type 0} (g : Ghosts S) (old new : Stored S) (s : Standing) (is : IsStanding g s old) (id : Text) (n : ℕ) (attempt : LiveAttempt) (item : Item) (rest : Bytes)
+    (found : attempt_of old.live.attempts id ≡ Some attempt) (first : item_at attempt.output ≡ Some (item, rest)) where
+  kept : IsKeptLive s.events id attempt
+  kept = subst (Agrees s.events id) found (is.stands.live id)
+
+  pub next_item : IsNext id s (frame_in attempt.version item) rest
+  next_item = record {
+    output = attempt.output;
+    waits = is.outputs id ∙ ap (option_map output_in) found;
+    item = item;
+    first = first;
+    frame_is = ap (λ (version : ℕ). frame_in version item) kept.version;
   }
 
+  -- it is refused, and its attempt is over where the cause lies in it
+  pub item_refused : (why : Refusal) → has_number n (attempt_of old.live.attempts id) ≡ true → IsRefused (causes_of s.events (Event.Take id n (frame_in attempt.version item))) why
+      → IsStoreOf s.events (state g new.connection) → (b : Bool) → lies_in_frame why ≡ b → IsEndedBy b id old.live.attempts new.live.attempts
+      → (t : Standing) × IsStanding g t new × RefusesFrame id n why s t
+  item_refused why here cause store true lies ends =
+      let early : Stands s.events (state g new.connection) old.live.attempts = record { kept = store; live = is.stands.live } in
+      let did = stands_stopped s.events (state g new.connection) old.live.attempts new.live.attempts id n early here ends in
+      let it = leaves g s old new is (Event.Stop id n) id None did.2 (stopped_waits id old.live.attempts new.live.attempts ends) in (
+        it.0,
+        it.1,
+        record {
+          live = live_here s.events (state g old.connection) old.live.attempts id n is.stands ∙ here;
+          frame = frame_in attempt.version item;
+          rest = rest;
+          next = next_item;
+          cause = cause;
+          left = subst (λ (b : Bool). LeavesRefused b id n s it.0) (sym lies) it.2;
+        },
+      )
+  item_refused why here cause store false lies ends =
+      let still : Stands s.events (state g new.connection) new.live.attempts =
+      record { kept = store; live = subst (λ (all : ByInvocation). (one : Text) → Agrees s.events one (attempt_of all one)) (sym ends) is.stands.live } in
+      let it = stays g s old new is still (same_waits old.live.attempts new.live.attempts ends) in (
+        it.0,
+        it.1,
+        record {
+          live = live_here s.events (state g old.connection) old.live.attempts id n is.stands ∙ here;
+          frame = frame_in attempt.version item;
+          rest = rest;
+          next = next_item;
+          cause = cause;
+          left = subst (λ (b : Bool). LeavesRefused b id n s it.0) (sym lies) it.2;
+        },
+      )
+
+module _ {S : Type 0} (g : Ghosts S) (a mid b : Held S) (before after : Attempts) (id : Text) (n : ℕ) (attempt : LiveAttempt) (it : SeenFrame) (seen : IsSeen attempt it)
+    (found : attempt_of before.attempts id ≡ Some attempt) (here : has_number n (attempt_of before.attempts id) ≡ true) where
+  abbrev event : Event
+  event = Event.Take id n (frame_of attempt.version seen.message_is)
+
+  abbrev left_of : Bytes
+  left_of = drop it.len attempt.output
+
+  -- what the events say of its attempt
+  pub live_of : (events : List Event) → Stands events (state g a) before.attempts → IsLive events id n it.facts
+  live_of events stands =
+      is_live_here events id n attempt it (subst (Agrees events id) found (stands.live id)) (live_here events (state g a) before.attempts id n stands ∙ here) seen
+
+  -- it is refused, and with it its attempt where the cause lies in it
+  pub seen_refused : (why : Refusal) → Looks g a b → IsEndedBy (lies_in_frame why) id before.attempts after.attempts
+      → (HasCleanDisk (state g b) → (events : List Event) → Stands events (state g a) before.attempts → IsRefused (causes_of events event) why)
+      → Leads g (Steps id n (Err why)) (stored a before) (stored b after)
+  seen_refused why looks ends cause clean s is =
+      let it = item_refused g (stored a before) (stored b after) s is id n attempt (message seen.message_is) left_of found seen.first why here (cause clean s.events is.stands)
+      (store_still s.events (state g a) (state g b) (λ _. ⊥) looks.crash looks.kept is.stands.kept) (lies_in_frame why) refl ends in
+      (it.0, it.1, inr it.2)
+
+  -- what was made ready was written, and the frame is passed; or nothing was done
+  pub seen_taken : (made : PreparedFrame) (result : Result (Option FrameReply) Refusal) (Q : Trees → Type 0) → Looks g a mid → Survives (state g mid) (state g b) Q
+      → LeavesState (frame_of attempt.version seen.message_is)
+      → (HasCleanDisk (state g mid) → (events : List Event) → Stands events (state g a) before.attempts
+      → (causes_of events event ≡ []) × IsTaken events id n (frame_of attempt.version seen.message_is) made)
+      → IfOk result (λ reply. reply ≡ Some made.reply) → (HasCleanDisk (state g b) → OnOk result (HasWritten made.writes.items (state g mid) (state g b)))
+      → OnOk result (IsNow id (passed (does_end made.reply) it.len (attempt_of before.attempts id)) before.attempts after.attempts)
+      → IfErr result (λ why. IsTrue (is_circumstance why)) → OnErr result (Asked (state g mid) (state g b) × (after.attempts ≡ before.attempts))
+      → Leads g (Steps id n result) (stored a before) (stored b after)
+  seen_taken made (Ok None) Q looks lives stateless prepared replied wrote now why undone clean s is = cc
+  seen_taken made (Ok (Some reply)) Q looks lives stateless prepared told wrote now why undone clean s is =
+      let replied : reply ≡ made.reply = cc in
+      let frame : Frame = frame_of attempt.version seen.message_is in
+      let early : HasCleanDisk (state g mid) = omega (arith, lives.clean, clean) in
+      let ready = prepared early s.events is.stands in
+      let store = store_still s.events (state g a) (state g mid) (λ _. ⊥) looks.crash looks.kept is.stands.kept in
+      let all = stands_written s.events event (state g mid) (state g b) Q made.writes.items lives clean store ready.0 ready.1.writes (wrote clean) in
+      let agrees : Agrees s.events id (Some attempt) = subst (Agrees s.events id) found (is.stands.live id) in
+      let is_reply : IsReply s.events id frame reply = subst (IsReply s.events id frame) (sym replied) ready.1.reply in
+      let is_now : IsNow id (attempt_left (does_end reply) left_of attempt) before.attempts after.attempts =
+      subst (λ (o : Option LiveAttempt). IsNow id o before.attempts after.attempts)
+      (ap (λ (r : FrameReply). passed (does_end r) it.len (attempt_of before.attempts id)) (sym replied) ∙ passed_left (does_end reply) it.len (attempt_of before.attempts id) attempt found) now in
+      let then = stands_after s.events event id (attempt_left (does_end reply) left_of attempt) (state g b) before.attempts after.attempts refl refl all
+      (agrees_left s.events id n frame it.frame reply attempt left_of stateless seen.read is_reply agrees (does_end reply) refl) is_now is.stands.live in
+      let waits = subst (λ (output : Option Bytes). WaitsNow id output before.attempts after.attempts) (left_alike (does_end reply) left_of attempt)
+      (now_waits id (attempt_left (does_end reply) left_of attempt) before.attempts after.attempts is_now) in
+      let to = leaves g s (stored a before) (stored b after) is event id (rest_after (does_end reply) left_of) then waits in (
+        to.0,
+        to.1,
+        record {
+          frame = frame;
+          rest = left_of;
+          next = next_item g (stored a before) (stored b after) s is id n attempt (message seen.message_is) left_of found seen.first;
+          replied = is_reply;
+          leaves = to.2;
+        },
+      )
+  seen_taken made (Err why) Q looks lives stateless prepared replied wrote now circumstance undone clean s is =
+      let store = store_still s.events (state g a) (state g mid) (λ _. ⊥) looks.crash looks.kept is.stands.kept in
+      let it = item_refused g (stored a before) (stored b after) s is id n attempt (message seen.message_is) left_of found seen.first why here (inr circumstance)
+      (store_still s.events (state g mid) (state g b) Q lives undone.0 store) false (not_in_frame why circumstance) undone.1 in
+      (it.0, it.1, inr it.2)
+
   -- where a crash comes
-  pub seen_lands : (old mid new : State) (writes : List Write) → Survives old mid (λ _. ⊥) → Asked old mid → Survives mid new (LandsSome writes mid)
-      → (HasCleanDisk mid → (events : List Event) → Stands events old attempts
-      → (causes_of events (Event.Take id number (frame_of attempt.version seen.message_is)) ≡ []) × (writes ≡ writes_of events (Event.Take id number (frame_of attempt.version seen.message_is))))
-      → Survives old new (CommitsItem id number attempts old)
-  seen_lands old mid new writes before asked lives made =
-      let event : Event = Event.Take id number (frame_of attempt.version seen.message_is) in
-      survives_then old mid new (λ _. ⊥) (LandsSome writes mid) (CommitsItem id number attempts old) (λ _ db none. absurd none)
-      (λ clean db lands.
-      let early : HasCleanDisk mid = omega (arith, lives.clean, clean) in
-      record {
-        attempt = attempt;
-        item = message seen.message_is;
-        rest = drop it.len attempt.output;
-        is_first = seen_first;
-        commits = λ events stands.
-            let is = made early events stands in
-            let store = store_still events old mid (λ _. ⊥) before asked stands.kept in
-            (is.0, landed events event mid writes db store early is.0 is.1 lands.0 lands.1);
-      })
-      before lives
+  pub seen_lands : (made : PreparedFrame) → Looks g a mid → Survives (state g mid) (state g b) (LandsSome made.writes.items (state g mid))
+      → (HasCleanDisk (state g mid) → (events : List Event) → Stands events (state g a) before.attempts
+      → (causes_of events event ≡ []) × IsTaken events id n (frame_of attempt.version seen.message_is) made)
+      → Endures g (TakesOne id n) (stored a before) (stored b after)
+  seen_lands made looks lives prepared =
+      survives_then (state g a) (state g mid) (state g b) (λ _. ⊥) (LandsSome made.writes.items (state g mid)) (Keeps g (TakesOne id n) (stored a before)) (λ _ db none. absurd none)
+      (λ clean db lands s is.
+      let early : HasCleanDisk (state g mid) = omega (arith, lives.clean, clean) in
+      let ready = prepared early s.events is.stands in
+      let store = store_still s.events (state g a) (state g mid) (λ _. ⊥) looks.crash looks.kept is.stands.kept in
+      let all = landed s.events event (state g mid) made.writes.items db store early ready.0 ready.1.writes lands.0 lands.1 in
+      let next = next_item g (stored a before) (stored b after) s is id n attempt (message seen.message_is) left_of found seen.first in
+      let to = frame_landed s id n (frame_of attempt.version seen.message_is) left_of made.reply next ready.1.reply ready.0 in
+      (to.0, (made.reply, to.2), subst (λ (events : List Event). KeepsAll events db) (sym to.1) all))
+      looks.crash lives
 
 -- ---- items that are refused before they are read
 
@@ -219,26 +268,43 @@ unknown_causes events database attempts id number attempt stands found here =
     let opened = live_is_open events id attempt stands.kept.accepted agrees in
     causes_left events id number Frame.NotAccepted (begun_open events id opened) opened (live_here events database attempts id number stands ∙ here)
 
-pub unknown_refused : (events : List Event) (database : State) (attempts left : ByInvocation) (id : Text) (number : ℕ) (attempt : LiveAttempt) (ty : UnknownMessageType) (rest : Bytes)
-    → Stands events database attempts → attempt_of attempts id ≡ Some attempt → attempt.number ≡ number → has_number number (attempt_of attempts id) ≡ true
-    → item_at attempt.output ≡ Some (unknown ty, rest) → IsNow id None attempts left → RefusesItem events id number refusal.FrameNotAccepted database attempts left
-unknown_refused events database attempts left id number attempt ty rest stands found numbered here first now = record {
-  attempt = attempt;
-  item = unknown ty;
-  rest = rest;
-  is_first = record { found = found; is_this = numbered; first = first };
-  refused = inl (ap first_of (unknown_causes events database attempts id number attempt stands found here));
-  left = left_by events id number database attempts left here stands true now;
-}
+module _ {S : Type 0} (g : Ghosts S) (tables : Held S) (before after : Attempts) (id : Text) (n : ℕ) (here : has_number n (attempt_of before.attempts id) ≡ true) where
+  -- an unknown header that was seen
+  pub header_refused : IsFirstOf (attempt_of before.attempts id) firsts.Unknown → IsNow id None before.attempts after.attempts
+      → Leads g (Steps id n (Err refusal.FrameNotAccepted)) (stored tables before) (stored tables after)
+  header_refused first now clean s is =
+      let one = this_one n (attempt_of before.attempts id) here in
+      let unknown_is = subst (λ (o : Option LiveAttempt). IsFirstOf o firsts.Unknown) one.is first in
+      let it = item_refused g (stored tables before) (stored tables after) s is id n one.attempt (unknown unknown_is.0) (drop 8 one.attempt.output) one.is unknown_is.1 refusal.FrameNotAccepted here
+      (inl (ap first_of (unknown_causes s.events (state g tables) before.attempts id n one.attempt is.stands one.is here))) is.stands.kept true refl now in
+      (it.0, it.1, inr it.2)
 
--- an unknown header that was seen
-pub header_refused : (events : List Event) (database : State) (attempts left : ByInvocation) (id : Text) (number : ℕ) → has_number number (attempt_of attempts id) ≡ true
-    → IsFirstOf (attempt_of attempts id) firsts.Unknown → IsNow id None attempts left → Stands events database attempts
-    → RefusesItem events id number refusal.FrameNotAccepted database attempts left
-header_refused events database attempts left id number here first now stands =
-    let it = this_one number (attempt_of attempts id) here in
-    let unknown_is = subst (λ (o : Option LiveAttempt). IsFirstOf o firsts.Unknown) it.is first in
-    unknown_refused events database attempts left id number it.attempt unknown_is.0 (drop 8 it.attempt.output) stands it.is it.numbered here unknown_is.1 now
+  -- no whole item waits
+  pub none_waits : after ≡ before → IsFirstOf (attempt_of before.attempts id) firsts.Partial → Leads g (Steps id n (Ok None)) (stored tables before) (stored tables after)
+  none_waits same first clean s is =
+      let one = this_one n (attempt_of before.attempts id) here in
+      subst (λ (live : Attempts). (t : Standing) × IsStanding g t (stored tables live) × TakesNone id n s t) (sym same) (
+        s,
+        is,
+        record {
+          live = live_here s.events (state g tables) before.attempts id n is.stands ∙ here;
+          output = one.attempt.output;
+          waits = is.outputs id ∙ ap (option_map output_in) one.is;
+          none = partial one.attempt (subst (λ (o : Option LiveAttempt). IsFirstOf o firsts.Partial) one.is first);
+          stays = same_stays s;
+        },
+      )
+    where
+      partial : (attempt : LiveAttempt) → IsFirstOf (Some attempt) firsts.Partial → item_at attempt.output ≡ None
+      partial attempt none = none
+
+  -- there is no memory to read one
+  pub no_room : after ≡ before → HasMessageOf (attempt_of before.attempts id) → Leads g (Steps id n (Err refusal.OutOfMemory)) (stored tables before) (stored tables after)
+  no_room same whole clean s is =
+      let one = this_one n (attempt_of before.attempts id) here in
+      let first : HasMessage one.attempt = subst HasMessageOf one.is whole in
+      let it = item_refused g (stored tables before) (stored tables before) s is id n one.attempt (message first.0) first.1 one.is first.2 refusal.OutOfMemory here (inr refl) is.stands.kept false refl refl in
+      subst (λ (live : Attempts). (t : Standing) × IsStanding g t (stored tables live) × Steps id n (Err refusal.OutOfMemory) s t) (sym same) (it.0, it.1, inr it.2)
 
 -- ---- writes
 

@@ -51,7 +51,7 @@ arrived_waits P id place frame old new (Ok done) put undone = changed_waits id (
 arrived_waits P id place frame old new (Err why) put undone = before_waits old new undone.1
 
 -- of one invocation the attempt is this now, and of the others it is as before
-now_waits : (id : Text) (attempt : Option LiveAttempt) (old new : ByInvocation) → IsNow id attempt old new → WaitsNow id (option_map output_in attempt) old new
+pub now_waits : (id : Text) (attempt : Option LiveAttempt) (old new : ByInvocation) → IsNow id attempt old new → WaitsNow id (option_map output_in attempt) old new
 now_waits id attempt old new now = record { own = ap (option_map output_in) now.own; others = λ other apart. ap (option_map output_in) (now.others other apart) }
 
 pub stopped_waits : (id : Text) (old new : ByInvocation) → IsNow id None old new → WaitsNow id None old new

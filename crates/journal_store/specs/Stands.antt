@@ -1,18 +1,21 @@
 -- When a store stands for a list of accepted events, and what a call makes of that.
 use Rattle.std.specs.Prelude.{◌≡◌, false, bytes_eq, List, [], ◌∷◌, Option, Some, None, option_map, Result, Ok, Err}
+use Rattle.sqlite_trees.specs.declared.store.Store.{Ghosts}
 use Rattle.sqlite_trees.specs.Tree.{Trees}
-use Rattle.sqlite.specs.State.{State}
+use Rattle.sqlite.specs.Held.{state}
+use Rattle.sqlite.specs.State.{State, HasCleanDisk, Survives}
 use Rattle.journal_model.specs.Notification.{Bytes, Text}
 use Rattle.journal_model.specs.Event.{Event}
 use Rattle.journal_model.specs.Cause.{causes_of}
 use Rattle.store_rows.specs.Records.{Records, Holds}
 use Rattle.store_model.specs.Kept.{IsKept}
 use Rattle.store_refusals.specs.declared.refusal.Refusal.{Refusal}
-use Rattle.store_refusals.specs.Refused.{IsRefused}
 use Rattle.new_invocations.specs.Rows.{IsStoreOf}
 use Rattle.live_attempts.specs.declared.attempt.LiveAttempt.{LiveAttempt}
 use Rattle.live_attempts.specs.Attempts.{ByInvocation, attempt_of}
 use Rattle.live_laws.specs.Agrees.{Agrees}
+use Rattle.store_calls.specs.Standing.{Standing}
+use Rattle.journal_store.specs.Stored.{Stored}
 
 -- The events were accepted; the tables hold what is kept of them, as long as the connection is open; the attempts in memory are
 -- the live ones.
@@ -47,12 +50,6 @@ IsAsBefore _ _ = ⊥
 abbrev pub AreAsBefore : ByInvocation → ByInvocation → Type 0
 AreAsBefore old new = (id : Text) → IsAsBefore (attempt_of old id) (attempt_of new id)
 
--- An event is accepted, and the store stands for it too; or it is refused, for the least of its causes or for a circumstance, and
--- the store stands as before.
-abbrev pub Does : {A : Type 0} → List Event → Event → (A → Type 0) → Result A Refusal → State → ByInvocation → Type 0
-Does events event IsAnswer (Ok answer) database attempts = (causes_of events event ≡ []) × IsAnswer answer × Stands (event ∷ events) database attempts
-Does events event IsAnswer (Err why) database attempts = IsRefused (causes_of events event) why × Stands events database attempts
-
 -- the tables hold what is kept of these events
 pub record KeepsAll (events : List Event) (trees : Trees) : Type 0 where
   pub records : Records
@@ -67,3 +64,34 @@ Commits event database trees = (events : List Event) → IsStoreOf events databa
 -- whatever a crash leaves from now on, the tables keep these events
 abbrev pub Outlasts : List Event → State → Type 0
 Outlasts events database = (trees : Trees) → database.may_leave trees → KeepsAll events trees
+
+module _ {S : Type 0} (g : Ghosts S) where
+  -- ---- what a store stands for
+
+  -- the accepted events, and what waits of each live attempt
+  pub record IsStanding (s : Standing) (store : Stored S) : Type 0 where
+    pub stands : Stands s.events (state g store.connection) store.live.attempts
+    pub outputs : (id : Text) → s.outputs id ≡ output_of store.live.attempts id
+
+  -- Whatever the store stood for, it stands for something in this relation to it then, if the disk returned what was written.
+  abbrev pub Leads : (Standing → Standing → Type 0) → Stored S → Stored S → Type 0
+  Leads Relation old new = HasCleanDisk (state g new.connection) → (s : Standing) → IsStanding s old → (t : Standing) × IsStanding t new × Relation s t
+
+  -- ---- what a crash leaves
+
+  -- the tables keep the events of something in this relation to what the store stood for, whatever that was
+  abbrev pub Keeps : (Standing → Standing → Type 0) → Stored S → Trees → Type 0
+  Keeps Relation store trees = (s : Standing) → IsStanding s store → (t : Standing) × Relation s t × KeepsAll t.events trees
+
+  -- What a crash leaves after some calls: what it could leave before them, or such tables.
+  abbrev pub Endures : (Standing → Standing → Type 0) → Stored S → Stored S → Type 0
+  Endures Relation old new = Survives (state g old.connection) (state g new.connection) (Keeps Relation old)
+
+  -- nothing is committed
+  abbrev pub IsQuiet : Stored S → Stored S → Type 0
+  IsQuiet old new = Survives (state g old.connection) (state g new.connection) (λ _. ⊥)
+
+  -- What is answered once its commit has landed lasts: whatever a crash leaves from now on, the tables keep this event too.
+  abbrev pub Settles : Event → Stored S → Stored S → Type 0
+  Settles event old new = HasCleanDisk (state g new.connection) → (events : List Event) → Stands events (state g old.connection) old.live.attempts
+      → Outlasts (event ∷ events) (state g new.connection)

@@ -9,6 +9,10 @@ pub record Stored (S : Type 0) : Type 0 where
   pub connection : Held S
   pub live : Attempts
 
+-- of these parts
+abbrev pub stored : {S : Type 0} → Held S → Attempts → Stored S
+stored connection live = record { connection = connection; live = live }
+
 abbrev pub stored_code : {S : Type 0} → Coded S → Coded (Stored S)
 stored_code {S} store =
     code_by (Held S × Attempts) (coded× (held_code store) live.the_row.coded) (λ s. (s.connection, s.live))

@@ -4,7 +4,6 @@ use Rattle.sqlite_trees.specs.Tree.{Trees}
 use Rattle.sqlite.specs.State.{State}
 use Rattle.sql_tables.specs.Asking.{IsKept}
 use Rattle.journal_model.specs.Notification.{Bytes, Text}
-use Rattle.journal_model.specs.Event.{Event}
 use Rattle.journal_protocol.specs.declared.decoder.RawMessage.{RawMessage}
 use Rattle.journal_protocol.specs.declared.message_type.UnknownMessageType.{UnknownMessageType}
 use Rattle.journal_protocol.specs.Item.{unknown, message, item_at}
@@ -20,7 +19,6 @@ use Rattle.live_attempts.specs.Attempts.{ByInvocation, IsNow, after_take}
 use Rattle.journal_store.specs.declared.step.SeenFrame.{SeenFrame}
 use Rattle.journal_store.specs.declared.step.FirstSeen.{FirstSeen}
 use Rattle.journal_store.specs.declared.step.FirstSeen.TheVariants as seen
-use Rattle.journal_store.specs.Attempts.{TakesItem, RefusesItem}
 
 -- ---- what stands first
 
@@ -76,8 +74,3 @@ passed false len found = option_map (after_take len) found
 abbrev pub IsEndedBy : Bool → Text → ByInvocation → ByInvocation → Type 0
 IsEndedBy true id old new = IsNow id None old new
 IsEndedBy false id old new = new ≡ old
-
--- the first item is taken or refused
-abbrev pub TakesSeen : List Event → Text → ℕ → Result FrameReply Refusal → State → ByInvocation → ByInvocation → Type 0
-TakesSeen events id number (Ok reply) database old new = TakesItem events id number reply database old new
-TakesSeen events id number (Err why) database old new = RefusesItem events id number why database old new

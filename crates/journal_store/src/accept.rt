@@ -1,24 +1,19 @@
 // All of the frames among bytes that came are taken.
-ghost use Rattle.std.specs.Prelude.{◌≡◌, ◌+◌, false, true, List, IfErr, IfOk, OnErr, vec_len};
+ghost use Rattle.std.specs.Prelude.{◌≡◌, ◌+◌, true, IfErr, IfOk, OnErr, vec_len};
 ghost use Rattle.sqlite.specs.Held.{state};
-ghost use Rattle.sqlite.specs.State.{HasCleanDisk, Survives};
-ghost use Rattle.journal_model.specs.Event.{Event};
+ghost use Rattle.journal_model.specs.Attempt.{is_live};
 ghost use Rattle.sql_tables.specs.Asking.{IsKept};
 ghost use Rattle.store_refusals.specs.declared.refusal.Refusal.TheVariants.{OutOfMemory};
 ghost use Rattle.live_attempts.specs.Attempts.{attempt_of};
 ghost use Rattle.live_laws.specs.Agrees.{has_number};
-ghost use Rattle.journal_store.specs.Attempts.{CommitsItem};
-ghost use Rattle.journal_store.specs.Stands.{Stands};
-ghost use Rattle.journal_store.specs.Accepting.{Accepts, CommitsFed, CommitsSteps, TakesAll, TakesNext};
+ghost use Rattle.store_calls.specs.Frames.{Accepts, AcceptsFirst, TakesFirst, TakesFrames, TakesOne};
+ghost use Rattle.journal_store.specs.Accepting.{TakesNext, told};
+ghost use Rattle.journal_store.specs.Stands.{Endures, Leads};
 
-use crate::attempt::feed;
-use crate::step::step;
+use crate::store::Store;
 use bytes::ByteStr;
-use live_attempts::LiveAttempts;
 use sqlite::Alter;
-use std::alloc::Global;
 use store_refusals::Refusal;
-use store_rows::StoreTables;
 use taken_frames::FrameReply;
 
 /// The frames that were taken, and why no further one was.
@@ -31,19 +26,20 @@ pub struct Accepted {
 }
 
 /// Takes the next frame of a live attempt, for whose answer room is made before. Whether there may be one more.
-fn take_next<S: Alter>(
-    tables: &mut StoreTables<S>,
-    live: &mut LiveAttempts,
+fn take_next<S: Alter + Drop>(
+    store: &mut Store<S>,
     id: &ByteStr,
     attempt: u32,
     replies: &mut Vec<FrameReply>,
 ) -> Result<bool, Refusal>
     ensures len { IfOk result (λ goes_on. goes_on ≡ true → vec_len replies.new ≡ vec_len replies.old + 1) }
-    ensures does { HasCleanDisk (state S.Store tables.new) → (events : List Event) → Stands events (state S.Store tables.old) live.old.attempts → has_number attempt (attempt_of live.old.attempts id.now) ≡ true → TakesNext events id.now attempt result replies.old.items replies.new.items (state S.Store tables.new) live.old.attempts live.new.attempts }
-    ensures crash { Survives (state S.Store tables.old) (state S.Store tables.new) (CommitsItem id.now attempt live.old.attempts (state S.Store tables.old)) }
+    ensures does { Leads S.Store (TakesNext id.now attempt result replies.old.items replies.new.items) store.old store.new }
+    ensures crash { Endures S.Store (TakesOne id.now attempt) store.old store.new }
 {
-    replies.reserve(1)?;
-    match step(tables, live, id, attempt) {
+    if replies.reserve(1).is_err() {
+        return Err(Refusal::OutOfMemory);
+    }
+    match store.step(id, attempt) {
         Ok(Some(reply)) => {
             replies.push_reserved(reply);
             Ok(!reply.ends_attempt())
@@ -54,18 +50,13 @@ fn take_next<S: Alter>(
 }
 
 /// Takes the frames of a live attempt: up to one that ends it, or one that is refused, or until none waits whole.
-fn take_all<S: Alter>(
-    tables: &mut StoreTables<S>,
-    live: &mut LiveAttempts,
-    id: &ByteStr,
-    attempt: u32,
-) -> Accepted
-    ensures does { HasCleanDisk (state S.Store tables.new) → (events : List Event) → Stands events (state S.Store tables.old) live.old.attempts → has_number attempt (attempt_of live.old.attempts id.now) ≡ true → TakesAll events id.now attempt result (state S.Store tables.new) live.old.attempts live.new.attempts }
-    ensures crash { Survives (state S.Store tables.old) (state S.Store tables.new) (CommitsSteps id.now attempt live.old.attempts (state S.Store tables.old)) }
+fn take_all<S: Alter + Drop>(store: &mut Store<S>, id: &ByteStr, attempt: u32) -> Accepted
+    ensures does { Leads S.Store (λ s t. is_live s.events id.now attempt ≡ true → TakesFrames id.now attempt result.replies.items result.refusal s t) store.old store.new }
+    ensures crash { Endures S.Store (TakesFirst id.now attempt) store.old store.new }
 {
-    let mut replies = Vec::new(tables.alloc());
+    let mut replies = Vec::new(store.alloc());
     loop {
-        match take_next(tables, live, id, attempt, &mut replies) {
+        match take_next(store, id, attempt, &mut replies) {
             Ok(true) => {}
             Ok(false) => {
                 return Accepted {
@@ -83,21 +74,18 @@ fn take_all<S: Alter>(
     }
 }
 
-/// Takes in the next bytes that an attempt wrote, and the frames among them.
-pub(crate) fn accept<S: Alter>(
-    tables: &mut StoreTables<S>,
-    live: &mut LiveAttempts,
-    id: &ByteStr,
-    attempt: u32,
-    bytes: &[u8],
-) -> Result<Accepted, Refusal>
-    ensures does { HasCleanDisk (state S.Store tables.new) → (events : List Event) → Stands events (state S.Store tables.old) live.old.attempts → Accepts events id.now attempt bytes.now result (state S.Store tables.new) live.old.attempts live.new.attempts }
-    ensures live { has_number attempt (attempt_of live.old.attempts id.now) ≡ true → IfErr result (λ why. why ≡ OutOfMemory) }
-    ensures kept { OnErr result (IsKept (state S.Store tables.old) (state S.Store tables.new)) }
-    ensures crash { Survives (state S.Store tables.old) (state S.Store tables.new) (CommitsFed id.now attempt bytes.now live.old.attempts (state S.Store tables.old)) }
-{
-    match feed(tables, live, id, attempt, bytes) {
-        Ok(()) => Ok(take_all(tables, live, id, attempt)),
-        Err(why) => Err(why),
+impl<S: Alter + Drop> Store<S> {
+    /// Takes in the next bytes that the attempt wrote, and the frames among them: up to one that ends it, or one that is refused, or
+    /// until none waits whole. An `Err` is a refusal of the bytes.
+    pub fn accept(&mut self, id: &ByteStr, attempt: u32, bytes: &[u8]) -> Result<Accepted, Refusal>
+        ensures does { Leads S.Store (Accepts id.now attempt bytes.now (told result)) self.old self.new }
+        ensures live { has_number attempt (attempt_of self.old.live.attempts id.now) ≡ true → IfErr result (λ why. why ≡ OutOfMemory) }
+        ensures kept { OnErr result (IsKept (state S.Store self.old.connection) (state S.Store self.new.connection)) }
+        ensures crash { Endures S.Store (AcceptsFirst id.now attempt bytes.now) self.old self.new }
+    {
+        match self.feed(id, attempt, bytes) {
+            Ok(()) => Ok(take_all(self, id, attempt)),
+            Err(why) => Err(why),
+        }
     }
 }

@@ -1,23 +1,23 @@
 // What is done to a live attempt. The database is asked only to tell why an attempt is not live.
-ghost use Rattle.std.specs.Prelude.{◌≡◌, true, false, take, List, None, Some, IfErr, OnErr};
+ghost use Rattle.std.specs.Prelude.{◌≡◌, true, List, None, IfErr, OnErr};
 ghost use Rattle.sqlite.specs.Held.{state};
-ghost use Rattle.sqlite.specs.State.{HasCleanDisk, Survives};
+ghost use Rattle.sqlite.specs.State.{HasCleanDisk};
 ghost use Rattle.journal_model.specs.Event.{Event};
-ghost use Rattle.journal_model.specs.Attempt.{input_left};
 ghost use Rattle.sql_tables.specs.Asking.{IsKept};
 ghost use Rattle.store_rows.specs.Looks.{Looks};
 ghost use Rattle.new_invocations.specs.Rows.{IsStoreOf};
 ghost use Rattle.store_refusals.specs.declared.refusal.Refusal.TheVariants.{OutOfMemory};
 ghost use Rattle.live_attempts.specs.Attempts.{attempt_of};
 ghost use Rattle.live_laws.specs.Agrees.{has_number};
-ghost use Rattle.journal_store.specs.Attempts.{Feeds, IsStale, has_closed, has_rest};
-ghost use Rattle.journal_store.specs.Stands.{Does, KeepsOutputs, Stands, WaitsAfter};
+ghost use Rattle.store_calls.specs.Calls.{ClosesInput, Feeds, HandsOut, Stops};
+ghost use Rattle.journal_store.specs.Attempts.{IsStale, has_closed, has_rest};
+ghost use Rattle.journal_store.specs.Stands.{IsQuiet, KeepsOutputs, Leads, WaitsAfter};
 
+use crate::store::Store;
 use bytes::{ByteStr, Bytes};
 use live_attempts::LiveAttempts;
 use new_invocations::open_row;
 use sqlite::Alter;
-use std::alloc::Global;
 use store_refusals::Refusal;
 use store_rows::StoreTables;
 
@@ -65,89 +65,70 @@ pub(crate) fn stale_refusal<S: Alter>(tables: &mut StoreTables<S>, id: &ByteStr)
     }
 }
 
-/// Ends an attempt.
-pub(crate) fn stop<S: Alter>(
-    tables: &mut StoreTables<S>,
-    live: &mut LiveAttempts,
-    id: &ByteStr,
-    attempt: u32,
-) -> Result<(), Refusal>
-    ensures does { HasCleanDisk (state S.Store tables.new) → (events : List Event) → Stands events (state S.Store tables.old) live.old.attempts → Does events (Event.Stop id.now attempt) (λ _. Unit {0}) result (state S.Store tables.new) live.new.attempts }
-    ensures live { has_number attempt (attempt_of live.old.attempts id.now) ≡ true → IfErr result (λ _. ⊥) }
-    ensures asks { has_number attempt (attempt_of live.old.attempts id.now) ≡ true → tables.new ≡ tables.old }
-    ensures waits { WaitsAfter id.now None result live.old.attempts live.new.attempts }
-    ensures crash { Survives (state S.Store tables.old) (state S.Store tables.new) (λ _. ⊥) }
-{
-    if !is_live(live, id, attempt) {
-        return Err(stale_refusal(tables, id));
+impl<S: Alter + Drop> Store<S> {
+    /// The next bytes that the attempt is handed, at most so many: none only where `most` is 0 or none remain.
+    pub fn next_input(&mut self, id: &ByteStr, attempt: u32, most: usize) -> Result<Bytes, Refusal>
+        ensures does { Leads S.Store (HandsOut id.now attempt most result) self.old self.new }
+        ensures waits { KeepsOutputs self.old.live.attempts self.new.live.attempts }
+        ensures crash { IsQuiet S.Store self.old self.new }
+    {
+        if !is_live(&self.live, id, attempt) {
+            return Err(stale_refusal(&mut self.tables, id));
+        }
+        if is_closed(&self.live, id) {
+            return Err(Refusal::InputAlreadyClosed);
+        }
+        let bytes = self.live.hand_out(id, most)?;
+        Ok(bytes)
     }
-    live.remove(id);
-    Ok(())
-}
 
-/// Puts bytes behind those that an attempt wrote.
-pub(crate) fn feed<S: Alter>(
-    tables: &mut StoreTables<S>,
-    live: &mut LiveAttempts,
-    id: &ByteStr,
-    attempt: u32,
-    bytes: &[u8],
-) -> Result<(), Refusal>
-    ensures does { HasCleanDisk (state S.Store tables.new) → (events : List Event) → Stands events (state S.Store tables.old) live.old.attempts → Feeds events id.now attempt bytes.now result (state S.Store tables.new) live.old.attempts live.new.attempts }
-    ensures live { has_number attempt (attempt_of live.old.attempts id.now) ≡ true → IfErr result (λ why. why ≡ OutOfMemory) }
-    ensures asks { has_number attempt (attempt_of live.old.attempts id.now) ≡ true → tables.new ≡ tables.old }
-    ensures kept { OnErr result (IsKept (state S.Store tables.old) (state S.Store tables.new)) }
-    ensures crash { Survives (state S.Store tables.old) (state S.Store tables.new) (λ _. ⊥) }
-{
-    if !is_live(live, id, attempt) {
-        return Err(stale_refusal(tables, id));
+    /// No more is handed to the attempt. All of its input was.
+    pub fn close_input(&mut self, id: &ByteStr, attempt: u32) -> Result<(), Refusal>
+        ensures does { Leads S.Store (ClosesInput id.now attempt result) self.old self.new }
+        ensures waits { KeepsOutputs self.old.live.attempts self.new.live.attempts }
+        ensures crash { IsQuiet S.Store self.old self.new }
+    {
+        if !is_live(&self.live, id, attempt) {
+            return Err(stale_refusal(&mut self.tables, id));
+        }
+        if is_rest_left(&self.live, id) {
+            return Err(Refusal::InputRemains);
+        }
+        if is_closed(&self.live, id) {
+            return Err(Refusal::InputAlreadyClosed);
+        }
+        self.live.close_input(id);
+        Ok(())
     }
-    live.push_output(id, bytes)?;
-    Ok(())
-}
 
-/// Hands out the next bytes of an attempt's input.
-pub(crate) fn hand_out<S: Alter>(
-    tables: &mut StoreTables<S>,
-    live: &mut LiveAttempts,
-    id: &ByteStr,
-    attempt: u32,
-    most: usize,
-) -> Result<Bytes, Refusal>
-    ensures does { HasCleanDisk (state S.Store tables.new) → (events : List Event) → Stands events (state S.Store tables.old) live.old.attempts → Does events (Event.HandOut id.now attempt most) (λ bytes. bytes ≡ take most (input_left events id.now)) result (state S.Store tables.new) live.new.attempts }
-    ensures waits { KeepsOutputs live.old.attempts live.new.attempts }
-    ensures crash { Survives (state S.Store tables.old) (state S.Store tables.new) (λ _. ⊥) }
-{
-    if !is_live(live, id, attempt) {
-        return Err(stale_refusal(tables, id));
+    /// Takes in the next bytes that the attempt wrote. `step` then takes the frames among them. Of a live attempt they are refused
+    /// for want of memory alone, and the database is not asked.
+    pub fn feed(&mut self, id: &ByteStr, attempt: u32, bytes: &[u8]) -> Result<(), Refusal>
+        ensures does { Leads S.Store (Feeds id.now attempt bytes.now result) self.old self.new }
+        ensures live { has_number attempt (attempt_of self.old.live.attempts id.now) ≡ true → IfErr result (λ why. why ≡ OutOfMemory) }
+        ensures asks { has_number attempt (attempt_of self.old.live.attempts id.now) ≡ true → self.new.connection ≡ self.old.connection }
+        ensures kept { OnErr result (IsKept (state S.Store self.old.connection) (state S.Store self.new.connection)) }
+        ensures crash { IsQuiet S.Store self.old self.new }
+    {
+        if !is_live(&self.live, id, attempt) {
+            return Err(stale_refusal(&mut self.tables, id));
+        }
+        self.live.push_output(id, bytes)?;
+        Ok(())
     }
-    if is_closed(live, id) {
-        return Err(Refusal::InputAlreadyClosed);
-    }
-    let bytes = live.hand_out(id, most)?;
-    Ok(bytes)
-}
 
-/// Closes an attempt's input, of which no byte remains.
-pub(crate) fn close_input<S: Alter>(
-    tables: &mut StoreTables<S>,
-    live: &mut LiveAttempts,
-    id: &ByteStr,
-    attempt: u32,
-) -> Result<(), Refusal>
-    ensures does { HasCleanDisk (state S.Store tables.new) → (events : List Event) → Stands events (state S.Store tables.old) live.old.attempts → Does events (Event.CloseInput id.now attempt) (λ _. Unit {0}) result (state S.Store tables.new) live.new.attempts }
-    ensures waits { KeepsOutputs live.old.attempts live.new.attempts }
-    ensures crash { Survives (state S.Store tables.old) (state S.Store tables.new) (λ _. ⊥) }
-{
-    if !is_live(live, id, attempt) {
-        return Err(stale_refusal(tables, id));
+    /// Ends the attempt: what it writes from now on is refused. Of a live attempt it always succeeds.
+    pub fn stop(&mut self, id: &ByteStr, attempt: u32) -> Result<(), Refusal>
+        ensures does { Leads S.Store (Stops id.now attempt result) self.old self.new }
+        ensures live { has_number attempt (attempt_of self.old.live.attempts id.now) ≡ true → IfErr result (λ _. ⊥) }
+        ensures asks { has_number attempt (attempt_of self.old.live.attempts id.now) ≡ true → self.new.connection ≡ self.old.connection }
+        ensures waits { WaitsAfter id.now None result self.old.live.attempts self.new.live.attempts }
+        ensures crash { IsQuiet S.Store self.old self.new }
+    {
+        if !is_live(&self.live, id, attempt) {
+            return Err(stale_refusal(&mut self.tables, id));
+        }
+        self.live.remove(id);
+        Ok(())
     }
-    if is_rest_left(live, id) {
-        return Err(Refusal::InputRemains);
-    }
-    if is_closed(live, id) {
-        return Err(Refusal::InputAlreadyClosed);
-    }
-    live.close_input(id);
-    Ok(())
 }

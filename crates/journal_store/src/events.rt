@@ -3,17 +3,17 @@ ghost use Rattle.std.specs.Prelude.{◌≡◌, ◌∷◌, Some, [], ◌+◌, ◌
 ghost use Rattle.sqlite.specs.Held.{state};
 ghost use Rattle.sqlite.specs.State.{HasCleanDisk, Survives};
 ghost use Rattle.journal_model.specs.Event.{Event};
-ghost use Rattle.journal_model.specs.Journal.{entries_of};
 ghost use Rattle.sql_tables.specs.Asking.{IsKept};
 ghost use Rattle.store_rows.specs.Looks.{Lasts};
 ghost use Rattle.store_rows.specs.Records.{applied_all};
 ghost use Rattle.store_rows.specs.Steps.{Lands, Turns};
 ghost use Rattle.store_refusals.specs.Refused.{is_circumstance};
-ghost use Rattle.live_attempts.specs.Attempts.{ByInvocation, Changes, IsNow, after_put};
-ghost use Rattle.journal_store.specs.Attempts.{IsBegunAttempt, IsToldAs, TakesIn, fresh};
-ghost use Rattle.journal_store.specs.Stands.{AreAsBefore, Commits, Does, KeepsOutputs, Outlasts, Stands, WaitsAfter};
+ghost use Rattle.live_attempts.specs.Attempts.{Changes, IsNow, after_put};
+ghost use Rattle.store_calls.specs.Calls.{BeginsAttempt, Completes, Invokes};
+ghost use Rattle.journal_store.specs.Attempts.{IsToldAs, TakesIn, fresh};
+ghost use Rattle.journal_store.specs.Stands.{AreAsBefore, Commits, KeepsOutputs, Leads, Outlasts, Stands, WaitsAfter};
 
-use crate::begun::BegunAttempt;
+use crate::store::Store;
 use begun_attempts::{AttemptFrames, JournalFrames, PreparedAttempt, prepare_begin};
 use bytes::ByteStr;
 use journal_model::{NewInvocation, NotificationResult};
@@ -22,26 +22,28 @@ use new_arrivals::{PreparedArrival, prepare_result};
 use new_invocations::prepare_invoke;
 use sqlite::Alter;
 use std::alloc::{AllocError, Global};
+use store_calls::BegunAttempt;
 use store_refusals::Refusal;
 use store_rows::{StoreTables, Write, commit_all};
 
-/// Records a new invocation.
-pub(crate) fn record_new<S: Alter>(
-    tables: &mut StoreTables<S>,
-    new: NewInvocation,
-) -> Result<(), Refusal>
-    ensures does { HasCleanDisk (state S.Store tables.new) → (events : List Event) (attempts : ByInvocation) → Stands events (state S.Store tables.old) attempts → Does events (Event.Invoke new) (λ _. Unit {0}) result (state S.Store tables.new) attempts }
-    ensures settled { HasCleanDisk (state S.Store tables.new) → (events : List Event) (attempts : ByInvocation) → Stands events (state S.Store tables.old) attempts → OnOk result (Outlasts (Event.Invoke new ∷ events) (state S.Store tables.new)) }
-    ensures kept { OnErr result (IsKept (state S.Store tables.old) (state S.Store tables.new)) }
-    ensures crash { Survives (state S.Store tables.old) (state S.Store tables.new) (Commits (Event.Invoke new) (state S.Store tables.old)) }
+/// Writes in one transaction what was made ready of an event.
+fn commit<S: Alter>(tables: &mut StoreTables<S>, writes: Vec<Write>) -> Result<(), Refusal>
+    ensures written { HasCleanDisk (state S.Store tables.new) → OnOk result (IsTrue (state S.Store tables.old).is_open × Turns (applied_all writes.items) (state S.Store tables.old).now.trees (state S.Store tables.new).now.trees) }
+    ensures why { IfErr result (λ why. IsTrue (is_circumstance why)) }
+    ensures undone { OnErr result (IsKept (state S.Store tables.old) (state S.Store tables.new)) }
+    ensures settled { HasCleanDisk (state S.Store tables.new) → OnOk result (Lasts (state S.Store tables.new)) }
+    ensures crash { Survives (state S.Store tables.old) (state S.Store tables.new) (Lands writes.items (state S.Store tables.old)) }
 {
-    let prepared = prepare_invoke(tables, &new);
-    drop(new);
-    let writes = prepared?;
-    let done = commit_all(tables, writes.as_slice());
-    drop(writes);
-    done?;
-    Ok(())
+    match commit_all(tables, writes.as_slice()) {
+        Ok(()) => {
+            drop(writes);
+            Ok(())
+        }
+        Err(cause) => {
+            drop(writes);
+            Err(Refusal::StatementRefused(cause))
+        }
+    }
 }
 
 /// Writes an arrival that was made ready, and puts its frame behind the input of the live attempt, if one is live: it is recorded
@@ -77,26 +79,6 @@ fn record_arrival<S: Alter>(
             drop(made);
             Err(Refusal::StatementRefused(cause))
         }
-    }
-}
-
-/// Records the result of a request, as an arrival.
-pub(crate) fn record_result<S: Alter>(
-    tables: &mut StoreTables<S>,
-    live: &mut LiveAttempts,
-    id: &ByteStr,
-    completion: u32,
-    brought: NotificationResult,
-) -> Result<u32, Refusal>
-    ensures does { HasCleanDisk (state S.Store tables.new) → (events : List Event) → Stands events (state S.Store tables.old) live.old.attempts → Does events (Event.Complete id.now completion brought) (λ place. place ≡ 1 + length (entries_of events id.now)) result (state S.Store tables.new) live.new.attempts }
-    ensures waits { KeepsOutputs live.old.attempts live.new.attempts }
-    ensures settled { HasCleanDisk (state S.Store tables.new) → (events : List Event) → Stands events (state S.Store tables.old) live.old.attempts → OnOk result (Outlasts (Event.Complete id.now completion brought ∷ events) (state S.Store tables.new)) }
-    ensures kept { OnErr result (IsKept (state S.Store tables.old) (state S.Store tables.new)) }
-    ensures crash { Survives (state S.Store tables.old) (state S.Store tables.new) (Commits (Event.Complete id.now completion brought) (state S.Store tables.old)) }
-{
-    match prepare_result(tables, id, completion, brought) {
-        Ok(made) => record_arrival(tables, live, id, made),
-        Err(why) => Err(why),
     }
 }
 
@@ -234,21 +216,53 @@ fn begin_prepared<S: Alter>(
     }
 }
 
-/// Records the begin of an attempt.
-pub(crate) fn record_begin<S: Alter>(
-    tables: &mut StoreTables<S>,
-    live: &mut LiveAttempts,
-    id: &ByteStr,
-    now: u64,
-) -> Result<BegunAttempt, Refusal>
-    ensures does { HasCleanDisk (state S.Store tables.new) → (events : List Event) → Stands events (state S.Store tables.old) live.old.attempts → Does events (Event.Begin id.now now) (IsBegunAttempt events id.now now) result (state S.Store tables.new) live.new.attempts }
-    ensures waits { WaitsAfter id.now (Some []) result live.old.attempts live.new.attempts }
-    ensures settled { HasCleanDisk (state S.Store tables.new) → (events : List Event) → Stands events (state S.Store tables.old) live.old.attempts → OnOk result (Outlasts (Event.Begin id.now now ∷ events) (state S.Store tables.new)) }
-    ensures kept { OnErr result (IsKept (state S.Store tables.old) (state S.Store tables.new)) }
-    ensures crash { Survives (state S.Store tables.old) (state S.Store tables.new) (Commits (Event.Begin id.now now) (state S.Store tables.old)) }
-{
-    match prepare_begin(tables, id, now) {
-        Ok(made) => begin_prepared(tables, live, id, made),
-        Err(why) => Err(why),
+impl<S: Alter + Drop> Store<S> {
+    /// A new invocation. Its object may have had others, but none of them is open.
+    pub fn invoke(&mut self, new: NewInvocation) -> Result<(), Refusal>
+        ensures does { Leads S.Store (Invokes new result) self.old self.new }
+        ensures live { self.new.live ≡ self.old.live }
+        ensures settled { HasCleanDisk (state S.Store self.new.connection) → (events : List Event) → Stands events (state S.Store self.old.connection) self.old.live.attempts → OnOk result (Outlasts (Event.Invoke new ∷ events) (state S.Store self.new.connection)) }
+        ensures kept { OnErr result (IsKept (state S.Store self.old.connection) (state S.Store self.new.connection)) }
+        ensures crash { Survives (state S.Store self.old.connection) (state S.Store self.new.connection) (Commits (Event.Invoke new) (state S.Store self.old.connection)) }
+    {
+        let prepared = prepare_invoke(&mut self.tables, &new);
+        drop(new);
+        match prepared {
+            Ok(writes) => commit(&mut self.tables, writes),
+            Err(why) => Err(why),
+        }
+    }
+
+    /// The result of a request, for its completion. Answers the place that it takes in the journal.
+    pub fn result(
+        &mut self,
+        id: &ByteStr,
+        completion: u32,
+        brought: NotificationResult,
+    ) -> Result<u32, Refusal>
+        ensures does { Leads S.Store (Completes id.now completion brought result) self.old self.new }
+        ensures waits { KeepsOutputs self.old.live.attempts self.new.live.attempts }
+        ensures settled { HasCleanDisk (state S.Store self.new.connection) → (events : List Event) → Stands events (state S.Store self.old.connection) self.old.live.attempts → OnOk result (Outlasts (Event.Complete id.now completion brought ∷ events) (state S.Store self.new.connection)) }
+        ensures kept { OnErr result (IsKept (state S.Store self.old.connection) (state S.Store self.new.connection)) }
+        ensures crash { Survives (state S.Store self.old.connection) (state S.Store self.new.connection) (Commits (Event.Complete id.now completion brought) (state S.Store self.old.connection)) }
+    {
+        match prepare_result(&mut self.tables, id, completion, brought) {
+            Ok(made) => record_arrival(&mut self.tables, &mut self.live, id, made),
+            Err(why) => Err(why),
+        }
+    }
+
+    /// Begins an attempt at this moment, in milliseconds: it is live, and an earlier one is over.
+    pub fn begin(&mut self, id: &ByteStr, now: u64) -> Result<BegunAttempt, Refusal>
+        ensures does { Leads S.Store (BeginsAttempt id.now now result) self.old self.new }
+        ensures waits { WaitsAfter id.now (Some []) result self.old.live.attempts self.new.live.attempts }
+        ensures settled { HasCleanDisk (state S.Store self.new.connection) → (events : List Event) → Stands events (state S.Store self.old.connection) self.old.live.attempts → OnOk result (Outlasts (Event.Begin id.now now ∷ events) (state S.Store self.new.connection)) }
+        ensures kept { OnErr result (IsKept (state S.Store self.old.connection) (state S.Store self.new.connection)) }
+        ensures crash { Survives (state S.Store self.old.connection) (state S.Store self.new.connection) (Commits (Event.Begin id.now now) (state S.Store self.old.connection)) }
+    {
+        match prepare_begin(&mut self.tables, id, now) {
+            Ok(made) => begin_prepared(&mut self.tables, &mut self.live, id, made),
+            Err(why) => Err(why),
+        }
     }
 }

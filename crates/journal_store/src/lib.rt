@@ -6,7 +6,6 @@
 
 mod accept;
 mod attempt;
-mod begun;
 mod events;
 mod open;
 mod read;
@@ -14,7 +13,7 @@ mod step;
 mod store;
 
 pub use accept::Accepted;
-pub use begun::BegunAttempt;
 pub use open::NotOpened;
 pub use store::Store;
+pub use store_calls::BegunAttempt;
 pub use taken_frames::FrameReply;

@@ -1,19 +1,20 @@
 // Frames of an attempt are taken one by one: what a frame asks for is recorded, and then it is passed.
-ghost use Rattle.std.specs.Prelude.{◌≡◌, ◌≤◌, true, length, List, ℕ, IfErr, IfOk, IsTrue, OnErr, OnOk};
+ghost use Rattle.std.specs.Prelude.{◌≡◌, ◌≤◌, true, length, Some, IfErr, IfOk, IsTrue, OnErr, OnOk};
 ghost use Rattle.std.specs.Option.{ForSome};
 ghost use Rattle.sqlite.specs.Held.{state};
 ghost use Rattle.sqlite.specs.State.{HasCleanDisk, Survives};
-ghost use Rattle.journal_model.specs.Event.{Event};
 ghost use Rattle.sql_tables.specs.Asking.{IsKept};
 ghost use Rattle.store_refusals.specs.Refused.{is_circumstance};
 ghost use Rattle.taken_frames.specs.Taken.{does_end, lies_in_frame};
 ghost use Rattle.live_attempts.specs.Attempts.{IsNow, attempt_of};
 ghost use Rattle.live_laws.specs.Agrees.{has_number};
-ghost use Rattle.journal_store.specs.Attempts.{CommitsItem, Steps};
-ghost use Rattle.journal_store.specs.Stands.{Stands};
-ghost use Rattle.journal_store.specs.Taking.{HasMessage, HasMessageOf, HasWritten, IsEndedBy, IsFirstOf, IsFirstSeen, IsSeenOf, LandsSome, TakesSeen, passed};
+ghost use Rattle.store_calls.specs.Frames.{Steps, TakesOne};
+ghost use Rattle.journal_store.specs.Stands.{Endures, Leads};
+ghost use Rattle.journal_store.specs.Stored.{stored};
+ghost use Rattle.journal_store.specs.Taking.{HasMessage, HasMessageOf, HasWritten, IsEndedBy, IsFirstOf, IsFirstSeen, IsSeenOf, LandsSome, passed};
 
 use crate::attempt::{is_live, stale_refusal};
+use crate::store::Store;
 use attempt_frames::{AttemptFrame, read_frame_at};
 use bytes::ByteStr;
 use live_attempts::{FirstItem, HEADER_LEN, LiveAttempt, LiveAttempts};
@@ -107,9 +108,9 @@ fn take_prepared<S: Alter>(
     id: &ByteStr,
     len: usize,
     made: PreparedFrame,
-) -> Result<FrameReply, Refusal>
+) -> Result<Option<FrameReply>, Refusal>
     requires len { ForSome (attempt_of live.old.attempts id.now) (λ attempt. len ≤ length attempt.output) }
-    ensures reply { IfOk result (λ reply. reply ≡ made.reply) }
+    ensures reply { IfOk result (λ reply. reply ≡ Some made.reply) }
     ensures written { HasCleanDisk (state S.Store tables.new) → OnOk result (HasWritten made.writes.items (state S.Store tables.old) (state S.Store tables.new)) }
     ensures left { OnOk result (IsNow id.now (passed (does_end made.reply) len (attempt_of live.old.attempts id.now)) live.old.attempts live.new.attempts) }
     ensures why { IfErr result (λ why. IsTrue (is_circumstance why)) }
@@ -122,7 +123,7 @@ fn take_prepared<S: Alter>(
     match done {
         Ok(()) => {
             pass_frame(live, id, len, reply);
-            Ok(reply)
+            Ok(Some(reply))
         }
         Err(cause) => Err(Refusal::StatementRefused(cause)),
     }
@@ -137,17 +138,20 @@ fn end_refused(live: &mut LiveAttempts, id: &ByteStr, why: Refusal)
     }
 }
 
-/// Takes the frame that stands first. One that is refused waits, unless the cause lies in it: then its attempt is over.
+/// Takes the frame that stands first of a live attempt. One that is refused waits, unless the cause lies in it: then its attempt is
+/// over.
 fn take_seen<S: Alter>(
     tables: &mut StoreTables<S>,
     live: &mut LiveAttempts,
     id: &ByteStr,
+    attempt: u32,
     seen: SeenFrame,
-) -> Result<FrameReply, Refusal>
+) -> Result<Option<FrameReply>, Refusal>
+    requires live { has_number attempt (attempt_of live.old.attempts id.now) ≡ true }
     requires seen { IsSeenOf (attempt_of live.old.attempts id.now) seen }
-    ensures does { HasCleanDisk (state S.Store tables.new) → (events : List Event) (number : ℕ) → Stands events (state S.Store tables.old) live.old.attempts → has_number number (attempt_of live.old.attempts id.now) ≡ true → TakesSeen events id.now number result (state S.Store tables.new) live.old.attempts live.new.attempts }
+    ensures does { Leads S.Store (Steps id.now attempt result) (stored tables.old live.old) (stored tables.new live.new) }
     ensures kept { OnErr result (IsKept (state S.Store tables.old) (state S.Store tables.new)) }
-    ensures crash { (number : ℕ) → has_number number (attempt_of live.old.attempts id.now) ≡ true → Survives (state S.Store tables.old) (state S.Store tables.new) (CommitsItem id.now number live.old.attempts (state S.Store tables.old)) }
+    ensures crash { Endures S.Store (TakesOne id.now attempt) (stored tables.old live.old) (stored tables.new live.new) }
 {
     let SeenFrame { frame, len, facts } = seen;
     match prepare_frame(tables, id, facts, frame) {
@@ -159,30 +163,27 @@ fn take_seen<S: Alter>(
     }
 }
 
-/// Takes the next frame of an attempt, if a whole one waits.
-pub(crate) fn step<S: Alter>(
-    tables: &mut StoreTables<S>,
-    live: &mut LiveAttempts,
-    id: &ByteStr,
-    attempt: u32,
-) -> Result<Option<FrameReply>, Refusal>
-    ensures does { HasCleanDisk (state S.Store tables.new) → (events : List Event) → Stands events (state S.Store tables.old) live.old.attempts → Steps events id.now attempt result (state S.Store tables.new) live.old.attempts live.new.attempts }
-    ensures kept { OnErr result (IsKept (state S.Store tables.old) (state S.Store tables.new)) }
-    ensures crash { Survives (state S.Store tables.old) (state S.Store tables.new) (CommitsItem id.now attempt live.old.attempts (state S.Store tables.old)) }
-{
-    if !is_live(live, id, attempt) {
-        return Err(stale_refusal(tables, id));
-    }
-    match first_of(tables.alloc(), live, id) {
-        Ok(FirstSeen::Partial) => Ok(None),
-        Ok(FirstSeen::Unknown) => {
-            live.remove(id);
-            Err(Refusal::FrameNotAccepted)
+impl<S: Alter + Drop> Store<S> {
+    /// Takes the next frame of the attempt, if a whole one waits: what it asks for is recorded, and its answer is told. A frame that
+    /// is refused for a cause of its own ends the attempt; refused for want of memory or of numbers it waits, and is taken again.
+    pub fn step(&mut self, id: &ByteStr, attempt: u32) -> Result<Option<FrameReply>, Refusal>
+        ensures does { Leads S.Store (Steps id.now attempt result) self.old self.new }
+        ensures kept { OnErr result (IsKept (state S.Store self.old.connection) (state S.Store self.new.connection)) }
+        ensures crash { Endures S.Store (TakesOne id.now attempt) self.old self.new }
+    {
+        if !is_live(&self.live, id, attempt) {
+            return Err(stale_refusal(&mut self.tables, id));
         }
-        Ok(FirstSeen::Frame(seen)) => match take_seen(tables, live, id, seen) {
-            Ok(reply) => Ok(Some(reply)),
-            Err(why) => Err(why),
-        },
-        Err(_) => Err(Refusal::OutOfMemory),
+        match first_of(self.tables.alloc(), &self.live, id) {
+            Ok(FirstSeen::Partial) => Ok(None),
+            Ok(FirstSeen::Unknown) => {
+                self.live.remove(id);
+                Err(Refusal::FrameNotAccepted)
+            }
+            Ok(FirstSeen::Frame(seen)) => {
+                take_seen(&mut self.tables, &mut self.live, id, attempt, seen)
+            }
+            Err(_) => Err(Refusal::OutOfMemory),
+        }
     }
 }

@@ -1,15 +1,14 @@
 -- What a completion may be given, and by a frame of which type: as the line of its command tells it.
-use Rattle.std.proofs.Common.{ℕ, ◌==◌, ◌≡◌, refl, sym, ap, ◌∙◌, inl, Bool, true, false, not, ◌||◌, if◌then◌else◌, List, [], ◌∷◌, Option, Some, None, is_some, option_map, subst, Result, Ok, Err}
+use Rattle.std.proofs.Common.{ℕ, ◌==◌, ◌≡◌, refl, sym, ap, inl, Bool, true, false, not, ◌||◌, if◌then◌else◌, List, [], ◌∷◌, Option, Some, None, is_some, option_map, subst, Result, Ok, Err}
 use Rattle.std.proofs.lemmas.Bool.{eqb-true, eq-eqb}
 use Rattle.store_lookups.proofs.Opening.{both_ways}
 use Rattle.journal_model.specs.declared.notification.NotificationResult.{NotificationResult}
 use Rattle.journal_model.specs.declared.notification.NotificationId.TheVariants.{CompletionId}
-use Rattle.journal_model.specs.Request.{Request, CallRecord}
-use Rattle.journal_model.specs.Notification.{Text}
+use Rattle.journal_model.specs.Request.{Request}
 use Rattle.journal_model.specs.Spelling.{completion_type}
 use Rattle.journal_model.specs.Journal.{Entry, is_awaited, open_request, request_asking}
 use Rattle.journal_model.specs.Attempt.{notification_type, type_of_completion}
-use Rattle.journal_model.specs.Cause.{Cause, Tests, those_that_hold, is_failure, is_invocation_id, is_outcome, is_void, may_complete, refuses_kind}
+use Rattle.journal_model.specs.Cause.{Cause, Tests, those_that_hold, is_failure, is_invocation_id, is_outcome, is_void, refuses_kind}
 use Rattle.journal_protocol.specs.declared.message_type.MessageType.{MessageType}
 use Rattle.journal_protocol.specs.declared.message_type.MessageType.TheVariants as types
 use Rattle.journal_protocol.specs.declared.command_facts.CompletedBy.TheVariants as by

@@ -1,6 +1,6 @@
 -- A request as one that asks for a completion, and what it may be given from outside: by the line of its command, and by whether the
 -- completion is its second.
-use Rattle.std.specs.Prelude.{◌≡◌, Result, Ok, Err, ℕ, Bool, true, not, if◌then◌else◌, List, [], ◌∷◌, Option, Some, None, is_some, option_and_then}
+use Rattle.std.specs.Prelude.{Result, Ok, Err, ℕ, Bool, true, not, if◌then◌else◌, List, [], ◌∷◌, Option, Some, None, is_some, option_and_then}
 use Rattle.journal_model.specs.Notification.{Text}
 use Rattle.journal_model.specs.declared.notification.NotificationResult.{NotificationResult}
 use Rattle.journal_model.specs.Request.{Request, completions_asked}

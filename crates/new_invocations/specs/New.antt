@@ -1,11 +1,12 @@
 -- What is recorded of a new invocation.
-use Rattle.std.specs.Prelude.{◌==◌, length, nat_lt, Bool, ◌||◌, List, [], ◌∷◌, Some, None, is_some}
+use Rattle.std.specs.Prelude.{◌==◌, length, Bool, ◌||◌, List, [], ◌∷◌, Some, None, is_some}
 use Rattle.journal_model.specs.Notification.{Bytes}
 use Rattle.journal_model.specs.declared.invocation.NewInvocation.{NewInvocation}
 use Rattle.journal_model.specs.Event.{Event}
 use Rattle.journal_model.specs.Spelling.{input_payload}
 use Rattle.journal_model.specs.Journal.{invocation_begun, is_busy}
 use Rattle.journal_model.specs.Cause.{Cause, Tests, is_empty, is_too_long}
+use Rattle.journal_protocol.specs.Version.{is_unsupported}
 use Rattle.store_rows.specs.declared.row.Progress.{Progress}
 use Rattle.store_rows.specs.declared.row.InvocationRow.{InvocationRow}
 use Rattle.store_rows.specs.declared.row.EntryRow.{EntryRow}
@@ -65,7 +66,7 @@ object_tests events new = (is_busy events new.object, Cause.ObjectBusy) ∷ (is_
 
 abbrev pub id_tests : List Event → NewInvocation → Tests
 id_tests events new =
-    (is_some (invocation_begun events new.id), Cause.IdUsed) ∷ (nat_lt new.version 5 || nat_lt 8 new.version, Cause.UnsupportedVersion) ∷ []
+    (is_some (invocation_begun events new.id), Cause.IdUsed) ∷ (is_unsupported new.version, Cause.UnsupportedVersion) ∷ []
 
 abbrev pub input_tests : NewInvocation → Tests
 input_tests new = (is_too_long (input_payload new.headers new.input), Cause.PayloadTooLong) ∷ []

@@ -1,6 +1,6 @@
 //! What a new invocation makes ready.
 
-ghost use Rattle.std.specs.Prelude.{◌≡◌, ◌∷◌, [], nat_lt, ◌||◌, List, IfOk};
+ghost use Rattle.std.specs.Prelude.{◌≡◌, ◌∷◌, [], List, IfOk};
 ghost use Rattle.sqlite.specs.Held.{state};
 ghost use Rattle.sqlite.specs.State.{HasCleanDisk};
 ghost use Rattle.journal_model.specs.Event.{Event};
@@ -16,29 +16,16 @@ use crate::input::payload_of_input;
 use crate::row::row_of;
 use bytes::{ByteStr, Bytes};
 use journal_model::{NewInvocation, StateMode};
+use journal_protocol::{MessageType, Version};
 use sqlite::Alter;
 use std::alloc::{AllocError, Global};
 use store_refusals::Refusal;
 use store_rows::{EntryRow, InvocationRow, Progress, StoreTables, Write, open_invocation};
 
-// The versions of the protocol that are supported.
-const OLDEST_VERSION: u32 = 5;
-
-const NEWEST_VERSION: u32 = 8;
-
-// The number of the type of an input's frame.
-const INPUT_KIND: u32 = 0x0400;
-
 fn is_nameless(new: &NewInvocation) -> bool
     ensures { result ≡ is_nameless_new new.now }
 {
     new.id.is_empty() || new.object.is_empty()
-}
-
-fn is_unsupported(version: u32) -> bool
-    ensures { result ≡ (nat_lt version 5 || nat_lt 8 version) }
-{
-    version < OLDEST_VERSION || NEWEST_VERSION < version
 }
 
 /// Whether an object has an open invocation.
@@ -78,7 +65,7 @@ fn take_id<S: Alter>(tables: &mut StoreTables<S>, new: &NewInvocation) -> Result
     if used {
         return Err(Refusal::IdUsed);
     }
-    if is_unsupported(new.version) {
+    if Version::is_unsupported(new.version) {
         return Err(Refusal::UnsupportedVersion);
     }
     Ok(())
@@ -121,7 +108,7 @@ fn input_entry(new: &NewInvocation, payload: Bytes) -> Result<EntryRow, AllocErr
     Ok(EntryRow {
         invocation: new.id.clone()?,
         place: 0,
-        kind: INPUT_KIND,
+        kind: u32::from(u16::from(MessageType::InputCommand)),
         payload,
         completion: None,
         second_completion: None,

@@ -10,7 +10,7 @@ use Rattle.schedule_events.specs.declared.event.Reply.TheVariants as reply
 use Rattle.schedule_events.specs.declared.event.Refusal.TheVariants as refusal
 use Rattle.schedule_events.specs.declared.held.HeldAttempt.{HeldAttempt}
 use Rattle.schedule_events.specs.First.{with_first, IsFirstAt}
-use Rattle.schedule_events.specs.Standing.{Standing, Stays}
+use Rattle.store_calls.specs.Standing.{Standing, Stays}
 use Rattle.schedule_events.specs.Following.{is_held, held_of}
 use Rattle.schedule_events.specs.Schedule.{IfHeld, with_attempt, Scheduled, Applies}
 use Rattle.schedule_events.specs.Laws.{NoneHeld, Reaches, SchedulesGrow}

@@ -9,7 +9,7 @@ use Rattle.journal_model.specs.Attempt.{attempts_begun, live_attempt, input_left
 use Rattle.journal_model.specs.Run.{Handler}
 use Rattle.invocation_vm.specs.declared.options.VMOptions.{VMOptions}
 use Rattle.schedule_events.specs.declared.held.HeldAttempt.{HeldAttempt}
-use Rattle.schedule_events.specs.Standing.{Standing, KeepsOthers, Stays}
+use Rattle.store_calls.specs.Standing.{Standing, KeepsOthers, Stays}
 use Rattle.schedule_events.specs.Following.{Seen, SeenAttempt, seen_attempt, seen_as, seen_by, seen_of, held_of, FollowsSeen, FollowsAt, Follows}
 use Rattle.schedule_events.proofs.Firsts.{true_or_false}
 use Rattle.schedule_events.proofs.Holding.{same_bytes, bytes_are}

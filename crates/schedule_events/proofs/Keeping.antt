@@ -20,11 +20,18 @@ use Rattle.schedule_events.specs.declared.event.Reply.{Reply}
 use Rattle.schedule_events.specs.declared.event.Reply.TheVariants as reply
 use Rattle.schedule_events.specs.declared.event.Refusal.TheVariants as refusal
 use Rattle.schedule_events.specs.declared.held.HeldAttempt.{HeldAttempt}
-use Rattle.schedule_events.specs.Standing.{Standing, Stays, Adds, Leaves, Begun, IsBegun, Invokes, HandsOut, PutsBehind, Stops, rest_after, TakesFrame, RefusesFrame}
+use Rattle.taken_frames.specs.declared.frame.FrameReply.{FrameReply}
+use Rattle.taken_frames.specs.Taken.{lies_in_frame}
+use Rattle.store_calls.specs.declared.begun.BegunAttempt.{BegunAttempt}
+use Rattle.store_calls.specs.Standing.{Standing, Stays, Adds, Leaves}
+use Rattle.store_calls.specs.Calls.{Invokes, Begins, HandsOut, PutsBehind, Stops}
+use Rattle.store_calls.specs.Frames.{LeavesRefused, RefusesFrame, Rests, TakesEach, TakesFrame, TakesFrames, rest_after}
+use Rattle.store_calls.proofs.Live.{live_when, taken_live, told_end}
+use Rattle.store_calls.proofs.Taking.{bytes_stay}
 use Rattle.std.specs.List.{AllByRecursion}
 use Rattle.schedule_events.specs.Flight.{Sent, Asks, Tells, Ends, FitsSent, stream}
 use Rattle.schedule_events.specs.Following.{Seen, SeenAttempt, seen_as, seen_by, seen_of, is_held, held_of, FollowsSeen, FollowsAt, Follows}
-use Rattle.schedule_events.specs.Schedule.{RepliesDone, Took, TakesFrames, HoldsBegun, BeginDoes, IfHeld, FeedsOne, TurnsOne, MovesOne, with_attempt, Does, Brings, FitsEvent}
+use Rattle.schedule_events.specs.Schedule.{RepliesDone, HoldsBegun, BeginDoes, IfHeld, FeedsOne, TurnsOne, MovesOne, with_attempt, Does, Brings, FitsEvent}
 use Rattle.schedule_events.proofs.Firsts.{first_push_other, with_same}
 use Rattle.schedule_events.proofs.Holding.{some_none, found_is, held_is, held_with, held_other_invocation, not_held_invocation}
 use Rattle.schedule_events.proofs.Following.{idle, begun, begun_alone, begun_seen}
@@ -33,7 +40,7 @@ use Rattle.schedule_events.proofs.Reading.{begun_unread}
 use Rattle.schedule_events.proofs.Seeing.{itself, requests_alone, hands_out, stops, asks_for, waits, closes, seen_more}
 use Rattle.schedule_events.proofs.Beginning.{not_begun, entries_none, seen_invoked, seen_begun}
 use Rattle.schedule_events.proofs.Meanings.{IsFaulty, meant}
-use Rattle.schedule_events.proofs.Taking.{TakesFront, taken_front, frame_at_front, live_when, taken_live, taken_room, not_faulty, is_recorded, goes_by}
+use Rattle.schedule_events.proofs.Taking.{TakesFront, taken_front, frame_at_front, taken_room, not_faulty, is_recorded, goes_by}
 use Rattle.schedule_events.proofs.Changing.{seen_next, output_of_live, seen_live, stays, outputs_changed, changed, by_begun, bare}
 
 -- the event that was accepted had no cause against it
@@ -88,7 +95,7 @@ module _ {H : Type 0} (function : H → Handler) (next : Handler) (options : VMO
   -- ---- the input
 
   handed : (one : HeldAttempt H) (attempt : AttemptView H) (most : ℕ) (given : Bytes) (old new : Standing) (held : List (HeldAttempt H)) → held_of held one.invocation one.number ≡ Some one
-      → HandsOut one.invocation one.number most old (Ok given) new → Feeds given one.attempt attempt → In old held → In new (with_attempt held one attempt)
+      → HandsOut one.invocation one.number most (Ok given) old new → Feeds given one.attempt attempt → In old held → In new (with_attempt held one attempt)
   handed one attempt most given old new held there c d f =
       changed function next options one.invocation want (ModelEvent.HandOut one.invocation one.number most) old new held (with_attempt held one attempt) refl refl c.1.events (λ other apart. c.1.outputs other)
       (λ is g. by_begun function next options one.invocation (ModelEvent.HandOut one.invocation one.number most) old new held (with_attempt held one attempt) (Some most) [] false
@@ -152,7 +159,7 @@ module _ {H : Type 0} (function : H → Handler) (next : Handler) (options : VMO
 
   -- ---- the frames
 
-  module _ (id : Text) (n : ℕ) (does_end : Bool) (old new : Standing) (held : List (HeldAttempt H)) (h : HeldAttempt H) (there : held_of held id n ≡ Some h) (t : TakesFrame id n does_end old new) where
+  module _ (id : Text) (n : ℕ) (answered : FrameReply) (old new : Standing) (held : List (HeldAttempt H)) (h : HeldAttempt H) (there : held_of held id n ≡ Some h) (t : TakesFrame id n answered old new) where
     taken_causes : causes_of old.events (ModelEvent.Take id n t.frame) ≡ []
     taken_causes = accepted_causes (ModelEvent.Take id n t.frame) old new t.leaves.events
 
@@ -161,7 +168,7 @@ module _ {H : Type 0} (function : H → Handler) (next : Handler) (options : VMO
 
     -- what waits then
     waits_then : (frame : Frame) → t.frame ≡ frame → new.outputs id ≡ rest_after (ends_attempt frame) t.rest
-    waits_then frame e = t.leaves.own ∙ ap (λ (b : Bool). rest_after b t.rest) (sym t.ends ∙ ap ends_attempt e)
+    waits_then frame e = t.leaves.own ∙ ap (λ (b : Bool). rest_after b t.rest) (told_end old.events id t.frame answered t.replied ∙ ap ends_attempt e)
 
     event_is : (frame : Frame) → t.frame ≡ frame → new.events ≡ ModelEvent.Take id n frame ∷ old.events
     event_is frame e = t.leaves.events ∙ ap (λ (x : Frame). ModelEvent.Take id n x ∷ old.events) e
@@ -225,28 +232,24 @@ module _ {H : Type 0} (function : H → Handler) (next : Handler) (options : VMO
         (λ is g. by_invocation (invocation_begun old.events id) refl g) (λ apart m. refl) f
 
   refused_frame : (id : Text) (n : ℕ) (why : Refusal) (old new : Standing) (held : List (HeldAttempt H)) → RefusesFrame id n why old new → In old held → In new held
-  refused_frame id n why old new held r f =
-      elim r [
-        | inl s ↦ stopped id n old new held s.leaves f
-        | inr w ↦
-            elim w [
-              | inl still ↦ stands_still old new held still.stays f
-              | inr refused ↦ stands_still old new held refused.stays f
-            ]
-      ]
+  refused_frame id n why old new held r f = by_cause (lies_in_frame why) r.left
+    where
+      by_cause : (b : Bool) → LeavesRefused b id n old new → In new held
+      by_cause true leaves = stopped id n old new held leaves f
+      by_cause false stays = stands_still old new held stays f
 
-  took : (id : Text) (n frames : ℕ) (old new : Standing) (held : List (HeldAttempt H)) (h : HeldAttempt H) → held_of held id n ≡ Some h → Took id n frames old new → In old held → In new held
-  took id n zero old new held h there t f = stands_still old new held t f
-  took id n (suc frames) old new held h there t f = took_frame id n false t.0 new held h there t.2 (took id n frames old t.0 held h there t.1 f)
+  took_each : (id : Text) (n : ℕ) (replies : List FrameReply) (old new : Standing) (held : List (HeldAttempt H)) (h : HeldAttempt H) → held_of held id n ≡ Some h → TakesEach id n replies old new
+      → In old held → In new held
+  took_each id n [] old new held h there t f = stands_still old new held t f
+  took_each id n (answered ∷ replies) old new held h there t f = took_each id n replies t.0 new held h there t.2 (took_frame id n answered old t.0 held h there t.1 f)
 
-  took_frames : (id : Text) (n frames : ℕ) (why : Option Refusal) (old new : Standing) (held : List (HeldAttempt H)) (h : HeldAttempt H) → held_of held id n ≡ Some h
-      → TakesFrames id n frames why old new → In old held → In new held
-  took_frames id n frames (Some why) old new held h there t f = refused_frame id n why t.between new held t.refused (took id n frames old t.between held h there t.took f)
-  took_frames id n frames None old new held h there t f =
-      elim t [
-        | inl a ↦ stands_still a.between new held a.none_left.stays (took id n frames old a.between held h there a.took f)
-        | inr e ↦ took_frame id n true e.between new held h there e.ended (took id n e.before old e.between held h there e.took f)
-      ]
+  rested : (id : Text) (n : ℕ) (why : Option Refusal) (old new : Standing) (held : List (HeldAttempt H)) → Rests id n why old new → In old held → In new held
+  rested id n (Some why) old new held r f = elim r [ inl none ↦ stands_still old new held none.stays f | inr refused ↦ refused_frame id n why old new held refused f ]
+  rested id n None old new held r f = elim r [ inl ended ↦ stands_still old new held ended.stays f | inr none ↦ stands_still old new held none.stays f ]
+
+  took_frames : (id : Text) (n : ℕ) (replies : List FrameReply) (why : Option Refusal) (old new : Standing) (held : List (HeldAttempt H)) (h : HeldAttempt H) → held_of held id n ≡ Some h
+      → TakesFrames id n replies why old new → In old held → In new held
+  took_frames id n replies why old new held h there t f = rested id n why t.between new held t.rests (took_each id n replies old t.between held h there t.taken f)
 
   -- ---- a turn
 
@@ -268,7 +271,7 @@ module _ {H : Type 0} (function : H → Handler) (next : Handler) (options : VMO
 
   -- ---- an attempt that was begun
 
-  unbegun : (id : Text) (now : ℕ) (old new : Standing) (held : List (HeldAttempt H)) (answer : Begun) → IsBegun id now answer old new → In old held → In new held
+  unbegun : (id : Text) (now : ℕ) (old new : Standing) (held : List (HeldAttempt H)) (answer : BegunAttempt) → Begins id now answer old new → In old held → In new held
   unbegun id now old new held answer b f =
       changed function next options id want (ModelEvent.Begin id now) old new held held refl refl b.leaves.events b.leaves.others own (λ apart m. refl) f
     where
@@ -285,8 +288,8 @@ module _ {H : Type 0} (function : H → Handler) (next : Handler) (options : VMO
           subst (λ (o : Option Seen). At id held o) (sym seen_now)
           (begun_alone function next options id held (seen_as old.events (old.outputs id) id there.0) (input_bytes (journal_pieces (Some there.0) (entries_of old.events id))) follows)
 
-  begun_held : (id : Text) (now : ℕ) (old new : Standing) (held more : List (HeldAttempt H)) (handler : H) (answer : Begun) → now < 2 ^ 64 → (id ≡ want → function handler ≡ next)
-      → IsBegun id now answer old new → HoldsBegun options id handler answer held more → In old held → In new more
+  begun_held : (id : Text) (now : ℕ) (old new : Standing) (held more : List (HeldAttempt H)) (handler : H) (answer : BegunAttempt) → now < 2 ^ 64 → (id ≡ want → function handler ≡ next)
+      → Begins id now answer old new → HoldsBegun options id handler answer held more → In old held → In new more
   begun_held id now old new held more handler answer moment brings b h f =
       changed function next options id want (ModelEvent.Begin id now) old new held more refl refl b.leaves.events b.leaves.others own
       (λ apart m. ap (λ (hs : List (HeldAttempt H)). held_of hs want m) h.held ∙ first_push_other (is_held want m) held (held_begun id answer.number h.attempt) (not_held_invocation want m (held_begun id answer.number h.attempt) (λ e. apart (sym e)))) f
@@ -339,7 +342,7 @@ module _ {H : Type 0} (function : H → Handler) (next : Handler) (options : VMO
 
   -- ---- what an event answers
 
-  kept_invoke : (one : NewInvocation) (answer : Reply) (old new : Standing) (held : List (HeldAttempt H)) → one.seed < 2 ^ 64 → RepliesDone (λ result. Invokes one old result new) answer → In old held → In new held
+  kept_invoke : (one : NewInvocation) (answer : Reply) (old new : Standing) (held : List (HeldAttempt H)) → one.seed < 2 ^ 64 → RepliesDone (λ result. Invokes one result old new) answer → In old held → In new held
   kept_invoke one reply.Done old new held seed d f = invoked one old new held seed d f
   kept_invoke one (reply.Refused (refusal.Store why)) old new held seed d f = stands_still old new held d.stays f
   kept_invoke one (reply.Refused refusal.AttemptNotHeld) old new held seed d f = absurd d
@@ -348,9 +351,9 @@ module _ {H : Type 0} (function : H → Handler) (next : Handler) (options : VMO
   kept_invoke one (reply.Turned t) old new held seed d f = absurd d
   kept_invoke one (reply.Moved b n why) old new held seed d f = absurd d
 
-  kept_stop : (id : Text) (n : ℕ) (answer : Reply) (old new : Standing) (held : List (HeldAttempt H)) → RepliesDone (λ result. Stops id n old result new) answer → In old held → In new held
+  kept_stop : (id : Text) (n : ℕ) (answer : Reply) (old new : Standing) (held : List (HeldAttempt H)) → RepliesDone (λ result. Stops id n result old new) answer → In old held → In new held
   kept_stop id n reply.Done old new held d f = stopped id n old new held d f
-  kept_stop id n (reply.Refused (refusal.Store why)) old new held d f = stands_still old new held d.1.stays f
+  kept_stop id n (reply.Refused (refusal.Store why)) old new held d f = stands_still old new held d.stays f
   kept_stop id n (reply.Refused refusal.AttemptNotHeld) old new held d f = absurd d
   kept_stop id n (reply.Begun m) old new held d f = absurd d
   kept_stop id n (reply.Fed m) old new held d f = absurd d
@@ -403,10 +406,11 @@ module _ {H : Type 0} (function : H → Handler) (next : Handler) (options : VMO
   kept_move : (count : ℕ) (one : HeldAttempt H) (answer : Reply) (old new : Standing) (held : List (HeldAttempt H)) (attempt : AttemptView H) → held_of held one.invocation one.number ≡ Some one
       → MovesOne count one old answer new attempt → In old held → In new (with_attempt held one attempt)
   kept_move count one (reply.Moved bytes frames why) old new held attempt there d f =
-      took_frames one.invocation one.number frames why d.0 new (with_attempt held one attempt) (record one { attempt = attempt })
-      (held_with one.invocation one.number held one (record one { attempt = attempt }) there refl refl) d.4
-      (moved one attempt bytes old d.0 held there d.2 d.3 f)
-  kept_move count one (reply.Refused (refusal.Store why)) old new held attempt there d f = unchanged one attempt old new held there d.1 d.0.1.stays f
+      took_frames one.invocation one.number d.0 why d.3.0 new (with_attempt held one attempt) (record one { attempt = attempt })
+      (held_with one.invocation one.number held one (record one { attempt = attempt }) there refl refl) d.3.2
+      (moved one attempt bytes old d.3.0 held there d.3.1 d.4 f)
+  kept_move count one (reply.Refused (refusal.Store why)) old new held attempt there d f =
+      unchanged one attempt old new held there d.1 (bytes_stay (is_live old.events one.invocation one.number) one.invocation one.number why old new d.0) f
   kept_move count one reply.Done old new held attempt there d f = absurd d
   kept_move count one (reply.Refused refusal.AttemptNotHeld) old new held attempt there d f = absurd d
   kept_move count one (reply.Begun m) old new held attempt there d f = absurd d

@@ -15,14 +15,16 @@ use Rattle.invocation_vm.specs.declared.options.VMOptions.{VMOptions}
 use Rattle.invocation_vm.specs.View.{AttemptView, fresh}
 use Rattle.invocation_vm.specs.Attempt.{Feeds}
 use Rattle.invocation_vm.proofs.Laws.{unread_at_first}
-use Rattle.schedule_events.specs.Standing.{Standing, Begun, IsBegun}
+use Rattle.store_calls.specs.declared.begun.BegunAttempt.{BegunAttempt}
+use Rattle.store_calls.specs.Standing.{Standing}
+use Rattle.store_calls.specs.Calls.{Begins}
 use Rattle.schedule_events.specs.Following.{seen_as, announced, IsNotRead}
 use Rattle.schedule_events.proofs.Seeing.{requests_alone}
 use Rattle.schedule_events.proofs.Beginning.{input_fits, start_fits, attempts_fit, attempts_since, since_within, state_at_start}
 use Rattle.schedule_events.proofs.Following.{live_begun, begun_seen}
 
 module _ {H : Type 0} (function : H → Handler) (next : Handler) (options : VMOptions) where
-  pub begun_unread : (id : Text) (now : ℕ) (old new : Standing) (begun : Begun) (b : IsBegun id now begun old new) (one : NewInvocation) (handler : H) (attempt : AttemptView H)
+  pub begun_unread : (id : Text) (now : ℕ) (old new : Standing) (begun : BegunAttempt) (b : Begins id now begun old new) (one : NewInvocation) (handler : H) (attempt : AttemptView H)
       → invocation_begun old.events id ≡ Some one → recorded_arrivals old.events id ≡ [] → now < 2 ^ 64 → one.seed < 2 ^ 64 → length (recorded_requests old.events id) < 2 ^ 32 - 1
       → function handler ≡ next → Feeds begun.start (fresh begun.version options handler) attempt → attempt.over ≡ None
       → IsNotRead function next options (begun_seen (seen_as old.events (old.outputs id) id one) (input_bytes (journal_pieces (Some one) (entries_of old.events id))))

@@ -23,7 +23,7 @@ use Rattle.journal_model.specs.Cause.{causes_of, tests_of}
 use Rattle.journal_laws.proofs.ObjectState.{tail_of, holds-head, holds-tail, not-false}
 use Rattle.invocation_vm.specs.declared.options.VMOptions.{VMOptions}
 use Rattle.schedule_events.specs.declared.held.HeldAttempt.{HeldAttempt}
-use Rattle.schedule_events.specs.Standing.{frame_in}
+use Rattle.store_calls.specs.Frames.{frame_in}
 use Rattle.schedule_events.specs.Flight.{Sent, Asks, Tells, Ends, FitsSent, spelled, stream, sent_type, sent_payload, requests_in}
 use Rattle.schedule_events.specs.Following.{Seen, SeenAttempt, held_of, FollowsSeen}
 use Rattle.schedule_events.proofs.Following.{recorded as go_on}
@@ -118,19 +118,6 @@ frame_at_front version item rest output coming t = subst (λ (i : Item). Means t
 
 has_room : (n k : ℕ) → nat_lt (2 ^ 32 - 2) (n + suc k) ≡ false → n + 1 < 2 ^ 32 - 1
 has_room n k e = let few : n + suc k ≤ 2 ^ 32 - 2 = ltb-false (2 ^ 32 - 2) (n + suc k) e in omega (arith, few)
-
--- an attempt of which an event is accepted is live
-pub live_when : (events : List Event) (id : Text) (n : ℕ) → is_live events id n ≡ true → live_attempt events id ≡ Some n
-live_when events id n e = by_live (live_attempt events id) refl
-  where
-    by_live : (o : Option ℕ) → live_attempt events id ≡ o → live_attempt events id ≡ Some n
-    by_live None is = absurd (true≢false (sym e ∙ (rw is refl)))
-    by_live (Some m) is = is ∙ ap (λ (k : ℕ). Some k) ((Decides-eqb m n).0 (sym (rw is refl) ∙ e))
-
-pub taken_live : (events : List Event) (id : Text) (n : ℕ) (frame : Frame) → causes_of events (Event.Take id n frame) ≡ [] → live_attempt events id ≡ Some n
-taken_live events id n frame causes =
-    let tests = tests_of events (Event.Take id n frame) in
-    live_when events id n (not-false (is_live events id n) (holds-head (tail_of (tail_of tests)) (holds-tail (tail_of tests) (holds-tail tests causes))))
 
 -- a request that is accepted has a place
 pub taken_room : (events : List Event) (id : Text) (n : ℕ) (request : Request) → causes_of events (Event.Take id n (Frame.Command request)) ≡ [] → length (entries_of events id) + 1 < 2 ^ 32 - 1

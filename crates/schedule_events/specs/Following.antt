@@ -14,7 +14,7 @@ use Rattle.invocation_vm.specs.View.{AttemptView}
 use Rattle.invocation_vm.specs.First.{given_by}
 use Rattle.invocation_vm.specs.Attempt.{Announced, IsUnread, Stands}
 use Rattle.schedule_events.specs.declared.held.HeldAttempt.{HeldAttempt}
-use Rattle.schedule_events.specs.Standing.{Standing}
+use Rattle.store_calls.specs.Standing.{Standing}
 use Rattle.schedule_events.specs.Flight.{Sent, stream, requests_in, FitsSent}
 
 -- ---- what is seen of an invocation

@@ -11,7 +11,7 @@ use Rattle.schedule_events.specs.declared.event.Event.{Event}
 use Rattle.invocation_vm.specs.View.{AttemptView}
 use Rattle.schedule_events.specs.declared.event.Reply.{Reply}
 use Rattle.schedule_events.specs.declared.held.HeldAttempt.{HeldAttempt}
-use Rattle.schedule_events.specs.Standing.{Standing}
+use Rattle.store_calls.specs.Standing.{Standing}
 use Rattle.schedule_events.specs.Schedule.{IfHeld, FeedsOne, MovesOne, TurnsOne, Does, Scheduled, Applies, AppliesAll, Brings, FitsEvent}
 use Rattle.schedule_events.specs.Following.{is_held, held_of, Follows, IsBeginningOfRun}
 

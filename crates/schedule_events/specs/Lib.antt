@@ -4,4 +4,3 @@ pub mod Following
 pub mod Laws
 pub mod Names
 pub mod Schedule
-pub mod Standing

@@ -1,5 +1,5 @@
 -- What each event answers and leaves, and what a list of events does one after another.
-use Rattle.std.specs.Prelude.{◌≡◌, ◌⊎◌, ◌<◌, ◌^◌, ℕ, suc, zero, min, List, [], ◌∷◌, ◌++◌, length, take, true, false, Option, Some, None, Result, Ok, Err}
+use Rattle.std.specs.Prelude.{◌≡◌, ◌⊎◌, ◌<◌, ◌^◌, ℕ, min, List, [], ◌∷◌, ◌++◌, length, take, Option, Some, None, Result, Ok, Err}
 use Rattle.journal_model.specs.Notification.{Bytes, Text}
 use Rattle.journal_model.specs.Run.{Handler}
 use Rattle.store_refusals.specs.declared.refusal.Refusal.{Refusal}
@@ -15,7 +15,11 @@ use Rattle.schedule_events.specs.declared.event.Reply.TheVariants as reply
 use Rattle.schedule_events.specs.declared.event.Refusal.TheVariants as refusal
 use Rattle.schedule_events.specs.declared.held.HeldAttempt.{HeldAttempt}
 use Rattle.schedule_events.specs.First.{with_first}
-use Rattle.schedule_events.specs.Standing.{Standing, Stays, Begun, Invokes, Begins, HandsOut, Feeds, Stops, TakesFrame, TakesNone, RefusesFrame}
+use Rattle.taken_frames.specs.declared.frame.FrameReply.{FrameReply}
+use Rattle.store_calls.specs.declared.begun.BegunAttempt.{BegunAttempt}
+use Rattle.store_calls.specs.Standing.{Standing, Stays}
+use Rattle.store_calls.specs.Calls.{Invokes, Begins, BeginsAttempt, HandsOut, Stops}
+use Rattle.store_calls.specs.Frames.{Accepts}
 use Rattle.schedule_events.specs.Following.{is_held, held_of}
 
 -- the reply to a call of the store that answers nothing
@@ -24,35 +28,6 @@ RepliesDone Does reply.Done = Does (Ok tt)
 RepliesDone Does (reply.Refused (refusal.Store why)) = Does (Err why)
 RepliesDone Does _ = ⊥
 
--- so many frames are taken, one after another, with none of which the attempt ends
-abbrev pub Took : Text → ℕ → ℕ → Standing → Standing → Type 0
-Took id attempt zero old new = Stays old new
-Took id attempt (suc frames) old new = (between : Standing) × Took id attempt frames old between × TakesFrame id attempt false between new
-
--- behind a frame that ends the attempt no further one is taken
-pub record TookTheEnd (id : Text) (attempt frames : ℕ) (old new : Standing) : Type 0 where
-  pub before : ℕ
-  pub between : Standing
-  pub frames_are : frames ≡ suc before
-  pub took : Took id attempt before old between
-  pub ended : TakesFrame id attempt true between new
-
--- frames are taken until no whole one is left
-pub record TookAll (id : Text) (attempt frames : ℕ) (old new : Standing) : Type 0 where
-  pub between : Standing
-  pub took : Took id attempt frames old between
-  pub none_left : TakesNone id attempt between new
-
--- frames are taken until one is refused
-pub record TookUntil (id : Text) (attempt frames : ℕ) (why : Refusal) (old new : Standing) : Type 0 where
-  pub between : Standing
-  pub took : Took id attempt frames old between
-  pub refused : RefusesFrame id attempt why between new
-
-abbrev pub TakesFrames : Text → ℕ → ℕ → Option Refusal → Standing → Standing → Type 0
-TakesFrames id attempt frames (Some why) old new = TookUntil id attempt frames why old new
-TakesFrames id attempt frames None old new = TookAll id attempt frames old new ⊎ TookTheEnd id attempt frames old new
-
 -- what the store stands for, and the attempts that are held
 pub record Scheduled (H : Type 0) : Type 0 where
   pub standing : Standing
@@ -60,7 +35,7 @@ pub record Scheduled (H : Type 0) : Type 0 where
 
 module _ {H : Type 0} where
   -- the attempt that was begun is held, and was fed its start frame
-  pub record HoldsBegun (options : VMOptions) (id : Text) (handler : H) (begun : Begun) (old new : List (HeldAttempt H)) : Type 0 where
+  pub record HoldsBegun (options : VMOptions) (id : Text) (handler : H) (begun : BegunAttempt) (old new : List (HeldAttempt H)) : Type 0 where
     pub attempt : AttemptView H
     pub fed : machine.Feeds begun.start (fresh begun.version options handler) attempt
     pub held : new ≡ old ++ record { invocation = id; number = begun.number; attempt = attempt } ∷ []
@@ -68,9 +43,9 @@ module _ {H : Type 0} where
   -- a begin; where memory is refused to the scheduler, the attempt stays begun, and nobody holds it
   abbrev pub BeginDoes : VMOptions → Text → H → ℕ → Standing → List (HeldAttempt H) → Reply → Standing → List (HeldAttempt H) → Type 0
   BeginDoes options id handler now old held (reply.Begun number) new more =
-      (begun : Begun) × (number ≡ begun.number) × Begins id now old (Ok begun) new × HoldsBegun options id handler begun held more
+      (begun : BegunAttempt) × (number ≡ begun.number) × Begins id now begun old new × HoldsBegun options id handler begun held more
   BeginDoes options id handler now old held (reply.Refused (refusal.Store why)) new more =
-      (Begins id now old (Err why) new × (more ≡ held)) ⊎ ((begun : Begun) × (why ≡ OutOfMemory) × Begins id now old (Ok begun) new × (more ≡ held))
+      (BeginsAttempt id now (Err why) old new × (more ≡ held)) ⊎ ((begun : BegunAttempt) × (why ≡ OutOfMemory) × Begins id now begun old new × (more ≡ held))
   BeginDoes options id handler now old held _ new more = ⊥
 
   -- the attempt that is held, changed
@@ -80,8 +55,8 @@ module _ {H : Type 0} where
   -- the next bytes go from the store to an attempt, so many at most
   abbrev pub FeedsOne : ℕ → HeldAttempt H → Standing → Reply → Standing → AttemptView H → Type 0
   FeedsOne count one old (reply.Fed bytes) new changed =
-      (given : Bytes) × (bytes ≡ length given) × HandsOut one.invocation one.number count old (Ok given) new × machine.Feeds given one.attempt changed
-  FeedsOne count one old (reply.Refused (refusal.Store why)) new changed = HandsOut one.invocation one.number count old (Err why) new × (changed ≡ one.attempt)
+      (given : Bytes) × (bytes ≡ length given) × HandsOut one.invocation one.number count (Ok given) old new × machine.Feeds given one.attempt changed
+  FeedsOne count one old (reply.Refused (refusal.Store why)) new changed = HandsOut one.invocation one.number count (Err why) old new × (changed ≡ one.attempt)
   FeedsOne count one old _ new changed = ⊥
 
   -- the attempt makes a turn
@@ -92,10 +67,10 @@ module _ {H : Type 0} where
   -- the next bytes go from an attempt to the store, so many at most, and whole frames are taken; bytes that the store refuses stay first in line
   abbrev pub MovesOne : ℕ → HeldAttempt H → Standing → Reply → Standing → AttemptView H → Type 0
   MovesOne count one old (reply.Moved bytes frames why) new changed =
-      (fed : Standing) × (bytes ≡ min count (length one.attempt.output)) × Feeds one.invocation one.number (take bytes one.attempt.output) old (Ok tt) fed
-      × machine.Sends bytes one.attempt changed × TakesFrames one.invocation one.number frames why fed new
+      (replies : List FrameReply) × (frames ≡ length replies) × (bytes ≡ min count (length one.attempt.output))
+      × Accepts one.invocation one.number (take bytes one.attempt.output) (Ok (replies, why)) old new × machine.Sends bytes one.attempt changed
   MovesOne count one old (reply.Refused (refusal.Store why)) new changed =
-      Feeds one.invocation one.number (take (min count (length one.attempt.output)) one.attempt.output) old (Err why) new × (changed ≡ one.attempt)
+      Accepts one.invocation one.number (take (min count (length one.attempt.output)) one.attempt.output) (Err why) old new × (changed ≡ one.attempt)
   MovesOne count one old _ new changed = ⊥
 
   -- the attempt that is held is changed in its place; one that is not held is refused before the store is asked
@@ -106,12 +81,12 @@ module _ {H : Type 0} where
 
   -- what an event does to what the store stands for and to what is held, and what it answers
   abbrev pub Does : (H → Handler) → VMOptions → Event H → Standing → List (HeldAttempt H) → Reply → Standing → List (HeldAttempt H) → Type 0
-  Does function options (event.Invoke one) old held answer new more = RepliesDone (λ result. Invokes one old result new) answer × (more ≡ held)
+  Does function options (event.Invoke one) old held answer new more = RepliesDone (λ result. Invokes one result old new) answer × (more ≡ held)
   Does function options (event.Begin id handler now) old held answer new more = BeginDoes options id handler now old held answer new more
   Does function options (event.Feed id attempt count) old held answer new more = IfHeld (FeedsOne count) (held_of held id attempt) old held answer new more
   Does function options (event.Turn id attempt) old held answer new more = IfHeld (TurnsOne function) (held_of held id attempt) old held answer new more
   Does function options (event.Move id attempt count) old held answer new more = IfHeld (MovesOne count) (held_of held id attempt) old held answer new more
-  Does function options (event.Stop id attempt) old held answer new more = RepliesDone (λ result. Stops id attempt old result new) answer × (more ≡ held)
+  Does function options (event.Stop id attempt) old held answer new more = RepliesDone (λ result. Stops id attempt result old new) answer × (more ≡ held)
 
   -- one event
   abbrev pub Applies : (H → Handler) → VMOptions → Event H → Reply → Scheduled H → Scheduled H → Type 0

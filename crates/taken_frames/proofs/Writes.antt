@@ -1,5 +1,5 @@
 -- What is written of a frame, by what is kept of its invocation and of the frame, is what the event writes.
-use Rattle.std.proofs.Common.{◌≡◌, refl, sym, ap, ap₂, ◌∙◌, ℕ, ◌+◌, max, ◌==◌, Bool, false, if◌then◌else◌, List, [], ◌∷◌, ◌++◌, length, map, Option, Some, None}
+use Rattle.std.proofs.Common.{◌≡◌, refl, sym, ap, ap₂, ◌∙◌, ℕ, ◌+◌, max, Bool, false, if◌then◌else◌, List, [], ◌∷◌, ◌++◌, length, map, Option, Some, None}
 use Rattle.journal_model.specs.Notification.{Bytes, Text, Arrival}
 use Rattle.journal_model.specs.State.{state_after}
 use Rattle.journal_model.specs.Request.{Request, completions_asked}

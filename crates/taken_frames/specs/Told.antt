@@ -1,9 +1,11 @@
 -- Why a frame is refused, what is written of it and how it is answered, by what is kept of its invocation and of the frame.
-use Rattle.std.specs.Prelude.{ℕ, ◌<◌, ◌-◌, ◌^◌, max, nat_lt, nat_le, ◌==◌, Bool, true, false, not, if◌then◌else◌, List, [], ◌∷◌, Option, Some, None, option_to_list}
+use Rattle.std.specs.Prelude.{ℕ, ◌<◌, ◌-◌, ◌^◌, max, nat_lt, Bool, true, false, not, if◌then◌else◌, List, [], ◌∷◌, Option, Some, None, option_to_list}
 use Rattle.journal_model.specs.Notification.{Bytes, Text}
 use Rattle.journal_model.specs.Cause.{BrokenPayload, NestedTooDeep, FrameNotAccepted, BadCompletion, InputNotClosed, NumbersUsedUp, PayloadTooLong, Tests, do_ascend, greatest, is_too_long}
 use Rattle.journal_protocol.specs.declared.command_facts.CommandFacts.{CommandFacts}
 use Rattle.journal_protocol.specs.CommandFacts.{facts_of, is_answer}
+use Rattle.journal_protocol.specs.declared.feature.Feature.TheVariants as features
+use Rattle.journal_protocol.specs.Feature.{has_feature}
 use Rattle.journal_protocol.specs.MessageType.{number_of}
 use Rattle.attempt_frames.specs.declared.frame.RecordedCommand.{RecordedCommand}
 use Rattle.attempt_frames.specs.declared.frame.ErrorBehavior.{ErrorBehavior}
@@ -66,7 +68,7 @@ number_of_behavior behaviors.Fail = 2
 
 -- whether an error closes its invocation
 abbrev pub does_fail : ℕ → ErrorBehavior → Bool
-does_fail version behaviors.Fail = nat_le 7 version
+does_fail version behaviors.Fail = has_feature version features.ErrorBehavior
 does_fail version _ = false
 
 abbrev pub after_suspension : Bytes → ℕ → Progress → Progress

@@ -9,11 +9,9 @@ ghost use Rattle.taken_frames.specs.Told.{HasRoom, after_end, after_error, after
 use crate::frame::FrameReply;
 use attempt_frames::{AttemptFrame, ErrorBehavior, RecordedCommand};
 use bytes::{ByteStr, Bytes};
+use journal_protocol::Feature;
 use std::alloc::{AllocError, Global};
 use store_rows::{Closing, EntryRow, LastError, Progress, Write};
-
-/// From this version on an error can close its invocation.
-const FIRST_WITH_FAILURES: u32 = 7;
 
 /// How a frame is answered. One that is always refused is not asked for.
 pub(crate) fn reply_to(progress: &Progress, frame: &AttemptFrame) -> FrameReply
@@ -168,7 +166,7 @@ fn closes(version: u32, behavior: ErrorBehavior) -> bool
     ensures { result ≡ does_fail version behavior }
 {
     match behavior {
-        ErrorBehavior::Fail => version >= FIRST_WITH_FAILURES,
+        ErrorBehavior::Fail => Feature::ErrorBehavior.is_in(version),
         ErrorBehavior::Retry | ErrorBehavior::Pause => false,
     }
 }

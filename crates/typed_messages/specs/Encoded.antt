@@ -1,5 +1,5 @@
 -- The message that a record is written as, and what an encoder answers.
-use Rattle.std.specs.Prelude.{◌≡◌, ◌↔◌, ◌≤◌, ◌^◌, ℕ, nat_lt, not, Bool, true, false, List, length, Option, Some, None, Result, Err, IfOk}
+use Rattle.std.specs.Prelude.{◌≡◌, ◌↔◌, ◌≤◌, ◌^◌, ℕ, not, Bool, true, false, List, length, Option, Some, None, Result, Err, IfOk}
 use Rattle.protocol_table.specs.declared.table.RecordType.{RecordType}
 use Rattle.protocol_wire.specs.Parts.{Part, payload_of}
 use Rattle.protocol_records.specs.Suspension.{suspension_parts}
@@ -11,6 +11,8 @@ use Rattle.journal_protocol.specs.declared.decoder.RawMessage.{RawMessage}
 use Rattle.journal_protocol.specs.declared.encoder.EncodingError.{EncodingError}
 use Rattle.journal_protocol.specs.declared.encoder.EncodingError.TheVariants.{PayloadTooLong}
 use Rattle.journal_protocol.specs.declared.version.Version.{Version}
+use Rattle.journal_protocol.specs.declared.feature.Feature.TheVariants.{AwaitTree}
+use Rattle.journal_protocol.specs.Feature.{lacks_feature}
 use Rattle.journal_protocol.specs.Version.{version_number}
 use Rattle.journal_protocol.specs.Header.{header_of}
 use Rattle.journal_protocol.specs.Frame.{spelled}
@@ -18,7 +20,7 @@ use Rattle.typed_messages.specs.RecordMessage.{type_of_record}
 use Rattle.typed_messages.specs.Leaves.{three_lists}
 
 abbrev pub is_before_7 : Version → Bool
-is_before_7 version = nat_lt (version_number version) 7
+is_before_7 version = lacks_feature (version_number version) AwaitTree
 
 -- the message of this type and payload; from version 7 on an acknowledgement is requested, of a type that says so
 abbrev pub payload_message : MessageType → Version → List ℕ → RawMessage

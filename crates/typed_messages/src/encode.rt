@@ -6,7 +6,7 @@ ghost use Rattle.typed_messages.specs.Encoded.{is_before_7 as is_before, record_
 
 use crate::message::PlainMessage;
 use bytes::Bytes;
-use journal_protocol::{EncodingError, HEADER_LEN, MessageHeader, MessageType, Version};
+use journal_protocol::{EncodingError, Feature, HEADER_LEN, MessageHeader, MessageType, Version};
 use protocol_wire::{Record, encoded_len};
 use std::alloc::Global;
 
@@ -14,7 +14,7 @@ use std::alloc::Global;
 pub(crate) fn is_before_7(version: Version) -> bool
     ensures { result ≡ is_before version }
 {
-    version.number() < 7
+    Feature::AwaitTree.is_later_than(version.number())
 }
 
 /// What an encoder writes as a message.

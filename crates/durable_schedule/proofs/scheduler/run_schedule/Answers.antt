@@ -11,9 +11,10 @@ use Rattle.schedule_events.specs.declared.event.Reply.{Reply}
 use Rattle.schedule_events.specs.Schedule.{Applies, AppliesAll, FitsEvent}
 use Rattle.schedule_events.proofs.Applying.{schedules_grow}
 use Rattle.schedule_events.proofs.Leaving.{leaves_runs}
-use Rattle.durable_schedule.specs.Scheduled.{IsStanding, Endures, Extends, AppliesWith, AppliesFirst, FollowRuns, at_first}
-use Rattle.durable_schedule.proofs.Standing.{stood}
-use Rattle.durable_schedule.proofs.Enduring.{same_endures}
+use Rattle.journal_store.specs.Stands.{IsStanding, Endures}
+use Rattle.durable_schedule.specs.Scheduled.{Extends, AppliesWith, AppliesFirst, FollowRuns, at_first}
+use Rattle.journal_store.proofs.Leading.{stood}
+use Rattle.journal_store.proofs.Enduring.{same_endures}
 use Rattle.durable_schedule.proofs.Scheduling.{follow_runs, follow_kept, one_endures, each_more}
 use Rattle.durable_schedule.proofs.scheduler.run_schedule.Goals as goal
 

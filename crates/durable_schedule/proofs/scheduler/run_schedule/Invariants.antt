@@ -2,9 +2,10 @@ use Rattle.std.proofs.Common.{◌≡◌, ◌≤◌, length, vec_len, vec_capacit
 use Rattle.std.specs.List.{AllByRecursion}
 use Rattle.sqlite.specs.Held.{state}
 use Rattle.sqlite.specs.State.{HasCleanDisk}
-use Rattle.schedule_events.specs.Standing.{Standing}
+use Rattle.store_calls.specs.Standing.{Standing}
 use Rattle.schedule_events.specs.Schedule.{Scheduled, AppliesAll, FitsEvent}
-use Rattle.durable_schedule.specs.Scheduled.{IsStanding, IsScheduled, Endures, AppliesFirst, at_first}
+use Rattle.journal_store.specs.Stands.{IsStanding, Endures}
+use Rattle.durable_schedule.specs.Scheduled.{IsScheduled, AppliesFirst, at_first}
 use Rattle.durable_schedule.proofs.scheduler.run_schedule.Given as goal
 
 abbrev pub invariant-loop-event : goal.invariant-loop-event

@@ -1,66 +1,51 @@
-use Rattle.std.proofs.Common.{◌≡◌, refl, subst, arith, rules, true, false, Some, None, Ok, Bool}
-use Rattle.sqlite.specs.State.{State, HasCleanDisk}
-use Rattle.sqlite.specs.Held.{state}
-use Rattle.live_attempts.specs.Attempts.{ByInvocation}
-use Rattle.journal_store.specs.declared.accept.Accepted.{Accepted}
+use Rattle.std.proofs.Common.{◌≡◌, subst, rules, true, false, Ok, Bool}
+use Rattle.store_calls.specs.Frames.{TakesFirst}
+use Rattle.journal_store.specs.Stands.{Leads}
 use Rattle.journal_store.specs.Accepting.{TakesNext}
-use Rattle.journal_store.proofs.Accepting.{lives_still, none_passed, passed_one, refused_so, rests_so, steps_commit}
+use Rattle.journal_store.proofs.Enduring.{same_endures}
+use Rattle.journal_store.proofs.Accepting.{first_endures, goes_further, none_taken, refused_so, rests_so}
 use Rattle.journal_store.proofs.accept.take_all.Goals as goal
 
 pub loop-replies-init : goal.loop-replies-init
 loop-replies-init g c = record {
-  taken = λ clean events stands here. none_passed events c.args.id.now c.args.attempt _ (state g.S.Store c.args.tables.now) c.args.live.now.attempts (search rules) stands here;
-  survives = lives_still (state g.S.Store c.args.tables.now) _;
+  taken = none_taken g.S.Store c.args.id.now c.args.attempt _ (search rules) c.args.store.now;
+  crash = same_endures g.S.Store (TakesFirst c.args.id.now c.args.attempt) c.args.store.now;
 }
 
 pub loop-replies-preserved : goal.loop-replies-preserved
 loop-replies-preserved g c =
-    let start : State = state g.S.Store c.args.tables.now in
-    let now : State = state g.S.Store c.loop-replies.tables in
-    let next : State = state g.S.Store c.take_next.new.tables in
-    let id = c.args.id.now in
-    let old : ByInvocation = c.args.live.now.attempts in
+    let old = c.loop-replies.store in
+    let new = c.take_next.new.store in
+    let before = c.loop-replies.replies.items in
+    let after = c.take_next.new.replies.items in
     let more : c.in-Ok-true.field-0 ≡ true = search rules in
     record {
-      taken = λ clean events stands here.
-          let early : HasCleanDisk now = omega (arith, c.take_next.ensures.crash.clean, clean) in
-          let done = c.loop-replies.invariant.taken early events stands here in
-          let it = subst (λ (b : Bool). TakesNext done.later id c.args.attempt (Ok b) c.loop-replies.replies.items c.take_next.new.replies.items next c.loop-replies.live.attempts c.take_next.new.live.attempts)
-          more (c.in-Ok-true.ensures.does clean done.later done.stands done.here) in
-          passed_one events id c.args.attempt c.loop-replies.replies.items c.take_next.new.replies.items now next old c.loop-replies.live.attempts c.take_next.new.live.attempts done it;
-      survives = steps_commit id c.args.attempt c.loop-replies.replies.items start now next old c.loop-replies.live.attempts c.loop-replies.invariant.taken c.loop-replies.invariant.survives c.take_next.ensures.crash;
+      taken = goes_further g.S.Store c.args.id.now c.args.attempt c.args.store.now old new before after c.loop-replies.invariant.taken c.take_next.ensures.crash
+          (subst (λ (b : Bool). Leads g.S.Store (TakesNext c.args.id.now c.args.attempt (Ok b) before after) old new) more c.in-Ok-true.ensures.does);
+      crash = first_endures g.S.Store c.args.id.now c.args.attempt c.args.store.now old new before after c.loop-replies.invariant.taken c.take_next.ensures.crash c.loop-replies.invariant.crash;
     }
 
 pub returns-in-Ok-false-clause-does : goal.returns-in-Ok-false-clause-does
-returns-in-Ok-false-clause-does g c clean events stands here =
-    let now : State = state g.S.Store c.loop-replies.tables in
-    let next : State = state g.S.Store c.take_next.new.tables in
-    let id = c.args.id.now in
-    let accepted : Accepted = record { replies = c.take_next.new.replies; refusal = None } in
+returns-in-Ok-false-clause-does g c =
+    let old = c.loop-replies.store in
+    let new = c.take_next.new.store in
+    let before = c.loop-replies.replies.items in
+    let after = c.take_next.new.replies.items in
     let more : c.in-Ok-false.field-0 ≡ false = search rules in
-    let early : HasCleanDisk now = omega (arith, c.take_next.ensures.crash.clean, clean) in
-    let done = c.loop-replies.invariant.taken early events stands here in
-    let it = subst (λ (b : Bool). TakesNext done.later id c.args.attempt (Ok b) c.loop-replies.replies.items c.take_next.new.replies.items next c.loop-replies.live.attempts c.take_next.new.live.attempts)
-    more (c.in-Ok-false.ensures.does clean done.later done.stands done.here) in
-    rests_so events id c.args.attempt c.loop-replies.replies.items now next c.args.live.now.attempts c.loop-replies.live.attempts c.take_next.new.live.attempts accepted done refl it
+    rests_so g.S.Store c.args.id.now c.args.attempt c.args.store.now old new before after c.loop-replies.invariant.taken c.take_next.ensures.crash
+    (subst (λ (b : Bool). Leads g.S.Store (TakesNext c.args.id.now c.args.attempt (Ok b) before after) old new) more c.in-Ok-false.ensures.does)
 
 pub returns-in-Ok-false-clause-crash : goal.returns-in-Ok-false-clause-crash
 returns-in-Ok-false-clause-crash g c =
-    steps_commit c.args.id.now c.args.attempt c.loop-replies.replies.items (state g.S.Store c.args.tables.now) (state g.S.Store c.loop-replies.tables) (state g.S.Store c.take_next.new.tables)
-    c.args.live.now.attempts c.loop-replies.live.attempts c.loop-replies.invariant.taken c.loop-replies.invariant.survives c.take_next.ensures.crash
+    first_endures g.S.Store c.args.id.now c.args.attempt c.args.store.now c.loop-replies.store c.take_next.new.store c.loop-replies.replies.items c.take_next.new.replies.items
+    c.loop-replies.invariant.taken c.take_next.ensures.crash c.loop-replies.invariant.crash
 
 pub returns-in-Err-clause-does : goal.returns-in-Err-clause-does
-returns-in-Err-clause-does g c clean events stands here =
-    let now : State = state g.S.Store c.loop-replies.tables in
-    let next : State = state g.S.Store c.take_next.new.tables in
-    let id = c.args.id.now in
-    let accepted : Accepted = record { replies = c.take_next.new.replies; refusal = Some c.in-Err.why } in
-    let early : HasCleanDisk now = omega (arith, c.take_next.ensures.crash.clean, clean) in
-    let done = c.loop-replies.invariant.taken early events stands here in
-    refused_so events id c.args.attempt c.loop-replies.replies.items now next c.args.live.now.attempts c.loop-replies.live.attempts c.take_next.new.live.attempts accepted c.in-Err.why done refl
-    (c.in-Err.ensures.does clean done.later done.stands done.here)
+returns-in-Err-clause-does g c =
+    refused_so g.S.Store c.args.id.now c.args.attempt c.args.store.now c.loop-replies.store c.take_next.new.store c.loop-replies.replies.items c.take_next.new.replies.items
+    c.loop-replies.invariant.taken c.take_next.ensures.crash c.in-Err.why c.in-Err.ensures.does
 
 pub returns-in-Err-clause-crash : goal.returns-in-Err-clause-crash
 returns-in-Err-clause-crash g c =
-    steps_commit c.args.id.now c.args.attempt c.loop-replies.replies.items (state g.S.Store c.args.tables.now) (state g.S.Store c.loop-replies.tables) (state g.S.Store c.take_next.new.tables)
-    c.args.live.now.attempts c.loop-replies.live.attempts c.loop-replies.invariant.taken c.loop-replies.invariant.survives c.take_next.ensures.crash
+    first_endures g.S.Store c.args.id.now c.args.attempt c.args.store.now c.loop-replies.store c.take_next.new.store c.loop-replies.replies.items c.take_next.new.replies.items
+    c.loop-replies.invariant.taken c.take_next.ensures.crash c.loop-replies.invariant.crash

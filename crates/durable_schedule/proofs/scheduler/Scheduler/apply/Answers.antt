@@ -3,9 +3,10 @@ use Rattle.journal_model.specs.Event as model
 use Rattle.journal_store.specs.Stored.{Stored}
 use Rattle.schedule_events.specs.declared.event.Event.TheVariants as event
 use Rattle.schedule_events.specs.declared.event.Reply.TheVariants as reply
-use Rattle.schedule_events.specs.Standing.{Adds}
-use Rattle.durable_schedule.specs.Scheduled.{AppliesWith, Endures}
-use Rattle.durable_schedule.proofs.Enduring.{BeginsSome, quiet_endures, same_endures}
+use Rattle.store_calls.specs.Standing.{Adds}
+use Rattle.journal_store.specs.Stands.{Endures}
+use Rattle.durable_schedule.specs.Scheduled.{AppliesWith}
+use Rattle.journal_store.proofs.Enduring.{BeginsSome, quiet_endures, same_endures}
 use Rattle.durable_schedule.proofs.Scheduling.{applied, applied_with, begins_with, stored}
 use Rattle.durable_schedule.proofs.scheduler.Scheduler.apply.Goals as goal
 

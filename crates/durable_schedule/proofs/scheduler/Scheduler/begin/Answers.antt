@@ -1,15 +1,12 @@
 use Rattle.std.proofs.Common.{List, ℕ, refl, subst, inl, inr}
-use Rattle.journal_model.specs.Event.{Event}
 use Rattle.invocation_vm.specs.View.{AttemptView}
 use Rattle.invocation_vm.specs.Attempt.{Feeds}
-use Rattle.durable_schedule.proofs.Standing.{begins, refused, as_begun}
-use Rattle.durable_schedule.proofs.Enduring.{begin_endures}
+use Rattle.journal_store.proofs.Enduring.{begin_endures}
 use Rattle.durable_schedule.proofs.scheduler.Scheduler.begin.Goals as goal
 
 pub returns-in-Err-clause-does : goal.returns-in-Err-clause-does
 returns-in-Err-clause-does g c clean s is =
-    let does = c.in-Err.ensures.does clean s.events is.stands in
-    let it = refused g.S.Store s c.args.self.now.store c.begin.new.self is (Event.Begin c.args.invocation c.args.now) c.in-Err.refusal does.0 does.1 c.in-Err.ensures.waits in
+    let it = c.in-Err.ensures.does clean s is in
     (it.0, it.1, inl (it.2, refl))
 
 pub returns-in-Err-clause-crash : goal.returns-in-Err-clause-crash
@@ -17,12 +14,11 @@ returns-in-Err-clause-crash g c = begin_endures g.S.Store c.args.invocation c.ar
 
 pub returns-in-Ok-push-clause-does : goal.returns-in-Ok-push-clause-does
 returns-in-Ok-push-clause-does g c clean s is =
-    let does = c.in-Ok.ensures.does clean s.events is.stands in
-    let it = begins g.S.Store s c.args.self.now.store c.begin.new.self is c.args.invocation c.args.now c.in-Ok.begun does.1 does.2 c.in-Ok.ensures.waits in (
+    let it = c.in-Ok.ensures.does clean s is in (
       it.0,
       it.1,
       (
-        as_begun c.in-Ok.begun,
+        c.in-Ok.begun,
         refl,
         it.2,
         record {
@@ -39,9 +35,8 @@ returns-in-Ok-push-clause-crash g c = begin_endures g.S.Store c.args.invocation 
 
 pub returns-clause-does : goal.returns-clause-does
 returns-clause-does g c clean s is =
-    let does = c.in-Ok.ensures.does clean s.events is.stands in
-    let it = begins g.S.Store s c.args.self.now.store c.begin.new.self is c.args.invocation c.args.now c.in-Ok.begun does.1 does.2 c.in-Ok.ensures.waits in
-    (it.0, it.1, inr (as_begun c.in-Ok.begun, refl, it.2, c.in-Err-push.ensures.items))
+    let it = c.in-Ok.ensures.does clean s is in
+    (it.0, it.1, inr (c.in-Ok.begun, refl, it.2, c.in-Err-push.ensures.items))
 
 pub returns-clause-crash : goal.returns-clause-crash
 returns-clause-crash g c = begin_endures g.S.Store c.args.invocation c.args.now c.args.self.now.store c.begin.new.self c.begin.ensures.crash

@@ -6,7 +6,7 @@ use Rattle.schedule_events.specs.Following.{is_held}
 use Rattle.schedule_events.specs.Schedule.{MovesOne}
 use Rattle.schedule_events.proofs.Applying.{not_held, found_at, changes_held}
 use Rattle.durable_schedule.specs.Scheduled.{AppliesWith, MovesSome}
-use Rattle.durable_schedule.proofs.Enduring.{same_endures, endures_so}
+use Rattle.journal_store.proofs.Enduring.{same_endures, endures_so}
 use Rattle.durable_schedule.proofs.scheduler.Scheduler.transfer.Goals as goal
 
 pub returns-in-None-clause-does : goal.returns-in-None-clause-does

@@ -1,11 +1,38 @@
-use Rattle.std.proofs.Common.{sym, subst}
+use Rattle.std.proofs.Common.{arith}
+use Rattle.sqlite.specs.State.{State}
 use Rattle.sqlite.specs.Held.{state}
-use Rattle.journal_store.specs.Stored.{Stored}
-use Rattle.journal_store.specs.Stands.{Stands}
+use Rattle.journal_model.specs.Event.{Event}
+use Rattle.store_calls.specs.Calls.{Invokes}
+use Rattle.journal_store.specs.Stored.{stored}
+use Rattle.journal_store.proofs.Lasting.{undone_kept}
+use Rattle.journal_store.proofs.Leading.{settled_so}
+use Rattle.journal_store.proofs.Recording.{invokes, looked}
+use Rattle.journal_store.proofs.Standing.{commits_after}
 use Rattle.journal_store.proofs.store.Store.invoke.Goals as goal
 
-pub returns-clause-settled : goal.returns-clause-settled
-returns-clause-settled g c clean events stands =
-    let here : Stands events (state g.S.Store c.self.inside.tables) c.self.inside.live.attempts =
-    subst (λ (store : Stored g.row.S.Denot). Stands events (state g.S.Store store.connection) store.live.attempts) (sym c.self.view_is) stands in
-    c.record_new.ensures.settled clean events c.self.inside.live.attempts here
+pub returns-in-Ok-clause-does : goal.returns-in-Ok-clause-does
+returns-in-Ok-clause-does g c =
+    rw (← c.self.view_is) (invokes g.S.Store c.self.inside.tables c.prepare_invoke-prepared.new.tables c.commit.new.tables c.self.inside.live c.args.new c.in-Ok.writes.items c.commit.result _
+    c.prepare_invoke-prepared.ensures.looks c.in-Ok.ensures.prepared c.commit.ensures.crash c.commit.ensures.written c.commit.ensures.why c.commit.ensures.undone)
+
+pub returns-in-Err-clause-does : goal.returns-in-Err-clause-does
+returns-in-Err-clause-does g c =
+    rw (← c.self.view_is) (looked g.S.Store c.self.inside.tables c.prepare_invoke-prepared.new.tables c.self.inside.live (Event.Invoke c.args.new) c.in-Err.why
+    c.prepare_invoke-prepared.ensures.looks c.in-Err.ensures.prepared)
+
+pub returns-in-Ok-clause-crash : goal.returns-in-Ok-clause-crash
+returns-in-Ok-clause-crash g c =
+    rw (← c.self.view_is) (commits_after (state g.S.Store c.self.inside.tables) (state g.S.Store c.prepare_invoke-prepared.new.tables) (state g.S.Store c.commit.new.tables)
+    (Event.Invoke c.args.new) c.in-Ok.writes.items c.prepare_invoke-prepared.ensures.looks.crash c.prepare_invoke-prepared.ensures.looks.kept
+    c.commit.ensures.crash c.in-Ok.ensures.prepared (λ events none. cc))
+
+pub returns-in-Ok-clause-settled : goal.returns-in-Ok-clause-settled
+returns-in-Ok-clause-settled g c =
+    settled_so g.S.Store c.args.self.now (stored c.commit.new.tables c.self.inside.live) (Event.Invoke c.args.new) (Invokes c.args.new) c.commit.result (λ answer s t it. it.events)
+    (returns-in-Ok-clause-does g c) c.commit.ensures.settled
+
+pub returns-in-Ok-clause-kept : goal.returns-in-Ok-clause-kept
+returns-in-Ok-clause-kept g c =
+    let mid : State = state g.S.Store c.prepare_invoke-prepared.new.tables in
+    rw (← c.self.view_is) (undone_kept c.commit.result (state g.S.Store c.self.inside.tables) mid (state g.S.Store c.commit.new.tables)
+    (λ clean. omega (arith, c.commit.ensures.crash.clean, clean)) c.prepare_invoke-prepared.ensures.looks.kept c.commit.ensures.undone)

@@ -1,0 +1,53 @@
+-- An invocation is recorded, or an event is refused.
+use Rattle.std.proofs.Common.{◌≡◌, refl, List, [], ◌∷◌, inr, Result, Ok, Err, IfErr, OnOk, OnErr, IsTrue, arith}
+use Rattle.sqlite_trees.specs.declared.store.Store.{Ghosts}
+use Rattle.sqlite_trees.specs.Tree.{Trees}
+use Rattle.sqlite.specs.Held.{Held, state}
+use Rattle.sqlite.specs.State.{HasCleanDisk, Survives}
+use Rattle.sql_tables.specs.Asking.{IsKept}
+use Rattle.journal_model.specs.declared.invocation.NewInvocation.{NewInvocation}
+use Rattle.journal_model.specs.Event.{Event}
+use Rattle.journal_model.specs.Cause.{causes_of}
+use Rattle.store_rows.specs.declared.row.Write.{Write}
+use Rattle.store_rows.specs.Looks.{Looks}
+use Rattle.store_rows.specs.Records.{applied_all}
+use Rattle.store_rows.specs.Steps.{Turns}
+use Rattle.store_model.specs.Writes.{writes_of}
+use Rattle.store_refusals.specs.declared.refusal.Refusal.{Refusal}
+use Rattle.store_refusals.specs.Refused.{is_circumstance, IsRefused}
+use Rattle.new_invocations.specs.Rows.{IsStoreOf}
+use Rattle.new_invocations.proofs.Standing.{store_kept}
+use Rattle.live_attempts.specs.Attempts.{Attempts}
+use Rattle.store_calls.specs.Standing.{Refuses}
+use Rattle.store_calls.specs.Calls.{Invokes}
+use Rattle.journal_store.specs.Stored.{stored}
+use Rattle.journal_store.specs.Stands.{Leads}
+use Rattle.journal_store.proofs.Standing.{stands_asked, stands_invoked, store_still, written}
+use Rattle.journal_store.proofs.Leading.{adds, refuses}
+
+-- it is refused before anything is written
+pub looked : {S : Type 0} (g : Ghosts S) (a b : Held S) (live : Attempts) (event : Event) (why : Refusal) → Looks g a b
+    → (HasCleanDisk (state g b) → (events : List Event) → IsStoreOf events (state g a) → IsRefused (causes_of events event) why)
+    → Leads g (Refuses event why) (stored a live) (stored b live)
+looked g a b live event why looks cause clean s is =
+    refuses g s (stored a live) (stored b live) is event why (cause clean s.events is.stands.kept)
+    (stands_asked s.events (state g a) (state g b) live.attempts looks.crash looks.kept is.stands) (λ id. refl)
+
+-- what was made ready was written, or nothing was
+pub invokes : {S : Type 0} (g : Ghosts S) (a mid b : Held S) (live : Attempts) (new : NewInvocation) (writes : List Write) (result : Result (Unit {0}) Refusal) (Q : Trees → Type 0)
+    → Looks g a mid
+    → (HasCleanDisk (state g mid) → (events : List Event) → IsStoreOf events (state g a) → (causes_of events (Event.Invoke new) ≡ []) × (writes ≡ writes_of events (Event.Invoke new)))
+    → Survives (state g mid) (state g b) Q
+    → (HasCleanDisk (state g b) → OnOk result (IsTrue (state g mid).is_open × Turns (applied_all writes) (state g mid).now.trees (state g b).now.trees))
+    → IfErr result (λ why. IsTrue (is_circumstance why)) → OnErr result (IsKept (state g mid) (state g b)) → Leads g (Invokes new result) (stored a live) (stored b live)
+invokes g a mid b live new writes (Ok done) Q looks ready lives wrote why undone clean s is =
+    let early : HasCleanDisk (state g mid) = omega (arith, lives.clean, clean) in
+    let made = ready early s.events is.stands.kept in
+    let store = store_kept s.events (state g a) (state g mid) looks.crash looks.kept is.stands.kept in
+    let all = wrote clean in
+    let after = written s.events (Event.Invoke new) (state g mid) (state g b) writes store early made.0 made.1 all.0 all.1 in
+    adds g s (stored a live) (stored b live) is (Event.Invoke new) (stands_invoked s.events new (state g b) live.attempts made.0 is.stands.kept.accepted after is.stands.live) (λ id. refl)
+invokes g a mid b live new writes (Err why) Q looks ready lives wrote circumstance undone clean s is =
+    let store = store_kept s.events (state g a) (state g mid) looks.crash looks.kept is.stands.kept in
+    refuses g s (stored a live) (stored b live) is (Event.Invoke new) why (inr circumstance)
+    (record { kept = store_still s.events (state g mid) (state g b) Q lives undone store; live = is.stands.live }) (λ id. refl)

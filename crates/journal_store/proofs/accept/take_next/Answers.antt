@@ -1,0 +1,30 @@
+use Rattle.std.proofs.Common.{sym, ap, subst, ◌∙◌, List, [], ◌∷◌, ◌++◌, Option, Ok}
+use Rattle.taken_frames.specs.declared.frame.FrameReply.{FrameReply}
+use Rattle.store_calls.specs.Frames.{Steps}
+use Rattle.journal_store.specs.Stands.{Leads}
+use Rattle.journal_store.proofs.Accepting.{next_none, next_refused, next_taken, next_unroomed}
+use Rattle.journal_store.proofs.accept.take_next.Goals as goal
+
+pub returns-then-is_err-clause-does : goal.returns-then-is_err-clause-does
+returns-then-is_err-clause-does g c =
+    next_unroomed g.S.Store c.args.id.now c.args.attempt c.args.replies.now.items c.reserve.new.self.items c.reserve.ensures.items c.args.store.now
+
+pub returns-in-Ok-Some-clause-does : goal.returns-in-Ok-Some-clause-does
+returns-in-Ok-Some-clause-does g c =
+    let old = c.args.store.now in
+    let new = c.step.new.self in
+    let reply = c.in-Ok-Some.reply in
+    next_taken g.S.Store c.args.id.now c.args.attempt old new c.args.replies.now.items c.push_reserved.new.self.items reply c.ends_attempt.result (sym c.ends_attempt.ensures.value)
+    (c.push_reserved.ensures.items ∙ ap (λ (all : List FrameReply). all ++ reply ∷ []) c.reserve.ensures.items)
+    (subst (λ (o : Option FrameReply). Leads g.S.Store (Steps c.args.id.now c.args.attempt (Ok o)) old new) c.in-Ok-Some.field-0-is c.in-Ok-Some.ensures.does)
+
+pub returns-in-Ok-None-clause-does : goal.returns-in-Ok-None-clause-does
+returns-in-Ok-None-clause-does g c =
+    let old = c.args.store.now in
+    let new = c.step.new.self in
+    next_none g.S.Store c.args.id.now c.args.attempt old new c.args.replies.now.items c.reserve.new.self.items c.reserve.ensures.items
+    (subst (λ (o : Option FrameReply). Leads g.S.Store (Steps c.args.id.now c.args.attempt (Ok o)) old new) c.in-Ok-None.field-0-is c.in-Ok-None.ensures.does)
+
+pub returns-in-Err-clause-does : goal.returns-in-Err-clause-does
+returns-in-Err-clause-does g c =
+    next_refused g.S.Store c.args.id.now c.args.attempt c.args.store.now c.step.new.self c.args.replies.now.items c.reserve.new.self.items c.in-Err.why c.reserve.ensures.items c.in-Err.ensures.does

@@ -1,0 +1,76 @@
+-- What each call of a store answers, and what the store stands for then.
+use Rattle.std.specs.Prelude.{◌≡◌, ◌+◌, ℕ, Bool, true, false, length, [], ◌++◌, take, Some, None, Result, Ok, Err}
+use Rattle.journal_model.specs.Notification.{Bytes, Text}
+use Rattle.journal_model.specs.declared.invocation.NewInvocation.{NewInvocation}
+use Rattle.journal_model.specs.declared.notification.NotificationResult.{NotificationResult}
+use Rattle.journal_model.specs.Event.{Event}
+use Rattle.journal_model.specs.Spelling.{frame_bytes}
+use Rattle.journal_model.specs.Journal.{version_of, entries_of}
+use Rattle.journal_model.specs.Attempt.{attempts_begun, is_live, input_left}
+use Rattle.journal_model.specs.Start.{start_payload}
+use Rattle.journal_model.specs.Cause.{causes_of}
+use Rattle.store_refusals.specs.declared.refusal.Refusal.{Refusal}
+use Rattle.store_refusals.specs.declared.refusal.Refusal.TheVariants.{OutOfMemory}
+use Rattle.store_refusals.specs.Refused.{IsRefused}
+use Rattle.store_calls.specs.declared.begun.BegunAttempt.{BegunAttempt}
+use Rattle.store_calls.specs.Standing.{Standing, KeepsOthers, Stays, Adds, Leaves, Refuses}
+
+abbrev pub Invokes : NewInvocation → Result (Unit {0}) Refusal → Standing → Standing → Type 0
+Invokes one (Ok done) old new = Adds (Event.Invoke one) old new
+Invokes one (Err why) old new = Refuses (Event.Invoke one) why old new
+
+-- a result takes the next place of the journal
+abbrev pub Completes : Text → (completion : ℕ) → NotificationResult → Result ℕ Refusal → Standing → Standing → Type 0
+Completes id completion brought (Ok place) old new = (place ≡ 1 + length (entries_of old.events id)) × Adds (Event.Complete id completion brought) old new
+Completes id completion brought (Err why) old new = Refuses (Event.Complete id completion brought) why old new
+
+-- the attempt has the next number, and is told the state and the journal of this moment; nothing waits of it
+pub record Begins (id : Text) (now : ℕ) (begun : BegunAttempt) (old new : Standing) : Type 0 where
+  pub number : begun.number ≡ 1 + attempts_begun old.events id
+  pub version : begun.version ≡ version_of old.events id
+  pub start : begun.start ≡ frame_bytes 0x0000 (start_payload old.events id now)
+  pub leaves : Leaves (Event.Begin id now) id (Some []) old new
+
+abbrev pub BeginsAttempt : Text → (now : ℕ) → Result BegunAttempt Refusal → Standing → Standing → Type 0
+BeginsAttempt id now (Ok begun) old new = Begins id now begun old new
+BeginsAttempt id now (Err why) old new = Refuses (Event.Begin id now) why old new
+
+-- the next bytes of its input are handed to the live attempt
+abbrev pub HandsOut : Text → (attempt most : ℕ) → Result Bytes Refusal → Standing → Standing → Type 0
+HandsOut id attempt most (Ok bytes) old new = (bytes ≡ take most (input_left old.events id)) × Adds (Event.HandOut id attempt most) old new
+HandsOut id attempt most (Err why) old new = Refuses (Event.HandOut id attempt most) why old new
+
+-- no more is handed to it
+abbrev pub ClosesInput : Text → (attempt : ℕ) → Result (Unit {0}) Refusal → Standing → Standing → Type 0
+ClosesInput id attempt (Ok done) old new = Adds (Event.CloseInput id attempt) old new
+ClosesInput id attempt (Err why) old new = Refuses (Event.CloseInput id attempt) why old new
+
+-- ---- what a live attempt cannot be refused
+
+-- Of an attempt that is not live a call is refused as a stop would be; of a live one for want of memory alone.
+abbrev pub RefusesBytes : (is_live : Bool) → Text → (attempt : ℕ) → Refusal → Standing → Standing → Type 0
+RefusesBytes true id attempt why old new = (why ≡ OutOfMemory) × Stays old new
+RefusesBytes false id attempt why old new = Refuses (Event.Stop id attempt) why old new
+
+-- bytes of the live attempt are put behind those that wait
+pub record PutsBehind (id : Text) (attempt : ℕ) (bytes : Bytes) (old new : Standing) : Type 0 where
+  pub live : is_live old.events id attempt ≡ true
+  pub events : new.events ≡ old.events
+  pub before : Bytes
+  pub waits : old.outputs id ≡ Some before
+  pub own : new.outputs id ≡ Some (before ++ bytes)
+  pub others : KeepsOthers id old new
+
+abbrev pub Feeds : Text → (attempt : ℕ) → Bytes → Result (Unit {0}) Refusal → Standing → Standing → Type 0
+Feeds id attempt bytes (Ok done) old new = PutsBehind id attempt bytes old new
+Feeds id attempt bytes (Err why) old new = RefusesBytes (is_live old.events id attempt) id attempt why old new
+
+-- a stop of a live attempt is never refused
+pub record RefusesStop (id : Text) (attempt : ℕ) (why : Refusal) (old new : Standing) : Type 0 where
+  pub dead : is_live old.events id attempt ≡ false
+  pub cause : IsRefused (causes_of old.events (Event.Stop id attempt)) why
+  pub stays : Stays old new
+
+abbrev pub Stops : Text → (attempt : ℕ) → Result (Unit {0}) Refusal → Standing → Standing → Type 0
+Stops id attempt (Ok done) old new = Leaves (Event.Stop id attempt) id None old new
+Stops id attempt (Err why) old new = RefusesStop id attempt why old new
