@@ -18,8 +18,8 @@ trap 'rm -rf "$built"' EXIT
 
 # The statements of both are the same.
 grep -o '"[A-Z]* [^"]* [^"]*"' sqlite_times.c | while read -r text; do
-    if ! grep -qF "$text" ../crates/store_rows/src/*.rt; then
-        echo "store_rows has no such statement: $text" >&2
+    if ! grep -qF "$text" ../crates/store_tables/src/*.rt; then
+        echo "store_tables has no such statement: $text" >&2
         exit 1
     fi
 done

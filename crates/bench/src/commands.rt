@@ -3,21 +3,21 @@ use crate::samples::place_of;
 use crate::timing::{Clocked, time_messages};
 use anyhow::{Result, bail};
 use bytes::Bytes;
-use call_records::{
+use protocol_calls::{
     AttachInvocationCommandMessage, CallCommandMessage, CompleteAwakeableCommandMessage,
     GetInvocationOutputCommandMessage, OneWayCallCommandMessage, SendSignalCommandMessage,
 };
-use command_records::{
+use protocol_commands::{
     ClearAllStateCommandMessage, ClearStateCommandMessage, CompletePromiseCommandMessage,
     GetEagerStateCommandMessage, GetEagerStateKeysCommandMessage, GetLazyStateCommandMessage,
     GetLazyStateKeysCommandMessage, GetPromiseCommandMessage, PeekPromiseCommandMessage,
     RunCommandMessage, SetStateCommandMessage,
 };
-use journal_protocol::{RawMessage, Version};
+use protocol_stream::{RawMessage, Version};
 use protocol_records::{InputCommandMessage, OutputCommandMessage, SleepCommandMessage};
 use std::alloc::Global;
 use std::time::CpuClock;
-use typed_messages::{Encoder, PlainMessage, RawMessageExt, RestateMessage};
+use protocol_messages::{Encoder, PlainMessage, RawMessageExt, RestateMessage};
 
 // Calls a function at the record of the command at a place.
 macro_rules! at_place {

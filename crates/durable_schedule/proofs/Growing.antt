@@ -8,20 +8,20 @@ use Rattle.journal_model.specs.Attempt.{is_live}
 use Rattle.invocation_vm.specs.declared.options.VMOptions.{VMOptions}
 use Rattle.invocation_vm.specs.View.{AttemptView}
 use Rattle.store_refusals.specs.declared.refusal.Refusal.{Refusal}
-use Rattle.schedule_events.specs.declared.event.Event as scheduled
-use Rattle.schedule_events.specs.declared.event.Event.TheVariants as event
-use Rattle.schedule_events.specs.declared.event.Reply.{Reply}
-use Rattle.schedule_events.specs.declared.event.Reply.TheVariants as reply
-use Rattle.schedule_events.specs.declared.event.Refusal.TheVariants as refusal
-use Rattle.schedule_events.specs.declared.held.HeldAttempt.{HeldAttempt}
-use Rattle.taken_frames.specs.declared.frame.FrameReply.{FrameReply}
-use Rattle.taken_frames.specs.Taken.{lies_in_frame}
+use Rattle.schedule_model.specs.declared.event.Event as scheduled
+use Rattle.schedule_model.specs.declared.event.Event.TheVariants as event
+use Rattle.schedule_model.specs.declared.event.Reply.{Reply}
+use Rattle.schedule_model.specs.declared.event.Reply.TheVariants as reply
+use Rattle.schedule_model.specs.declared.event.Refusal.TheVariants as refusal
+use Rattle.schedule_model.specs.declared.held.HeldAttempt.{HeldAttempt}
+use Rattle.store_steps.specs.declared.frame.FrameReply.{FrameReply}
+use Rattle.store_steps.specs.Taken.{lies_in_frame}
 use Rattle.store_calls.specs.Standing.{Standing, Stays, Refuses}
 use Rattle.store_calls.specs.Calls.{Invokes, Stops}
 use Rattle.store_calls.specs.Frames.{Accepts, LeavesRefused, Rests, TakesEach}
 use Rattle.store_calls.proofs.Taking.{bytes_stay}
-use Rattle.schedule_events.specs.Following.{held_of}
-use Rattle.schedule_events.specs.Schedule.{RepliesDone, BeginDoes, FeedsOne, TurnsOne, MovesOne, IfHeld, Does, Scheduled, AppliesAll}
+use Rattle.schedule_model.specs.Following.{held_of}
+use Rattle.schedule_model.specs.Schedule.{RepliesDone, BeginDoes, FeedsOne, TurnsOne, MovesOne, IfHeld, Does, Scheduled, AppliesAll}
 
 -- the events of the one are the first of the other's
 abbrev pub Grows : Standing → Standing → Type 0

@@ -1,8 +1,8 @@
 -- What a crash leaves of a move.
 use Rattle.std.proofs.Common.{◌≡◌, refl, subst, ℕ, List, ◌∷◌, length, min, take, drop, Some, inl}
 use Rattle.store_refusals.specs.declared.refusal.Refusal.TheVariants.{OutOfMemory}
-use Rattle.schedule_events.specs.declared.event.Reply.TheVariants as reply
-use Rattle.schedule_events.specs.declared.held.HeldAttempt.{HeldAttempt}
+use Rattle.schedule_model.specs.declared.event.Reply.TheVariants as reply
+use Rattle.schedule_model.specs.declared.held.HeldAttempt.{HeldAttempt}
 use Rattle.store_calls.specs.Standing.{Standing}
 use Rattle.store_calls.specs.Calls.{PutsBehind}
 use Rattle.store_calls.specs.Frames.{AcceptsFirst}

@@ -10,20 +10,20 @@ use Rattle.journal_model.specs.Event.{Event as Accepted}
 use Rattle.journal_model.specs.Cause.{IsAccepted}
 use Rattle.journal_model.specs.Run.{Handler}
 use Rattle.invocation_vm.specs.declared.options.VMOptions.{VMOptions}
-use Rattle.live_attempts.specs.Attempts.{Attempts}
+use Rattle.store_live.specs.Attempts.{Attempts}
 use Rattle.store_refusals.specs.declared.refusal.Refusal.TheVariants.{OutOfMemory}
 use Rattle.journal_store.specs.Stored.{Stored}
 use Rattle.journal_store.specs.Stands.{Stands as StandsFor, IsStanding, Leads, Keeps, Endures, KeepsAll, output_of}
-use Rattle.schedule_events.specs.declared.event.Event.{Event}
-use Rattle.schedule_events.specs.declared.event.Event.TheVariants as event
-use Rattle.schedule_events.specs.declared.event.Reply.{Reply}
-use Rattle.schedule_events.specs.declared.event.Reply.TheVariants as reply
-use Rattle.schedule_events.specs.declared.event.Refusal.TheVariants as refusal
-use Rattle.schedule_events.specs.declared.held.HeldAttempt.{HeldAttempt}
+use Rattle.schedule_model.specs.declared.event.Event.{Event}
+use Rattle.schedule_model.specs.declared.event.Event.TheVariants as event
+use Rattle.schedule_model.specs.declared.event.Reply.{Reply}
+use Rattle.schedule_model.specs.declared.event.Reply.TheVariants as reply
+use Rattle.schedule_model.specs.declared.event.Refusal.TheVariants as refusal
+use Rattle.schedule_model.specs.declared.held.HeldAttempt.{HeldAttempt}
 use Rattle.store_calls.specs.Standing.{Standing}
-use Rattle.schedule_events.specs.Schedule.{Scheduled, Does, Applies, AppliesAll, Brings, FitsEvent}
-use Rattle.schedule_events.specs.Laws.{LeavesRuns}
-use Rattle.schedule_events.proofs.Applying.{schedules_grow}
+use Rattle.schedule_model.specs.Schedule.{Scheduled, Does, Applies, AppliesAll, Brings, FitsEvent}
+use Rattle.schedule_model.specs.Laws.{LeavesRuns}
+use Rattle.schedule_model.proofs.Applying.{schedules_grow}
 use Rattle.durable_schedule.specs.declared.scheduler.Scheduler.{Scheduler}
 use Rattle.durable_schedule.specs.Scheduled.{IsScheduled, KeepsMore, Extends, AppliesWith, AppliesFirst, FollowRuns, at_first}
 use Rattle.journal_store.proofs.Leading.{stood}

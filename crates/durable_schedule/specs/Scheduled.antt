@@ -16,12 +16,12 @@ use Rattle.invocation_vm.specs.First.{given_by}
 use Rattle.invocation_vm.specs.View.{AttemptView}
 use Rattle.journal_store.specs.Stored.{Stored}
 use Rattle.journal_store.specs.Stands.{Stands, IsStanding, KeepsAll}
-use Rattle.schedule_events.specs.declared.event.Event as scheduled
-use Rattle.schedule_events.specs.declared.event.Reply.{Reply}
-use Rattle.schedule_events.specs.declared.held.HeldAttempt.{HeldAttempt}
+use Rattle.schedule_model.specs.declared.event.Event as scheduled
+use Rattle.schedule_model.specs.declared.event.Reply.{Reply}
+use Rattle.schedule_model.specs.declared.held.HeldAttempt.{HeldAttempt}
 use Rattle.store_calls.specs.Standing.{Standing}
-use Rattle.schedule_events.specs.Schedule.{Scheduled, MovesOne, Does, AppliesAll, Brings}
-use Rattle.schedule_events.specs.Following.{IsBeginningOfRun}
+use Rattle.schedule_model.specs.Schedule.{Scheduled, MovesOne, Does, AppliesAll, Brings}
+use Rattle.schedule_model.specs.Following.{IsBeginningOfRun}
 use Rattle.durable_schedule.specs.declared.scheduler.Scheduler.{Scheduler}
 
 -- the tables keep these events and further ones in front of them, all of which were accepted, in this relation to those from before

@@ -1,14 +1,14 @@
 //! The ways of the bytes between an attempt that is held and the store.
 ghost use Rattle.std.specs.Prelude.{◌≡◌, position};
-ghost use Rattle.schedule_events.specs.Following.{is_held};
+ghost use Rattle.schedule_model.specs.Following.{is_held};
 ghost use Rattle.journal_store.specs.Stands.{Endures, IsQuiet, Leads};
-ghost use Rattle.schedule_events.specs.Schedule.{FeedsOne, MovesOne};
+ghost use Rattle.schedule_model.specs.Schedule.{FeedsOne, MovesOne};
 ghost use Rattle.durable_schedule.specs.Scheduled.{MovesSome};
 
 use bytes::ByteStr;
 use journal_model::Handler;
 use journal_store::Store;
-use schedule_events::{HeldAttempt, Refusal, Reply};
+use schedule_model::{HeldAttempt, Refusal, Reply};
 use sqlite::Alter;
 
 /// Whether it is this attempt.

@@ -5,27 +5,27 @@ ghost use Rattle.sqlite.specs.State.{HasCleanDisk};
 ghost use Rattle.journal_model.specs.Event.{Event as Accepted};
 ghost use Rattle.journal_model.specs.Journal.{entries_of, is_open as is_open_after, recorded_arrivals, recorded_requests};
 ghost use Rattle.store_model.specs.Progress.{last_error_of};
-ghost use Rattle.new_invocations.specs.Rows.{Decides, known_tests};
-ghost use Rattle.invocation_reads.specs.Told.{arrival_told, request_told};
-ghost use Rattle.invocation_reads.specs.Answered.{Answers};
+ghost use Rattle.store_invocations.specs.Rows.{Decides, known_tests};
+ghost use Rattle.store_reads.specs.Told.{arrival_told, request_told};
+ghost use Rattle.store_reads.specs.Answered.{Answers};
 ghost use Rattle.store_calls.specs.declared.begun.BegunAttempt.{BegunAttempt};
 ghost use Rattle.store_calls.specs.Standing.{Adds, Standing};
 ghost use Rattle.store_calls.specs.Calls.{Begins, Invokes, Stops};
 ghost use Rattle.journal_store.specs.Stands.{Endures, IsQuiet, IsStanding, Leads, Stands};
-ghost use Rattle.schedule_events.specs.Following.{held_of};
-ghost use Rattle.schedule_events.specs.Schedule.{RepliesDone, BeginDoes, IfHeld, FeedsOne, TurnsOne, MovesOne, Applies, AppliesAll, FitsEvent, Scheduled};
+ghost use Rattle.schedule_model.specs.Following.{held_of};
+ghost use Rattle.schedule_model.specs.Schedule.{RepliesDone, BeginDoes, IfHeld, FeedsOne, TurnsOne, MovesOne, Applies, AppliesAll, FitsEvent, Scheduled};
 ghost use Rattle.durable_schedule.specs.Scheduled.{AppliesFirst, AppliesWith, Extends, FollowRuns, IsScheduled, at_first};
 
 use crate::held::{hand_out, place_of, take_in};
 use bytes::ByteStr;
-use invocation_reads::RecordedFrame;
+use store_reads::RecordedFrame;
 use invocation_vm::{Attempt, VMOptions};
 use journal_model::{Handler, NewInvocation, NonEmptyValue};
 use journal_store::Store;
-use schedule_events::{Event, HeldAttempt, Refusal, Reply};
+use schedule_model::{Event, HeldAttempt, Refusal, Reply};
 use sqlite::Alter;
 use std::alloc::Global;
-use store_rows::LastError;
+use store_tables::LastError;
 
 /// A store, and the attempts that were begun: one that was stopped or overtaken can still make turns, and its bytes are refused.
 #[derive(Drop)]

@@ -7,13 +7,13 @@ use Rattle.journal_model.specs.Notification.{Text}
 use Rattle.journal_model.specs.Run.{Handler}
 use Rattle.invocation_vm.specs.declared.progress.Turn.TheVariants.{Answered}
 use Rattle.invocation_vm.specs.Options.{default_options}
-use Rattle.schedule_events.specs.declared.event.Event.{Event}
-use Rattle.schedule_events.specs.declared.event.Event.TheVariants as event
-use Rattle.schedule_events.specs.declared.event.Reply.{Reply}
-use Rattle.schedule_events.specs.declared.event.Reply.TheVariants.{Turned}
-use Rattle.schedule_events.specs.Schedule.{Scheduled, Applies, AppliesAll, Brings, FitsEvent}
-use Rattle.schedule_events.proofs.Applying.{schedules_grow}
-use Rattle.schedule_events.proofs.Leaving.{leaves_runs}
+use Rattle.schedule_model.specs.declared.event.Event.{Event}
+use Rattle.schedule_model.specs.declared.event.Event.TheVariants as event
+use Rattle.schedule_model.specs.declared.event.Reply.{Reply}
+use Rattle.schedule_model.specs.declared.event.Reply.TheVariants.{Turned}
+use Rattle.schedule_model.specs.Schedule.{Scheduled, Applies, AppliesAll, Brings, FitsEvent}
+use Rattle.schedule_model.proofs.Applying.{schedules_grow}
+use Rattle.schedule_model.proofs.Leaving.{leaves_runs}
 use Rattle.durable_schedule.proofs.Growing.{Grows, all_grow}
 use Rattle.durable_schedule.proofs.Scheduling.{each_more}
 use Rattle.script_lines.specs.declared.line.Line.{Line}

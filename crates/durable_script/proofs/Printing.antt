@@ -5,10 +5,10 @@ use Rattle.built_in_handlers.specs.declared.built_in.BuiltIn.{BuiltIn}
 use Rattle.built_in_handlers.specs.BuiltIn.{function_of}
 use Rattle.journal_model.specs.Notification.{Text}
 use Rattle.invocation_vm.specs.Options.{default_options}
-use Rattle.schedule_events.specs.declared.event.Event.{Event}
-use Rattle.schedule_events.specs.declared.event.Event.TheVariants as event
-use Rattle.schedule_events.specs.declared.event.Reply.{Reply}
-use Rattle.schedule_events.specs.Schedule.{Scheduled, Applies}
+use Rattle.schedule_model.specs.declared.event.Event.{Event}
+use Rattle.schedule_model.specs.declared.event.Event.TheVariants as event
+use Rattle.schedule_model.specs.declared.event.Reply.{Reply}
+use Rattle.schedule_model.specs.Schedule.{Scheduled, Applies}
 use Rattle.durable_schedule.specs.declared.scheduler.Scheduler.{Scheduler}
 use Rattle.script_lines.specs.declared.line.Line.TheVariants as line
 use Rattle.script_lines.specs.declared.word.HandlerName.{HandlerName}

@@ -10,10 +10,10 @@ use Rattle.journal_model.specs.Event as model
 use Rattle.invocation_vm.specs.declared.options.VMOptions.{VMOptions}
 use Rattle.invocation_vm.specs.Options.{default_options}
 use Rattle.journal_store.specs.Stored.{Stored}
-use Rattle.schedule_events.specs.declared.event.Event.{Event}
-use Rattle.schedule_events.specs.declared.event.Reply.{Reply}
-use Rattle.schedule_events.specs.declared.held.HeldAttempt.{HeldAttempt}
-use Rattle.schedule_events.specs.Schedule.{Scheduled, Does, Applies}
+use Rattle.schedule_model.specs.declared.event.Event.{Event}
+use Rattle.schedule_model.specs.declared.event.Reply.{Reply}
+use Rattle.schedule_model.specs.declared.held.HeldAttempt.{HeldAttempt}
+use Rattle.schedule_model.specs.Schedule.{Scheduled, Does, Applies}
 use Rattle.durable_schedule.specs.declared.scheduler.Scheduler.{Scheduler}
 use Rattle.journal_store.specs.Stands.{Endures, Keeps}
 use Rattle.durable_schedule.specs.Scheduled.{AppliesWith, IsScheduled}

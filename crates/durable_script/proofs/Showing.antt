@@ -10,10 +10,10 @@ use Rattle.journal_model.specs.Cause.{those_that_hold}
 use Rattle.store_refusals.specs.declared.refusal.Refusal.{Refusal}
 use Rattle.store_refusals.specs.Names.{name_of}
 use Rattle.store_refusals.specs.Refused.{IsRefused}
-use Rattle.new_invocations.specs.Rows.{known_tests}
-use Rattle.invocation_reads.specs.declared.entries.RecordedFrame.{RecordedFrame}
-use Rattle.invocation_reads.specs.Told.{request_told}
-use Rattle.invocation_reads.specs.Answered.{Answers}
+use Rattle.store_invocations.specs.Rows.{known_tests}
+use Rattle.store_reads.specs.declared.entries.RecordedFrame.{RecordedFrame}
+use Rattle.store_reads.specs.Told.{request_told}
+use Rattle.store_reads.specs.Answered.{Answers}
 use Rattle.durable_schedule.specs.declared.scheduler.Scheduler.{Scheduler}
 use Rattle.script_lines.specs.Text.{request_line, refused_text}
 use Rattle.durable_script.specs.Reaching.{Reaches, Nowhere}

@@ -6,10 +6,10 @@ use Rattle.built_in_handlers.specs.BuiltIn.{function_of}
 use Rattle.journal_model.specs.Notification.{Text}
 use Rattle.invocation_vm.specs.declared.progress.Turn.TheVariants as turn
 use Rattle.invocation_vm.specs.Options.{default_options}
-use Rattle.schedule_events.specs.declared.event.Event.TheVariants as event
-use Rattle.schedule_events.specs.declared.event.Reply.{Reply}
-use Rattle.schedule_events.specs.declared.event.Reply.TheVariants as reply
-use Rattle.schedule_events.specs.Schedule.{Applies}
+use Rattle.schedule_model.specs.declared.event.Event.TheVariants as event
+use Rattle.schedule_model.specs.declared.event.Reply.{Reply}
+use Rattle.schedule_model.specs.declared.event.Reply.TheVariants as reply
+use Rattle.schedule_model.specs.Schedule.{Applies}
 use Rattle.durable_schedule.specs.declared.scheduler.Scheduler.{Scheduler}
 use Rattle.durable_script.specs.Line.{was_answered, AnsweredTurns, TookTurns}
 use Rattle.durable_script.specs.Reaching.{Reaches, Nowhere}

@@ -9,11 +9,11 @@ use Rattle.journal_model.specs.declared.invocation.StateMode as model
 use Rattle.journal_model.specs.declared.invocation.StateMode.TheVariants as mode
 use Rattle.invocation_vm.specs.declared.progress.Turn.TheVariants.{Answered}
 use Rattle.invocation_vm.specs.Options.{default_options}
-use Rattle.schedule_events.specs.declared.event.Event.{Event}
-use Rattle.schedule_events.specs.declared.event.Event.TheVariants as event
-use Rattle.schedule_events.specs.declared.event.Reply.{Reply}
-use Rattle.schedule_events.specs.declared.event.Reply.TheVariants.{Turned}
-use Rattle.schedule_events.specs.Schedule.{Scheduled, Applies}
+use Rattle.schedule_model.specs.declared.event.Event.{Event}
+use Rattle.schedule_model.specs.declared.event.Event.TheVariants as event
+use Rattle.schedule_model.specs.declared.event.Reply.{Reply}
+use Rattle.schedule_model.specs.declared.event.Reply.TheVariants.{Turned}
+use Rattle.schedule_model.specs.Schedule.{Scheduled, Applies}
 use Rattle.script_lines.specs.declared.line.Line.{Line}
 use Rattle.script_lines.specs.declared.line.Line.TheVariants.{Invoke, Begin, Feed, Turn, Move, Stop, Show}
 use Rattle.script_lines.specs.Word.{handler_word}

@@ -4,9 +4,9 @@ use Rattle.invocation_vm.specs.declared.progress.Turn.{Turn}
 use Rattle.invocation_vm.specs.declared.progress.Turn.TheVariants as turn
 use Rattle.invocation_vm.specs.Failure.{code_of}
 use Rattle.store_refusals.specs.Names as store
-use Rattle.schedule_events.specs.declared.event.Reply.{Reply}
-use Rattle.schedule_events.specs.declared.event.Reply.TheVariants as reply
-use Rattle.schedule_events.specs.Names.{name_of}
+use Rattle.schedule_model.specs.declared.event.Reply.{Reply}
+use Rattle.schedule_model.specs.declared.event.Reply.TheVariants as reply
+use Rattle.schedule_model.specs.Names.{name_of}
 use Rattle.script_lines.specs.declared.text.LastTurn.{LastTurn}
 use Rattle.script_lines.specs.declared.text.LastTurn.TheVariants as last
 use Rattle.script_lines.specs.declared.text.LineReply.TheVariants.{Done, Begun, Fed, Turned}

@@ -7,7 +7,7 @@ use Rattle.sqlite.specs.Held.{state}
 use Rattle.built_in_handlers.specs.declared.built_in.BuiltIn.{BuiltIn}
 use Rattle.invocation_vm.specs.Options.{default_options}
 use Rattle.journal_store.specs.Stands.{KeepsAll}
-use Rattle.schedule_events.specs.Schedule.{Scheduled}
+use Rattle.schedule_model.specs.Schedule.{Scheduled}
 use Rattle.durable_schedule.specs.declared.scheduler.Scheduler.{Scheduler}
 use Rattle.durable_schedule.specs.Scheduled.{IsScheduled}
 

@@ -15,8 +15,8 @@ use Rattle.invocation_vm.specs.First.{given_by}
 use Rattle.journal_store.specs.Stored.{Stored}
 use Rattle.journal_store.specs.Stands.{Stands, IsStanding}
 use Rattle.store_calls.specs.Standing.{Standing}
-use Rattle.schedule_events.specs.Following.{IsBeginningOfRun}
-use Rattle.schedule_events.specs.Schedule.{Scheduled}
+use Rattle.schedule_model.specs.Following.{IsBeginningOfRun}
+use Rattle.schedule_model.specs.Schedule.{Scheduled}
 use Rattle.durable_schedule.specs.Scheduled.{Extends, at_first}
 use Rattle.built_in_handlers.specs.BuiltIn.{function_of}
 use Rattle.built_in_handlers.specs.Handlers.{nap_until}

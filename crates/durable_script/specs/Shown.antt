@@ -8,10 +8,10 @@ use Rattle.journal_model.specs.Event.{Event}
 use Rattle.journal_model.specs.Journal.{recorded_requests, is_open}
 use Rattle.store_refusals.specs.declared.refusal.Refusal.{Refusal}
 use Rattle.store_refusals.specs.Names.{name_of}
-use Rattle.invocation_reads.specs.declared.entries.RecordedFrame.{RecordedFrame}
-use Rattle.invocation_reads.specs.Told.{request_told}
-use Rattle.invocation_reads.specs.Answered.{Answers}
-use Rattle.schedule_events.specs.Schedule.{Scheduled}
+use Rattle.store_reads.specs.declared.entries.RecordedFrame.{RecordedFrame}
+use Rattle.store_reads.specs.Told.{request_told}
+use Rattle.store_reads.specs.Answered.{Answers}
+use Rattle.schedule_model.specs.Schedule.{Scheduled}
 use Rattle.script_lines.specs.Text.{request_line, value_line, failure_line, open_text, refused_text}
 
 -- a line for each request, the first of which has this place

@@ -4,7 +4,7 @@ ghost use Rattle.script_lines.specs.Text.{reply_text};
 ghost use Rattle.durable_script.specs.Printed.{word_of, printed};
 
 use invocation_vm::Turn;
-use schedule_events::Reply;
+use schedule_model::Reply;
 use script_lines::text::{LastTurn, LineReply};
 use std::alloc::{AllocError, Global};
 

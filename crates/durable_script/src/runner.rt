@@ -18,7 +18,7 @@ use durable_schedule::Scheduler;
 use invocation_vm::{Turn, VMOptions};
 use journal_model::NewInvocation;
 use journal_store::Store;
-use schedule_events::{Event, Reply};
+use schedule_model::{Event, Reply};
 use script_lines::line::{Line, parse_line};
 use script_lines::text::LineReply;
 use script_lines::word::{HandlerName, StateMode};

@@ -9,7 +9,7 @@ use crate::reply::reply_line;
 use built_in_handlers::BuiltIn;
 use bytes::ByteStr;
 use durable_schedule::Scheduler;
-use invocation_reads::RecordedFrame;
+use store_reads::RecordedFrame;
 use journal_model::NonEmptyValue;
 use script_lines::text::{LineReply, ShownAnswer, ShownOpenness, ShownRequest};
 use sqlite::Alter;

@@ -2,11 +2,11 @@
 #![tactic(auto)]
 
 use anyhow::Result;
-use journal_protocol::{Decoder, MessageType};
+use protocol_stream::{Decoder, MessageType};
 use protocol_records::SleepCommandMessage;
 use std::alloc::Global;
 use std::{env, fs};
-use typed_messages::RawMessageExt;
+use protocol_messages::RawMessageExt;
 
 fn show_journal<R: Print>(rt: &R, alloc: Global, journal: &[u8]) -> Result<()> {
     let mut decoder = Decoder::new(alloc);

@@ -9,14 +9,14 @@ use Rattle.protocol_wire.specs.Check.{payload_fault}
 use Rattle.protocol_wire.specs.Decodes.{IsRead}
 use Rattle.protocol_wire.specs.declared.record.TheConstants.{LEVELS}
 use Rattle.protocol_table.specs.declared.table.RecordType.{RecordType}
-use Rattle.journal_protocol.specs.declared.message_type.MessageType.{MessageType}
-use Rattle.journal_protocol.specs.declared.decoder.RawMessage.{RawMessage}
-use Rattle.journal_protocol.specs.MessageType.{number_of}
-use Rattle.journal_protocol.specs.Header.{message_type}
-use Rattle.journal_protocol.specs.Item.{Item, item_at, unknown, message}
-use Rattle.journal_protocol.specs.Frame.{spelled, message_of, IsFrame}
-use Rattle.journal_protocol.proofs.Streams.{item_at-short, item_at-whole}
-use Rattle.journal_protocol.proofs.Spellings.{spelled-frame_bytes}
+use Rattle.protocol_stream.specs.declared.message_type.MessageType.{MessageType}
+use Rattle.protocol_stream.specs.declared.decoder.RawMessage.{RawMessage}
+use Rattle.protocol_stream.specs.MessageType.{number_of}
+use Rattle.protocol_stream.specs.Header.{message_type}
+use Rattle.protocol_stream.specs.Item.{Item, item_at, unknown, message}
+use Rattle.protocol_stream.specs.Frame.{spelled, message_of, IsFrame}
+use Rattle.protocol_stream.proofs.Streams.{item_at-short, item_at-whole}
+use Rattle.protocol_stream.proofs.Spellings.{spelled-frame_bytes}
 use Rattle.journal_model.specs.Spelling.{frame_bytes}
 use Rattle.invocation_vm.specs.declared.failure.AttemptFailure.{AttemptFailure}
 use Rattle.invocation_vm.specs.Preflight.{TakesMessage, ReadsRecord}

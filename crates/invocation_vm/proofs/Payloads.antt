@@ -6,8 +6,8 @@ use Rattle.protocol_records.specs.AwaitingOn.{awaiting_on_parts}
 use Rattle.journal_model.specs.declared.notification.NotificationId.{NotificationId}
 use Rattle.journal_model.specs.declared.options.ImplicitCancellationOption.{ImplicitCancellationOption}
 use Rattle.journal_model.specs.Spelling.{varint_groups, varint, plain_number, repeated_bytes, bytes_field, packed_numbers, suspension_payload, future_payload}
-use Rattle.journal_protocol.specs.Records.{awaiting_on_record}
-use Rattle.journal_protocol.proofs.RecordSpellings.{awaiting_on_spelled}
+use Rattle.protocol_stream.specs.Records.{awaiting_on_record}
+use Rattle.protocol_stream.proofs.RecordSpellings.{awaiting_on_spelled}
 use Rattle.invocation_vm.specs.Commands.{completions_awaited, names_awaited, signals_awaited, awaiting_on_message}
 use Rattle.invocation_vm.specs.Frames.{tree_awaited}
 

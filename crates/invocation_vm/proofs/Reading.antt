@@ -22,8 +22,8 @@ use Rattle.protocol_records.specs.InputCommand.{input_command_of, input_command_
 use Rattle.journal_model.specs.declared.call.Header.{Header}
 use Rattle.journal_model.specs.declared.invocation.NewInvocation.{NewInvocation}
 use Rattle.journal_model.specs.State.{StateMap}
-use Rattle.journal_protocol.specs.Records.{header_record, header_told, is_partial, state_shown, input_record, start_record}
-use Rattle.journal_protocol.proofs.RecordSpellings.{starts_spelled, inputs_spelled}
+use Rattle.protocol_stream.specs.Records.{header_record, header_told, is_partial, state_shown, input_record, start_record}
+use Rattle.protocol_stream.proofs.RecordSpellings.{starts_spelled, inputs_spelled}
 use Rattle.invocation_vm.specs.declared.options.VMOptions.{VMOptions}
 use Rattle.invocation_vm.specs.Preflight.{input_given, from_version_7}
 use Rattle.invocation_vm.proofs.Sizes.{number_holds, bool_holds, bytes_hold, optional_holds, repeated_hold, fields_are, small_as}

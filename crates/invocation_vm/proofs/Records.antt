@@ -1,10 +1,10 @@
 -- A message that was taken, read as a record.
 use Rattle.std.proofs.Common.{◌≡◌, refl, ℕ, List, Some}
 use Rattle.protocol_table.specs.declared.table.RecordType.{RecordType}
-use Rattle.journal_protocol.specs.declared.message_type.MessageType.{MessageType}
-use Rattle.journal_protocol.specs.declared.decoder.RawMessage.{RawMessage}
-use Rattle.journal_protocol.specs.Header.{message_type}
-use Rattle.journal_protocol.specs.Item.{item_at, message}
+use Rattle.protocol_stream.specs.declared.message_type.MessageType.{MessageType}
+use Rattle.protocol_stream.specs.declared.decoder.RawMessage.{RawMessage}
+use Rattle.protocol_stream.specs.Header.{message_type}
+use Rattle.protocol_stream.specs.Item.{item_at, message}
 use Rattle.invocation_vm.specs.declared.failure.AttemptFailure.{AttemptFailure}
 use Rattle.invocation_vm.specs.Preflight.{MessageFails, PayloadFails, RecordFails}
 

@@ -1,7 +1,7 @@
 -- The codes of failures, and the refusals of calls that they stand for.
 use Rattle.std.specs.Prelude.{ℕ}
 use Rattle.journal_model.specs.Refusal.{Refusal}
-use Rattle.journal_protocol.specs.declared.encoder.EncodingError.{EncodingError}
+use Rattle.protocol_stream.specs.declared.encoder.EncodingError.{EncodingError}
 use Rattle.invocation_vm.specs.declared.failure.CallRefusal.{CallRefusal}
 use Rattle.invocation_vm.specs.declared.failure.AttemptFailure.{AttemptFailure}
 

@@ -6,8 +6,8 @@ use Rattle.journal_model.specs.Spelling.{frame_bytes, input_payload}
 use Rattle.journal_model.specs.Start.{start_payload_of}
 use Rattle.journal_model.specs.Run.{Invocation}
 use Rattle.journal_model.specs.Headline.{run_of}
-use Rattle.journal_protocol.specs.Records.{start_record}
-use Rattle.journal_protocol.specs.declared.message_type.MessageType.{MessageType}
+use Rattle.protocol_stream.specs.Records.{start_record}
+use Rattle.protocol_stream.specs.declared.message_type.MessageType.{MessageType}
 use Rattle.protocol_wire.specs.Check.{payload_fault}
 use Rattle.protocol_wire.specs.declared.record.TheConstants.{LEVELS}
 use Rattle.protocol_table.specs.declared.table.RecordType.TheVariants as types

@@ -1,11 +1,11 @@
 -- What is read before the handler is asked: the start and the input.
 use Rattle.std.specs.Prelude.{◌≡◌, ◌≢◌, ◌<◌, ℕ, nat_lt, if◌then◌else◌, List, [], map, Option, Some, None, Result, Ok, Err, IsSome}
 use Rattle.journal_model.specs.declared.handler.Input.{Input}
-use Rattle.journal_protocol.specs.declared.message_type.MessageType.{MessageType}
-use Rattle.journal_protocol.specs.declared.decoder.RawMessage.{RawMessage}
-use Rattle.journal_protocol.specs.Header.{message_type}
-use Rattle.journal_protocol.specs.Records.{header_told}
-use Rattle.journal_protocol.specs.Item.{item_at, unknown, message}
+use Rattle.protocol_stream.specs.declared.message_type.MessageType.{MessageType}
+use Rattle.protocol_stream.specs.declared.decoder.RawMessage.{RawMessage}
+use Rattle.protocol_stream.specs.Header.{message_type}
+use Rattle.protocol_stream.specs.Records.{header_told}
+use Rattle.protocol_stream.specs.Item.{item_at, unknown, message}
 use Rattle.protocol_wire.specs.Wire.{Field}
 use Rattle.protocol_wire.specs.Check.{payload_fault}
 use Rattle.protocol_wire.specs.Decodes.{IsRead}

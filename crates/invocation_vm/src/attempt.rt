@@ -10,7 +10,7 @@ use crate::preflight::{have_start, read_input};
 use crate::progress::{Progress, Turn, carry_out};
 use bytes::Bytes;
 use journal_model::{Handler, Input};
-use journal_protocol::Decoder;
+use protocol_stream::Decoder;
 use protocol_records::StartMessage;
 use std::alloc::{AllocError, Global};
 use std::marker::Model;

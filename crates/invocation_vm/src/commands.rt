@@ -9,7 +9,7 @@ use crate::failure::AttemptFailure;
 use crate::output::Output;
 use bytes::ByteStr;
 use journal_model::{ImplicitCancellationOption, NonEmptyValue, NotificationId};
-use journal_protocol::{MessageType, to_output_result};
+use protocol_stream::{MessageType, to_output_result};
 use protocol_records::{
     AwaitingOnMessage, CombinatorType, Future, OutputCommandMessage, SleepCommandMessage,
 };
@@ -21,7 +21,7 @@ use std::alloc::{AllocError, Global};
 const CANCEL_SIGNAL: u32 = 1;
 
 /// Writes a sleep until a moment in milliseconds.
-#[tactic(auto, using(journal_protocol::proofs::RecordSpellings::sleeps_spelled))]
+#[tactic(auto, using(protocol_stream::proofs::RecordSpellings::sleeps_spelled))]
 pub(crate) fn write_sleep(
     alloc: Global,
     output: &mut Output,
@@ -43,7 +43,7 @@ pub(crate) fn write_sleep(
 }
 
 /// Writes what a handler puts out.
-#[tactic(auto, using(journal_protocol::proofs::RecordSpellings::outputs_spelled))]
+#[tactic(auto, using(protocol_stream::proofs::RecordSpellings::outputs_spelled))]
 pub(crate) fn write_output(
     alloc: Global,
     output: &mut Output,

@@ -2,7 +2,7 @@
 ghost use Rattle.std.specs.Prelude.{◌≡◌};
 ghost use Rattle.invocation_vm.specs.Failure.{refusal_code, code_of};
 
-use journal_protocol::{EncodingError, MessageType, UnknownMessageType};
+use protocol_stream::{EncodingError, MessageType, UnknownMessageType};
 use std::alloc::AllocError;
 
 /// A call that is refused before its request is written, by the version of the protocol and its arguments alone.

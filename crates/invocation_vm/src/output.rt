@@ -1,11 +1,11 @@
 //! The bytes that an attempt has to hand out.
 ghost use Rattle.std.specs.Prelude.{◌≡◌, ◌≤◌, ◌<◌, ◌^◌, [], length, take, drop, IfOk, IfErr, OnOk, OnErr};
-ghost use Rattle.journal_protocol.specs.MessageType.{number_of};
+ghost use Rattle.protocol_stream.specs.MessageType.{number_of};
 ghost use Rattle.invocation_vm.specs.Frames.{WritesFrame, WriteFails};
 
 use crate::failure::AttemptFailure;
 use bytes::{Bytes, BytesMut};
-use journal_protocol::{MessageType, write_message};
+use protocol_stream::{MessageType, write_message};
 use std::alloc::{AllocError, Global};
 use std::marker::Model;
 

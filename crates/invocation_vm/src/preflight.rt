@@ -1,6 +1,6 @@
 //! What comes before the handler is asked: the start of the attempt, and the input.
 ghost use Rattle.std.specs.Prelude.{◌≡◌, ℕ, List, Some, None, map, IfOk, MatchResult};
-ghost use Rattle.journal_protocol.specs.Records.{header_told};
+ghost use Rattle.protocol_stream.specs.Records.{header_told};
 ghost use Rattle.journal_model.specs.declared.invocation.NewInvocation.{NewInvocation};
 ghost use Rattle.journal_model.specs.State.{StateMap};
 ghost use Rattle.protocol_table.specs.declared.table.RecordType.TheVariants.{Start as start_type, InputCommand as input_command_type};
@@ -14,7 +14,7 @@ use crate::failure::AttemptFailure;
 use crate::options::VMOptions;
 use bytes::{ByteStr, Bytes};
 use journal_model::{Header, Input};
-use journal_protocol::{Decoder, DecodingError, MessageType, RawMessage, to_headers};
+use protocol_stream::{Decoder, DecodingError, MessageType, RawMessage, to_headers};
 use protocol_records::{InputCommandMessage, StartMessage, Value};
 use protocol_wire::{DecodeError, Record, decode};
 use sequence::Sequence;

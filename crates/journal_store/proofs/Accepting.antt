@@ -8,8 +8,8 @@ use Rattle.journal_model.specs.Event.{Event}
 use Rattle.journal_model.specs.Attempt.{is_live}
 use Rattle.store_refusals.specs.declared.refusal.Refusal.{Refusal}
 use Rattle.store_refusals.specs.declared.refusal.Refusal.TheVariants.{OutOfMemory}
-use Rattle.taken_frames.specs.declared.frame.FrameReply.{FrameReply}
-use Rattle.taken_frames.specs.Taken.{does_end}
+use Rattle.store_steps.specs.declared.frame.FrameReply.{FrameReply}
+use Rattle.store_steps.specs.Taken.{does_end}
 use Rattle.store_calls.specs.Standing.{Standing}
 use Rattle.store_calls.specs.Calls.{Feeds}
 use Rattle.store_calls.specs.Frames.{Accepts, AcceptsFirst, Rests, Steps, TakesEach, TakesFirst, TakesFrame, TakesFrames, TakesOne}

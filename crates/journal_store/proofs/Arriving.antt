@@ -8,14 +8,14 @@ use Rattle.journal_model.specs.Event.{Event}
 use Rattle.journal_model.specs.Journal.{invocation_of, is_tick, entries_of, version_of}
 use Rattle.journal_model.specs.Attempt.{acknowledged}
 use Rattle.journal_model.specs.Cause.{causes_of}
-use Rattle.store_rows.specs.Records.{applied_all}
-use Rattle.store_rows.specs.Steps.{Turns}
+use Rattle.store_tables.specs.Records.{applied_all}
+use Rattle.store_tables.specs.Steps.{Turns}
 use Rattle.store_refusals.specs.declared.refusal.Refusal.{Refusal}
 use Rattle.store_refusals.specs.Refused.{is_circumstance}
-use Rattle.new_arrivals.specs.declared.arrival.PreparedArrival.{PreparedArrival}
-use Rattle.new_arrivals.specs.Arrivals.{IsMadeReady}
-use Rattle.live_attempts.specs.Attempts.{ByInvocation, Changes, after_put}
-use Rattle.live_laws.specs.Agrees.{Brings}
+use Rattle.store_arrivals.specs.declared.arrival.PreparedArrival.{PreparedArrival}
+use Rattle.store_arrivals.specs.Arrivals.{IsMadeReady}
+use Rattle.store_live.specs.Attempts.{ByInvocation, Changes, after_put}
+use Rattle.store_live_laws.specs.Agrees.{Brings}
 use Rattle.journal_store.specs.Stands.{Stands, AreAsBefore}
 use Rattle.journal_store.proofs.Leading.{Does}
 use Rattle.journal_store.proofs.Standing.{store_still, stands_arrived, stands_still, written}

@@ -11,24 +11,24 @@ use Rattle.journal_model.specs.declared.invocation.NewInvocation.{NewInvocation}
 use Rattle.journal_model.specs.Event.{Event}
 use Rattle.journal_model.specs.Journal.{Entry, Recorded, Arrived, invocation_begun, is_open, entries_of}
 use Rattle.journal_model.specs.Cause.{Tests, UnknownInvocation, InvocationClosed, own_tests, those_that_hold, causes_of}
-use Rattle.store_rows.specs.declared.row.EntryRow.{EntryRow}
-use Rattle.store_rows.specs.Records.{FitsInvocation, applied_all}
-use Rattle.store_rows.specs.Questions.{AreInPlace, has_id}
-use Rattle.store_rows.specs.Steps.{Turns}
+use Rattle.store_tables.specs.declared.row.EntryRow.{EntryRow}
+use Rattle.store_tables.specs.Records.{FitsInvocation, applied_all}
+use Rattle.store_tables.specs.Questions.{AreInPlace, has_id}
+use Rattle.store_tables.specs.Steps.{Turns}
 use Rattle.store_model.specs.Kept.{rows_from, rows_of_journal, journal_rows, invocation_row}
 use Rattle.store_lookups.specs.Lookups.{row_frame}
 use Rattle.store_lookups.proofs.Finding.{all_found}
 use Rattle.store_refusals.specs.declared.refusal.Refusal.{Refusal}
 use Rattle.store_refusals.specs.Refused.{is_circumstance}
 use Rattle.store_refusals.specs.Prepared.{Keeps}
-use Rattle.new_invocations.proofs.Opened.{begun_named}
-use Rattle.begun_attempts.specs.declared.attempt.PreparedAttempt.{PreparedAttempt}
-use Rattle.begun_attempts.specs.Begun.{IsBegun}
-use Rattle.live_attempts.specs.declared.input.PieceLeft.{PieceLeft}
-use Rattle.live_attempts.specs.Input.{pieces_from}
-use Rattle.live_attempts.specs.Attempts.{ByInvocation, attempt_of}
-use Rattle.live_laws.specs.Agrees.{Agrees, IsBegunAs, row_piece}
-use Rattle.live_laws.proofs.Begun.{begun}
+use Rattle.store_invocations.proofs.Opened.{begun_named}
+use Rattle.store_begins.specs.declared.attempt.PreparedAttempt.{PreparedAttempt}
+use Rattle.store_begins.specs.Begun.{IsBegun}
+use Rattle.store_live.specs.declared.input.PieceLeft.{PieceLeft}
+use Rattle.store_live.specs.Input.{pieces_from}
+use Rattle.store_live.specs.Attempts.{ByInvocation, attempt_of}
+use Rattle.store_live_laws.specs.Agrees.{Agrees, IsBegunAs, row_piece}
+use Rattle.store_live_laws.proofs.Begun.{begun}
 use Rattle.store_calls.specs.declared.begun.BegunAttempt.{BegunAttempt}
 use Rattle.journal_store.specs.Stands.{Stands}
 use Rattle.journal_store.specs.Attempts.{IsToldAs, TakesIn, fresh}

@@ -8,15 +8,15 @@ use Rattle.journal_model.specs.Notification.{Bytes, Text}
 use Rattle.journal_model.specs.Event.{Event}
 use Rattle.journal_model.specs.Attempt.{is_live}
 use Rattle.journal_model.specs.Cause.{causes_of}
-use Rattle.store_rows.specs.Looks.{Looks}
+use Rattle.store_tables.specs.Looks.{Looks}
 use Rattle.store_refusals.specs.declared.refusal.Refusal.{Refusal}
 use Rattle.store_refusals.specs.declared.refusal.Refusal.TheVariants as refusal
 use Rattle.store_refusals.specs.Refused.{IsRefused}
-use Rattle.new_invocations.specs.Rows.{IsStoreOf}
-use Rattle.live_attempts.specs.declared.attempt.LiveAttempt.{LiveAttempt}
-use Rattle.live_attempts.specs.Attempts.{Attempts, ByInvocation, attempt_of, IsNow, Changes, bytes_out, after_close, after_hand_out, after_output}
-use Rattle.live_laws.specs.Agrees.{Agrees, has_number, cause_of_stale, CausesOfStale}
-use Rattle.live_laws.proofs.Tests.{live_told, stale_told}
+use Rattle.store_invocations.specs.Rows.{IsStoreOf}
+use Rattle.store_live.specs.declared.attempt.LiveAttempt.{LiveAttempt}
+use Rattle.store_live.specs.Attempts.{Attempts, ByInvocation, attempt_of, IsNow, Changes, bytes_out, after_close, after_hand_out, after_output}
+use Rattle.store_live_laws.specs.Agrees.{Agrees, has_number, cause_of_stale, CausesOfStale}
+use Rattle.store_live_laws.proofs.Tests.{live_told, stale_told}
 use Rattle.store_calls.specs.Standing.{Standing, Stays, Refuses}
 use Rattle.store_calls.specs.Calls.{HandsOut, ClosesInput, PutsBehind, RefusesBytes, Feeds, Stops}
 use Rattle.store_calls.specs.Frames.{Steps}

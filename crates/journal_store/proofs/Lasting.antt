@@ -5,10 +5,10 @@ use Rattle.sqlite_trees.specs.Tree.{Trees}
 use Rattle.sqlite.specs.State.{State, HasCleanDisk}
 use Rattle.journal_model.specs.Event.{Event}
 use Rattle.sql_tables.specs.Asking.{IsKept}
-use Rattle.store_rows.specs.Records.{Holds}
-use Rattle.store_rows.specs.Looks.{Lasts}
+use Rattle.store_tables.specs.Records.{Holds}
+use Rattle.store_tables.specs.Looks.{Lasts}
 use Rattle.store_refusals.specs.declared.refusal.Refusal.{Refusal}
-use Rattle.live_attempts.specs.Attempts.{ByInvocation}
+use Rattle.store_live.specs.Attempts.{ByInvocation}
 use Rattle.journal_store.specs.Stands.{Outlasts, Stands}
 
 pub outlasts_now : (events : List Event) (database : State) (attempts : ByInvocation) → HasCleanDisk database → Stands events database attempts → Lasts database → Outlasts events database

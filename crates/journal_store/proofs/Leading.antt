@@ -11,12 +11,12 @@ use Rattle.journal_model.specs.Journal.{version_of, entries_of}
 use Rattle.journal_model.specs.Attempt.{attempts_begun, live_attempt}
 use Rattle.journal_model.specs.Start.{start_payload}
 use Rattle.journal_model.specs.Cause.{causes_of}
-use Rattle.store_rows.specs.Looks.{Lasts}
+use Rattle.store_tables.specs.Looks.{Lasts}
 use Rattle.store_refusals.specs.declared.refusal.Refusal.{Refusal}
 use Rattle.store_refusals.specs.Refused.{IsRefused}
-use Rattle.live_attempts.specs.declared.attempt.LiveAttempt.{LiveAttempt}
-use Rattle.live_attempts.specs.Attempts.{ByInvocation, attempt_of}
-use Rattle.live_laws.specs.Agrees.{Agrees}
+use Rattle.store_live.specs.declared.attempt.LiveAttempt.{LiveAttempt}
+use Rattle.store_live.specs.Attempts.{ByInvocation, attempt_of}
+use Rattle.store_live_laws.specs.Agrees.{Agrees}
 use Rattle.store_calls.specs.declared.begun.BegunAttempt.{BegunAttempt}
 use Rattle.store_calls.specs.Standing.{Standing, Stays, Adds, Leaves, Refuses}
 use Rattle.store_calls.specs.Calls.{Completes, BeginsAttempt}

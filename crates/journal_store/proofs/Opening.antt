@@ -11,11 +11,11 @@ use Rattle.journal_model.specs.Journal.{invocation_begun, invoked_by, is_open, o
 use Rattle.journal_model.specs.Attempt.{is_live, live_attempt}
 use Rattle.journal_model.specs.Cause.{UnknownInvocation, InvocationClosed, AttemptNotLive, after_open, causes_of, stop_of, stops_of, IsAccepted}
 use Rattle.journal_laws.proofs.ObjectState.{begin_when_new}
-use Rattle.store_rows.specs.Records.{Holds, no_records}
+use Rattle.store_tables.specs.Records.{Holds, no_records}
 use Rattle.store_model.proofs.Keeping.{kept_at_first}
-use Rattle.new_invocations.specs.Rows.{IsStoreOf}
-use Rattle.live_attempts.specs.Attempts.{ByInvocation}
-use Rattle.live_laws.proofs.Opened.{live_open, unknown_dead}
+use Rattle.store_invocations.specs.Rows.{IsStoreOf}
+use Rattle.store_live.specs.Attempts.{ByInvocation}
+use Rattle.store_live_laws.proofs.Opened.{live_open, unknown_dead}
 use Rattle.journal_store.specs.Stands.{Stands}
 use Rattle.journal_store.proofs.Standing.{unwritten}
 use Rattle.journal_store.proofs.Quiet.{none_written}

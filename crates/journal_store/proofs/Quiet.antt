@@ -11,11 +11,11 @@ use Rattle.store_model.specs.Writes.{state_writes}
 use Rattle.store_refusals.specs.declared.refusal.Refusal.{Refusal}
 use Rattle.store_refusals.specs.declared.refusal.Refusal.TheVariants as refusal
 use Rattle.store_refusals.specs.Refused.{first_of, refusal_of, is_circumstance, IsRefused}
-use Rattle.live_attempts.specs.declared.attempt.LiveAttempt.{LiveAttempt}
-use Rattle.live_attempts.specs.Attempts.{ByInvocation, attempt_of, IsNow, Changes, bytes_out, after_close, after_hand_out}
-use Rattle.live_laws.specs.Agrees.{Agrees, has_number, CausesOfLive, IsFirstCause}
-use Rattle.live_laws.proofs.Tests.{live_told, causes_told}
-use Rattle.live_laws.proofs.Steps.{closed as closed_kept, handed_out, stopped}
+use Rattle.store_live.specs.declared.attempt.LiveAttempt.{LiveAttempt}
+use Rattle.store_live.specs.Attempts.{ByInvocation, attempt_of, IsNow, Changes, bytes_out, after_close, after_hand_out}
+use Rattle.store_live_laws.specs.Agrees.{Agrees, has_number, CausesOfLive, IsFirstCause}
+use Rattle.store_live_laws.proofs.Tests.{live_told, causes_told}
+use Rattle.store_live_laws.proofs.Steps.{closed as closed_kept, handed_out, stopped}
 use Rattle.journal_store.specs.Stands.{Stands}
 use Rattle.journal_store.specs.Attempts.{has_closed, has_rest}
 use Rattle.journal_store.proofs.Standing.{stands_after, unwritten}

@@ -8,16 +8,16 @@ use Rattle.sql_tables.specs.Asking.{IsKept}
 use Rattle.journal_model.specs.declared.invocation.NewInvocation.{NewInvocation}
 use Rattle.journal_model.specs.Event.{Event}
 use Rattle.journal_model.specs.Cause.{causes_of}
-use Rattle.store_rows.specs.declared.row.Write.{Write}
-use Rattle.store_rows.specs.Looks.{Looks}
-use Rattle.store_rows.specs.Records.{applied_all}
-use Rattle.store_rows.specs.Steps.{Turns}
+use Rattle.store_tables.specs.declared.row.Write.{Write}
+use Rattle.store_tables.specs.Looks.{Looks}
+use Rattle.store_tables.specs.Records.{applied_all}
+use Rattle.store_tables.specs.Steps.{Turns}
 use Rattle.store_model.specs.Writes.{writes_of}
 use Rattle.store_refusals.specs.declared.refusal.Refusal.{Refusal}
 use Rattle.store_refusals.specs.Refused.{is_circumstance, IsRefused}
-use Rattle.new_invocations.specs.Rows.{IsStoreOf}
-use Rattle.new_invocations.proofs.Standing.{store_kept}
-use Rattle.live_attempts.specs.Attempts.{Attempts}
+use Rattle.store_invocations.specs.Rows.{IsStoreOf}
+use Rattle.store_invocations.proofs.Standing.{store_kept}
+use Rattle.store_live.specs.Attempts.{Attempts}
 use Rattle.store_calls.specs.Standing.{Refuses}
 use Rattle.store_calls.specs.Calls.{Invokes}
 use Rattle.journal_store.specs.Stored.{stored}

@@ -13,20 +13,20 @@ use Rattle.journal_model.specs.Event.{Event}
 use Rattle.journal_model.specs.Journal.{invocation_of, is_tick, is_text, entries_of, version_of}
 use Rattle.journal_model.specs.Attempt.{live_attempt, acknowledged, notification_type}
 use Rattle.journal_model.specs.Cause.{causes_of, IsAccepted}
-use Rattle.store_rows.specs.Records.{Holds, applied_all}
-use Rattle.store_rows.specs.declared.row.Write.{Write}
-use Rattle.store_rows.specs.Steps.{Turns, Lands}
+use Rattle.store_tables.specs.Records.{Holds, applied_all}
+use Rattle.store_tables.specs.declared.row.Write.{Write}
+use Rattle.store_tables.specs.Steps.{Turns, Lands}
 use Rattle.store_model.specs.Kept.{IsKept}
 use Rattle.store_model.specs.Writes.{writes_of}
 use Rattle.store_model.proofs.Keeping.{kept_after}
 use Rattle.store_refusals.specs.Prepared.{Keeps}
-use Rattle.new_invocations.specs.Rows.{IsStoreOf}
-use Rattle.new_invocations.proofs.Standing.{store_kept}
-use Rattle.live_attempts.specs.declared.attempt.LiveAttempt.{LiveAttempt}
-use Rattle.live_attempts.specs.Attempts.{ByInvocation, attempt_of, IsNow, Changes, after_put, after_reserve}
-use Rattle.live_laws.specs.Agrees.{Agrees, Brings}
-use Rattle.live_laws.proofs.Steps.{arrived, elsewhere}
-use Rattle.live_laws.proofs.Begun.{invoked}
+use Rattle.store_invocations.specs.Rows.{IsStoreOf}
+use Rattle.store_invocations.proofs.Standing.{store_kept}
+use Rattle.store_live.specs.declared.attempt.LiveAttempt.{LiveAttempt}
+use Rattle.store_live.specs.Attempts.{ByInvocation, attempt_of, IsNow, Changes, after_put, after_reserve}
+use Rattle.store_live_laws.specs.Agrees.{Agrees, Brings}
+use Rattle.store_live_laws.proofs.Steps.{arrived, elsewhere}
+use Rattle.store_live_laws.proofs.Begun.{invoked}
 use Rattle.journal_store.specs.Stands.{Stands, KeepsAll, Commits, IsAsBefore, AreAsBefore}
 
 pub true_or_false : (b : Bool) → (b ≡ true) ⊎ (b ≡ false)

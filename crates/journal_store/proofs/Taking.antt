@@ -12,29 +12,29 @@ use Rattle.journal_model.specs.Event.{Event, Frame}
 use Rattle.journal_model.specs.Journal.{ends_attempt}
 use Rattle.journal_model.specs.Attempt.{is_live}
 use Rattle.journal_model.specs.Cause.{FrameNotAccepted, causes_of, those_that_hold, adding_tests}
-use Rattle.journal_protocol.specs.Item.{Item, unknown, message, item_at}
-use Rattle.attempt_frames.specs.declared.frame.AttemptFrame.{AttemptFrame}
-use Rattle.attempt_frames.specs.Answer.{IsFrame}
-use Rattle.attempt_frames.specs.Meaning.{frame_of}
-use Rattle.store_rows.specs.declared.row.Write.{Write}
-use Rattle.store_rows.specs.Looks.{Looks}
-use Rattle.store_rows.specs.Steps.{Lands}
+use Rattle.protocol_stream.specs.Item.{Item, unknown, message, item_at}
+use Rattle.store_frames.specs.declared.frame.AttemptFrame.{AttemptFrame}
+use Rattle.store_frames.specs.Answer.{IsFrame}
+use Rattle.store_frames.specs.Meaning.{frame_of}
+use Rattle.store_tables.specs.declared.row.Write.{Write}
+use Rattle.store_tables.specs.Looks.{Looks}
+use Rattle.store_tables.specs.Steps.{Lands}
 use Rattle.store_model.specs.Writes.{writes_of}
 use Rattle.store_refusals.specs.declared.refusal.Refusal.{Refusal}
 use Rattle.store_refusals.specs.declared.refusal.Refusal.TheVariants as refusal
 use Rattle.store_refusals.specs.Refused.{first_of, is_circumstance, IsRefused}
-use Rattle.new_invocations.specs.Rows.{IsStoreOf}
-use Rattle.taken_frames.specs.declared.frame.FrameReply.{FrameReply}
-use Rattle.taken_frames.specs.declared.frame.PreparedFrame.{PreparedFrame}
-use Rattle.taken_frames.specs.Stateless.{is_of_state, LeavesState}
-use Rattle.taken_frames.specs.Taken.{IsLive, IsReply, IsTaken, does_end, lies_in_frame}
-use Rattle.taken_frames.proofs.Live.{begun_open}
-use Rattle.taken_frames.proofs.Tests.{causes_left}
-use Rattle.live_attempts.specs.declared.attempt.LiveAttempt.{LiveAttempt}
-use Rattle.live_attempts.specs.Attempts.{Attempts, ByInvocation, attempt_of, IsNow, after_take}
-use Rattle.live_laws.specs.Agrees.{Agrees, IsKeptLive, has_number, is_answered_at_once, is_silent}
-use Rattle.live_laws.proofs.Steps.{taken, ended}
-use Rattle.live_laws.proofs.Tests.{live_is_open}
+use Rattle.store_invocations.specs.Rows.{IsStoreOf}
+use Rattle.store_steps.specs.declared.frame.FrameReply.{FrameReply}
+use Rattle.store_steps.specs.declared.frame.PreparedFrame.{PreparedFrame}
+use Rattle.store_steps.specs.Stateless.{is_of_state, LeavesState}
+use Rattle.store_steps.specs.Taken.{IsLive, IsReply, IsTaken, does_end, lies_in_frame}
+use Rattle.store_steps.proofs.Live.{begun_open}
+use Rattle.store_steps.proofs.Tests.{causes_left}
+use Rattle.store_live.specs.declared.attempt.LiveAttempt.{LiveAttempt}
+use Rattle.store_live.specs.Attempts.{Attempts, ByInvocation, attempt_of, IsNow, after_take}
+use Rattle.store_live_laws.specs.Agrees.{Agrees, IsKeptLive, has_number, is_answered_at_once, is_silent}
+use Rattle.store_live_laws.proofs.Steps.{taken, ended}
+use Rattle.store_live_laws.proofs.Tests.{live_is_open}
 use Rattle.journal_store.specs.declared.step.SeenFrame.{SeenFrame}
 use Rattle.journal_store.specs.declared.step.FirstSeen.TheVariants as firsts
 use Rattle.store_calls.specs.Standing.{Standing}

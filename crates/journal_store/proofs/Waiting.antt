@@ -3,8 +3,8 @@ use Rattle.std.proofs.Common.{◌≡◌, ℕ, refl, ap, subst, ◌∙◌, inl, i
 use Rattle.std.proofs.lemmas.Slice.Eq.{bytes_eq-Decides}
 use Rattle.journal_model.specs.Notification.{Bytes, Text}
 use Rattle.store_refusals.specs.declared.refusal.Refusal.{Refusal}
-use Rattle.live_attempts.specs.declared.attempt.LiveAttempt.{LiveAttempt}
-use Rattle.live_attempts.specs.Attempts.{ByInvocation, attempt_of, IsNow, Changes, after_hand_out, after_put, after_close}
+use Rattle.store_live.specs.declared.attempt.LiveAttempt.{LiveAttempt}
+use Rattle.store_live.specs.Attempts.{ByInvocation, attempt_of, IsNow, Changes, after_hand_out, after_put, after_close}
 use Rattle.journal_store.specs.Stands.{output_of, KeepsOutputs, WaitsNow, WaitsAfter, IsAsBefore, AreAsBefore}
 use Rattle.journal_store.proofs.Standing.{true_or_false}
 

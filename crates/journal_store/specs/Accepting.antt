@@ -3,8 +3,8 @@ use Rattle.std.specs.Prelude.{◌≡◌, ◌⊎◌, ℕ, Bool, true, false, not,
 use Rattle.journal_model.specs.Notification.{Text}
 use Rattle.journal_model.specs.Attempt.{is_live}
 use Rattle.store_refusals.specs.declared.refusal.Refusal.{Refusal}
-use Rattle.taken_frames.specs.declared.frame.FrameReply.{FrameReply}
-use Rattle.taken_frames.specs.Taken.{does_end}
+use Rattle.store_steps.specs.declared.frame.FrameReply.{FrameReply}
+use Rattle.store_steps.specs.Taken.{does_end}
 use Rattle.store_calls.specs.Standing.{Standing}
 use Rattle.store_calls.specs.Frames.{HasNoRoom, RefusesFrame, TakesFrame, TakesNone}
 use Rattle.journal_store.specs.declared.accept.Accepted.{Accepted}

@@ -4,12 +4,12 @@ use Rattle.journal_model.specs.Notification.{Bytes, Text}
 use Rattle.journal_model.specs.Event.{Event}
 use Rattle.store_refusals.specs.declared.refusal.Refusal.{Refusal}
 use Rattle.store_refusals.specs.Refused.{refusal_of, is_circumstance}
-use Rattle.begun_attempts.specs.declared.attempt.PreparedAttempt.{PreparedAttempt}
-use Rattle.begun_attempts.specs.declared.frames.JournalFrames.{JournalFrames}
-use Rattle.live_attempts.specs.declared.attempt.LiveAttempt.{LiveAttempt}
-use Rattle.live_attempts.specs.Input.{journal_left}
-use Rattle.live_attempts.specs.Attempts.{ByInvocation, IsNow}
-use Rattle.live_laws.specs.Agrees.{cause_of_stale}
+use Rattle.store_begins.specs.declared.attempt.PreparedAttempt.{PreparedAttempt}
+use Rattle.store_begins.specs.declared.frames.JournalFrames.{JournalFrames}
+use Rattle.store_live.specs.declared.attempt.LiveAttempt.{LiveAttempt}
+use Rattle.store_live.specs.Input.{journal_left}
+use Rattle.store_live.specs.Attempts.{ByInvocation, IsNow}
+use Rattle.store_live_laws.specs.Agrees.{cause_of_stale}
 use Rattle.store_calls.specs.declared.begun.BegunAttempt.{BegunAttempt}
 
 -- a call on an attempt that is not live: the invocation is unknown, or closed, or the attempt is over; or a circumstance

@@ -4,8 +4,8 @@ use Rattle.sqlite_trees.specs.Tree.{Trees}
 use Rattle.sqlite.specs.State.{State, Survives}
 use Rattle.sql_tables.specs.Asking.{IsKept}
 use Rattle.sql_tables.specs.Columns.{no_schema}
-use Rattle.store_rows.specs.Records.{Records, Holds, IsMarked}
-use Rattle.store_rows.specs.Tables.{store_schema}
+use Rattle.store_tables.specs.Records.{Records, Holds, IsMarked}
+use Rattle.store_tables.specs.Tables.{store_schema}
 use Rattle.store_refusals.specs.declared.refusal.Refusal.{Refusal}
 use Rattle.store_refusals.specs.declared.refusal.Refusal.TheVariants.{ForeignRow}
 use Rattle.store_refusals.specs.Refused.{is_circumstance}

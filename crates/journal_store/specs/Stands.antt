@@ -7,13 +7,13 @@ use Rattle.sqlite.specs.State.{State, HasCleanDisk, Survives}
 use Rattle.journal_model.specs.Notification.{Bytes, Text}
 use Rattle.journal_model.specs.Event.{Event}
 use Rattle.journal_model.specs.Cause.{causes_of}
-use Rattle.store_rows.specs.Records.{Records, Holds}
+use Rattle.store_tables.specs.Records.{Records, Holds}
 use Rattle.store_model.specs.Kept.{IsKept}
 use Rattle.store_refusals.specs.declared.refusal.Refusal.{Refusal}
-use Rattle.new_invocations.specs.Rows.{IsStoreOf}
-use Rattle.live_attempts.specs.declared.attempt.LiveAttempt.{LiveAttempt}
-use Rattle.live_attempts.specs.Attempts.{ByInvocation, attempt_of}
-use Rattle.live_laws.specs.Agrees.{Agrees}
+use Rattle.store_invocations.specs.Rows.{IsStoreOf}
+use Rattle.store_live.specs.declared.attempt.LiveAttempt.{LiveAttempt}
+use Rattle.store_live.specs.Attempts.{ByInvocation, attempt_of}
+use Rattle.store_live_laws.specs.Agrees.{Agrees}
 use Rattle.store_calls.specs.Standing.{Standing}
 use Rattle.journal_store.specs.Stored.{Stored}
 

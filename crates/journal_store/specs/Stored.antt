@@ -2,8 +2,8 @@
 use Rattle.std.specs.Prelude.{refl}
 use Rattle.std.specs.Coded.{Coded, code_by, coded×}
 use Rattle.sqlite.specs.Held.{Held, held_code}
-use Rattle.live_attempts.specs.Attempts.{Attempts}
-use Rattle.live_attempts.specs.contracts.attempts.LiveAttempts as live
+use Rattle.store_live.specs.Attempts.{Attempts}
+use Rattle.store_live.specs.contracts.attempts.LiveAttempts as live
 
 pub record Stored (S : Type 0) : Type 0 where
   pub connection : Held S

@@ -4,18 +4,18 @@ use Rattle.sqlite_trees.specs.Tree.{Trees}
 use Rattle.sqlite.specs.State.{State}
 use Rattle.sql_tables.specs.Asking.{IsKept}
 use Rattle.journal_model.specs.Notification.{Bytes, Text}
-use Rattle.journal_protocol.specs.declared.decoder.RawMessage.{RawMessage}
-use Rattle.journal_protocol.specs.declared.message_type.UnknownMessageType.{UnknownMessageType}
-use Rattle.journal_protocol.specs.Item.{unknown, message, item_at}
-use Rattle.attempt_frames.specs.Answer.{IsFrame}
-use Rattle.attempt_frames.specs.Meaning.{frame_of}
-use Rattle.store_rows.specs.declared.row.Write.{Write}
-use Rattle.store_rows.specs.Records.{applied_all}
-use Rattle.store_rows.specs.Steps.{Turns}
+use Rattle.protocol_stream.specs.declared.decoder.RawMessage.{RawMessage}
+use Rattle.protocol_stream.specs.declared.message_type.UnknownMessageType.{UnknownMessageType}
+use Rattle.protocol_stream.specs.Item.{unknown, message, item_at}
+use Rattle.store_frames.specs.Answer.{IsFrame}
+use Rattle.store_frames.specs.Meaning.{frame_of}
+use Rattle.store_tables.specs.declared.row.Write.{Write}
+use Rattle.store_tables.specs.Records.{applied_all}
+use Rattle.store_tables.specs.Steps.{Turns}
 use Rattle.store_refusals.specs.declared.refusal.Refusal.{Refusal}
-use Rattle.taken_frames.specs.declared.frame.FrameReply.{FrameReply}
-use Rattle.live_attempts.specs.declared.attempt.LiveAttempt.{LiveAttempt}
-use Rattle.live_attempts.specs.Attempts.{ByInvocation, IsNow, after_take}
+use Rattle.store_steps.specs.declared.frame.FrameReply.{FrameReply}
+use Rattle.store_live.specs.declared.attempt.LiveAttempt.{LiveAttempt}
+use Rattle.store_live.specs.Attempts.{ByInvocation, IsNow, after_take}
 use Rattle.journal_store.specs.declared.step.SeenFrame.{SeenFrame}
 use Rattle.journal_store.specs.declared.step.FirstSeen.{FirstSeen}
 use Rattle.journal_store.specs.declared.step.FirstSeen.TheVariants as seen

@@ -4,8 +4,8 @@ ghost use Rattle.sqlite.specs.Held.{state};
 ghost use Rattle.journal_model.specs.Attempt.{is_live};
 ghost use Rattle.sql_tables.specs.Asking.{IsKept};
 ghost use Rattle.store_refusals.specs.declared.refusal.Refusal.TheVariants.{OutOfMemory};
-ghost use Rattle.live_attempts.specs.Attempts.{attempt_of};
-ghost use Rattle.live_laws.specs.Agrees.{has_number};
+ghost use Rattle.store_live.specs.Attempts.{attempt_of};
+ghost use Rattle.store_live_laws.specs.Agrees.{has_number};
 ghost use Rattle.store_calls.specs.Frames.{Accepts, AcceptsFirst, TakesFirst, TakesFrames, TakesOne};
 ghost use Rattle.journal_store.specs.Accepting.{TakesNext, told};
 ghost use Rattle.journal_store.specs.Stands.{Endures, Leads};
@@ -14,7 +14,7 @@ use crate::store::Store;
 use bytes::ByteStr;
 use sqlite::Alter;
 use store_refusals::Refusal;
-use taken_frames::FrameReply;
+use store_steps::FrameReply;
 
 /// The frames that were taken, and why no further one was.
 #[derive(Debug, Drop)]

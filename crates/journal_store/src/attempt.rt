@@ -4,22 +4,22 @@ ghost use Rattle.sqlite.specs.Held.{state};
 ghost use Rattle.sqlite.specs.State.{HasCleanDisk};
 ghost use Rattle.journal_model.specs.Event.{Event};
 ghost use Rattle.sql_tables.specs.Asking.{IsKept};
-ghost use Rattle.store_rows.specs.Looks.{Looks};
-ghost use Rattle.new_invocations.specs.Rows.{IsStoreOf};
+ghost use Rattle.store_tables.specs.Looks.{Looks};
+ghost use Rattle.store_invocations.specs.Rows.{IsStoreOf};
 ghost use Rattle.store_refusals.specs.declared.refusal.Refusal.TheVariants.{OutOfMemory};
-ghost use Rattle.live_attempts.specs.Attempts.{attempt_of};
-ghost use Rattle.live_laws.specs.Agrees.{has_number};
+ghost use Rattle.store_live.specs.Attempts.{attempt_of};
+ghost use Rattle.store_live_laws.specs.Agrees.{has_number};
 ghost use Rattle.store_calls.specs.Calls.{ClosesInput, Feeds, HandsOut, Stops};
 ghost use Rattle.journal_store.specs.Attempts.{IsStale, has_closed, has_rest};
 ghost use Rattle.journal_store.specs.Stands.{IsQuiet, KeepsOutputs, Leads, WaitsAfter};
 
 use crate::store::Store;
 use bytes::{ByteStr, Bytes};
-use live_attempts::LiveAttempts;
-use new_invocations::open_row;
+use store_live::LiveAttempts;
+use store_invocations::open_row;
 use sqlite::Alter;
 use store_refusals::Refusal;
-use store_rows::StoreTables;
+use store_tables::StoreTables;
 
 /// Whether the live attempt of an invocation has this number.
 pub(crate) fn is_live(live: &LiveAttempts, id: &ByteStr, attempt: u32) -> bool

@@ -4,27 +4,27 @@ ghost use Rattle.sqlite.specs.Held.{state};
 ghost use Rattle.sqlite.specs.State.{HasCleanDisk, Survives};
 ghost use Rattle.journal_model.specs.Event.{Event};
 ghost use Rattle.sql_tables.specs.Asking.{IsKept};
-ghost use Rattle.store_rows.specs.Looks.{Lasts};
-ghost use Rattle.store_rows.specs.Records.{applied_all};
-ghost use Rattle.store_rows.specs.Steps.{Lands, Turns};
+ghost use Rattle.store_tables.specs.Looks.{Lasts};
+ghost use Rattle.store_tables.specs.Records.{applied_all};
+ghost use Rattle.store_tables.specs.Steps.{Lands, Turns};
 ghost use Rattle.store_refusals.specs.Refused.{is_circumstance};
-ghost use Rattle.live_attempts.specs.Attempts.{Changes, IsNow, after_put};
+ghost use Rattle.store_live.specs.Attempts.{Changes, IsNow, after_put};
 ghost use Rattle.store_calls.specs.Calls.{BeginsAttempt, Completes, Invokes};
 ghost use Rattle.journal_store.specs.Attempts.{IsToldAs, TakesIn, fresh};
 ghost use Rattle.journal_store.specs.Stands.{AreAsBefore, Commits, KeepsOutputs, Leads, Outlasts, Stands, WaitsAfter};
 
 use crate::store::Store;
-use begun_attempts::{AttemptFrames, JournalFrames, PreparedAttempt, prepare_begin};
+use store_begins::{AttemptFrames, JournalFrames, PreparedAttempt, prepare_begin};
 use bytes::ByteStr;
 use journal_model::{NewInvocation, NotificationResult};
-use live_attempts::{AttemptInput, AttemptOutput, LiveAttempt, LiveAttempts};
-use new_arrivals::{PreparedArrival, prepare_result};
-use new_invocations::prepare_invoke;
+use store_live::{AttemptInput, AttemptOutput, LiveAttempt, LiveAttempts};
+use store_arrivals::{PreparedArrival, prepare_result};
+use store_invocations::prepare_invoke;
 use sqlite::Alter;
 use std::alloc::{AllocError, Global};
 use store_calls::BegunAttempt;
 use store_refusals::Refusal;
-use store_rows::{StoreTables, Write, commit_all};
+use store_tables::{StoreTables, Write, commit_all};
 
 /// Writes in one transaction what was made ready of an event.
 fn commit<S: Alter>(tables: &mut StoreTables<S>, writes: Vec<Write>) -> Result<(), Refusal>

@@ -16,4 +16,4 @@ pub use accept::Accepted;
 pub use open::NotOpened;
 pub use store::Store;
 pub use store_calls::BegunAttempt;
-pub use taken_frames::FrameReply;
+pub use store_steps::FrameReply;

@@ -6,19 +6,19 @@ ghost use Rattle.journal_model.specs.Event.{Event};
 ghost use Rattle.journal_model.specs.Cause.{after_open};
 ghost use Rattle.sql_tables.specs.Asking.{IsKept};
 ghost use Rattle.sql_tables.specs.Columns.{no_schema};
-ghost use Rattle.store_rows.specs.Records.{Holds, no_records};
-ghost use Rattle.store_rows.specs.Steps.{IsStore};
+ghost use Rattle.store_tables.specs.Records.{Holds, no_records};
+ghost use Rattle.store_tables.specs.Steps.{IsStore};
 ghost use Rattle.store_refusals.specs.declared.refusal.Refusal.TheVariants.{ForeignRow};
-ghost use Rattle.new_invocations.specs.Rows.{IsStoreOf};
+ghost use Rattle.store_invocations.specs.Rows.{IsStoreOf};
 ghost use Rattle.journal_store.specs.Opened.{CanBeTaken, ComesBack, IsNotTaken, MakesTables};
 ghost use Rattle.journal_store.specs.Stands.{Stands};
 
 use crate::store::Store;
-use live_attempts::LiveAttempts;
+use store_live::LiveAttempts;
 use sqlite::{Alter, Connection};
 use std::alloc::Global;
 use store_refusals::Refusal;
-use store_rows::{StoreTables, open};
+use store_tables::{StoreTables, open};
 
 /// A database that was not taken.
 #[derive(Drop)]

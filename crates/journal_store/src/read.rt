@@ -5,18 +5,18 @@ ghost use Rattle.sqlite.specs.State.{HasCleanDisk, Survives};
 ghost use Rattle.journal_model.specs.Event.{Event};
 ghost use Rattle.journal_model.specs.Journal.{entries_of, is_open as is_open_after, recorded_arrivals, recorded_requests};
 ghost use Rattle.store_model.specs.Progress.{last_error_of};
-ghost use Rattle.new_invocations.specs.Rows.{Decides, known_tests};
-ghost use Rattle.invocation_reads.specs.Told.{arrival_told, request_told};
-ghost use Rattle.invocation_reads.specs.Answered.{Answers};
+ghost use Rattle.store_invocations.specs.Rows.{Decides, known_tests};
+ghost use Rattle.store_reads.specs.Told.{arrival_told, request_told};
+ghost use Rattle.store_reads.specs.Answered.{Answers};
 ghost use Rattle.journal_store.specs.Stands.{Stands};
 
 use crate::store::Store;
 use bytes::ByteStr;
-use invocation_reads::{RecordedFrame, answer, arrivals, failure, is_open, requests};
+use store_reads::{RecordedFrame, answer, arrivals, failure, is_open, requests};
 use journal_model::NonEmptyValue;
 use sqlite::Alter;
 use store_refusals::Refusal;
-use store_rows::LastError;
+use store_tables::LastError;
 
 impl<S: Alter + Drop> Store<S> {
     /// The recorded requests, by place, each as the frame that its attempt wrote.

@@ -5,9 +5,9 @@ ghost use Rattle.sqlite.specs.Held.{state};
 ghost use Rattle.sqlite.specs.State.{HasCleanDisk, Survives};
 ghost use Rattle.sql_tables.specs.Asking.{IsKept};
 ghost use Rattle.store_refusals.specs.Refused.{is_circumstance};
-ghost use Rattle.taken_frames.specs.Taken.{does_end, lies_in_frame};
-ghost use Rattle.live_attempts.specs.Attempts.{IsNow, attempt_of};
-ghost use Rattle.live_laws.specs.Agrees.{has_number};
+ghost use Rattle.store_steps.specs.Taken.{does_end, lies_in_frame};
+ghost use Rattle.store_live.specs.Attempts.{IsNow, attempt_of};
+ghost use Rattle.store_live_laws.specs.Agrees.{has_number};
 ghost use Rattle.store_calls.specs.Frames.{Steps, TakesOne};
 ghost use Rattle.journal_store.specs.Stands.{Endures, Leads};
 ghost use Rattle.journal_store.specs.Stored.{stored};
@@ -15,14 +15,14 @@ ghost use Rattle.journal_store.specs.Taking.{HasMessage, HasMessageOf, HasWritte
 
 use crate::attempt::{is_live, stale_refusal};
 use crate::store::Store;
-use attempt_frames::{AttemptFrame, read_frame_at};
+use store_frames::{AttemptFrame, read_frame_at};
 use bytes::ByteStr;
-use live_attempts::{FirstItem, HEADER_LEN, LiveAttempt, LiveAttempts};
+use store_live::{FirstItem, HEADER_LEN, LiveAttempt, LiveAttempts};
 use sqlite::{Alter, Connection, Error};
 use std::alloc::{AllocError, Global};
 use store_refusals::Refusal;
-use store_rows::{StoreTables, Write, commit_all};
-use taken_frames::{FrameReply, LiveFacts, PreparedFrame, prepare_frame, refusal_ends_attempt};
+use store_tables::{StoreTables, Write, commit_all};
+use store_steps::{FrameReply, LiveFacts, PreparedFrame, prepare_frame, refusal_ends_attempt};
 
 /// A whole frame that stands first.
 #[derive(Debug, Drop)]

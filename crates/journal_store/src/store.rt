@@ -1,11 +1,11 @@
 // The store, and what it is opened from.
 ghost use Rattle.std.specs.Prelude.{◌≡◌};
 
-use live_attempts::LiveAttempts;
+use store_live::LiveAttempts;
 use sqlite::{Alter, Connection};
 use std::alloc::Global;
 use std::marker::Model;
-use store_rows::StoreTables;
+use store_tables::StoreTables;
 
 /// What is recorded of invocations, and the attempts that are live.
 #[derive(Drop)]

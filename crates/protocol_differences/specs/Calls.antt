@@ -5,11 +5,11 @@ use Rattle.protocol_headers.specs.Parts.{same_text, same_optional_text}
 use Rattle.protocol_headers.specs.Records.{same_header}
 use Rattle.protocol_headers.specs.Payloads.{same_payload}
 use Rattle.protocol_headers.specs.Calls.{erased_call_command, call_command_tells, erased_one_way_call_command, one_way_call_command_tells}
-use Rattle.shown_fields.specs.Texts.{quoted, escaped, optional_text, list_text}
+use Rattle.protocol_shown.specs.Texts.{quoted, escaped, optional_text, list_text}
 use Rattle.protocol_records.specs.Texts.{header_text}
 use Rattle.protocol_differences.specs.Lines.{compared_line, line_silent, both_silent, silent_told}
-use Rattle.call_records.specs.declared.call_command.CallCommandMessage.{CallCommandMessage}
-use Rattle.call_records.specs.declared.one_way_call_command.OneWayCallCommandMessage.{OneWayCallCommandMessage}
+use Rattle.protocol_calls.specs.declared.call_command.CallCommandMessage.{CallCommandMessage}
+use Rattle.protocol_calls.specs.declared.one_way_call_command.OneWayCallCommandMessage.{OneWayCallCommandMessage}
 
 abbrev pub call_command_difference : CallCommandMessage → CallCommandMessage → List ℕ
 call_command_difference x y =

@@ -4,7 +4,7 @@ use Rattle.std.specs.Option.{option_eq}
 use Rattle.protocol_headers.specs.Parts.{same_text}
 use Rattle.protocol_headers.specs.Payloads.{same_output_result}
 use Rattle.protocol_headers.specs.Control.{erased_input_command, erased_output_command, output_command_tells, erased_sleep_command, sleep_command_tells}
-use Rattle.shown_fields.specs.Texts.{quoted, optional_text}
+use Rattle.protocol_shown.specs.Texts.{quoted, optional_text}
 use Rattle.protocol_records.specs.Texts.{output_result_text}
 use Rattle.protocol_differences.specs.Lines.{compared_line, line_silent, both_silent, silent_told}
 use Rattle.protocol_records.specs.declared.input_command.InputCommandMessage.{InputCommandMessage}

@@ -5,13 +5,13 @@ use Rattle.protocol_headers.specs.Parts.{same_text}
 use Rattle.protocol_headers.specs.Choices.{same_signal_id, same_signal_result, same_attached_target, same_asked_target}
 use Rattle.protocol_headers.specs.Payloads.{same_awakeable_result}
 use Rattle.protocol_headers.specs.Invocations.{erased_send_signal_command, send_signal_command_tells, erased_attach_invocation_command, attach_invocation_command_tells, erased_get_invocation_output_command, get_invocation_output_command_tells, erased_complete_awakeable_command, complete_awakeable_command_tells}
-use Rattle.shown_fields.specs.Texts.{quoted, optional_text}
-use Rattle.call_records.specs.Texts.{awakeable_result_text, signal_id_text, signal_result_text, attached_target_text, asked_target_text}
+use Rattle.protocol_shown.specs.Texts.{quoted, optional_text}
+use Rattle.protocol_calls.specs.Texts.{awakeable_result_text, signal_id_text, signal_result_text, attached_target_text, asked_target_text}
 use Rattle.protocol_differences.specs.Lines.{compared_line, line_silent, both_silent, silent_told}
-use Rattle.call_records.specs.declared.send_signal_command.SendSignalCommandMessage.{SendSignalCommandMessage}
-use Rattle.call_records.specs.declared.attach_invocation_command.AttachInvocationCommandMessage.{AttachInvocationCommandMessage}
-use Rattle.call_records.specs.declared.get_invocation_output_command.GetInvocationOutputCommandMessage.{GetInvocationOutputCommandMessage}
-use Rattle.call_records.specs.declared.complete_awakeable_command.CompleteAwakeableCommandMessage.{CompleteAwakeableCommandMessage}
+use Rattle.protocol_calls.specs.declared.send_signal_command.SendSignalCommandMessage.{SendSignalCommandMessage}
+use Rattle.protocol_calls.specs.declared.attach_invocation_command.AttachInvocationCommandMessage.{AttachInvocationCommandMessage}
+use Rattle.protocol_calls.specs.declared.get_invocation_output_command.GetInvocationOutputCommandMessage.{GetInvocationOutputCommandMessage}
+use Rattle.protocol_calls.specs.declared.complete_awakeable_command.CompleteAwakeableCommandMessage.{CompleteAwakeableCommandMessage}
 
 abbrev pub send_signal_command_difference : SendSignalCommandMessage → SendSignalCommandMessage → List ℕ
 send_signal_command_difference x y =

@@ -4,13 +4,13 @@ use Rattle.std.specs.Option.{option_eq}
 use Rattle.protocol_headers.specs.Parts.{same_text}
 use Rattle.protocol_headers.specs.Payloads.{same_completion}
 use Rattle.protocol_headers.specs.Promises.{erased_get_promise_command, get_promise_command_tells, erased_peek_promise_command, peek_promise_command_tells, erased_complete_promise_command, complete_promise_command_tells, erased_run_command, run_command_tells}
-use Rattle.shown_fields.specs.Texts.{quoted, optional_text}
-use Rattle.command_records.specs.Texts.{completion_text}
+use Rattle.protocol_shown.specs.Texts.{quoted, optional_text}
+use Rattle.protocol_commands.specs.Texts.{completion_text}
 use Rattle.protocol_differences.specs.Lines.{compared_line, line_silent, both_silent, silent_told}
-use Rattle.command_records.specs.declared.get_promise_command.GetPromiseCommandMessage.{GetPromiseCommandMessage}
-use Rattle.command_records.specs.declared.peek_promise_command.PeekPromiseCommandMessage.{PeekPromiseCommandMessage}
-use Rattle.command_records.specs.declared.complete_promise_command.CompletePromiseCommandMessage.{CompletePromiseCommandMessage}
-use Rattle.command_records.specs.declared.run_command.RunCommandMessage.{RunCommandMessage}
+use Rattle.protocol_commands.specs.declared.get_promise_command.GetPromiseCommandMessage.{GetPromiseCommandMessage}
+use Rattle.protocol_commands.specs.declared.peek_promise_command.PeekPromiseCommandMessage.{PeekPromiseCommandMessage}
+use Rattle.protocol_commands.specs.declared.complete_promise_command.CompletePromiseCommandMessage.{CompletePromiseCommandMessage}
+use Rattle.protocol_commands.specs.declared.run_command.RunCommandMessage.{RunCommandMessage}
 
 abbrev pub get_promise_command_difference : GetPromiseCommandMessage → GetPromiseCommandMessage → List ℕ
 get_promise_command_difference x y =

@@ -5,17 +5,17 @@ use Rattle.protocol_headers.specs.Parts.{same_text}
 use Rattle.protocol_headers.specs.Records.{same_state_keys}
 use Rattle.protocol_headers.specs.Payloads.{same_content, same_state_result}
 use Rattle.protocol_headers.specs.State.{erased_get_lazy_state_command, get_lazy_state_command_tells, erased_get_lazy_state_keys_command, get_lazy_state_keys_command_tells, erased_get_eager_state_command, get_eager_state_command_tells, erased_get_eager_state_keys_command, get_eager_state_keys_command_tells, erased_set_state_command, set_state_command_tells, erased_clear_state_command, clear_state_command_tells, erased_clear_all_state_command, clear_all_state_command_tells}
-use Rattle.shown_fields.specs.Texts.{quoted, escaped, optional_text}
+use Rattle.protocol_shown.specs.Texts.{quoted, escaped, optional_text}
 use Rattle.protocol_records.specs.Texts.{state_keys_text, value_text}
-use Rattle.command_records.specs.Texts.{state_result_text}
+use Rattle.protocol_commands.specs.Texts.{state_result_text}
 use Rattle.protocol_differences.specs.Lines.{compared_line, line_silent, both_silent, silent_told}
-use Rattle.command_records.specs.declared.get_lazy_state_command.GetLazyStateCommandMessage.{GetLazyStateCommandMessage}
-use Rattle.command_records.specs.declared.get_lazy_state_keys_command.GetLazyStateKeysCommandMessage.{GetLazyStateKeysCommandMessage}
-use Rattle.command_records.specs.declared.get_eager_state_command.GetEagerStateCommandMessage.{GetEagerStateCommandMessage}
-use Rattle.command_records.specs.declared.get_eager_state_keys_command.GetEagerStateKeysCommandMessage.{GetEagerStateKeysCommandMessage}
-use Rattle.command_records.specs.declared.set_state_command.SetStateCommandMessage.{SetStateCommandMessage}
-use Rattle.command_records.specs.declared.clear_state_command.ClearStateCommandMessage.{ClearStateCommandMessage}
-use Rattle.command_records.specs.declared.clear_all_state_command.ClearAllStateCommandMessage.{ClearAllStateCommandMessage}
+use Rattle.protocol_commands.specs.declared.get_lazy_state_command.GetLazyStateCommandMessage.{GetLazyStateCommandMessage}
+use Rattle.protocol_commands.specs.declared.get_lazy_state_keys_command.GetLazyStateKeysCommandMessage.{GetLazyStateKeysCommandMessage}
+use Rattle.protocol_commands.specs.declared.get_eager_state_command.GetEagerStateCommandMessage.{GetEagerStateCommandMessage}
+use Rattle.protocol_commands.specs.declared.get_eager_state_keys_command.GetEagerStateKeysCommandMessage.{GetEagerStateKeysCommandMessage}
+use Rattle.protocol_commands.specs.declared.set_state_command.SetStateCommandMessage.{SetStateCommandMessage}
+use Rattle.protocol_commands.specs.declared.clear_state_command.ClearStateCommandMessage.{ClearStateCommandMessage}
+use Rattle.protocol_commands.specs.declared.clear_all_state_command.ClearAllStateCommandMessage.{ClearAllStateCommandMessage}
 
 abbrev pub get_lazy_state_command_difference : GetLazyStateCommandMessage → GetLazyStateCommandMessage → List ℕ
 get_lazy_state_command_difference x y =

@@ -3,7 +3,7 @@ ghost use Rattle.protocol_differences.specs.Calls.{call_command_difference, call
 
 use crate::CommandMessageHeaderDiff;
 use crate::lines::{write_field, write_payload};
-use call_records::{CallCommandMessage, OneWayCallCommandMessage};
+use protocol_calls::{CallCommandMessage, OneWayCallCommandMessage};
 use std::fmt;
 
 impl CommandMessageHeaderDiff for CallCommandMessage {

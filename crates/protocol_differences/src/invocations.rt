@@ -3,7 +3,7 @@ ghost use Rattle.protocol_differences.specs.Invocations.{send_signal_command_dif
 
 use crate::CommandMessageHeaderDiff;
 use crate::lines::{write_field, write_payload};
-use call_records::{
+use protocol_calls::{
     AttachInvocationCommandMessage, CompleteAwakeableCommandMessage,
     GetInvocationOutputCommandMessage, SendSignalCommandMessage,
 };

@@ -4,7 +4,7 @@ ghost use Rattle.std.specs.Prelude.{false};
 ghost use Rattle.protocol_differences.specs.Lines.{compared_line};
 
 use protocol_headers::{Same, SameBesidesPayload};
-use shown_fields::{Shown, show_labelled};
+use protocol_shown::{Shown, show_labelled};
 use std::fmt;
 use std::fmt::Write;
 

@@ -3,7 +3,7 @@ ghost use Rattle.protocol_differences.specs.Promises.{get_promise_command_differ
 
 use crate::CommandMessageHeaderDiff;
 use crate::lines::{write_field, write_payload};
-use command_records::{
+use protocol_commands::{
     CompletePromiseCommandMessage, GetPromiseCommandMessage, PeekPromiseCommandMessage,
     RunCommandMessage,
 };

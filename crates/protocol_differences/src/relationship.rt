@@ -1,5 +1,5 @@
 use bytes::ByteStr;
-use journal_protocol::CommandType;
+use protocol_stream::CommandType;
 
 /// Which command of the journal an error is about.
 #[derive(Debug, Clone, PartialEq, Eq, Drop)]

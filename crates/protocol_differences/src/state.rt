@@ -3,7 +3,7 @@ ghost use Rattle.protocol_differences.specs.State.{get_lazy_state_command_differ
 
 use crate::CommandMessageHeaderDiff;
 use crate::lines::{write_field, write_payload};
-use command_records::{
+use protocol_commands::{
     ClearAllStateCommandMessage, ClearStateCommandMessage, GetEagerStateCommandMessage,
     GetEagerStateKeysCommandMessage, GetLazyStateCommandMessage, GetLazyStateKeysCommandMessage,
     SetStateCommandMessage,

@@ -3,8 +3,8 @@ use Rattle.std.specs.Prelude.{ℕ, List, None}
 use Rattle.protocol_errors.specs.declared.error.Error.{Error}
 use Rattle.protocol_errors.specs.declared.error.ErrorBehavior.TheVariants.{Retry}
 use Rattle.protocol_errors.specs.Code.{code_numbered, internal, journal_mismatch, protocol_violation}
-use Rattle.journal_protocol.specs.declared.decoder.DecodingError.{DecodingError}
-use Rattle.journal_protocol.specs.declared.decoder.DecodingError.TheVariants.{UnexpectedMessageType, OutOfMemory}
+use Rattle.protocol_stream.specs.declared.decoder.DecodingError.{DecodingError}
+use Rattle.protocol_stream.specs.declared.decoder.DecodingError.TheVariants.{UnexpectedMessageType, OutOfMemory}
 
 -- an error that tells no command and no delay, and is retried
 abbrev pub plain_error : ℕ → List ℕ → Error

@@ -8,7 +8,7 @@ ghost use Rattle.protocol_errors.specs.declared.error.ErrorBehavior.{ErrorBehavi
 
 use crate::{CommandMetadata, InvocationErrorCode, codes};
 use bytes::ByteStr;
-use journal_protocol::{ContentTypeError, DecodingError, EncodingError};
+use protocol_stream::{ContentTypeError, DecodingError, EncodingError};
 use std::alloc::{AllocError, Global};
 use std::fmt;
 use std::time::Duration;

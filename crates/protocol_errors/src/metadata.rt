@@ -2,7 +2,7 @@
 ghost use Rattle.std.specs.Prelude.{◌≡◌, Some, None};
 
 use bytes::ByteStr;
-use journal_protocol::MessageType;
+use protocol_stream::MessageType;
 use std::fmt;
 
 /// A command of the journal, as an error names it.

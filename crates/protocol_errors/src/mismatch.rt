@@ -5,7 +5,7 @@ ghost use Rattle.protocol_errors.specs.Code.{journal_mismatch};
 ghost use Rattle.protocol_errors.specs.Texts.{mismatch_text, recorded_text, attempted_text, type_mismatch_text};
 
 use crate::{InvocationErrorCode, WithInvocationErrorCode, codes};
-use journal_protocol::MessageType;
+use protocol_stream::MessageType;
 use std::fmt;
 
 /// A command of another type than the recorded one.

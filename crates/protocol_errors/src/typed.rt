@@ -5,7 +5,7 @@ ghost use Rattle.protocol_errors.specs.Code.{internal, journal_mismatch, protoco
 
 use crate::{InvocationErrorCode, WithInvocationErrorCode, codes};
 use bytes::{ByteStr, FromUtf8Error};
-use journal_protocol::{MessageType, Version};
+use protocol_stream::{MessageType, Version};
 use std::fmt;
 use std::num::TryFromIntError;
 use thiserror::Error;

@@ -7,8 +7,8 @@ use Rattle.protocol_headers.specs.Parts.{same_text, same_optional_text, numbers_
 use Rattle.protocol_headers.specs.Records.{same_header, header_tells}
 use Rattle.protocol_headers.specs.Payloads.{same_payload, erased_payload, payload_tells}
 use Rattle.protocol_records.specs.declared.header.Header.{Header}
-use Rattle.call_records.specs.declared.call_command.CallCommandMessage.{CallCommandMessage}
-use Rattle.call_records.specs.declared.one_way_call_command.OneWayCallCommandMessage.{OneWayCallCommandMessage}
+use Rattle.protocol_calls.specs.declared.call_command.CallCommandMessage.{CallCommandMessage}
+use Rattle.protocol_calls.specs.declared.one_way_call_command.OneWayCallCommandMessage.{OneWayCallCommandMessage}
 
 abbrev pub erased_call_command : Bool → CallCommandMessage → CallCommandMessage
 erased_call_command ignoring x = record {

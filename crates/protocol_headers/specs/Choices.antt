@@ -4,14 +4,14 @@ use Rattle.std.proofs.Common.{ap}
 use Rattle.protocol_headers.specs.Tells.{Tells, whole}
 use Rattle.protocol_headers.specs.Parts.{same_text, numbers_tell, texts_tell}
 use Rattle.protocol_headers.specs.Records.{same_value, value_tells, same_void, void_tells, same_failure, failure_tells, same_workflow_target, workflow_target_tells, same_idempotent_request_target, idempotent_request_target_tells}
-use Rattle.call_records.specs.declared.send_signal_command.SendSignalCommandSignalId.{SendSignalCommandSignalId}
-use Rattle.call_records.specs.declared.send_signal_command.SendSignalCommandSignalId.TheVariants as signals
-use Rattle.call_records.specs.declared.send_signal_command.SendSignalCommandResult.{SendSignalCommandResult}
-use Rattle.call_records.specs.declared.send_signal_command.SendSignalCommandResult.TheVariants as results
-use Rattle.call_records.specs.declared.attach_invocation_command.AttachInvocationCommandTarget.{AttachInvocationCommandTarget}
-use Rattle.call_records.specs.declared.attach_invocation_command.AttachInvocationCommandTarget.TheVariants as attached
-use Rattle.call_records.specs.declared.get_invocation_output_command.GetInvocationOutputCommandTarget.{GetInvocationOutputCommandTarget}
-use Rattle.call_records.specs.declared.get_invocation_output_command.GetInvocationOutputCommandTarget.TheVariants as asked
+use Rattle.protocol_calls.specs.declared.send_signal_command.SendSignalCommandSignalId.{SendSignalCommandSignalId}
+use Rattle.protocol_calls.specs.declared.send_signal_command.SendSignalCommandSignalId.TheVariants as signals
+use Rattle.protocol_calls.specs.declared.send_signal_command.SendSignalCommandResult.{SendSignalCommandResult}
+use Rattle.protocol_calls.specs.declared.send_signal_command.SendSignalCommandResult.TheVariants as results
+use Rattle.protocol_calls.specs.declared.attach_invocation_command.AttachInvocationCommandTarget.{AttachInvocationCommandTarget}
+use Rattle.protocol_calls.specs.declared.attach_invocation_command.AttachInvocationCommandTarget.TheVariants as attached
+use Rattle.protocol_calls.specs.declared.get_invocation_output_command.GetInvocationOutputCommandTarget.{GetInvocationOutputCommandTarget}
+use Rattle.protocol_calls.specs.declared.get_invocation_output_command.GetInvocationOutputCommandTarget.TheVariants as asked
 
 abbrev pub same_signal_id : SendSignalCommandSignalId → SendSignalCommandSignalId → Bool
 same_signal_id (signals.Idx x) (signals.Idx y) = nat_eq x y

@@ -6,15 +6,15 @@ use Rattle.protocol_headers.specs.Tells.{Tells, in_full, deciding, options_tell,
 use Rattle.protocol_headers.specs.Parts.{same_text, numbers_tell, texts_tell}
 use Rattle.protocol_headers.specs.Choices.{same_signal_id, signal_id_tells, same_signal_result, signal_result_tells, same_attached_target, attached_target_tells, same_asked_target, asked_target_tells}
 use Rattle.protocol_headers.specs.Payloads.{same_awakeable_result, erased_awakeable_result, awakeable_result_tells, options_erased, awakeable_result_erased}
-use Rattle.call_records.specs.declared.complete_awakeable_command.CompleteAwakeableCommandResult.{CompleteAwakeableCommandResult}
-use Rattle.call_records.specs.declared.send_signal_command.SendSignalCommandSignalId.{SendSignalCommandSignalId}
-use Rattle.call_records.specs.declared.send_signal_command.SendSignalCommandResult.{SendSignalCommandResult}
-use Rattle.call_records.specs.declared.attach_invocation_command.AttachInvocationCommandTarget.{AttachInvocationCommandTarget}
-use Rattle.call_records.specs.declared.get_invocation_output_command.GetInvocationOutputCommandTarget.{GetInvocationOutputCommandTarget}
-use Rattle.call_records.specs.declared.send_signal_command.SendSignalCommandMessage.{SendSignalCommandMessage}
-use Rattle.call_records.specs.declared.attach_invocation_command.AttachInvocationCommandMessage.{AttachInvocationCommandMessage}
-use Rattle.call_records.specs.declared.get_invocation_output_command.GetInvocationOutputCommandMessage.{GetInvocationOutputCommandMessage}
-use Rattle.call_records.specs.declared.complete_awakeable_command.CompleteAwakeableCommandMessage.{CompleteAwakeableCommandMessage}
+use Rattle.protocol_calls.specs.declared.complete_awakeable_command.CompleteAwakeableCommandResult.{CompleteAwakeableCommandResult}
+use Rattle.protocol_calls.specs.declared.send_signal_command.SendSignalCommandSignalId.{SendSignalCommandSignalId}
+use Rattle.protocol_calls.specs.declared.send_signal_command.SendSignalCommandResult.{SendSignalCommandResult}
+use Rattle.protocol_calls.specs.declared.attach_invocation_command.AttachInvocationCommandTarget.{AttachInvocationCommandTarget}
+use Rattle.protocol_calls.specs.declared.get_invocation_output_command.GetInvocationOutputCommandTarget.{GetInvocationOutputCommandTarget}
+use Rattle.protocol_calls.specs.declared.send_signal_command.SendSignalCommandMessage.{SendSignalCommandMessage}
+use Rattle.protocol_calls.specs.declared.attach_invocation_command.AttachInvocationCommandMessage.{AttachInvocationCommandMessage}
+use Rattle.protocol_calls.specs.declared.get_invocation_output_command.GetInvocationOutputCommandMessage.{GetInvocationOutputCommandMessage}
+use Rattle.protocol_calls.specs.declared.complete_awakeable_command.CompleteAwakeableCommandMessage.{CompleteAwakeableCommandMessage}
 
 abbrev pub erased_send_signal_command : Bool → SendSignalCommandMessage → SendSignalCommandMessage
 erased_send_signal_command ignoring x = record {

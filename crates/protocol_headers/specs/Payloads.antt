@@ -8,12 +8,12 @@ use Rattle.protocol_headers.specs.Records.{same_void, void_tells, same_failure, 
 use Rattle.protocol_records.specs.declared.value.Value.{Value}
 use Rattle.protocol_records.specs.declared.output_command.OutputCommandResult.{OutputCommandResult}
 use Rattle.protocol_records.specs.declared.output_command.OutputCommandResult.TheVariants as outputs
-use Rattle.command_records.specs.declared.get_eager_state_command.GetEagerStateCommandResult.{GetEagerStateCommandResult}
-use Rattle.command_records.specs.declared.get_eager_state_command.GetEagerStateCommandResult.TheVariants as states
-use Rattle.command_records.specs.declared.complete_promise_command.CompletePromiseCommandCompletion.{CompletePromiseCommandCompletion}
-use Rattle.command_records.specs.declared.complete_promise_command.CompletePromiseCommandCompletion.TheVariants as completions
-use Rattle.call_records.specs.declared.complete_awakeable_command.CompleteAwakeableCommandResult.{CompleteAwakeableCommandResult}
-use Rattle.call_records.specs.declared.complete_awakeable_command.CompleteAwakeableCommandResult.TheVariants as awakeables
+use Rattle.protocol_commands.specs.declared.get_eager_state_command.GetEagerStateCommandResult.{GetEagerStateCommandResult}
+use Rattle.protocol_commands.specs.declared.get_eager_state_command.GetEagerStateCommandResult.TheVariants as states
+use Rattle.protocol_commands.specs.declared.complete_promise_command.CompletePromiseCommandCompletion.{CompletePromiseCommandCompletion}
+use Rattle.protocol_commands.specs.declared.complete_promise_command.CompletePromiseCommandCompletion.TheVariants as completions
+use Rattle.protocol_calls.specs.declared.complete_awakeable_command.CompleteAwakeableCommandResult.{CompleteAwakeableCommandResult}
+use Rattle.protocol_calls.specs.declared.complete_awakeable_command.CompleteAwakeableCommandResult.TheVariants as awakeables
 
 abbrev pub erased_payload : Bool → List ℕ → List ℕ
 erased_payload true bytes = []

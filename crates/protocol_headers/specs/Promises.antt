@@ -5,11 +5,11 @@ use Rattle.std.specs.Option.{option_eq, option_map}
 use Rattle.protocol_headers.specs.Tells.{Tells, options_tell, both_tell, parts_tell}
 use Rattle.protocol_headers.specs.Parts.{same_text, numbers_tell, texts_tell}
 use Rattle.protocol_headers.specs.Payloads.{same_completion, erased_completion, completion_tells, options_erased, completion_erased}
-use Rattle.command_records.specs.declared.complete_promise_command.CompletePromiseCommandCompletion.{CompletePromiseCommandCompletion}
-use Rattle.command_records.specs.declared.get_promise_command.GetPromiseCommandMessage.{GetPromiseCommandMessage}
-use Rattle.command_records.specs.declared.peek_promise_command.PeekPromiseCommandMessage.{PeekPromiseCommandMessage}
-use Rattle.command_records.specs.declared.complete_promise_command.CompletePromiseCommandMessage.{CompletePromiseCommandMessage}
-use Rattle.command_records.specs.declared.run_command.RunCommandMessage.{RunCommandMessage}
+use Rattle.protocol_commands.specs.declared.complete_promise_command.CompletePromiseCommandCompletion.{CompletePromiseCommandCompletion}
+use Rattle.protocol_commands.specs.declared.get_promise_command.GetPromiseCommandMessage.{GetPromiseCommandMessage}
+use Rattle.protocol_commands.specs.declared.peek_promise_command.PeekPromiseCommandMessage.{PeekPromiseCommandMessage}
+use Rattle.protocol_commands.specs.declared.complete_promise_command.CompletePromiseCommandMessage.{CompletePromiseCommandMessage}
+use Rattle.protocol_commands.specs.declared.run_command.RunCommandMessage.{RunCommandMessage}
 
 abbrev pub erased_get_promise_command : Bool → GetPromiseCommandMessage → GetPromiseCommandMessage
 erased_get_promise_command ignoring x = record { key = x.key; result_completion_id = x.result_completion_id; name = x.name }

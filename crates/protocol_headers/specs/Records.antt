@@ -10,8 +10,8 @@ use Rattle.protocol_records.specs.declared.failure.Failure.{Failure}
 use Rattle.protocol_records.specs.declared.value.Value.{Value}
 use Rattle.protocol_records.specs.declared.void.Void.{Void}
 use Rattle.protocol_records.specs.declared.state_keys.StateKeys.{StateKeys}
-use Rattle.call_records.specs.declared.workflow_target.WorkflowTarget.{WorkflowTarget}
-use Rattle.call_records.specs.declared.idempotent_request_target.IdempotentRequestTarget.{IdempotentRequestTarget}
+use Rattle.protocol_calls.specs.declared.workflow_target.WorkflowTarget.{WorkflowTarget}
+use Rattle.protocol_calls.specs.declared.idempotent_request_target.IdempotentRequestTarget.{IdempotentRequestTarget}
 
 abbrev pub same_header : Header → Header → Bool
 same_header x y = same_text x.key y.key && same_text x.value y.value

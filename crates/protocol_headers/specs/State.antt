@@ -8,14 +8,14 @@ use Rattle.protocol_headers.specs.Records.{same_state_keys, state_keys_tells}
 use Rattle.protocol_headers.specs.Payloads.{same_content, erased_value, content_tells, same_state_result, erased_state_result, state_result_tells, options_erased, value_erased, state_result_erased}
 use Rattle.protocol_records.specs.declared.value.Value.{Value}
 use Rattle.protocol_records.specs.declared.state_keys.StateKeys.{StateKeys}
-use Rattle.command_records.specs.declared.get_eager_state_command.GetEagerStateCommandResult.{GetEagerStateCommandResult}
-use Rattle.command_records.specs.declared.get_lazy_state_command.GetLazyStateCommandMessage.{GetLazyStateCommandMessage}
-use Rattle.command_records.specs.declared.get_lazy_state_keys_command.GetLazyStateKeysCommandMessage.{GetLazyStateKeysCommandMessage}
-use Rattle.command_records.specs.declared.get_eager_state_command.GetEagerStateCommandMessage.{GetEagerStateCommandMessage}
-use Rattle.command_records.specs.declared.get_eager_state_keys_command.GetEagerStateKeysCommandMessage.{GetEagerStateKeysCommandMessage}
-use Rattle.command_records.specs.declared.set_state_command.SetStateCommandMessage.{SetStateCommandMessage}
-use Rattle.command_records.specs.declared.clear_state_command.ClearStateCommandMessage.{ClearStateCommandMessage}
-use Rattle.command_records.specs.declared.clear_all_state_command.ClearAllStateCommandMessage.{ClearAllStateCommandMessage}
+use Rattle.protocol_commands.specs.declared.get_eager_state_command.GetEagerStateCommandResult.{GetEagerStateCommandResult}
+use Rattle.protocol_commands.specs.declared.get_lazy_state_command.GetLazyStateCommandMessage.{GetLazyStateCommandMessage}
+use Rattle.protocol_commands.specs.declared.get_lazy_state_keys_command.GetLazyStateKeysCommandMessage.{GetLazyStateKeysCommandMessage}
+use Rattle.protocol_commands.specs.declared.get_eager_state_command.GetEagerStateCommandMessage.{GetEagerStateCommandMessage}
+use Rattle.protocol_commands.specs.declared.get_eager_state_keys_command.GetEagerStateKeysCommandMessage.{GetEagerStateKeysCommandMessage}
+use Rattle.protocol_commands.specs.declared.set_state_command.SetStateCommandMessage.{SetStateCommandMessage}
+use Rattle.protocol_commands.specs.declared.clear_state_command.ClearStateCommandMessage.{ClearStateCommandMessage}
+use Rattle.protocol_commands.specs.declared.clear_all_state_command.ClearAllStateCommandMessage.{ClearAllStateCommandMessage}
 
 abbrev pub erased_get_lazy_state_command : Bool → GetLazyStateCommandMessage → GetLazyStateCommandMessage
 erased_get_lazy_state_command ignoring x = record { key = x.key; result_completion_id = x.result_completion_id; name = x.name }

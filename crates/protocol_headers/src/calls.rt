@@ -3,7 +3,7 @@ ghost use Rattle.std.specs.Prelude.{◌≡◌};
 ghost use Rattle.protocol_headers.specs.Calls.{erased_call_command, call_command_coarser, same_call_command, erased_one_way_call_command, one_way_call_command_coarser, same_one_way_call_command};
 
 use crate::{CommandMessageHeaderEq, NamedCommandMessage, Same, SameBesidesPayload};
-use call_records::{CallCommandMessage, OneWayCallCommandMessage};
+use protocol_calls::{CallCommandMessage, OneWayCallCommandMessage};
 
 fn is_same_call(one: &CallCommandMessage, two: &CallCommandMessage, ignoring: bool) -> bool
     ensures { result ≡ same_call_command ignoring one.now two.now }

@@ -3,7 +3,7 @@ ghost use Rattle.protocol_headers.specs.Tells.{deciding};
 ghost use Rattle.protocol_headers.specs.Choices.{same_signal_id, signal_id_tells, same_signal_result, signal_result_tells, same_attached_target, attached_target_tells, same_asked_target, asked_target_tells};
 
 use crate::Same;
-use call_records::{
+use protocol_calls::{
     AttachInvocationCommandTarget, GetInvocationOutputCommandTarget, SendSignalCommandResult,
     SendSignalCommandSignalId,
 };

@@ -3,7 +3,7 @@ ghost use Rattle.std.specs.Prelude.{◌≡◌};
 ghost use Rattle.protocol_headers.specs.Invocations.{erased_send_signal_command, send_signal_command_coarser, same_send_signal_command, erased_attach_invocation_command, attach_invocation_command_coarser, same_attach_invocation_command, erased_get_invocation_output_command, get_invocation_output_command_coarser, same_get_invocation_output_command, erased_complete_awakeable_command, complete_awakeable_command_coarser, same_complete_awakeable_command};
 
 use crate::{CommandMessageHeaderEq, NamedCommandMessage, Same, SameBesidesPayload};
-use call_records::{
+use protocol_calls::{
     AttachInvocationCommandMessage, CompleteAwakeableCommandMessage,
     GetInvocationOutputCommandMessage, SendSignalCommandMessage,
 };

@@ -4,8 +4,8 @@ ghost use Rattle.std.specs.Option.{option_eq};
 
 use crate::{Same, SameBesidesPayload};
 use bytes::Bytes;
-use call_records::CompleteAwakeableCommandResult;
-use command_records::{CompletePromiseCommandCompletion, GetEagerStateCommandResult};
+use protocol_calls::CompleteAwakeableCommandResult;
+use protocol_commands::{CompletePromiseCommandCompletion, GetEagerStateCommandResult};
 use protocol_records::{OutputCommandResult, Value};
 
 impl SameBesidesPayload for Bytes {

@@ -3,7 +3,7 @@ ghost use Rattle.std.specs.Prelude.{◌≡◌};
 ghost use Rattle.protocol_headers.specs.Promises.{erased_get_promise_command, get_promise_command_coarser, same_get_promise_command, erased_peek_promise_command, peek_promise_command_coarser, same_peek_promise_command, erased_complete_promise_command, complete_promise_command_coarser, same_complete_promise_command, erased_run_command, run_command_coarser, same_run_command};
 
 use crate::{CommandMessageHeaderEq, NamedCommandMessage, Same, SameBesidesPayload};
-use command_records::{
+use protocol_commands::{
     CompletePromiseCommandMessage, GetPromiseCommandMessage, PeekPromiseCommandMessage,
     RunCommandMessage,
 };

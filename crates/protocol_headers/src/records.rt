@@ -3,7 +3,7 @@ ghost use Rattle.protocol_headers.specs.Tells.{deciding};
 ghost use Rattle.protocol_headers.specs.Records.{same_header, header_tells, same_failure_metadata, failure_metadata_tells, same_failure, failure_tells, same_value, value_tells, same_void, void_tells, same_state_keys, state_keys_tells, same_workflow_target, workflow_target_tells, same_idempotent_request_target, idempotent_request_target_tells};
 
 use crate::Same;
-use call_records::{IdempotentRequestTarget, WorkflowTarget};
+use protocol_calls::{IdempotentRequestTarget, WorkflowTarget};
 use protocol_records::{Failure, FailureMetadata, Header, StateKeys, Value, Void};
 
 impl Same for Header {

@@ -3,7 +3,7 @@ ghost use Rattle.std.specs.Prelude.{◌≡◌};
 ghost use Rattle.protocol_headers.specs.State.{erased_get_lazy_state_command, get_lazy_state_command_coarser, same_get_lazy_state_command, erased_get_lazy_state_keys_command, get_lazy_state_keys_command_coarser, same_get_lazy_state_keys_command, erased_get_eager_state_command, get_eager_state_command_coarser, same_get_eager_state_command, erased_get_eager_state_keys_command, get_eager_state_keys_command_coarser, same_get_eager_state_keys_command, erased_set_state_command, set_state_command_coarser, same_set_state_command, erased_clear_state_command, clear_state_command_coarser, same_clear_state_command, erased_clear_all_state_command, clear_all_state_command_coarser, same_clear_all_state_command};
 
 use crate::{CommandMessageHeaderEq, NamedCommandMessage, Same, SameBesidesPayload};
-use command_records::{
+use protocol_commands::{
     ClearAllStateCommandMessage, ClearStateCommandMessage, GetEagerStateCommandMessage,
     GetEagerStateKeysCommandMessage, GetLazyStateCommandMessage, GetLazyStateKeysCommandMessage,
     SetStateCommandMessage,

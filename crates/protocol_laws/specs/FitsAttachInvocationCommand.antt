@@ -7,11 +7,11 @@ use Rattle.protocol_table.specs.declared.table.attach_invocation_command.TheCons
 use Rattle.protocol_wire.proofs.SoundAt.{level_left}
 use Rattle.protocol_wire.proofs.Joins.{IsFine}
 use Rattle.protocol_wire.proofs.Standing.{run_sound}
-use Rattle.call_records.specs.declared.attach_invocation_command.AttachInvocationCommandTarget.TheVariants as targets
-use Rattle.call_records.specs.AttachInvocationCommand.{attach_invocation_command_of, AttachInvocationCommandFits, AttachInvocationCommandTargetFits, attach_invocation_command_target_of}
-use Rattle.call_records.specs.IdempotentRequestTarget.{idempotent_request_target_of, IdempotentRequestTargetFits}
+use Rattle.protocol_calls.specs.declared.attach_invocation_command.AttachInvocationCommandTarget.TheVariants as targets
+use Rattle.protocol_calls.specs.AttachInvocationCommand.{attach_invocation_command_of, AttachInvocationCommandFits, AttachInvocationCommandTargetFits, attach_invocation_command_target_of}
+use Rattle.protocol_calls.specs.IdempotentRequestTarget.{idempotent_request_target_of, IdempotentRequestTargetFits}
 use Rattle.protocol_laws.specs.FitsIdempotentRequestTarget.{idempotent_request_target_fits}
-use Rattle.call_records.specs.WorkflowTarget.{workflow_target_of, WorkflowTargetFits}
+use Rattle.protocol_calls.specs.WorkflowTarget.{workflow_target_of, WorkflowTargetFits}
 use Rattle.protocol_laws.specs.FitsWorkflowTarget.{workflow_target_fits}
 use Rattle.protocol_laws.specs.ReadFits.{chosen_text_fits, first_fits, last_fits, optional_record_fits, text_fits, u32_fits}
 

@@ -7,8 +7,8 @@ use Rattle.protocol_table.specs.declared.table.complete_awakeable_command.TheCon
 use Rattle.protocol_wire.proofs.SoundAt.{level_left}
 use Rattle.protocol_wire.proofs.Joins.{IsFine}
 use Rattle.protocol_wire.proofs.Standing.{run_sound}
-use Rattle.call_records.specs.declared.complete_awakeable_command.CompleteAwakeableCommandResult.TheVariants as results
-use Rattle.call_records.specs.CompleteAwakeableCommand.{complete_awakeable_command_of, CompleteAwakeableCommandFits, CompleteAwakeableCommandResultFits, complete_awakeable_command_result_of}
+use Rattle.protocol_calls.specs.declared.complete_awakeable_command.CompleteAwakeableCommandResult.TheVariants as results
+use Rattle.protocol_calls.specs.CompleteAwakeableCommand.{complete_awakeable_command_of, CompleteAwakeableCommandFits, CompleteAwakeableCommandResultFits, complete_awakeable_command_result_of}
 use Rattle.protocol_records.specs.Failure.{failure_of, FailureFits}
 use Rattle.protocol_laws.specs.FitsFailure.{failure_fits}
 use Rattle.protocol_records.specs.Value.{value_of, ValueFits}

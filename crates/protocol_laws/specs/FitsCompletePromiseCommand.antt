@@ -7,8 +7,8 @@ use Rattle.protocol_table.specs.declared.table.complete_promise_command.TheConst
 use Rattle.protocol_wire.proofs.SoundAt.{level_left}
 use Rattle.protocol_wire.proofs.Joins.{IsFine}
 use Rattle.protocol_wire.proofs.Standing.{run_sound}
-use Rattle.command_records.specs.declared.complete_promise_command.CompletePromiseCommandCompletion.TheVariants as completions
-use Rattle.command_records.specs.CompletePromiseCommand.{complete_promise_command_of, CompletePromiseCommandFits, CompletePromiseCommandCompletionFits, complete_promise_command_completion_of}
+use Rattle.protocol_commands.specs.declared.complete_promise_command.CompletePromiseCommandCompletion.TheVariants as completions
+use Rattle.protocol_commands.specs.CompletePromiseCommand.{complete_promise_command_of, CompletePromiseCommandFits, CompletePromiseCommandCompletionFits, complete_promise_command_completion_of}
 use Rattle.protocol_records.specs.Failure.{failure_of, FailureFits}
 use Rattle.protocol_laws.specs.FitsFailure.{failure_fits}
 use Rattle.protocol_records.specs.Value.{value_of, ValueFits}

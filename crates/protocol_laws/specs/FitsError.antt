@@ -5,7 +5,7 @@ use Rattle.protocol_table.specs.declared.table.RecordType.TheVariants as types
 use Rattle.protocol_table.specs.declared.table.error.TheConstants as table
 use Rattle.protocol_wire.proofs.SoundAt.{level_left}
 use Rattle.protocol_wire.proofs.Joins.{IsFine}
-use Rattle.control_records.specs.Error.{error_of, ErrorFits}
+use Rattle.protocol_controls.specs.Error.{error_of, ErrorFits}
 use Rattle.protocol_laws.specs.ReadFits.{AreBytes, optional_text_fits, optional_u32_fits, optional_u64_fits, text_fits, u32_fits}
 
 pub error_fits : (levels : ℕ) (a : List ℕ) → AreBytes a → IsFine levels types.Error a → ErrorFits levels (error_of levels (fields a))

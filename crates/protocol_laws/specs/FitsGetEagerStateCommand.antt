@@ -7,8 +7,8 @@ use Rattle.protocol_table.specs.declared.table.get_eager_state_command.TheConsta
 use Rattle.protocol_wire.proofs.SoundAt.{level_left}
 use Rattle.protocol_wire.proofs.Joins.{IsFine}
 use Rattle.protocol_wire.proofs.Standing.{run_sound}
-use Rattle.command_records.specs.declared.get_eager_state_command.GetEagerStateCommandResult.TheVariants as results
-use Rattle.command_records.specs.GetEagerStateCommand.{get_eager_state_command_of, GetEagerStateCommandFits, GetEagerStateCommandResultFits, get_eager_state_command_result_of}
+use Rattle.protocol_commands.specs.declared.get_eager_state_command.GetEagerStateCommandResult.TheVariants as results
+use Rattle.protocol_commands.specs.GetEagerStateCommand.{get_eager_state_command_of, GetEagerStateCommandFits, GetEagerStateCommandResultFits, get_eager_state_command_result_of}
 use Rattle.protocol_records.specs.Value.{value_of, ValueFits}
 use Rattle.protocol_laws.specs.FitsValue.{value_fits}
 use Rattle.protocol_records.specs.Void.{void_of, VoidFits}

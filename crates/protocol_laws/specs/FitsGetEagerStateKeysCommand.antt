@@ -5,7 +5,7 @@ use Rattle.protocol_table.specs.declared.table.RecordType.TheVariants as types
 use Rattle.protocol_table.specs.declared.table.get_eager_state_keys_command.TheConstants as table
 use Rattle.protocol_wire.proofs.SoundAt.{level_left, records_sound}
 use Rattle.protocol_wire.proofs.Joins.{IsFine}
-use Rattle.command_records.specs.GetEagerStateKeysCommand.{get_eager_state_keys_command_of, GetEagerStateKeysCommandFits}
+use Rattle.protocol_commands.specs.GetEagerStateKeysCommand.{get_eager_state_keys_command_of, GetEagerStateKeysCommandFits}
 use Rattle.protocol_records.specs.StateKeys.{state_keys_of, StateKeysFits}
 use Rattle.protocol_laws.specs.FitsStateKeys.{state_keys_fits}
 use Rattle.protocol_laws.specs.ReadFits.{optional_record_fits, text_fits}

@@ -5,7 +5,7 @@ use Rattle.protocol_table.specs.declared.table.RecordType.TheVariants as types
 use Rattle.protocol_table.specs.declared.table.get_lazy_state_command.TheConstants as table
 use Rattle.protocol_wire.proofs.SoundAt.{level_left}
 use Rattle.protocol_wire.proofs.Joins.{IsFine}
-use Rattle.command_records.specs.GetLazyStateCommand.{get_lazy_state_command_of, GetLazyStateCommandFits}
+use Rattle.protocol_commands.specs.GetLazyStateCommand.{get_lazy_state_command_of, GetLazyStateCommandFits}
 use Rattle.protocol_laws.specs.ReadFits.{text_fits, u32_fits}
 
 pub get_lazy_state_command_fits : (levels : ℕ) (a : List ℕ) → IsFine levels types.GetLazyStateCommand a → GetLazyStateCommandFits levels (get_lazy_state_command_of levels (fields a))

@@ -5,7 +5,7 @@ use Rattle.protocol_table.specs.declared.table.RecordType.TheVariants as types
 use Rattle.protocol_table.specs.declared.table.get_promise_command.TheConstants as table
 use Rattle.protocol_wire.proofs.SoundAt.{level_left}
 use Rattle.protocol_wire.proofs.Joins.{IsFine}
-use Rattle.command_records.specs.GetPromiseCommand.{get_promise_command_of, GetPromiseCommandFits}
+use Rattle.protocol_commands.specs.GetPromiseCommand.{get_promise_command_of, GetPromiseCommandFits}
 use Rattle.protocol_laws.specs.ReadFits.{text_fits, u32_fits}
 
 pub get_promise_command_fits : (levels : ℕ) (a : List ℕ) → IsFine levels types.GetPromiseCommand a → GetPromiseCommandFits levels (get_promise_command_of levels (fields a))

@@ -5,7 +5,7 @@ use Rattle.protocol_table.specs.declared.table.RecordType.TheVariants as types
 use Rattle.protocol_table.specs.declared.table.get_state_ephemeral_command.TheConstants as table
 use Rattle.protocol_wire.proofs.SoundAt.{level_left}
 use Rattle.protocol_wire.proofs.Joins.{IsFine}
-use Rattle.control_records.specs.GetStateEphemeralCommand.{get_state_ephemeral_command_of, GetStateEphemeralCommandFits}
+use Rattle.protocol_controls.specs.GetStateEphemeralCommand.{get_state_ephemeral_command_of, GetStateEphemeralCommandFits}
 use Rattle.protocol_laws.specs.ReadFits.{u32_fits}
 
 pub get_state_ephemeral_command_fits : (levels : ℕ) (a : List ℕ) → IsFine levels types.GetStateEphemeralCommand a → GetStateEphemeralCommandFits levels (get_state_ephemeral_command_of levels (fields a))

@@ -7,8 +7,8 @@ use Rattle.protocol_table.specs.declared.table.get_state_ephemeral_notification.
 use Rattle.protocol_wire.proofs.SoundAt.{level_left}
 use Rattle.protocol_wire.proofs.Joins.{IsFine}
 use Rattle.protocol_wire.proofs.Standing.{run_sound}
-use Rattle.control_records.specs.declared.get_state_ephemeral_notification.GetStateEphemeralNotificationResult.TheVariants as results
-use Rattle.control_records.specs.GetStateEphemeralNotification.{get_state_ephemeral_notification_of, GetStateEphemeralNotificationFits, GetStateEphemeralNotificationResultFits, get_state_ephemeral_notification_result_of}
+use Rattle.protocol_controls.specs.declared.get_state_ephemeral_notification.GetStateEphemeralNotificationResult.TheVariants as results
+use Rattle.protocol_controls.specs.GetStateEphemeralNotification.{get_state_ephemeral_notification_of, GetStateEphemeralNotificationFits, GetStateEphemeralNotificationResultFits, get_state_ephemeral_notification_result_of}
 use Rattle.protocol_records.specs.Value.{value_of, ValueFits}
 use Rattle.protocol_laws.specs.FitsValue.{value_fits}
 use Rattle.protocol_records.specs.Void.{void_of, VoidFits}

@@ -5,7 +5,7 @@ use Rattle.protocol_table.specs.declared.table.RecordType.TheVariants as types
 use Rattle.protocol_table.specs.declared.table.idempotent_request_target.TheConstants as table
 use Rattle.protocol_wire.proofs.SoundAt.{level_left}
 use Rattle.protocol_wire.proofs.Joins.{IsFine}
-use Rattle.call_records.specs.IdempotentRequestTarget.{idempotent_request_target_of, IdempotentRequestTargetFits}
+use Rattle.protocol_calls.specs.IdempotentRequestTarget.{idempotent_request_target_of, IdempotentRequestTargetFits}
 use Rattle.protocol_laws.specs.ReadFits.{optional_text_fits, text_fits}
 
 pub idempotent_request_target_fits : (levels : ℕ) (a : List ℕ) → IsFine levels types.IdempotentRequestTarget a → IdempotentRequestTargetFits levels (idempotent_request_target_of levels (fields a))

@@ -7,9 +7,9 @@ use Rattle.protocol_table.specs.declared.table.notification.TheConstants as tabl
 use Rattle.protocol_wire.proofs.SoundAt.{level_left}
 use Rattle.protocol_wire.proofs.Joins.{IsFine}
 use Rattle.protocol_wire.proofs.Standing.{run_sound}
-use Rattle.notification_records.specs.declared.notification.NotificationMessageId.TheVariants as ids
-use Rattle.notification_records.specs.declared.notification.NotificationMessageResult.TheVariants as results
-use Rattle.notification_records.specs.Notification.{notification_of, NotificationFits, NotificationMessageIdFits, NotificationMessageResultFits, notification_id_of, notification_result_of}
+use Rattle.protocol_controls.specs.declared.notification.NotificationMessageId.TheVariants as ids
+use Rattle.protocol_controls.specs.declared.notification.NotificationMessageResult.TheVariants as results
+use Rattle.protocol_controls.specs.Notification.{notification_of, NotificationFits, NotificationMessageIdFits, NotificationMessageResultFits, notification_id_of, notification_result_of}
 use Rattle.protocol_records.specs.Failure.{failure_of, FailureFits}
 use Rattle.protocol_laws.specs.FitsFailure.{failure_fits}
 use Rattle.protocol_records.specs.StateKeys.{state_keys_of, StateKeysFits}

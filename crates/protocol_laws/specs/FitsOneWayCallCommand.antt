@@ -5,7 +5,7 @@ use Rattle.protocol_table.specs.declared.table.RecordType.TheVariants as types
 use Rattle.protocol_table.specs.declared.table.one_way_call_command.TheConstants as table
 use Rattle.protocol_wire.proofs.SoundAt.{level_left, records_sound}
 use Rattle.protocol_wire.proofs.Joins.{IsFine}
-use Rattle.call_records.specs.OneWayCallCommand.{one_way_call_command_of, OneWayCallCommandFits}
+use Rattle.protocol_calls.specs.OneWayCallCommand.{one_way_call_command_of, OneWayCallCommandFits}
 use Rattle.protocol_records.specs.Header.{header_of, HeaderFits}
 use Rattle.protocol_laws.specs.FitsHeader.{header_fits}
 use Rattle.protocol_laws.specs.ReadFits.{AreBytes, optional_text_fits, records_fit, text_fits, u32_fits, u64_fits}

@@ -5,7 +5,7 @@ use Rattle.protocol_table.specs.declared.table.RecordType.TheVariants as types
 use Rattle.protocol_table.specs.declared.table.peek_promise_command.TheConstants as table
 use Rattle.protocol_wire.proofs.SoundAt.{level_left}
 use Rattle.protocol_wire.proofs.Joins.{IsFine}
-use Rattle.command_records.specs.PeekPromiseCommand.{peek_promise_command_of, PeekPromiseCommandFits}
+use Rattle.protocol_commands.specs.PeekPromiseCommand.{peek_promise_command_of, PeekPromiseCommandFits}
 use Rattle.protocol_laws.specs.ReadFits.{text_fits, u32_fits}
 
 pub peek_promise_command_fits : (levels : ℕ) (a : List ℕ) → IsFine levels types.PeekPromiseCommand a → PeekPromiseCommandFits levels (peek_promise_command_of levels (fields a))

@@ -7,8 +7,8 @@ use Rattle.protocol_table.specs.declared.table.propose_run_completion.TheConstan
 use Rattle.protocol_wire.proofs.SoundAt.{level_left}
 use Rattle.protocol_wire.proofs.Joins.{IsFine}
 use Rattle.protocol_wire.proofs.Standing.{run_sound}
-use Rattle.control_records.specs.declared.propose_run_completion.ProposeRunCompletionResult.TheVariants as results
-use Rattle.control_records.specs.ProposeRunCompletion.{propose_run_completion_of, ProposeRunCompletionFits, ProposeRunCompletionResultFits, propose_run_completion_result_of}
+use Rattle.protocol_controls.specs.declared.propose_run_completion.ProposeRunCompletionResult.TheVariants as results
+use Rattle.protocol_controls.specs.ProposeRunCompletion.{propose_run_completion_of, ProposeRunCompletionFits, ProposeRunCompletionResultFits, propose_run_completion_result_of}
 use Rattle.protocol_records.specs.Failure.{failure_of, FailureFits}
 use Rattle.protocol_laws.specs.FitsFailure.{failure_fits}
 use Rattle.protocol_laws.specs.ReadFits.{any_fits, first_fits, last_fits, optional_record_fits, u32_fits}

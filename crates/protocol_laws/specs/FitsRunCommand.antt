@@ -5,7 +5,7 @@ use Rattle.protocol_table.specs.declared.table.RecordType.TheVariants as types
 use Rattle.protocol_table.specs.declared.table.run_command.TheConstants as table
 use Rattle.protocol_wire.proofs.SoundAt.{level_left}
 use Rattle.protocol_wire.proofs.Joins.{IsFine}
-use Rattle.command_records.specs.RunCommand.{run_command_of, RunCommandFits}
+use Rattle.protocol_commands.specs.RunCommand.{run_command_of, RunCommandFits}
 use Rattle.protocol_laws.specs.ReadFits.{text_fits, u32_fits}
 
 pub run_command_fits : (levels : ℕ) (a : List ℕ) → IsFine levels types.RunCommand a → RunCommandFits levels (run_command_of levels (fields a))

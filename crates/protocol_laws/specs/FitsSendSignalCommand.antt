@@ -7,9 +7,9 @@ use Rattle.protocol_table.specs.declared.table.send_signal_command.TheConstants 
 use Rattle.protocol_wire.proofs.SoundAt.{level_left}
 use Rattle.protocol_wire.proofs.Joins.{IsFine}
 use Rattle.protocol_wire.proofs.Standing.{run_sound}
-use Rattle.call_records.specs.declared.send_signal_command.SendSignalCommandResult.TheVariants as results
-use Rattle.call_records.specs.declared.send_signal_command.SendSignalCommandSignalId.TheVariants as signal_ids
-use Rattle.call_records.specs.SendSignalCommand.{send_signal_command_of, SendSignalCommandFits, SendSignalCommandResultFits, SendSignalCommandSignalIdFits, send_signal_command_result_of, send_signal_command_signal_id_of}
+use Rattle.protocol_calls.specs.declared.send_signal_command.SendSignalCommandResult.TheVariants as results
+use Rattle.protocol_calls.specs.declared.send_signal_command.SendSignalCommandSignalId.TheVariants as signal_ids
+use Rattle.protocol_calls.specs.SendSignalCommand.{send_signal_command_of, SendSignalCommandFits, SendSignalCommandResultFits, SendSignalCommandSignalIdFits, send_signal_command_result_of, send_signal_command_signal_id_of}
 use Rattle.protocol_records.specs.Failure.{failure_of, FailureFits}
 use Rattle.protocol_laws.specs.FitsFailure.{failure_fits}
 use Rattle.protocol_records.specs.Value.{value_of, ValueFits}

@@ -5,7 +5,7 @@ use Rattle.protocol_table.specs.declared.table.RecordType.TheVariants as types
 use Rattle.protocol_table.specs.declared.table.set_state_command.TheConstants as table
 use Rattle.protocol_wire.proofs.SoundAt.{level_left, records_sound}
 use Rattle.protocol_wire.proofs.Joins.{IsFine}
-use Rattle.command_records.specs.SetStateCommand.{set_state_command_of, SetStateCommandFits}
+use Rattle.protocol_commands.specs.SetStateCommand.{set_state_command_of, SetStateCommandFits}
 use Rattle.protocol_records.specs.Value.{value_of, ValueFits}
 use Rattle.protocol_laws.specs.FitsValue.{value_fits}
 use Rattle.protocol_laws.specs.ReadFits.{optional_record_fits, text_fits}

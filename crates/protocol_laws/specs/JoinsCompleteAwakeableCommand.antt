@@ -7,10 +7,10 @@ use Rattle.protocol_table.specs.declared.table.RecordType.TheVariants as types
 use Rattle.protocol_table.specs.declared.table.complete_awakeable_command.TheConstants as complete_awakeable_command
 use Rattle.protocol_wire.proofs.Joins.{IsFine, text_joins, optional_record_joins, fields_behind}
 use Rattle.protocol_wire.proofs.Standing.{stands, is_there, absent, stands_is, nothing_stands, variant_among, record_stands, run_sound, behind}
-use Rattle.call_records.specs.declared.complete_awakeable_command.CompleteAwakeableCommandMessage.{CompleteAwakeableCommandMessage}
-use Rattle.call_records.specs.declared.complete_awakeable_command.CompleteAwakeableCommandResult.{CompleteAwakeableCommandResult}
-use Rattle.call_records.specs.declared.complete_awakeable_command.CompleteAwakeableCommandResult.TheVariants as results
-use Rattle.call_records.specs.CompleteAwakeableCommand.{complete_awakeable_command_of, result_in, complete_awakeable_command_result_of}
+use Rattle.protocol_calls.specs.declared.complete_awakeable_command.CompleteAwakeableCommandMessage.{CompleteAwakeableCommandMessage}
+use Rattle.protocol_calls.specs.declared.complete_awakeable_command.CompleteAwakeableCommandResult.{CompleteAwakeableCommandResult}
+use Rattle.protocol_calls.specs.declared.complete_awakeable_command.CompleteAwakeableCommandResult.TheVariants as results
+use Rattle.protocol_calls.specs.CompleteAwakeableCommand.{complete_awakeable_command_of, result_in, complete_awakeable_command_result_of}
 use Rattle.protocol_records.specs.declared.failure.Failure.{Failure}
 use Rattle.protocol_records.specs.Failure.{failure_of}
 use Rattle.protocol_records.specs.declared.value.Value.{Value}

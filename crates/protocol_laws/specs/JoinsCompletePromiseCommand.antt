@@ -7,10 +7,10 @@ use Rattle.protocol_table.specs.declared.table.RecordType.TheVariants as types
 use Rattle.protocol_table.specs.declared.table.complete_promise_command.TheConstants as complete_promise_command
 use Rattle.protocol_wire.proofs.Joins.{IsFine, u32_joins, text_joins, optional_record_joins, fields_behind}
 use Rattle.protocol_wire.proofs.Standing.{stands, is_there, absent, stands_is, nothing_stands, variant_among, record_stands, run_sound, behind}
-use Rattle.command_records.specs.declared.complete_promise_command.CompletePromiseCommandMessage.{CompletePromiseCommandMessage}
-use Rattle.command_records.specs.declared.complete_promise_command.CompletePromiseCommandCompletion.{CompletePromiseCommandCompletion}
-use Rattle.command_records.specs.declared.complete_promise_command.CompletePromiseCommandCompletion.TheVariants as completions
-use Rattle.command_records.specs.CompletePromiseCommand.{complete_promise_command_of, completion_in, complete_promise_command_completion_of}
+use Rattle.protocol_commands.specs.declared.complete_promise_command.CompletePromiseCommandMessage.{CompletePromiseCommandMessage}
+use Rattle.protocol_commands.specs.declared.complete_promise_command.CompletePromiseCommandCompletion.{CompletePromiseCommandCompletion}
+use Rattle.protocol_commands.specs.declared.complete_promise_command.CompletePromiseCommandCompletion.TheVariants as completions
+use Rattle.protocol_commands.specs.CompletePromiseCommand.{complete_promise_command_of, completion_in, complete_promise_command_completion_of}
 use Rattle.protocol_records.specs.declared.failure.Failure.{Failure}
 use Rattle.protocol_records.specs.Failure.{failure_of}
 use Rattle.protocol_records.specs.declared.value.Value.{Value}

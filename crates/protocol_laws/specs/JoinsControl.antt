@@ -13,13 +13,13 @@ use Rattle.protocol_records.specs.declared.start.StartMessage.{StartMessage}
 use Rattle.protocol_records.specs.Start.{start_of}
 use Rattle.protocol_records.specs.declared.suspension_v6.SuspensionMessageV6.{SuspensionMessageV6}
 use Rattle.protocol_records.specs.SuspensionV6.{suspension_v6_of}
-use Rattle.control_records.specs.declared.error.ErrorMessage.{ErrorMessage}
-use Rattle.control_records.specs.Error.{error_of}
+use Rattle.protocol_controls.specs.declared.error.ErrorMessage.{ErrorMessage}
+use Rattle.protocol_controls.specs.Error.{error_of}
 use Rattle.protocol_records.specs.End.{end_of}
-use Rattle.control_records.specs.declared.propose_run_completion_ack.ProposeRunCompletionAckMessage.{ProposeRunCompletionAckMessage}
-use Rattle.control_records.specs.ProposeRunCompletionAck.{propose_run_completion_ack_of}
-use Rattle.control_records.specs.declared.get_state_ephemeral_command.GetStateEphemeralCommandMessage.{GetStateEphemeralCommandMessage}
-use Rattle.control_records.specs.GetStateEphemeralCommand.{get_state_ephemeral_command_of}
+use Rattle.protocol_controls.specs.declared.propose_run_completion_ack.ProposeRunCompletionAckMessage.{ProposeRunCompletionAckMessage}
+use Rattle.protocol_controls.specs.ProposeRunCompletionAck.{propose_run_completion_ack_of}
+use Rattle.protocol_controls.specs.declared.get_state_ephemeral_command.GetStateEphemeralCommandMessage.{GetStateEphemeralCommandMessage}
+use Rattle.protocol_controls.specs.GetStateEphemeralCommand.{get_state_ephemeral_command_of}
 use Rattle.protocol_records.specs.StateEntry.{state_entry_of}
 
 pub start_joins : (levels : ℕ) (a b c : List ℕ) → IsFine levels types.Start a → IsFine levels types.Start b → start_of levels (fields a) ≡ start_of levels (fields b) → start_of levels (fields (a ++ c)) ≡ start_of levels (fields (b ++ c))

@@ -7,10 +7,10 @@ use Rattle.protocol_table.specs.declared.table.RecordType.TheVariants as types
 use Rattle.protocol_table.specs.declared.table.get_eager_state_command.TheConstants as get_eager_state_command
 use Rattle.protocol_wire.proofs.Joins.{IsFine, text_joins, optional_record_joins, fields_behind}
 use Rattle.protocol_wire.proofs.Standing.{stands, is_there, absent, stands_is, nothing_stands, variant_among, record_stands, run_sound, behind}
-use Rattle.command_records.specs.declared.get_eager_state_command.GetEagerStateCommandMessage.{GetEagerStateCommandMessage}
-use Rattle.command_records.specs.declared.get_eager_state_command.GetEagerStateCommandResult.{GetEagerStateCommandResult}
-use Rattle.command_records.specs.declared.get_eager_state_command.GetEagerStateCommandResult.TheVariants as results
-use Rattle.command_records.specs.GetEagerStateCommand.{get_eager_state_command_of, result_in, get_eager_state_command_result_of}
+use Rattle.protocol_commands.specs.declared.get_eager_state_command.GetEagerStateCommandMessage.{GetEagerStateCommandMessage}
+use Rattle.protocol_commands.specs.declared.get_eager_state_command.GetEagerStateCommandResult.{GetEagerStateCommandResult}
+use Rattle.protocol_commands.specs.declared.get_eager_state_command.GetEagerStateCommandResult.TheVariants as results
+use Rattle.protocol_commands.specs.GetEagerStateCommand.{get_eager_state_command_of, result_in, get_eager_state_command_result_of}
 use Rattle.protocol_records.specs.declared.value.Value.{Value}
 use Rattle.protocol_records.specs.Value.{value_of}
 use Rattle.protocol_records.specs.declared.void.Void.{Void}

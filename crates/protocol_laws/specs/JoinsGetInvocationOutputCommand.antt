@@ -7,14 +7,14 @@ use Rattle.protocol_table.specs.declared.table.RecordType.TheVariants as types
 use Rattle.protocol_table.specs.declared.table.get_invocation_output_command.TheConstants as get_invocation_output_command
 use Rattle.protocol_wire.proofs.Joins.{IsFine, u32_joins, text_joins, optional_text_joins, optional_record_joins, fields_behind}
 use Rattle.protocol_wire.proofs.Standing.{stands, is_there, absent, stands_is, nothing_stands, variant_among, text_stands, record_stands, run_sound, behind}
-use Rattle.call_records.specs.declared.get_invocation_output_command.GetInvocationOutputCommandMessage.{GetInvocationOutputCommandMessage}
-use Rattle.call_records.specs.declared.get_invocation_output_command.GetInvocationOutputCommandTarget.{GetInvocationOutputCommandTarget}
-use Rattle.call_records.specs.declared.get_invocation_output_command.GetInvocationOutputCommandTarget.TheVariants as targets
-use Rattle.call_records.specs.GetInvocationOutputCommand.{get_invocation_output_command_of, target_in, get_invocation_output_command_target_of}
-use Rattle.call_records.specs.declared.idempotent_request_target.IdempotentRequestTarget.{IdempotentRequestTarget}
-use Rattle.call_records.specs.IdempotentRequestTarget.{idempotent_request_target_of}
-use Rattle.call_records.specs.declared.workflow_target.WorkflowTarget.{WorkflowTarget}
-use Rattle.call_records.specs.WorkflowTarget.{workflow_target_of}
+use Rattle.protocol_calls.specs.declared.get_invocation_output_command.GetInvocationOutputCommandMessage.{GetInvocationOutputCommandMessage}
+use Rattle.protocol_calls.specs.declared.get_invocation_output_command.GetInvocationOutputCommandTarget.{GetInvocationOutputCommandTarget}
+use Rattle.protocol_calls.specs.declared.get_invocation_output_command.GetInvocationOutputCommandTarget.TheVariants as targets
+use Rattle.protocol_calls.specs.GetInvocationOutputCommand.{get_invocation_output_command_of, target_in, get_invocation_output_command_target_of}
+use Rattle.protocol_calls.specs.declared.idempotent_request_target.IdempotentRequestTarget.{IdempotentRequestTarget}
+use Rattle.protocol_calls.specs.IdempotentRequestTarget.{idempotent_request_target_of}
+use Rattle.protocol_calls.specs.declared.workflow_target.WorkflowTarget.{WorkflowTarget}
+use Rattle.protocol_calls.specs.WorkflowTarget.{workflow_target_of}
 use Rattle.protocol_laws.specs.JoinsTowards.{idempotent_request_target_joins, workflow_target_joins}
 
 -- the number of the variant

@@ -7,10 +7,10 @@ use Rattle.protocol_table.specs.declared.table.RecordType.TheVariants as types
 use Rattle.protocol_table.specs.declared.table.get_state_ephemeral_notification.TheConstants as get_state_ephemeral_notification
 use Rattle.protocol_wire.proofs.Joins.{IsFine, u32_joins, optional_record_joins, fields_behind}
 use Rattle.protocol_wire.proofs.Standing.{stands, is_there, absent, stands_is, nothing_stands, variant_among, record_stands, run_sound, behind}
-use Rattle.control_records.specs.declared.get_state_ephemeral_notification.GetStateEphemeralNotificationMessage.{GetStateEphemeralNotificationMessage}
-use Rattle.control_records.specs.declared.get_state_ephemeral_notification.GetStateEphemeralNotificationResult.{GetStateEphemeralNotificationResult}
-use Rattle.control_records.specs.declared.get_state_ephemeral_notification.GetStateEphemeralNotificationResult.TheVariants as results
-use Rattle.control_records.specs.GetStateEphemeralNotification.{get_state_ephemeral_notification_of, result_in, get_state_ephemeral_notification_result_of}
+use Rattle.protocol_controls.specs.declared.get_state_ephemeral_notification.GetStateEphemeralNotificationMessage.{GetStateEphemeralNotificationMessage}
+use Rattle.protocol_controls.specs.declared.get_state_ephemeral_notification.GetStateEphemeralNotificationResult.{GetStateEphemeralNotificationResult}
+use Rattle.protocol_controls.specs.declared.get_state_ephemeral_notification.GetStateEphemeralNotificationResult.TheVariants as results
+use Rattle.protocol_controls.specs.GetStateEphemeralNotification.{get_state_ephemeral_notification_of, result_in, get_state_ephemeral_notification_result_of}
 use Rattle.protocol_records.specs.declared.value.Value.{Value}
 use Rattle.protocol_records.specs.Value.{value_of}
 use Rattle.protocol_records.specs.declared.void.Void.{Void}

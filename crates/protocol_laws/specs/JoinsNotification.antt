@@ -7,12 +7,12 @@ use Rattle.protocol_table.specs.declared.table.RecordType.TheVariants as types
 use Rattle.protocol_table.specs.declared.table.notification.TheConstants as notification
 use Rattle.protocol_wire.proofs.Joins.{IsFine, optional_u32_joins, optional_text_joins, optional_record_joins, fields_behind}
 use Rattle.protocol_wire.proofs.Standing.{stands, is_there, absent, stands_is, nothing_stands, variant_among, u32_stands, text_stands, record_stands, run_sound, behind}
-use Rattle.notification_records.specs.declared.notification.NotificationMessage.{NotificationMessage}
-use Rattle.notification_records.specs.declared.notification.NotificationMessageId.{NotificationMessageId}
-use Rattle.notification_records.specs.declared.notification.NotificationMessageId.TheVariants as ids
-use Rattle.notification_records.specs.declared.notification.NotificationMessageResult.{NotificationMessageResult}
-use Rattle.notification_records.specs.declared.notification.NotificationMessageResult.TheVariants as results
-use Rattle.notification_records.specs.Notification.{notification_of, id_in, notification_id_of, result_in, notification_result_of}
+use Rattle.protocol_controls.specs.declared.notification.NotificationMessage.{NotificationMessage}
+use Rattle.protocol_controls.specs.declared.notification.NotificationMessageId.{NotificationMessageId}
+use Rattle.protocol_controls.specs.declared.notification.NotificationMessageId.TheVariants as ids
+use Rattle.protocol_controls.specs.declared.notification.NotificationMessageResult.{NotificationMessageResult}
+use Rattle.protocol_controls.specs.declared.notification.NotificationMessageResult.TheVariants as results
+use Rattle.protocol_controls.specs.Notification.{notification_of, id_in, notification_id_of, result_in, notification_result_of}
 use Rattle.protocol_records.specs.declared.failure.Failure.{Failure}
 use Rattle.protocol_records.specs.Failure.{failure_of}
 use Rattle.protocol_records.specs.declared.state_keys.StateKeys.{StateKeys}

@@ -7,10 +7,10 @@ use Rattle.protocol_table.specs.declared.table.RecordType.TheVariants as types
 use Rattle.protocol_table.specs.declared.table.propose_run_completion.TheConstants as propose_run_completion
 use Rattle.protocol_wire.proofs.Joins.{IsFine, u32_joins, optional_text_joins, optional_record_joins, fields_behind}
 use Rattle.protocol_wire.proofs.Standing.{stands, is_there, absent, stands_is, nothing_stands, variant_among, bytes_stand, record_stands, run_sound, behind}
-use Rattle.control_records.specs.declared.propose_run_completion.ProposeRunCompletionMessage.{ProposeRunCompletionMessage}
-use Rattle.control_records.specs.declared.propose_run_completion.ProposeRunCompletionResult.{ProposeRunCompletionResult}
-use Rattle.control_records.specs.declared.propose_run_completion.ProposeRunCompletionResult.TheVariants as results
-use Rattle.control_records.specs.ProposeRunCompletion.{propose_run_completion_of, result_in, propose_run_completion_result_of}
+use Rattle.protocol_controls.specs.declared.propose_run_completion.ProposeRunCompletionMessage.{ProposeRunCompletionMessage}
+use Rattle.protocol_controls.specs.declared.propose_run_completion.ProposeRunCompletionResult.{ProposeRunCompletionResult}
+use Rattle.protocol_controls.specs.declared.propose_run_completion.ProposeRunCompletionResult.TheVariants as results
+use Rattle.protocol_controls.specs.ProposeRunCompletion.{propose_run_completion_of, result_in, propose_run_completion_result_of}
 use Rattle.protocol_records.specs.declared.failure.Failure.{Failure}
 use Rattle.protocol_records.specs.Failure.{failure_of}
 use Rattle.protocol_laws.specs.JoinsShared.{failure_joins}

@@ -7,12 +7,12 @@ use Rattle.protocol_table.specs.declared.table.RecordType.TheVariants as types
 use Rattle.protocol_table.specs.declared.table.send_signal_command.TheConstants as send_signal_command
 use Rattle.protocol_wire.proofs.Joins.{IsFine, optional_u32_joins, text_joins, optional_text_joins, optional_record_joins, fields_behind}
 use Rattle.protocol_wire.proofs.Standing.{stands, is_there, absent, stands_is, nothing_stands, variant_among, u32_stands, text_stands, record_stands, run_sound, behind}
-use Rattle.call_records.specs.declared.send_signal_command.SendSignalCommandMessage.{SendSignalCommandMessage}
-use Rattle.call_records.specs.declared.send_signal_command.SendSignalCommandSignalId.{SendSignalCommandSignalId}
-use Rattle.call_records.specs.declared.send_signal_command.SendSignalCommandSignalId.TheVariants as signal_ids
-use Rattle.call_records.specs.declared.send_signal_command.SendSignalCommandResult.{SendSignalCommandResult}
-use Rattle.call_records.specs.declared.send_signal_command.SendSignalCommandResult.TheVariants as results
-use Rattle.call_records.specs.SendSignalCommand.{send_signal_command_of, signal_id_in, send_signal_command_signal_id_of, result_in, send_signal_command_result_of}
+use Rattle.protocol_calls.specs.declared.send_signal_command.SendSignalCommandMessage.{SendSignalCommandMessage}
+use Rattle.protocol_calls.specs.declared.send_signal_command.SendSignalCommandSignalId.{SendSignalCommandSignalId}
+use Rattle.protocol_calls.specs.declared.send_signal_command.SendSignalCommandSignalId.TheVariants as signal_ids
+use Rattle.protocol_calls.specs.declared.send_signal_command.SendSignalCommandResult.{SendSignalCommandResult}
+use Rattle.protocol_calls.specs.declared.send_signal_command.SendSignalCommandResult.TheVariants as results
+use Rattle.protocol_calls.specs.SendSignalCommand.{send_signal_command_of, signal_id_in, send_signal_command_signal_id_of, result_in, send_signal_command_result_of}
 use Rattle.protocol_records.specs.declared.failure.Failure.{Failure}
 use Rattle.protocol_records.specs.Failure.{failure_of}
 use Rattle.protocol_records.specs.declared.value.Value.{Value}

@@ -8,14 +8,14 @@ use Rattle.protocol_table.specs.declared.table.one_way_call_command.TheConstants
 use Rattle.protocol_table.specs.declared.table.workflow_target.TheConstants as workflow_target
 use Rattle.protocol_table.specs.declared.table.idempotent_request_target.TheConstants as idempotent_request_target
 use Rattle.protocol_wire.proofs.Joins.{IsFine, u64_joins, u32_joins, text_joins, optional_text_joins, records_join, fields_behind}
-use Rattle.call_records.specs.declared.call_command.CallCommandMessage.{CallCommandMessage}
-use Rattle.call_records.specs.CallCommand.{call_command_of}
-use Rattle.call_records.specs.declared.one_way_call_command.OneWayCallCommandMessage.{OneWayCallCommandMessage}
-use Rattle.call_records.specs.OneWayCallCommand.{one_way_call_command_of}
-use Rattle.call_records.specs.declared.workflow_target.WorkflowTarget.{WorkflowTarget}
-use Rattle.call_records.specs.WorkflowTarget.{workflow_target_of}
-use Rattle.call_records.specs.declared.idempotent_request_target.IdempotentRequestTarget.{IdempotentRequestTarget}
-use Rattle.call_records.specs.IdempotentRequestTarget.{idempotent_request_target_of}
+use Rattle.protocol_calls.specs.declared.call_command.CallCommandMessage.{CallCommandMessage}
+use Rattle.protocol_calls.specs.CallCommand.{call_command_of}
+use Rattle.protocol_calls.specs.declared.one_way_call_command.OneWayCallCommandMessage.{OneWayCallCommandMessage}
+use Rattle.protocol_calls.specs.OneWayCallCommand.{one_way_call_command_of}
+use Rattle.protocol_calls.specs.declared.workflow_target.WorkflowTarget.{WorkflowTarget}
+use Rattle.protocol_calls.specs.WorkflowTarget.{workflow_target_of}
+use Rattle.protocol_calls.specs.declared.idempotent_request_target.IdempotentRequestTarget.{IdempotentRequestTarget}
+use Rattle.protocol_calls.specs.IdempotentRequestTarget.{idempotent_request_target_of}
 use Rattle.protocol_records.specs.Header.{header_of}
 
 pub call_command_joins : (levels : ℕ) (a b c : List ℕ) → IsFine levels types.CallCommand a → IsFine levels types.CallCommand b → call_command_of levels (fields a) ≡ call_command_of levels (fields b) → call_command_of levels (fields (a ++ c)) ≡ call_command_of levels (fields (b ++ c))

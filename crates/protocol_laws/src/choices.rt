@@ -10,13 +10,13 @@ ghost use Rattle.protocol_laws.specs.JoinsCompleteAwakeableCommand.{complete_awa
 ghost use Rattle.protocol_laws.specs.JoinsNotification.{notification_joins};
 
 use crate::Joining;
-use call_records::{
+use protocol_calls::{
     AttachInvocationCommandMessage, CompleteAwakeableCommandMessage,
     GetInvocationOutputCommandMessage, SendSignalCommandMessage,
 };
-use command_records::{CompletePromiseCommandMessage, GetEagerStateCommandMessage};
-use control_records::{GetStateEphemeralNotificationMessage, ProposeRunCompletionMessage};
-use notification_records::NotificationMessage;
+use protocol_commands::{CompletePromiseCommandMessage, GetEagerStateCommandMessage};
+use protocol_controls::{GetStateEphemeralNotificationMessage, ProposeRunCompletionMessage};
+use protocol_controls::NotificationMessage;
 use protocol_records::OutputCommandMessage;
 
 impl Joining for ProposeRunCompletionMessage {

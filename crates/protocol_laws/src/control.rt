@@ -6,7 +6,7 @@ ghost use Rattle.protocol_laws.specs.FitsProposeRunCompletionAck.{propose_run_co
 ghost use Rattle.protocol_laws.specs.FitsProposeRunCompletion.{propose_run_completion_fits};
 
 use crate::{FitsRead, Joining};
-use control_records::{
+use protocol_controls::{
     ErrorMessage, GetStateEphemeralCommandMessage, GetStateEphemeralNotificationMessage,
     ProposeRunCompletionAckMessage, ProposeRunCompletionMessage,
 };

@@ -9,7 +9,7 @@ ghost use Rattle.protocol_laws.specs.FitsSendSignalCommand.{send_signal_command_
 ghost use Rattle.protocol_laws.specs.FitsWorkflowTarget.{workflow_target_fits};
 
 use crate::{FitsRead, Joining};
-use call_records::{
+use protocol_calls::{
     AttachInvocationCommandMessage, CallCommandMessage, CompleteAwakeableCommandMessage,
     GetInvocationOutputCommandMessage, IdempotentRequestTarget, OneWayCallCommandMessage,
     SendSignalCommandMessage, WorkflowTarget,

@@ -12,7 +12,7 @@ ghost use Rattle.protocol_laws.specs.FitsRunCommand.{run_command_fits};
 ghost use Rattle.protocol_laws.specs.FitsSetStateCommand.{set_state_command_fits};
 
 use crate::{FitsRead, Joining};
-use command_records::{
+use protocol_commands::{
     ClearAllStateCommandMessage, ClearStateCommandMessage, CompletePromiseCommandMessage,
     GetEagerStateCommandMessage, GetEagerStateKeysCommandMessage, GetLazyStateCommandMessage,
     GetLazyStateKeysCommandMessage, GetPromiseCommandMessage, PeekPromiseCommandMessage,

@@ -7,8 +7,8 @@ use Rattle.journal_model.specs.Event.{Event, Frame}
 use Rattle.journal_model.specs.Journal.{is_of, ends_attempt}
 use Rattle.journal_model.specs.Attempt.{attempts_begun, live_attempt}
 use Rattle.journal_model.specs.Cause.{causes_of}
-use Rattle.taken_frames.specs.declared.frame.FrameReply.{FrameReply}
-use Rattle.taken_frames.specs.Taken.{IsReply, does_end}
+use Rattle.store_steps.specs.declared.frame.FrameReply.{FrameReply}
+use Rattle.store_steps.specs.Taken.{IsReply, does_end}
 use Rattle.store_calls.specs.Standing.{Standing, Adds, Leaves}
 use Rattle.store_calls.specs.Frames.{IsNext, TakesFrame, rest_after}
 use Rattle.store_calls.proofs.Live.{taken_live, told_end}

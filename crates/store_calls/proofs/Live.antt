@@ -7,9 +7,9 @@ use Rattle.journal_model.specs.Journal.{is_of, ends_attempt}
 use Rattle.journal_model.specs.Attempt.{live_attempt, is_live}
 use Rattle.journal_model.specs.Cause.{causes_of, tests_of}
 use Rattle.journal_laws.proofs.ObjectState.{tail_of, holds-head, holds-tail, not-false}
-use Rattle.taken_frames.specs.declared.frame.FrameReply.{FrameReply}
-use Rattle.taken_frames.specs.declared.frame.FrameReply.TheVariants as replies
-use Rattle.taken_frames.specs.Taken.{IsReply, does_end}
+use Rattle.store_steps.specs.declared.frame.FrameReply.{FrameReply}
+use Rattle.store_steps.specs.declared.frame.FrameReply.TheVariants as replies
+use Rattle.store_steps.specs.Taken.{IsReply, does_end}
 
 pub live_when : (events : List Event) (id : Text) (n : ℕ) → is_live events id n ≡ true → live_attempt events id ≡ Some n
 live_when events id n e = by_live (live_attempt events id) refl

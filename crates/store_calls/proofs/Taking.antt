@@ -5,8 +5,8 @@ use Rattle.journal_model.specs.Event.{Event}
 use Rattle.journal_model.specs.Journal.{version_of}
 use Rattle.journal_model.specs.Attempt.{is_live}
 use Rattle.store_refusals.specs.declared.refusal.Refusal.{Refusal}
-use Rattle.taken_frames.specs.declared.frame.FrameReply.{FrameReply}
-use Rattle.taken_frames.specs.Taken.{IsReply, does_end}
+use Rattle.store_steps.specs.declared.frame.FrameReply.{FrameReply}
+use Rattle.store_steps.specs.Taken.{IsReply, does_end}
 use Rattle.store_calls.specs.Standing.{Standing, Stays}
 use Rattle.store_calls.specs.Calls.{RefusesBytes}
 use Rattle.store_calls.specs.Frames.{TakesFrame, TakesEach, TakesFirst, frame_in, rest_after}

@@ -5,13 +5,13 @@ use Rattle.journal_model.specs.Event.{Event, Frame}
 use Rattle.journal_model.specs.Journal.{version_of}
 use Rattle.journal_model.specs.Attempt.{is_live}
 use Rattle.journal_model.specs.Cause.{causes_of}
-use Rattle.journal_protocol.specs.Item.{Item, unknown, message, item_at}
-use Rattle.attempt_frames.specs.Meaning.{frame_of}
+use Rattle.protocol_stream.specs.Item.{Item, unknown, message, item_at}
+use Rattle.store_frames.specs.Meaning.{frame_of}
 use Rattle.store_refusals.specs.declared.refusal.Refusal.{Refusal}
 use Rattle.store_refusals.specs.declared.refusal.Refusal.TheVariants.{OutOfMemory}
 use Rattle.store_refusals.specs.Refused.{IsRefused}
-use Rattle.taken_frames.specs.declared.frame.FrameReply.{FrameReply}
-use Rattle.taken_frames.specs.Taken.{IsReply, does_end, lies_in_frame}
+use Rattle.store_steps.specs.declared.frame.FrameReply.{FrameReply}
+use Rattle.store_steps.specs.Taken.{IsReply, does_end, lies_in_frame}
 use Rattle.store_calls.specs.Standing.{Standing, Stays, Leaves, Refuses}
 use Rattle.store_calls.specs.Calls.{PutsBehind, RefusesBytes}
 

@@ -19,8 +19,8 @@ use Rattle.journal_model.specs.Event.{Frame, Event}
 use Rattle.journal_model.specs.Journal.{Entry, Recorded, Arrived, asks_for as is_asking, is_of, is_tick, invoked_by, invocation_begun, starting_state, is_open, id_of_signal, requests_in, arrivals_in, completes, completion, is_awaited, request_asking, open_request, read_answer, slept, entries_of, entries_of_event}
 use Rattle.journal_model.specs.Cause.{IsAccepted, causes_of, tests_of, do_ascend, greatest, last_completion, is_run}
 use Rattle.journal_laws.proofs.ObjectState.{holds-head, holds-tail, tail_of, not-false, requests_in-append, no_entries}
-use Rattle.store_rows.specs.declared.row.EntryRow.{EntryRow}
-use Rattle.store_rows.specs.Questions.{is_number, answers}
+use Rattle.store_tables.specs.declared.row.EntryRow.{EntryRow}
+use Rattle.store_tables.specs.Questions.{is_number, answers}
 use Rattle.store_model.specs.Kept.{answered_by, entry_row, rows_from, rows_of_journal, journal_rows}
 use Rattle.store_model.proofs.Journals.{added_to}
 use Rattle.store_lookups.specs.Lookups.{AllAnswerOnce}

@@ -10,8 +10,8 @@ use Rattle.journal_model.specs.Event.{Frame, Event}
 use Rattle.journal_model.specs.Journal.{Entry, Recorded, Arrived, asks_for as is_asking, is_of, is_tick, invoked_by, invocation_begun, is_open, starting_state, entries_of, requests_in, request_asking}
 use Rattle.journal_model.specs.Cause.{IsAccepted, causes_of, tests_of, do_ascend, greatest, last_completion}
 use Rattle.journal_laws.proofs.ObjectState.{holds-head, holds-tail, tail_of, not-false, requests_in-append, no_entries}
-use Rattle.store_rows.specs.declared.row.EntryRow.{EntryRow}
-use Rattle.store_rows.specs.Questions.{is_number}
+use Rattle.store_tables.specs.declared.row.EntryRow.{EntryRow}
+use Rattle.store_tables.specs.Questions.{is_number}
 use Rattle.store_model.specs.Progress.{first_of, second_of}
 use Rattle.store_model.specs.Kept.{entry_row, rows_from, input_row, rows_of_journal, journal_rows}
 use Rattle.store_model.proofs.Journals.{added_to}

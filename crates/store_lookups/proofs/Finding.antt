@@ -14,10 +14,10 @@ use Rattle.journal_model.specs.Event.{Event}
 use Rattle.journal_model.specs.Journal.{Entry, Recorded, Arrived, invocation_begun, entries_of, object_state}
 use Rattle.journal_model.specs.Cause.{IsAccepted}
 use Rattle.journal_laws.proofs.ObjectState.{begin_when_new, begun_before}
-use Rattle.store_rows.specs.Records.{Records, is_at_key, is_of_object}
-use Rattle.store_rows.specs.declared.row.EntryRow.{EntryRow}
-use Rattle.store_rows.specs.declared.row.StateRow.{StateRow}
-use Rattle.store_rows.specs.Questions.{has_id, is_at_place, journal_of, AreInPlace}
+use Rattle.store_tables.specs.Records.{Records, is_at_key, is_of_object}
+use Rattle.store_tables.specs.declared.row.EntryRow.{EntryRow}
+use Rattle.store_tables.specs.declared.row.StateRow.{StateRow}
+use Rattle.store_tables.specs.Questions.{has_id, is_at_place, journal_of, AreInPlace}
 use Rattle.store_model.specs.Kept.{rows_from, rows_of_journal, journal_rows, begun, invocation_row, state_row, IsKept}
 use Rattle.store_model.proofs.States.{ordered, first_holds, second_holds, is_less, either_way}
 use Rattle.store_lookups.specs.Lookups.{IsOnly, AllFind}

@@ -3,8 +3,8 @@ use Rattle.std.proofs.Common.{ℕ, zero, suc, ◌+◌, ◌<◌, ◌≤◌, arith
 use Rattle.std.specs.List.{find}
 use Rattle.std.proofs.lemmas.Bool.{cases_Bool, eq-eqb, ne_eqb}
 use Rattle.std.proofs.lemmas.List.Sorted.{length_permutation, All-permutation}
-use Rattle.store_rows.specs.declared.row.EntryRow.{EntryRow}
-use Rattle.store_rows.specs.Questions.{AreInPlace}
+use Rattle.store_tables.specs.declared.row.EntryRow.{EntryRow}
+use Rattle.store_tables.specs.Questions.{AreInPlace}
 use Rattle.store_lookups.specs.Lookups.{IsOnly}
 
 -- ---- one that alone passes is the one that is found

@@ -9,9 +9,9 @@ use Rattle.journal_model.specs.Event.{Event}
 use Rattle.journal_model.specs.Attempt.{input_bytes, journal_pieces}
 use Rattle.journal_model.specs.Journal.{Entry, Recorded, Arrived, asks_for as is_asking, invocation_begun, is_busy, entries_of, request_asking, is_awaited, object_state}
 use Rattle.journal_model.specs.Cause.{IsAccepted}
-use Rattle.store_rows.specs.Records.{Records, is_at_key}
-use Rattle.store_rows.specs.declared.row.EntryRow.{EntryRow}
-use Rattle.store_rows.specs.Questions.{has_id, is_open_of, is_at_place, asks_for, asks_second_for, answers, journal_of, is_number, AreInPlace}
+use Rattle.store_tables.specs.Records.{Records, is_at_key}
+use Rattle.store_tables.specs.declared.row.EntryRow.{EntryRow}
+use Rattle.store_tables.specs.Questions.{has_id, is_open_of, is_at_place, asks_for, asks_second_for, answers, journal_of, is_number, AreInPlace}
 use Rattle.store_model.specs.Progress.{first_of, second_of}
 use Rattle.store_model.specs.Kept.{entry_row, journal_rows, invocation_row, state_row, IsKept}
 

@@ -12,8 +12,8 @@ use Rattle.journal_model.specs.Event.{Frame, Event}
 use Rattle.journal_model.specs.Journal.{Entry, Arrived, is_of, is_tick, invocation_of, invocation_begun, is_open, slept, starting_state, entries_of}
 use Rattle.journal_model.specs.Cause.{is_empty, causes_of}
 use Rattle.journal_laws.proofs.ObjectState.{begin_when_new, begun_before}
-use Rattle.store_rows.specs.declared.row.Progress.{Progress}
-use Rattle.store_rows.specs.declared.row.InvocationRow.{InvocationRow}
+use Rattle.store_tables.specs.declared.row.Progress.{Progress}
+use Rattle.store_tables.specs.declared.row.InvocationRow.{InvocationRow}
 use Rattle.store_model.specs.Progress.{progress_of}
 use Rattle.store_model.specs.Kept.{begun, begun_by, invocation_row}
 use Rattle.store_model.specs.Writes.{ends_sleep, ids_of_frame, changed_by}

@@ -6,10 +6,10 @@ use Rattle.journal_model.specs.Notification.{Text}
 use Rattle.journal_model.specs.Event.{Event}
 use Rattle.journal_model.specs.Journal.{object_of, frame_of, request_of_frame, object_state}
 use Rattle.journal_model.specs.Cause.{IsAccepted}
-use Rattle.store_rows.specs.Records.{Records}
-use Rattle.store_rows.specs.declared.row.InvocationRow.{InvocationRow}
-use Rattle.store_rows.specs.declared.row.EntryRow.{EntryRow}
-use Rattle.store_rows.specs.Questions.{journal_of}
+use Rattle.store_tables.specs.Records.{Records}
+use Rattle.store_tables.specs.declared.row.InvocationRow.{InvocationRow}
+use Rattle.store_tables.specs.declared.row.EntryRow.{EntryRow}
+use Rattle.store_tables.specs.Questions.{journal_of}
 use Rattle.store_model.specs.Progress.{progress_of}
 use Rattle.store_model.specs.Kept.{input_row, journal_rows, begun, begun_by, invocation_row, state_row, AreStates, IsKept}
 use Rattle.store_model.specs.Writes.{rows_added, changed_by, KeptAtFirst, KeptAfter}

@@ -6,10 +6,10 @@ use Rattle.journal_model.specs.Request.{Request}
 use Rattle.journal_model.specs.declared.invocation.NewInvocation.{NewInvocation}
 use Rattle.journal_model.specs.declared.invocation.StateMode.{StateMode}
 use Rattle.journal_model.specs.Event.{ForAny, Frame, Event}
-use Rattle.store_rows.specs.declared.row.Progress.{Progress}
-use Rattle.store_rows.specs.declared.row.EntryRow.{EntryRow}
-use Rattle.store_rows.specs.declared.row.Closing.TheVariants.{Ended}
-use Rattle.store_rows.specs.declared.row.Write.TheVariants.{AddInvocation, SetProgress, AddEntry, PutState}
+use Rattle.store_tables.specs.declared.row.Progress.{Progress}
+use Rattle.store_tables.specs.declared.row.EntryRow.{EntryRow}
+use Rattle.store_tables.specs.declared.row.Closing.TheVariants.{Ended}
+use Rattle.store_tables.specs.declared.row.Write.TheVariants.{AddInvocation, SetProgress, AddEntry, PutState}
 use Rattle.store_model.specs.Writes.{writes_of}
 
 abbrev nap : NewInvocation

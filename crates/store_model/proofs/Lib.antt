@@ -6,3 +6,4 @@ pub mod Invocations
 pub mod States
 pub mod Keeping
 pub mod KeptRows
+pub mod Following

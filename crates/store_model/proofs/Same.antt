@@ -10,7 +10,7 @@ use Rattle.journal_model.specs.Attempt.{begins_attempt, attempts_begun, suspensi
 use Rattle.journal_model.specs.Start.{is_some_entry, moment_begun, begun_since_entry, attempts_since_entry}
 use Rattle.journal_model.specs.Cause.{last_completion}
 use Rattle.journal_laws.proofs.ObjectState.{begun_before}
-use Rattle.store_rows.specs.declared.row.LastError.{LastError}
+use Rattle.store_tables.specs.declared.row.LastError.{LastError}
 use Rattle.store_model.specs.Places.{handed_in, handed_of}
 use Rattle.store_model.specs.Progress.{first_of, number_or_zero, payload_of_suspension, way_closed, error_in, last_error_of, last_output, progress_of}
 

@@ -14,9 +14,9 @@ use Rattle.journal_model.specs.State.{StateMap, bytes_cmp, with_value, without_k
 use Rattle.journal_model.specs.Event.{Event}
 use Rattle.journal_model.specs.Journal.{is_text, object_of, frame_of, request_of_frame, requests_for, object_state}
 use Rattle.journal_laws.proofs.Applying.{same_bytes, state_change-ordered, state_after-ordered}
-use Rattle.store_rows.specs.Records.{is_at_key, is_of_object}
-use Rattle.store_rows.specs.declared.row.StateRow.{StateRow}
-use Rattle.store_rows.specs.Questions.{DoAscend}
+use Rattle.store_tables.specs.Records.{is_at_key, is_of_object}
+use Rattle.store_tables.specs.declared.row.StateRow.{StateRow}
+use Rattle.store_tables.specs.Questions.{DoAscend}
 use Rattle.store_model.specs.Kept.{state_row}
 use Rattle.store_model.proofs.Lists.{filter_swap}
 use Rattle.store_model.proofs.Writing.{states_changed, states_after, states_written}

@@ -5,13 +5,13 @@ use Rattle.journal_model.specs.Notification.{Text}
 use Rattle.journal_model.specs.Request.{Request}
 use Rattle.journal_model.specs.Event.{Event}
 use Rattle.journal_model.specs.Journal.{object_of, frame_of, request_of_frame}
-use Rattle.store_rows.specs.Records.{Records, is_at_key, is_of_object, set_in, applied, applied_all}
-use Rattle.store_rows.specs.declared.row.Progress.{Progress}
-use Rattle.store_rows.specs.declared.row.InvocationRow.{InvocationRow}
-use Rattle.store_rows.specs.declared.row.EntryRow.{EntryRow}
-use Rattle.store_rows.specs.declared.row.StateRow.{StateRow}
-use Rattle.store_rows.specs.declared.row.Write.{Write}
-use Rattle.store_rows.specs.declared.row.Write.TheVariants.{SetProgress, AddEntry}
+use Rattle.store_tables.specs.Records.{Records, is_at_key, is_of_object, set_in, applied, applied_all}
+use Rattle.store_tables.specs.declared.row.Progress.{Progress}
+use Rattle.store_tables.specs.declared.row.InvocationRow.{InvocationRow}
+use Rattle.store_tables.specs.declared.row.EntryRow.{EntryRow}
+use Rattle.store_tables.specs.declared.row.StateRow.{StateRow}
+use Rattle.store_tables.specs.declared.row.Write.{Write}
+use Rattle.store_tables.specs.declared.row.Write.TheVariants.{SetProgress, AddEntry}
 use Rattle.store_model.specs.Progress.{progress_of}
 use Rattle.store_model.specs.Kept.{input_row, begun_by, invocation_row}
 use Rattle.store_model.specs.Writes.{begin_writes, rows_added, invocation_writes, changed_by, state_write, state_writes, writes_of}

@@ -10,11 +10,11 @@ use Rattle.journal_model.specs.Event.{Event}
 use Rattle.journal_model.specs.Spelling.{request_type, request_payload, notification_payload, input_payload}
 use Rattle.journal_model.specs.Journal.{Entry, Recorded, Arrived, invocation_begun, entries_of, object_state, sleep_in}
 use Rattle.journal_model.specs.Attempt.{notification_type}
-use Rattle.store_rows.specs.Records.{Records, is_of_object}
-use Rattle.store_rows.specs.declared.row.InvocationRow.{InvocationRow}
-use Rattle.store_rows.specs.declared.row.EntryRow.{EntryRow}
-use Rattle.store_rows.specs.declared.row.StateRow.{StateRow}
-use Rattle.store_rows.specs.Questions.{DoAscend, journal_of}
+use Rattle.store_tables.specs.Records.{Records, is_of_object}
+use Rattle.store_tables.specs.declared.row.InvocationRow.{InvocationRow}
+use Rattle.store_tables.specs.declared.row.EntryRow.{EntryRow}
+use Rattle.store_tables.specs.declared.row.StateRow.{StateRow}
+use Rattle.store_tables.specs.Questions.{DoAscend, journal_of}
 use Rattle.store_model.specs.Progress.{first_of, second_of, progress_of}
 
 -- ---- journals

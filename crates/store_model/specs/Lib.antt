@@ -2,3 +2,4 @@ pub mod Places
 pub mod Progress
 pub mod Kept
 pub mod Writes
+pub mod Steps

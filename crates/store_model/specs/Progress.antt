@@ -11,10 +11,10 @@ use Rattle.journal_model.specs.Journal.{Closing as Closed, ByEnd, ByFailure, inv
 use Rattle.journal_model.specs.Attempt.{attempts_begun, suspension_of}
 use Rattle.journal_model.specs.Start.{attempts_since_entry}
 use Rattle.journal_model.specs.Cause.{last_completion}
-use Rattle.store_rows.specs.declared.row.Closing.{Closing}
-use Rattle.store_rows.specs.declared.row.LastError.{LastError}
-use Rattle.store_rows.specs.declared.row.Progress.{Progress}
-use Rattle.store_rows.specs.declared.row.Closing.TheVariants.{Ended, Failed}
+use Rattle.store_tables.specs.declared.row.Closing.{Closing}
+use Rattle.store_tables.specs.declared.row.LastError.{LastError}
+use Rattle.store_tables.specs.declared.row.Progress.{Progress}
+use Rattle.store_tables.specs.declared.row.Closing.TheVariants.{Ended, Failed}
 use Rattle.store_model.specs.Places.{handed_of}
 
 abbrev pub first_of : {A : Type 0} → List A → Option A

@@ -6,10 +6,10 @@ use Rattle.journal_model.specs.declared.invocation.NewInvocation.{NewInvocation}
 use Rattle.journal_model.specs.Event.{Frame, Event}
 use Rattle.journal_model.specs.Journal.{is_open, entries_of, entries_of_event, slept, starting_state, object_of, frame_of, request_of_frame}
 use Rattle.journal_model.specs.Cause.{is_empty, causes_of, IsAccepted}
-use Rattle.store_rows.specs.Records.{Records, no_records, applied_all}
-use Rattle.store_rows.specs.declared.row.EntryRow.{EntryRow}
-use Rattle.store_rows.specs.declared.row.Write.{Write}
-use Rattle.store_rows.specs.declared.row.Write.TheVariants.{AddInvocation, SetProgress, AddEntry, PutState, DropState, DropStates}
+use Rattle.store_tables.specs.Records.{Records, no_records, applied_all}
+use Rattle.store_tables.specs.declared.row.EntryRow.{EntryRow}
+use Rattle.store_tables.specs.declared.row.Write.{Write}
+use Rattle.store_tables.specs.declared.row.Write.TheVariants.{AddInvocation, SetProgress, AddEntry, PutState, DropState, DropStates}
 use Rattle.store_model.specs.Progress.{progress_of}
 use Rattle.store_model.specs.Kept.{rows_from, input_row, begun, invocation_row, IsKept}
 

@@ -3,10 +3,17 @@
 #![tactic(auto)]
 
 ghost use Rattle.store_model.specs.Writes.{KeptAfter, KeptAtFirst};
+ghost use Rattle.store_model.specs.Steps.{ProgressFollows, ProgressTicks};
 
 /// Of no events there are no records, and each accepted event writes what is missing: nothing else changes, of this invocation or
 /// of another.
 pub fn records_kept()
     ensures at_first { KeptAtFirst }
     ensures after { KeptAfter }
+{}
+
+/// What is kept of an invocation after an event is computed from what was kept before it.
+pub fn progress_follows()
+    ensures by_own_events { ProgressFollows }
+    ensures by_ticks { ProgressTicks }
 {}

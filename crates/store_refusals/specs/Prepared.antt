@@ -3,7 +3,7 @@ use Rattle.std.specs.Prelude.{◌≡◌, List, [], Result, Ok, Err}
 use Rattle.sqlite.specs.State.{State}
 use Rattle.journal_model.specs.Event.{Event}
 use Rattle.journal_model.specs.Cause.{causes_of, IsAccepted}
-use Rattle.store_rows.specs.Records.{Records, Holds}
+use Rattle.store_tables.specs.Records.{Records, Holds}
 use Rattle.store_model.specs.Kept.{IsKept}
 use Rattle.store_refusals.specs.declared.refusal.Refusal.{Refusal}
 use Rattle.store_refusals.specs.Refused.{IsRefused}

@@ -1,7 +1,7 @@
 -- Which refusal a cause is, and when one may be answered.
 use Rattle.std.specs.Prelude.{◌≡◌, ◌⊎◌, Bool, true, false, if◌then◌else◌, List, [], ◌∷◌, Option, Some, None, IsTrue}
-use Rattle.journal_protocol.specs.declared.encoder.EncodingError.{EncodingError}
-use Rattle.journal_protocol.specs.declared.encoder.EncodingError.TheVariants as encoding
+use Rattle.protocol_stream.specs.declared.encoder.EncodingError.{EncodingError}
+use Rattle.protocol_stream.specs.declared.encoder.EncodingError.TheVariants as encoding
 use Rattle.sql_tables.specs.declared.read.ReadError.{ReadError}
 use Rattle.sql_tables.specs.declared.read.ReadError.TheVariants as reading
 use Rattle.journal_model.specs.Cause.{Cause, Tests}

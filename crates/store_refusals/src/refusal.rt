@@ -4,7 +4,7 @@ ghost use Rattle.store_refusals.specs.declared.refusal.Refusal.TheVariants.{OutO
 ghost use Rattle.store_refusals.specs.Names.{name_of};
 ghost use Rattle.store_refusals.specs.Refused.{encoding_refusal, reading_refusal};
 
-use journal_protocol::EncodingError;
+use protocol_stream::EncodingError;
 use sql_tables::read::ReadError;
 use sqlite::Error;
 use std::alloc::{AllocError, AllocFailed};

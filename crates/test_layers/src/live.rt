@@ -1,7 +1,7 @@
 //! A live attempt from its begin to its end.
 
 use bytes::ByteStr;
-use live_attempts::{AttemptInput, AttemptOutput, LiveAttempt, LiveAttempts};
+use store_live::{AttemptInput, AttemptOutput, LiveAttempt, LiveAttempts};
 use std::alloc::{AllocError, Global};
 use std::test::Fail;
 

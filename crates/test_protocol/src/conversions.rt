@@ -6,7 +6,7 @@
 //! - `headers PAYLOAD`: the input with the records of the headers that its headers are.
 use crate::operands::bytes;
 use crate::records::record_told;
-use journal_protocol::{
+use protocol_stream::{
     to_failure, to_failure_record, to_header_records, to_headers, to_non_empty_value,
     to_output_result, to_terminal_failure,
 };

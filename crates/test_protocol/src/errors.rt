@@ -10,7 +10,7 @@
 //! - `request_header NAME`: the header with this name, of a request that has two.
 use crate::operands::{message_type, number, text, told, version};
 use bytes::ByteStr;
-use journal_protocol::{CommandType, ContentTypeError, HeaderMap, MessageType, Version};
+use protocol_stream::{CommandType, ContentTypeError, HeaderMap, MessageType, Version};
 use protocol_errors::{
     EMPTY_SCOPE, Error, FixedError, InvocationErrorCode, MISSING_CONTENT_TYPE, SUSPENDED, codes,
 };

@@ -1,10 +1,10 @@
 //! Each command of the table with the record that it is.
 use crate::commands::{Question, about};
-use call_records::{
+use protocol_calls::{
     AttachInvocationCommandMessage, CallCommandMessage, CompleteAwakeableCommandMessage,
     GetInvocationOutputCommandMessage, OneWayCallCommandMessage, SendSignalCommandMessage,
 };
-use command_records::{
+use protocol_commands::{
     ClearAllStateCommandMessage, ClearStateCommandMessage, CompletePromiseCommandMessage,
     GetEagerStateCommandMessage, GetEagerStateKeysCommandMessage, GetLazyStateCommandMessage,
     GetLazyStateKeysCommandMessage, GetPromiseCommandMessage, PeekPromiseCommandMessage,

@@ -1,21 +1,21 @@
 //! Each record type of the table with the record that it is.
 use crate::records::about;
-use call_records::{
+use protocol_calls::{
     AttachInvocationCommandMessage, CallCommandMessage, CompleteAwakeableCommandMessage,
     GetInvocationOutputCommandMessage, IdempotentRequestTarget, OneWayCallCommandMessage,
     SendSignalCommandMessage, WorkflowTarget,
 };
-use command_records::{
+use protocol_commands::{
     ClearAllStateCommandMessage, ClearStateCommandMessage, CompletePromiseCommandMessage,
     GetEagerStateCommandMessage, GetEagerStateKeysCommandMessage, GetLazyStateCommandMessage,
     GetLazyStateKeysCommandMessage, GetPromiseCommandMessage, PeekPromiseCommandMessage,
     RunCommandMessage, SetStateCommandMessage,
 };
-use control_records::{
+use protocol_controls::{
     ErrorMessage, GetStateEphemeralCommandMessage, GetStateEphemeralNotificationMessage,
     ProposeRunCompletionAckMessage, ProposeRunCompletionMessage,
 };
-use notification_records::NotificationMessage;
+use protocol_controls::NotificationMessage;
 use protocol_records::{
     AwaitingOnMessage, EndMessage, Failure, FailureMetadata, Future, Header, InputCommandMessage,
     OutputCommandMessage, SleepCommandMessage, StartMessage, StateEntry, StateKeys,

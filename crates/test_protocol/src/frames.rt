@@ -2,9 +2,9 @@
 //! attempt of this version, and what is kept of it. Of a command: its type's number, its payload, the completions that it asks
 //! for, and its moment.
 use crate::operands::{Hex, bytes, message_type, number};
-use attempt_frames::{AttemptFrame, RecordedCommand, read_frame};
+use store_frames::{AttemptFrame, RecordedCommand, read_frame};
 use bytes::Bytes;
-use journal_protocol::{MessageHeader, MessageType, RawMessage};
+use protocol_stream::{MessageHeader, MessageType, RawMessage};
 use std::alloc::Global;
 
 fn message(alloc: Global, ty: MessageType, payload: &[u8]) -> Option<RawMessage> {

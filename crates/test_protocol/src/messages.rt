@@ -8,15 +8,15 @@
 use crate::operands::{Hex, bytes, message_type, version};
 use crate::records::refusal_told;
 use bytes::Bytes;
-use command_records::{RunCommandMessage, SetStateCommandMessage};
-use control_records::ProposeRunCompletionMessage;
+use protocol_commands::{RunCommandMessage, SetStateCommandMessage};
+use protocol_controls::ProposeRunCompletionMessage;
 use journal_model::{Notification, NotificationId, NotificationResult};
-use journal_protocol::{Decoder, EncodingError, RawMessage};
-use notification_records::NotificationMessage;
+use protocol_stream::{Decoder, EncodingError, RawMessage};
+use protocol_controls::NotificationMessage;
 use protocol_records::{SleepCommandMessage, SuspensionMessage, SuspensionMessageV6};
 use protocol_wire::decode;
 use std::alloc::Global;
-use typed_messages::{
+use protocol_messages::{
     Encoder, RawMessageExt, RestateEncodableMessage, RestateMessage, encode_record, is_failure,
 };
 

@@ -11,7 +11,7 @@
 //! - `last`, `next NUMBER`: which command an error is about, and whether it is the last one.
 use crate::operands::{message_type, number, told, version};
 use bytes::ByteStr;
-use journal_protocol::CommandType;
+use protocol_stream::CommandType;
 use protocol_differences::CommandRelationship;
 use protocol_errors::{
     AwaitedId, BadProposeRunCompletionAck, ClosedError, CommandMetadata, CommandTypeMismatchError,

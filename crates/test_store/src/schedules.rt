@@ -7,7 +7,7 @@ use bytes::{ByteStr, Bytes};
 use durable_schedule::{Scheduler, run_schedule};
 use invocation_vm::VMOptions;
 use journal_model::{NewInvocation, StateMode};
-use schedule_events::{Event, Reply};
+use schedule_model::{Event, Reply};
 use sequence::Sequence;
 use sqlite::MemStore;
 use std::alloc::{AllocError, Global};

@@ -6,11 +6,11 @@ use Rattle.sqlite.specs.State.{HasCleanDisk}
 use Rattle.journal_model.specs.Event.{Event as Accepted}
 use Rattle.journal_store.specs.Stored.{Stored}
 use Rattle.invocation_vm.specs.declared.options.VMOptions.{VMOptions}
-use Rattle.schedule_events.specs.declared.event.Event.{Event}
-use Rattle.schedule_events.specs.declared.event.Reply.{Reply}
-use Rattle.schedule_events.specs.Schedule.{Applies, AppliesAll, FitsEvent}
-use Rattle.schedule_events.proofs.Applying.{schedules_grow}
-use Rattle.schedule_events.proofs.Leaving.{leaves_runs}
+use Rattle.schedule_model.specs.declared.event.Event.{Event}
+use Rattle.schedule_model.specs.declared.event.Reply.{Reply}
+use Rattle.schedule_model.specs.Schedule.{Applies, AppliesAll, FitsEvent}
+use Rattle.schedule_model.proofs.Applying.{schedules_grow}
+use Rattle.schedule_model.proofs.Leaving.{leaves_runs}
 use Rattle.journal_store.specs.Stands.{IsStanding, Endures}
 use Rattle.durable_schedule.specs.Scheduled.{Extends, AppliesWith, AppliesFirst, FollowRuns, at_first}
 use Rattle.journal_store.proofs.Leading.{stood}

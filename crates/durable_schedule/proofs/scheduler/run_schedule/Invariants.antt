@@ -3,7 +3,7 @@ use Rattle.std.specs.List.{AllByRecursion}
 use Rattle.sqlite.specs.Held.{state}
 use Rattle.sqlite.specs.State.{HasCleanDisk}
 use Rattle.store_calls.specs.Standing.{Standing}
-use Rattle.schedule_events.specs.Schedule.{Scheduled, AppliesAll, FitsEvent}
+use Rattle.schedule_model.specs.Schedule.{Scheduled, AppliesAll, FitsEvent}
 use Rattle.journal_store.specs.Stands.{IsStanding, Endures}
 use Rattle.durable_schedule.specs.Scheduled.{IsScheduled, AppliesFirst, at_first}
 use Rattle.durable_schedule.proofs.scheduler.run_schedule.Given as goal

@@ -1,7 +1,7 @@
 use Rattle.std.proofs.Common.{subst}
 use Rattle.std.specs.Prelude.{string_bytes}
 use Rattle.built_in_handlers.specs.declared.built_in.BuiltIn.{BuiltIn}
-use Rattle.schedule_events.specs.declared.event.Event.{Event}
+use Rattle.schedule_model.specs.declared.event.Event.{Event}
 use Rattle.script_lines.specs.declared.line.Line.TheVariants as line
 use Rattle.durable_script.specs.Line.{DoesEvent, DoesSomeEvent, DoesLine, DoesSomeLine}
 use Rattle.durable_script.specs.Printed.{Makes}

@@ -2,7 +2,7 @@ use Rattle.std.proofs.lemmas.Result.{err_from_is_err_and}
 use Rattle.std.specs.Prelude.{Ok}
 use Rattle.journal_model.specs.Event.{Event}
 use Rattle.std.proofs.Common.{List}
-use Rattle.invocation_reads.specs.Answered.{Answers}
+use Rattle.store_reads.specs.Answered.{Answers}
 use Rattle.durable_script.specs.Shown.{RefusesShow}
 use Rattle.durable_script.proofs.Reaching.{reaches_told}
 use Rattle.durable_script.proofs.Showing.{KnownOpen, KnownRequests, IsNotTold, shown_all, unknown_first, unknown_second, unknown_third}

@@ -1,5 +1,5 @@
 use Rattle.std.proofs.Common.{sym, ap, subst, ◌∙◌, List, [], ◌∷◌, ◌++◌, Option, Ok}
-use Rattle.taken_frames.specs.declared.frame.FrameReply.{FrameReply}
+use Rattle.store_steps.specs.declared.frame.FrameReply.{FrameReply}
 use Rattle.store_calls.specs.Frames.{Steps}
 use Rattle.journal_store.specs.Stands.{Leads}
 use Rattle.journal_store.proofs.Accepting.{next_none, next_refused, next_taken, next_unroomed}

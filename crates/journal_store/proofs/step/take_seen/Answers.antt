@@ -1,10 +1,10 @@
 use Rattle.std.proofs.Common.{arith, subst, Option}
-use Rattle.attempt_frames.specs.Meaning.{frame_of}
+use Rattle.store_frames.specs.Meaning.{frame_of}
 use Rattle.sqlite.specs.State.{State}
 use Rattle.sqlite.specs.Held.{state}
-use Rattle.taken_frames.proofs.Stateless.{all_leave}
-use Rattle.live_attempts.specs.declared.attempt.LiveAttempt.{LiveAttempt}
-use Rattle.live_attempts.specs.Attempts.{attempt_of}
+use Rattle.store_steps.proofs.Stateless.{all_leave}
+use Rattle.store_live.specs.declared.attempt.LiveAttempt.{LiveAttempt}
+use Rattle.store_live.specs.Attempts.{attempt_of}
 use Rattle.journal_store.specs.Taking.{IsSeen, IsSeenOf}
 use Rattle.journal_store.specs.Stored.{stored}
 use Rattle.journal_store.proofs.Enduring.{quiet_endures}

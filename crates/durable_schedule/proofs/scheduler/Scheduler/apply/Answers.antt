@@ -1,8 +1,8 @@
 use Rattle.std.proofs.Common.{refl, subst, sym}
 use Rattle.journal_model.specs.Event as model
 use Rattle.journal_store.specs.Stored.{Stored}
-use Rattle.schedule_events.specs.declared.event.Event.TheVariants as event
-use Rattle.schedule_events.specs.declared.event.Reply.TheVariants as reply
+use Rattle.schedule_model.specs.declared.event.Event.TheVariants as event
+use Rattle.schedule_model.specs.declared.event.Reply.TheVariants as reply
 use Rattle.store_calls.specs.Standing.{Adds}
 use Rattle.journal_store.specs.Stands.{Endures}
 use Rattle.durable_schedule.specs.Scheduled.{AppliesWith}

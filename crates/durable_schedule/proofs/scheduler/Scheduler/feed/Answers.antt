@@ -1,9 +1,9 @@
 use Rattle.std.proofs.Common.{◌≡◌, List, sym, ap, ◌∙◌, Some, None}
 use Rattle.std.specs.List.{position}
-use Rattle.schedule_events.specs.declared.held.HeldAttempt.{HeldAttempt}
-use Rattle.schedule_events.specs.Following.{is_held}
-use Rattle.schedule_events.specs.Schedule.{FeedsOne}
-use Rattle.schedule_events.proofs.Applying.{not_held, found_at, changes_held}
+use Rattle.schedule_model.specs.declared.held.HeldAttempt.{HeldAttempt}
+use Rattle.schedule_model.specs.Following.{is_held}
+use Rattle.schedule_model.specs.Schedule.{FeedsOne}
+use Rattle.schedule_model.proofs.Applying.{not_held, found_at, changes_held}
 use Rattle.durable_schedule.proofs.scheduler.Scheduler.feed.Goals as goal
 
 pub returns-in-None-clause-does : goal.returns-in-None-clause-does

@@ -1,5 +1,5 @@
 use Rattle.std.proofs.Common.{refl}
-use Rattle.schedule_events.specs.declared.event.Event.TheVariants as event
+use Rattle.schedule_model.specs.declared.event.Event.TheVariants as event
 use Rattle.durable_schedule.proofs.Scheduling.{applied}
 use Rattle.durable_schedule.proofs.scheduler.Scheduler.take_turn.Goals as goal
 

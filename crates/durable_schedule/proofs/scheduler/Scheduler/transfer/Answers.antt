@@ -1,10 +1,10 @@
 use Rattle.std.proofs.Common.{◌≡◌, refl, List, sym, ap, ◌∙◌, Some, None}
 use Rattle.std.specs.List.{position}
-use Rattle.schedule_events.specs.declared.event.Event.TheVariants as event
-use Rattle.schedule_events.specs.declared.held.HeldAttempt.{HeldAttempt}
-use Rattle.schedule_events.specs.Following.{is_held}
-use Rattle.schedule_events.specs.Schedule.{MovesOne}
-use Rattle.schedule_events.proofs.Applying.{not_held, found_at, changes_held}
+use Rattle.schedule_model.specs.declared.event.Event.TheVariants as event
+use Rattle.schedule_model.specs.declared.held.HeldAttempt.{HeldAttempt}
+use Rattle.schedule_model.specs.Following.{is_held}
+use Rattle.schedule_model.specs.Schedule.{MovesOne}
+use Rattle.schedule_model.proofs.Applying.{not_held, found_at, changes_held}
 use Rattle.durable_schedule.specs.Scheduled.{AppliesWith, MovesSome}
 use Rattle.journal_store.proofs.Enduring.{same_endures, endures_so}
 use Rattle.durable_schedule.proofs.scheduler.Scheduler.transfer.Goals as goal

@@ -1,10 +1,10 @@
 use Rattle.std.proofs.Common.{◌≡◌, refl, List, sym, ap, ◌∙◌, Some, None}
 use Rattle.std.specs.List.{position}
-use Rattle.schedule_events.specs.declared.event.Reply.TheVariants as reply
-use Rattle.schedule_events.specs.declared.held.HeldAttempt.{HeldAttempt}
-use Rattle.schedule_events.specs.Following.{is_held}
-use Rattle.schedule_events.specs.Schedule.{TurnsOne}
-use Rattle.schedule_events.proofs.Applying.{same_standing, not_held, found_at, changes_held}
+use Rattle.schedule_model.specs.declared.event.Reply.TheVariants as reply
+use Rattle.schedule_model.specs.declared.held.HeldAttempt.{HeldAttempt}
+use Rattle.schedule_model.specs.Following.{is_held}
+use Rattle.schedule_model.specs.Schedule.{TurnsOne}
+use Rattle.schedule_model.proofs.Applying.{same_standing, not_held, found_at, changes_held}
 use Rattle.durable_schedule.proofs.scheduler.Scheduler.turn.Goals as goal
 
 pub returns-in-None-clause-does : goal.returns-in-None-clause-does

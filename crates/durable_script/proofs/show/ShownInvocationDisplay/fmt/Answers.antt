@@ -1,7 +1,7 @@
 use Rattle.std.proofs.Common.{ℕ, List, [], ◌∷◌, ◌++◌, ◌∙◌, ◌+◌, ◌<◌, sym, ap, rules, arith, take, length, length-take}
 use Rattle.std.proofs.Output.{has_written_append, has_written_of_eq}
 use Rattle.std.proofs.lemmas.List.{take_more}
-use Rattle.invocation_reads.specs.declared.entries.RecordedFrame.{RecordedFrame}
+use Rattle.store_reads.specs.declared.entries.RecordedFrame.{RecordedFrame}
 use Rattle.script_lines.specs.Text.{request_text}
 use Rattle.durable_script.specs.Shown.{requests_from}
 use Rattle.durable_script.proofs.Showing.{requests_more}

@@ -1,8 +1,8 @@
 use Rattle.std.proofs.Common.{◌≡◌, ◌^◌, ◌<◌, ◌≤◌, ℕ, Bool, true, false, ltb, length, Result, Ok, Err, refl}
 use Rattle.std.specs.Prelude.{◌↔◌}
 use Rattle.std.proofs.lemmas.Bool.{ltb-true, ltb-false}
-use Rattle.journal_protocol.specs.declared.encoder.EncodingError.{EncodingError}
-use Rattle.journal_protocol.proofs.Spellings.{spelled-frame_bytes}
+use Rattle.protocol_stream.specs.declared.encoder.EncodingError.{EncodingError}
+use Rattle.protocol_stream.proofs.Spellings.{spelled-frame_bytes}
 use Rattle.invocation_vm.proofs.output.Output.write.Goals as goal
 
 -- what was written is not too long

@@ -1,6 +1,6 @@
 use Rattle.std.proofs.Common.{rules, ◌≡◌, true, false, Err}
-use Rattle.live_attempts.specs.Attempts.{attempt_of}
-use Rattle.live_laws.specs.Agrees.{has_number}
+use Rattle.store_live.specs.Attempts.{attempt_of}
+use Rattle.store_live_laws.specs.Agrees.{has_number}
 use Rattle.store_calls.specs.Calls.{ClosesInput}
 use Rattle.journal_store.specs.Attempts.{has_closed, has_rest}
 use Rattle.journal_store.proofs.Calls.{dead, close_dead, closes, closes_rest, closes_closed}

@@ -1,6 +1,6 @@
 use Rattle.std.proofs.Common.{rules, ◌≡◌, true, false, Err}
-use Rattle.live_attempts.specs.Attempts.{attempt_of}
-use Rattle.live_laws.specs.Agrees.{has_number}
+use Rattle.store_live.specs.Attempts.{attempt_of}
+use Rattle.store_live_laws.specs.Agrees.{has_number}
 use Rattle.store_calls.specs.Calls.{Feeds}
 use Rattle.journal_store.proofs.Calls.{dead, feed_dead, feeds, feeds_none, is_memory}
 use Rattle.journal_store.proofs.store.Store.feed.Goals as goal

@@ -3,7 +3,7 @@ use Rattle.sqlite.specs.State.{State, HasCleanDisk}
 use Rattle.sqlite.specs.Held.{state}
 use Rattle.journal_model.specs.Event.{Event}
 use Rattle.journal_model.specs.Journal.{completion}
-use Rattle.live_laws.specs.Agrees.{completed}
+use Rattle.store_live_laws.specs.Agrees.{completed}
 use Rattle.store_calls.specs.Calls.{Completes}
 use Rattle.journal_store.specs.Stored.{stored}
 use Rattle.journal_store.proofs.Lasting.{refused_kept}

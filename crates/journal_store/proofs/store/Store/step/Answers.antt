@@ -1,6 +1,6 @@
 use Rattle.std.proofs.Common.{rules, ◌≡◌, true, refl, false, Err}
-use Rattle.live_attempts.specs.Attempts.{attempt_of}
-use Rattle.live_laws.specs.Agrees.{has_number}
+use Rattle.store_live.specs.Attempts.{attempt_of}
+use Rattle.store_live_laws.specs.Agrees.{has_number}
 use Rattle.store_calls.specs.Frames.{Steps}
 use Rattle.journal_store.proofs.Calls.{dead, step_dead}
 use Rattle.journal_store.proofs.Taking.{header_refused, none_waits, no_room}

@@ -1,9 +1,0 @@
--- Proved in `Meanings`.
-use Rattle.attempt_frames.proofs.Meanings.{meant}
-use Rattle.attempt_frames.proofs.read.read_frame_at.Goals as goal
-use Rattle.std.specs.Prelude.{refl}
-
-pub returns : goal.returns
-returns c =
-    meant c.args.version (record { header = c.args.header; payload = c.args.payload.now }) c.message_type.result c.args.payload.now c.read_payload.result
-    c.message_type.ensures refl c.read_payload.ensures

@@ -1,7 +1,0 @@
-use Rattle.std.proofs.Common.{refl}
-use Rattle.protocol_wire.proofs.Lengths.{measured}
-use Rattle.call_records.specs.CallCommand.{call_command_parts}
-use Rattle.call_records.proofs.call_command.CallCommandMessageRecord.payload_len.Goals as goal
-
-pub returns : goal.returns
-returns c = measured (call_command_parts c.args.self.now) _ (_, c.len_text-len.ensures, (_, c.len_text-len-2.ensures, (_, c.len_bytes-len.ensures, (_, c.len_records-len.ensures, (_, c.len_text-len-3.ensures, (_, c.len_optional_text-len.ensures, (_, c.len_optional_text-len-2.ensures, (_, c.len_optional_text-len-3.ensures, (_, c.len_u32-len.ensures, (_, c.len_u32-len-2.ensures, (_, c.len_text.ensures, refl)))))))))))

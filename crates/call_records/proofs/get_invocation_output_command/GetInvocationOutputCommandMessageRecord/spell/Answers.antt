@@ -1,9 +1,0 @@
-use Rattle.std.proofs.Common.{refl, [], ◌∷◌}
-use Rattle.protocol_wire.specs.Parts.{plain_bytes, plain_number}
-use Rattle.protocol_wire.proofs.Puts.{chained, chain_block}
-use Rattle.protocol_table.specs.declared.table.get_invocation_output_command.TheConstants.{NAME, RESULT_COMPLETION_ID}
-use Rattle.call_records.specs.GetInvocationOutputCommand.{get_invocation_output_command_parts, target_parts}
-use Rattle.call_records.proofs.get_invocation_output_command.GetInvocationOutputCommandMessageRecord.spell.Goals as goal
-
-pub returns : goal.returns
-returns c = chained (get_invocation_output_command_parts c.args.self.now) c.args.out.now.items _ (chain_block (target_parts c.args.self.now.target) (plain_number RESULT_COMPLETION_ID.number c.args.self.now.result_completion_id ∷ plain_bytes NAME.number c.args.self.now.name ∷ []) _ _ _ c.in_ok-put_target.ensures (_, c.in_ok-put_u32.ensures, (_, c.in_ok-put_text.ensures, refl)))

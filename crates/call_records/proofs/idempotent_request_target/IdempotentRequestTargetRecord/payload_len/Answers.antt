@@ -1,7 +1,0 @@
-use Rattle.std.proofs.Common.{refl}
-use Rattle.protocol_wire.proofs.Lengths.{measured}
-use Rattle.call_records.specs.IdempotentRequestTarget.{idempotent_request_target_parts}
-use Rattle.call_records.proofs.idempotent_request_target.IdempotentRequestTargetRecord.payload_len.Goals as goal
-
-pub returns : goal.returns
-returns c = measured (idempotent_request_target_parts c.args.self.now) _ (_, c.len_text-len.ensures, (_, c.len_optional_text-len.ensures, (_, c.len_text-len-2.ensures, (_, c.len_text-len-3.ensures, (_, c.len_optional_text.ensures, refl)))))

@@ -1,9 +1,0 @@
-use Rattle.std.proofs.Common.{refl, [], ◌∷◌}
-use Rattle.protocol_wire.specs.Parts.{plain_bytes, plain_number}
-use Rattle.protocol_wire.proofs.Lengths.{measured, counting_block}
-use Rattle.protocol_table.specs.declared.table.complete_promise_command.TheConstants.{NAME, RESULT_COMPLETION_ID}
-use Rattle.command_records.specs.CompletePromiseCommand.{complete_promise_command_parts, completion_parts}
-use Rattle.command_records.proofs.complete_promise_command.CompletePromiseCommandMessageRecord.payload_len.Goals as goal
-
-pub returns : goal.returns
-returns c = measured (complete_promise_command_parts c.args.self.now) _ (_, c.len_text-len.ensures, counting_block (completion_parts c.args.self.now.completion) (plain_number RESULT_COMPLETION_ID.number c.args.self.now.result_completion_id ∷ plain_bytes NAME.number c.args.self.now.name ∷ []) _ _ _ tt c.len_completion-len.ensures (_, c.len_u32-len.ensures, (_, c.len_text.ensures, refl)))

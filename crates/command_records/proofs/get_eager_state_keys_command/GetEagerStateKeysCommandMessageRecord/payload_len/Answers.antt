@@ -1,7 +1,0 @@
-use Rattle.std.proofs.Common.{refl}
-use Rattle.protocol_wire.proofs.Lengths.{measured}
-use Rattle.command_records.specs.GetEagerStateKeysCommand.{get_eager_state_keys_command_parts}
-use Rattle.command_records.proofs.get_eager_state_keys_command.GetEagerStateKeysCommandMessageRecord.payload_len.Goals as goal
-
-pub returns : goal.returns
-returns c = measured (get_eager_state_keys_command_parts c.args.self.now) _ (_, c.len_text-len.ensures, (_, c.len_optional_record.ensures, refl))

@@ -1,7 +1,0 @@
-use Rattle.std.proofs.Common.{refl}
-use Rattle.protocol_wire.proofs.Lengths.{measured}
-use Rattle.command_records.specs.GetLazyStateCommand.{get_lazy_state_command_parts}
-use Rattle.command_records.proofs.get_lazy_state_command.GetLazyStateCommandMessageRecord.payload_len.Goals as goal
-
-pub returns : goal.returns
-returns c = measured (get_lazy_state_command_parts c.args.self.now) _ (_, c.len_bytes-len.ensures, (_, c.len_u32-len.ensures, (_, c.len_text.ensures, refl)))

@@ -1,8 +1,0 @@
-use Rattle.std.proofs.Common.{refl}
-use Rattle.protocol_table.specs.declared.table.RecordType.TheVariants as types
-use Rattle.protocol_table.specs.declared.table.get_lazy_state_command.TheConstants as table
-use Rattle.protocol_wire.proofs.SoundAt.{texts_sound}
-use Rattle.command_records.proofs.get_lazy_state_command.GetLazyStateCommandMessageRecord.select.Goals as goal
-
-pub text_at-requires : goal.text_at-requires
-text_at-requires c = texts_sound c.args.levels types.GetLazyStateCommand table.NAME.number c.args.payload.now c.requires refl

@@ -1,7 +1,0 @@
-use Rattle.std.proofs.Common.{refl}
-use Rattle.protocol_wire.proofs.Lengths.{measured}
-use Rattle.command_records.specs.SetStateCommand.{set_state_command_parts}
-use Rattle.command_records.proofs.set_state_command.SetStateCommandMessageRecord.payload_len.Goals as goal
-
-pub returns : goal.returns
-returns c = measured (set_state_command_parts c.args.self.now) _ (_, c.len_bytes-len.ensures, (_, c.len_optional_record-len.ensures, (_, c.len_text.ensures, refl)))

@@ -1,7 +1,0 @@
-use Rattle.std.proofs.Common.{refl}
-use Rattle.protocol_wire.proofs.Lengths.{measured}
-use Rattle.control_records.specs.Error.{error_parts}
-use Rattle.control_records.proofs.error.ErrorMessageRecord.payload_len.Goals as goal
-
-pub returns : goal.returns
-returns c = measured (error_parts c.args.self.now) _ (_, c.len_u32-len.ensures, (_, c.len_text-len.ensures, (_, c.len_optional_u32-len.ensures, (_, c.len_optional_text-len.ensures, (_, c.len_optional_u32-len-2.ensures, (_, c.len_optional_u64-len.ensures, (_, c.len_enum.ensures, refl)))))))

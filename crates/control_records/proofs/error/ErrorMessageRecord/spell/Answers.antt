@@ -1,7 +1,0 @@
-use Rattle.std.proofs.Common.{refl}
-use Rattle.protocol_wire.proofs.Puts.{chained}
-use Rattle.control_records.specs.Error.{error_parts}
-use Rattle.control_records.proofs.error.ErrorMessageRecord.spell.Goals as goal
-
-pub returns : goal.returns
-returns c = chained (error_parts c.args.self.now) c.args.out.now.items _ (_, c.in_ok-put_u32.ensures, (_, c.in_ok-put_text.ensures, (_, c.in_ok-put_optional_u32.ensures, (_, c.in_ok-put_optional_text.ensures, (_, c.in_ok-put_optional_u32-2.ensures, (_, c.in_ok-put_optional_u64.ensures, (_, c.in_ok-put_enum.ensures, refl)))))))

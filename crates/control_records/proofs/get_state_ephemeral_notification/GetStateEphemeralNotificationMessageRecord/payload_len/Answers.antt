@@ -1,7 +1,0 @@
-use Rattle.std.proofs.Common.{refl, []}
-use Rattle.protocol_wire.proofs.Lengths.{measured, counting_block}
-use Rattle.control_records.specs.GetStateEphemeralNotification.{get_state_ephemeral_notification_parts, result_parts}
-use Rattle.control_records.proofs.get_state_ephemeral_notification.GetStateEphemeralNotificationMessageRecord.payload_len.Goals as goal
-
-pub returns : goal.returns
-returns c = measured (get_state_ephemeral_notification_parts c.args.self.now) _ (_, c.len_u32-len.ensures, counting_block (result_parts c.args.self.now.result) ([]) _ _ _ tt c.len_result.ensures refl)

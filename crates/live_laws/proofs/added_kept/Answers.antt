@@ -1,9 +1,0 @@
--- The laws are proved in `Added`.
-use Rattle.live_laws.proofs.Added.{ticked, commanded}
-use Rattle.live_laws.proofs.added_kept.Goals as goal
-
-pub returns-clause-ticked : goal.returns-clause-ticked
-returns-clause-ticked c = ticked
-
-pub returns-clause-commanded : goal.returns-clause-commanded
-returns-clause-commanded c = commanded

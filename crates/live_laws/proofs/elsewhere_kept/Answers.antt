@@ -1,9 +1,0 @@
--- The laws are proved in `Steps`.
-use Rattle.live_laws.proofs.Steps.{at_first, elsewhere}
-use Rattle.live_laws.proofs.elsewhere_kept.Goals as goal
-
-pub returns-clause-first : goal.returns-clause-first
-returns-clause-first c = at_first
-
-pub returns-clause-elsewhere : goal.returns-clause-elsewhere
-returns-clause-elsewhere c = elsewhere

@@ -1,6 +1,0 @@
-use Rattle.std.proofs.Common.{◌≡◌, map, take}
-use Rattle.journal_protocol.specs.Records.{header_record}
-use Rattle.new_invocations.proofs.input.header_records.Given as goal
-
-abbrev pub invariant-loop-header : goal.invariant-loop-header
-invariant-loop-header l = l.records ≡ map header_record (take l.header-index l.header-items)

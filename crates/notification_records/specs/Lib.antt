@@ -1,2 +1,0 @@
-pub mod Notification
-pub mod ReadBackNotification

@@ -1,9 +1,0 @@
--- Both laws are proved in `Following`.
-use Rattle.progress_steps.proofs.Following.{follows, ticks}
-use Rattle.progress_steps.proofs.progress_follows.Goals as goal
-
-pub returns-clause-by_own_events : goal.returns-clause-by_own_events
-returns-clause-by_own_events c = follows
-
-pub returns-clause-by_ticks : goal.returns-clause-by_ticks
-returns-clause-by_ticks c = ticks

@@ -1,0 +1,20 @@
+use Rattle.std.proofs.Common.{refl}
+use Rattle.protocol_table.specs.declared.table.RecordType.TheVariants as types
+use Rattle.protocol_table.specs.declared.table.idempotent_request_target.TheConstants as table
+use Rattle.protocol_wire.proofs.SoundAt.{texts_sound}
+use Rattle.protocol_calls.proofs.idempotent_request_target.IdempotentRequestTargetRecord.select.Goals as goal
+
+pub text_at-requires : goal.text_at-requires
+text_at-requires c = texts_sound c.args.levels types.IdempotentRequestTarget table.SERVICE_NAME.number c.args.payload.now c.requires refl
+
+pub text_at-requires-2 : goal.text_at-requires-2
+text_at-requires-2 c = texts_sound c.args.levels types.IdempotentRequestTarget table.HANDLER_NAME.number c.args.payload.now c.requires refl
+
+pub text_at-requires-3 : goal.text_at-requires-3
+text_at-requires-3 c = texts_sound c.args.levels types.IdempotentRequestTarget table.IDEMPOTENCY_KEY.number c.args.payload.now c.requires refl
+
+pub optional_text_at-requires : goal.optional_text_at-requires
+optional_text_at-requires c = texts_sound c.args.levels types.IdempotentRequestTarget table.SERVICE_KEY.number c.args.payload.now c.requires refl
+
+pub optional_text_at-requires-2 : goal.optional_text_at-requires-2
+optional_text_at-requires-2 c = texts_sound c.args.levels types.IdempotentRequestTarget table.SCOPE.number c.args.payload.now c.requires refl

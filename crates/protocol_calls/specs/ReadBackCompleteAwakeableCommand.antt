@@ -1,0 +1,71 @@
+-- The canonical payload of a complete awakeable command is read again, to the same value.
+use Rattle.std.specs.Prelude.{◌≡◌, ℕ, ◌-◌, ◌<◌, ◌^◌, [], ◌∷◌, length, Option, Some, None, IfSome, option_map, refl}
+use Rattle.std.specs.List.{AllByRecursion}
+use Rattle.std.proofs.Common.{sym, ap, ◌∙◌}
+use Rattle.protocol_wire.specs.Selection.{last_run, first_of, last_number, last_bytes, texts}
+use Rattle.protocol_wire.specs.Check.{payload_fault}
+use Rattle.protocol_table.specs.Table.{descriptors_of}
+use Rattle.protocol_wire.specs.Parts.{bytes_if, optional_bytes, payload_of}
+use Rattle.protocol_wire.specs.Decodes.{IsRead}
+use Rattle.protocol_table.specs.declared.table.RecordType.TheVariants as types
+use Rattle.protocol_table.specs.declared.table.complete_awakeable_command.TheConstants as complete_awakeable_command
+use Rattle.protocol_wire.proofs.Holds.{LengthFits, text_holds, optional_record_holds, lengths_fit, payload_holds}
+use Rattle.protocol_wire.proofs.Back.{text_back, optional_record_back, held_among, run-fields_of}
+use Rattle.protocol_calls.specs.declared.complete_awakeable_command.CompleteAwakeableCommandMessage.{CompleteAwakeableCommandMessage}
+use Rattle.protocol_calls.specs.declared.complete_awakeable_command.CompleteAwakeableCommandResult.{CompleteAwakeableCommandResult}
+use Rattle.protocol_calls.specs.declared.complete_awakeable_command.CompleteAwakeableCommandResult.TheVariants as results
+use Rattle.protocol_records.specs.Failure.{failure_of, failure_parts}
+use Rattle.protocol_records.specs.declared.failure.Failure.{Failure}
+use Rattle.protocol_records.specs.ReadBack.{failure_reads}
+use Rattle.protocol_records.specs.Value.{value_of, value_parts}
+use Rattle.protocol_records.specs.declared.value.Value.{Value}
+use Rattle.protocol_records.specs.ReadBack.{value_reads}
+use Rattle.protocol_calls.specs.CompleteAwakeableCommand.{complete_awakeable_command_of, complete_awakeable_command_parts, CompleteAwakeableCommandFits, result_in, result_parts, CompleteAwakeableCommandResultFits, result_value, result_failure}
+
+result_value_holds : (levels : ℕ) (o : Option CompleteAwakeableCommandResult) → CompleteAwakeableCommandResultFits levels o → AllByRecursion LengthFits (bytes_if (result_value o)) → IfSome (result_value o) (λ b. payload_fault levels types.Value b ≡ None)
+result_value_holds levels None h k = tt
+result_value_holds levels (Some (results.Value v)) h k = (value_reads levels v h k.0).sound
+result_value_holds levels (Some (results.Failure f)) h k = tt
+
+result_failure_holds : (levels : ℕ) (o : Option CompleteAwakeableCommandResult) → CompleteAwakeableCommandResultFits levels o → AllByRecursion LengthFits (bytes_if (result_failure o)) → IfSome (result_failure o) (λ b. payload_fault levels types.Failure b ≡ None)
+result_failure_holds levels None h k = tt
+result_failure_holds levels (Some (results.Value v)) h k = tt
+result_failure_holds levels (Some (results.Failure f)) h k = (failure_reads levels f h k.0).sound
+
+-- of the fields of the result alone
+result_back : (levels : ℕ) (o : Option CompleteAwakeableCommandResult) → CompleteAwakeableCommandResultFits (levels - 1) o → AllByRecursion LengthFits (bytes_if (result_value o)) → AllByRecursion LengthFits (bytes_if (result_failure o)) → result_in levels (last_run (held_among complete_awakeable_command.RESULT (result_parts o))) ≡ o
+unfolding texts last_bytes last_number
+result_back levels None h k0 k1 = refl
+result_back levels (Some (results.Value v)) h k0 k1 =
+    ap (λ (o : Option Value). first_of (option_map (λ v. results.Value v) o) None) (optional_record_back (value_of (levels - 1)) (λ r. payload_of (value_parts r)) complete_awakeable_command.VALUE.number (Some v) (optional_bytes complete_awakeable_command.VALUE.number (Some (payload_of (value_parts v))) ∷ []) refl (sym (value_reads (levels - 1) v h k0.0).value))
+result_back levels (Some (results.Failure f)) h k0 k1 =
+    ap (λ (o : Option Failure). option_map (λ f. results.Failure f) o) (optional_record_back (failure_of (levels - 1)) (λ r. payload_of (failure_parts r)) complete_awakeable_command.FAILURE.number (Some f) (optional_bytes complete_awakeable_command.FAILURE.number (Some (payload_of (failure_parts f))) ∷ []) refl (sym (failure_reads (levels - 1) f h k1.0).value))
+
+pub complete_awakeable_command_reads : (levels : ℕ) (v : CompleteAwakeableCommandMessage) → CompleteAwakeableCommandFits levels v → length (payload_of (complete_awakeable_command_parts v)) < 2 ^ 64 → IsRead levels types.CompleteAwakeableCommand complete_awakeable_command_of (payload_of (complete_awakeable_command_parts v)) v
+complete_awakeable_command_reads levels v h small =
+    let ps = complete_awakeable_command_parts v in
+    let below = payload_fault (levels - 1) in
+    let table = descriptors_of types.CompleteAwakeableCommand in
+    let lengths = lengths_fit ps small in
+    let read = payload_holds levels types.CompleteAwakeableCommand ps h.level ((
+      text_holds below table complete_awakeable_command.AWAKEABLE_ID.number v.awakeable_id (refl, refl) h.awakeable_id,
+      (
+        optional_record_holds below table complete_awakeable_command.VALUE.number types.Value (result_value v.result) (refl, refl) (result_value_holds (levels - 1) v.result h.result lengths.1.0),
+        (
+          optional_record_holds below table complete_awakeable_command.FAILURE.number types.Failure (result_failure v.result) (refl, refl) (result_failure_holds (levels - 1) v.result h.result lengths.1.1.0),
+          (
+            text_holds below table complete_awakeable_command.NAME.number v.name (refl, refl) h.name,
+            tt,
+          ),
+        ),
+      ),
+    )) small in
+    let result = ap (result_in levels) (run-fields_of complete_awakeable_command.RESULT ps) ∙ result_back levels v.result h.result lengths.1.0 lengths.1.1.0 in
+    record {
+      sound = read.0;
+      value = sym (ap (complete_awakeable_command_of levels) read.1 ∙ λ i. record {
+        awakeable_id = text_back complete_awakeable_command.AWAKEABLE_ID.number v.awakeable_id ps refl i;
+        result = result i;
+        name = text_back complete_awakeable_command.NAME.number v.name ps refl i;
+      });
+    }

@@ -1,0 +1,7 @@
+use Rattle.std.proofs.Common.{refl}
+use Rattle.protocol_wire.proofs.Lengths.{measured}
+use Rattle.protocol_commands.specs.ClearStateCommand.{clear_state_command_parts}
+use Rattle.protocol_commands.proofs.clear_state_command.ClearStateCommandMessageRecord.payload_len.Goals as goal
+
+pub returns : goal.returns
+returns c = measured (clear_state_command_parts c.args.self.now) _ (_, c.len_bytes-len.ensures, (_, c.len_text.ensures, refl))

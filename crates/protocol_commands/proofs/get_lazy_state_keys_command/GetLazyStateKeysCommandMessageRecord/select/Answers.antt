@@ -1,0 +1,8 @@
+use Rattle.std.proofs.Common.{refl}
+use Rattle.protocol_table.specs.declared.table.RecordType.TheVariants as types
+use Rattle.protocol_table.specs.declared.table.get_lazy_state_keys_command.TheConstants as table
+use Rattle.protocol_wire.proofs.SoundAt.{texts_sound}
+use Rattle.protocol_commands.proofs.get_lazy_state_keys_command.GetLazyStateKeysCommandMessageRecord.select.Goals as goal
+
+pub text_at-requires : goal.text_at-requires
+text_at-requires c = texts_sound c.args.levels types.GetLazyStateKeysCommand table.NAME.number c.args.payload.now c.requires refl

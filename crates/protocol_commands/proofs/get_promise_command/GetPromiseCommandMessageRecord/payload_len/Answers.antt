@@ -1,0 +1,7 @@
+use Rattle.std.proofs.Common.{refl}
+use Rattle.protocol_wire.proofs.Lengths.{measured}
+use Rattle.protocol_commands.specs.GetPromiseCommand.{get_promise_command_parts}
+use Rattle.protocol_commands.proofs.get_promise_command.GetPromiseCommandMessageRecord.payload_len.Goals as goal
+
+pub returns : goal.returns
+returns c = measured (get_promise_command_parts c.args.self.now) _ (_, c.len_text-len.ensures, (_, c.len_u32-len.ensures, (_, c.len_text.ensures, refl)))

@@ -1,0 +1,7 @@
+use Rattle.std.proofs.Common.{refl}
+use Rattle.protocol_wire.proofs.Lengths.{measured}
+use Rattle.protocol_commands.specs.RunCommand.{run_command_parts}
+use Rattle.protocol_commands.proofs.run_command.RunCommandMessageRecord.payload_len.Goals as goal
+
+pub returns : goal.returns
+returns c = measured (run_command_parts c.args.self.now) _ (_, c.len_u32-len.ensures, (_, c.len_text.ensures, refl))

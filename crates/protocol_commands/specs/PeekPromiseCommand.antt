@@ -1,0 +1,26 @@
+-- The fields of a peek promise command.
+use Rattle.std.specs.Prelude.{IsUtf8, List, [], ℕ, ◌<◌, ◌^◌, ◌∷◌}
+use Rattle.protocol_wire.specs.Wire.{Field}
+use Rattle.protocol_wire.specs.Selection.{u32, text}
+use Rattle.protocol_wire.specs.Parts.{Part, plain_bytes, plain_number}
+use Rattle.protocol_table.specs.declared.table.peek_promise_command.TheConstants.{KEY, NAME, RESULT_COMPLETION_ID}
+use Rattle.protocol_commands.specs.declared.peek_promise_command.PeekPromiseCommandMessage.{PeekPromiseCommandMessage}
+
+abbrev pub peek_promise_command_of : ℕ → List Field → PeekPromiseCommandMessage
+peek_promise_command_of levels fs = record {
+  key = text KEY.number fs;
+  result_completion_id = u32 RESULT_COMPLETION_ID.number fs;
+  name = text NAME.number fs;
+}
+
+abbrev pub peek_promise_command_parts : PeekPromiseCommandMessage → List Part
+peek_promise_command_parts v =
+    plain_bytes KEY.number v.key ∷
+    plain_number RESULT_COMPLETION_ID.number v.result_completion_id ∷
+    plain_bytes NAME.number v.name ∷ []
+
+pub record PeekPromiseCommandFits (levels : ℕ) (v : PeekPromiseCommandMessage) : Type 0 where
+  pub level : 0 < levels
+  pub key : IsUtf8 v.key
+  pub result_completion_id : v.result_completion_id < 2 ^ 32
+  pub name : IsUtf8 v.name

@@ -1,0 +1,23 @@
+-- The fields of a run command.
+use Rattle.std.specs.Prelude.{IsUtf8, List, [], ℕ, ◌<◌, ◌^◌, ◌∷◌}
+use Rattle.protocol_wire.specs.Wire.{Field}
+use Rattle.protocol_wire.specs.Selection.{u32, text}
+use Rattle.protocol_wire.specs.Parts.{Part, plain_bytes, plain_number}
+use Rattle.protocol_table.specs.declared.table.run_command.TheConstants.{NAME, RESULT_COMPLETION_ID}
+use Rattle.protocol_commands.specs.declared.run_command.RunCommandMessage.{RunCommandMessage}
+
+abbrev pub run_command_of : ℕ → List Field → RunCommandMessage
+run_command_of levels fs = record {
+  result_completion_id = u32 RESULT_COMPLETION_ID.number fs;
+  name = text NAME.number fs;
+}
+
+abbrev pub run_command_parts : RunCommandMessage → List Part
+run_command_parts v =
+    plain_number RESULT_COMPLETION_ID.number v.result_completion_id ∷
+    plain_bytes NAME.number v.name ∷ []
+
+pub record RunCommandFits (levels : ℕ) (v : RunCommandMessage) : Type 0 where
+  pub level : 0 < levels
+  pub result_completion_id : v.result_completion_id < 2 ^ 32
+  pub name : IsUtf8 v.name

@@ -1,0 +1,12 @@
+pub mod Error
+pub mod GetStateEphemeralCommand
+pub mod GetStateEphemeralNotification
+pub mod ProposeRunCompletion
+pub mod ProposeRunCompletionAck
+pub mod ReadBackError
+pub mod ReadBackGetStateEphemeralCommand
+pub mod ReadBackGetStateEphemeralNotification
+pub mod ReadBackProposeRunCompletion
+pub mod ReadBackProposeRunCompletionAck
+pub mod Notification
+pub mod ReadBackNotification

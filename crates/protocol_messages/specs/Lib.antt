@@ -1,0 +1,9 @@
+pub mod Decoded
+pub mod Encoded
+pub mod Laws
+pub mod Leaves
+pub mod RecordMessage
+pub mod Told
+pub mod Carried
+pub mod ConversionLaws
+pub mod Taken

@@ -1,0 +1,86 @@
+// Records as the frames of messages.
+ghost use Rattle.std.specs.Prelude.{◌≡◌};
+ghost use Rattle.protocol_stream.specs.declared.decoder.RawMessage.{RawMessage};
+ghost use Rattle.protocol_stream.specs.declared.version.Version.{Version as Versions};
+ghost use Rattle.protocol_messages.specs.Encoded.{is_before_7 as is_before, record_message, plain_message, EncodesTo};
+
+use crate::message::PlainMessage;
+use bytes::Bytes;
+use protocol_stream::{EncodingError, Feature, HEADER_LEN, MessageHeader, MessageType, Version};
+use protocol_wire::{Record, encoded_len};
+use std::alloc::Global;
+
+/// Whether run proposals are not to be acknowledged yet, and suspensions are lists and no tree.
+pub(crate) fn is_before_7(version: Version) -> bool
+    ensures { result ≡ is_before version }
+{
+    Feature::AwaitTree.is_later_than(version.number())
+}
+
+/// What an encoder writes as a message.
+pub trait RestateEncodableMessage {
+    ghost message_at: { Versions → Self → RawMessage };
+
+    /// The frame in this version: the header, and the one canonical spelling of the payload.
+    fn encode(&self, alloc: Global, version: Version) -> Result<Bytes, EncodingError>
+        ensures { EncodesTo (message_at version self.now) result };
+}
+
+impl<M: PlainMessage> RestateEncodableMessage for M {
+    ghost message_at = { λ version one. plain_message M.record_type version (M.parts one) };
+
+    fn encode(&self, alloc: Global, version: Version) -> Result<Bytes, EncodingError> {
+        encode_record(alloc, M::ty(), self, version)
+    }
+}
+
+/// The frame of a record as a message of this type, which a type that can asks to acknowledge from version 7 on.
+///
+/// For the types that share a record. A record of one type is written by `RestateEncodableMessage`.
+#[tactic(auto, unfolding(protocol_stream::specs::Frame::spelled))]
+pub fn encode_record<R: Record>(
+    alloc: Global,
+    ty: MessageType,
+    one: &R,
+    version: Version,
+) -> Result<Bytes, EncodingError>
+    ensures { EncodesTo (record_message ty version (R.parts one.now)) result }
+{
+    let Some(length) = encoded_len(one) else {
+        return Err(EncodingError::PayloadTooLong);
+    };
+    let header = MessageHeader::new_with_requested_ack(ty, !is_before_7(version), length);
+    let mut out = Vec::with_capacity(alloc, HEADER_LEN + length as usize)?;
+    out.extend_from_slice(&u64::from(header).to_be_bytes())?;
+    one.spell(alloc, &mut out)?;
+    match Bytes::from_vec(out) {
+        Ok(frame) => Ok(frame),
+        Err(_) => Err(EncodingError::OutOfMemory),
+    }
+}
+
+/// Writes messages in one version.
+#[derive(Clone, Copy, Debug)]
+pub struct Encoder {
+    version: Version,
+}
+
+impl Encoder {
+    /// An encoder of this version.
+    pub fn new(version: Version) -> Encoder
+        ensures { result ≡ record { version = version } }
+    {
+        Encoder { version }
+    }
+
+    /// The frame of a message.
+    pub fn encode<M: RestateEncodableMessage>(
+        &self,
+        alloc: Global,
+        message: &M,
+    ) -> Result<Bytes, EncodingError>
+        ensures { EncodesTo (M.message_at self.now.version message.now) result }
+    {
+        message.encode(alloc, self.version)
+    }
+}

@@ -1,0 +1,20 @@
+-- The canonical payloads are those that the definitions give.
+use Rattle.std.specs.Prelude.{◌≡◌, ℕ}
+use Rattle.journal_model.specs.Notification.{Arrival}
+use Rattle.journal_model.specs.declared.notification.NotificationId.{NotificationId}
+use Rattle.journal_model.specs.AwaitTree.{AwaitTree}
+use Rattle.journal_model.specs.Request.{Request}
+use Rattle.journal_model.specs.Spelling.{request_payload, notification_payload, acknowledgement_payload, suspension_payload}
+use Rattle.protocol_spellings.specs.Payloads.{record_payload, notification_record_payload, acknowledgement_record_payload, suspension_record_payload}
+
+abbrev pub RequestsSpelled : Type 0
+RequestsSpelled = (request : Request) → record_payload request ≡ request_payload request
+
+abbrev pub NotificationsSpelled : Type 0
+NotificationsSpelled = (arrival : Arrival) → notification_record_payload arrival ≡ notification_payload arrival
+
+abbrev pub AcknowledgementsSpelled : Type 0
+AcknowledgementsSpelled = (completion : ℕ) → acknowledgement_record_payload completion ≡ acknowledgement_payload completion
+
+abbrev pub SuspensionsSpelled : Type 0
+SuspensionsSpelled = (tree : AwaitTree NotificationId) → suspension_record_payload tree ≡ suspension_payload tree

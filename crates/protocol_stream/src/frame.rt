@@ -1,0 +1,59 @@
+// Frames: a payload behind the header that has its type and its length.
+ghost use Rattle.std.specs.Prelude.{◌≡◌, ◌+◌, ◌*◌, ◌%◌, ◌≤◌, ◌^◌, ◌++◌, ◌↔◌, Err, drop, length, IfOk, OnOk, OnErr};
+ghost use Rattle.journal_model.specs.Spelling.{frame_bytes};
+ghost use Rattle.protocol_stream.specs.MessageType.{number_of};
+
+use crate::{EncodingError, MessageType};
+use bytes::{Bytes, BytesMut};
+use std::alloc::{AllocError, Global};
+
+/// How many bytes a header has.
+pub const HEADER_LEN: usize = 8;
+
+// The number of a header that requests no acknowledgement, which has the lowest thirty-two bits of the payload's length.
+fn header_word(number: u16, len: usize) -> u64
+    ensures { result ≡ number * 2 ^ 48 + len % 2 ^ 32 }
+{
+    let ty = u64::from(number) << 48;
+    ty + len as u64 % 0x1_0000_0000
+}
+
+/// Puts the frame of a payload at the end, by the number of its type, and tells how long it is. Of a longer payload the header
+/// has the lowest thirty-two bits of the length.
+#[tactic(auto, using(crate::proofs::Spellings::header_is))]
+pub fn put_frame(out: &mut BytesMut, number: u16, payload: &[u8]) -> Result<usize, AllocError>
+    ensures ok { OnOk result (out.new.items ≡ out.old.items ++ frame_bytes number payload.now) }
+    ensures len { IfOk result (λ len. len ≡ length (frame_bytes number payload.now)) }
+    ensures err { OnErr result (out.new.items ≡ out.old.items) }
+{
+    let header = header_word(number, payload.len());
+    let len = HEADER_LEN + payload.len();
+    out.reserve(len)?;
+    out.extend_reserved(&header.to_be_bytes());
+    out.extend_reserved(payload);
+    Ok(len)
+}
+
+/// The frame of a payload as a message of this type, which requests no acknowledgement.
+pub fn frame_of(alloc: Global, ty: MessageType, payload: &[u8]) -> Result<Bytes, EncodingError>
+    ensures ok { IfOk result (λ frame. frame ≡ frame_bytes (number_of ty) payload.now) }
+    ensures too_long { (result ≡ Err EncodingError.PayloadTooLong) ↔ (2 ^ 32 ≤ length payload.now) }
+{
+    if payload.len() > u32::MAX as usize {
+        return Err(EncodingError::PayloadTooLong);
+    }
+    let mut out = BytesMut::new(alloc);
+    put_frame(&mut out, u16::from(ty), payload)?;
+    match out.freeze() {
+        Ok(frame) => Ok(frame),
+        Err(_) => Err(EncodingError::OutOfMemory),
+    }
+}
+
+/// The payload of a frame, which shares the frame's memory.
+pub fn payload_of_frame(frame: &Bytes) -> Result<Bytes, AllocError>
+    requires { 8 ≤ length frame.now }
+    ensures { IfOk result (λ payload. payload ≡ drop 8 frame.now) }
+{
+    frame.slice(HEADER_LEN..)
+}

@@ -1,0 +1,101 @@
+-- A tally with one child more, and what it says of the node.
+use Rattle.std.proofs.Common.{◌≡◌, ℕ, ◌+◌, Bool, true, false, ◌||◌, ◌&&◌, List, [], ◌∷◌, ◌++◌, take, Some, refl, sym, ap, ◌∙◌}
+use Rattle.std.specs.Prelude.{if◌then◌else◌}
+use Rattle.std.specs.List.{list_any, list_all, slice_get}
+use Rattle.std.proofs.lemmas.List.Folds.{list_any-append, list_all-append}
+use Rattle.std.proofs.lemmas.List.{take_more}
+use Rattle.std.proofs.lemmas.Option.{slice_get_within, get_or_from_slice_get}
+use Rattle.journal_model.specs.AwaitTree as Trees
+use Rattle.protocol_trees.specs.Shape.{state_meant, combinator_of}
+use Rattle.protocol_trees.specs.Tally.{first_of, added, state_in, Tallies}
+use Rattle.protocol_trees.specs.declared.tree.AwaitState.{AwaitState}
+use Rattle.protocol_trees.specs.declared.tree.AwaitState.TheVariants as states
+use Rattle.protocol_trees.specs.declared.tree.AwaitTreeShape.{AwaitTreeShape}
+use Rattle.protocol_trees.specs.declared.tree.AwaitTreeShape.TheVariants as shapes
+use Rattle.protocol_trees.specs.declared.tally.Tally.{Tally}
+use Rattle.protocol_trees.specs.declared.tally.Looked.{Looked}
+
+pub one_more : {X : Type 0} (xs : List X) (i : ℕ) (x : X) → slice_get xs i ≡ Some x → take (i + 1) xs ≡ take i xs ++ x ∷ []
+one_more xs i x e = take_more xs i x (slice_get_within xs i x e) ∙ ap (λ y. take i xs ++ y ∷ []) (get_or_from_slice_get xs i x x e)
+
+pub or_nothing : (b : Bool) → b ≡ (b || false)
+or_nothing true = refl
+or_nothing false = refl
+
+and_nothing : (b : Bool) → b ≡ (b && true)
+and_nothing true = refl
+and_nothing false = refl
+
+any_more : {X : Type 0} (test : X → Bool) (xs : List X) (x : X) (b : Bool) → b ≡ list_any test xs → (b || test x) ≡ list_any test (xs ++ x ∷ [])
+any_more test xs x b e = ap (λ c. c || test x) e ∙ ap (λ c. list_any test xs || c) (or_nothing (test x)) ∙ sym (list_any-append test xs (x ∷ []))
+
+all_more : {X : Type 0} (test : X → Bool) (xs : List X) (x : X) (b : Bool) → b ≡ list_all test xs → (b && test x) ≡ list_all test (xs ++ x ∷ [])
+all_more test xs x b e = ap (λ c. c && test x) e ∙ ap (λ c. list_all test xs && c) (and_nothing (test x)) ∙ sym (list_all-append test xs (x ∷ []))
+
+next_alone : (next : AwaitState) → state_meant next ≡ Trees.first_completed (state_meant next ∷ [])
+next_alone states.Pending = refl
+next_alone states.Succeeded = refl
+next_alone states.Failed = refl
+
+first_more : (found : List Trees.AwaitState) (first next : AwaitState) → state_meant first ≡ Trees.first_completed found → state_meant (first_of first next) ≡ Trees.first_completed (found ++ state_meant next ∷ [])
+first_more [] states.Pending next e = next_alone next
+first_more [] states.Succeeded next e = absurd cc
+first_more [] states.Failed next e = absurd cc
+first_more (Trees.Pending ∷ found) first next e = first_more found first next e
+first_more (Trees.Succeeded ∷ found) states.Pending next e = absurd cc
+first_more (Trees.Succeeded ∷ found) states.Succeeded next e = refl
+first_more (Trees.Succeeded ∷ found) states.Failed next e = absurd cc
+first_more (Trees.Failed ∷ found) states.Pending next e = absurd cc
+first_more (Trees.Failed ∷ found) states.Succeeded next e = absurd cc
+first_more (Trees.Failed ∷ found) states.Failed next e = refl
+
+swapped : (a b c d : Bool) → ((a || b) || (c || d)) ≡ ((a || c) || (b || d))
+swapped true b c d = refl
+swapped false true true d = refl
+swapped false true false d = refl
+swapped false false c d = refl
+
+pub tallied : (shape : AwaitTreeShape) (tally : Tally) (found : List Trees.AwaitState) (below : Bool) (one : Looked) → Tallies shape tally found below → Tallies shape (added shape tally one) (found ++ state_meant one.state ∷ []) (below || one.has_ended)
+tallied shape tally found below one h = record {
+  first = first_more found tally.first_completed one.state h.first;
+  one_succeeded = any_more Trees.is_succeeded found (state_meant one.state) tally.is_one_succeeded h.one_succeeded;
+  one_failed = any_more Trees.is_failed found (state_meant one.state) tally.is_one_failed h.one_failed;
+  all_completed = all_more Trees.is_completed found (state_meant one.state) tally.are_all_completed h.all_completed;
+  all_succeeded = all_more Trees.is_succeeded found (state_meant one.state) tally.are_all_succeeded h.all_succeeded;
+  all_failed = all_more Trees.is_failed found (state_meant one.state) tally.are_all_failed h.all_failed;
+  ended =
+      ap (λ b. b || (Trees.ends_at_once (combinator_of shape) (state_meant one.state) || one.has_ended)) h.ended
+      ∙ swapped (list_any (Trees.ends_at_once (combinator_of shape)) found) below (Trees.ends_at_once (combinator_of shape) (state_meant one.state)) one.has_ended
+      ∙ ap (λ b. b || (below || one.has_ended)) (any_more (Trees.ends_at_once (combinator_of shape)) found (state_meant one.state) _ refl);
+}
+
+-- ---- the state of a node
+
+one_test : (b : Bool) → state_meant (if b then states.Succeeded else states.Pending) ≡ (if b then Trees.Succeeded else Trees.Pending)
+one_test true = refl
+one_test false = refl
+
+succeeded_or_failed : (a b : Bool) → state_meant (if a then states.Succeeded else (if b then states.Failed else states.Pending)) ≡ (if a then Trees.Succeeded else (if b then Trees.Failed else Trees.Pending))
+succeeded_or_failed true b = refl
+succeeded_or_failed false true = refl
+succeeded_or_failed false false = refl
+
+failed_or_succeeded : (a b : Bool) → state_meant (if a then states.Failed else (if b then states.Succeeded else states.Pending)) ≡ (if a then Trees.Failed else (if b then Trees.Succeeded else Trees.Pending))
+failed_or_succeeded true b = refl
+failed_or_succeeded false true = refl
+failed_or_succeeded false false = refl
+
+pub state_of_node : (shape : AwaitTreeShape) (tally : Tally) (found : List Trees.AwaitState) (below : Bool) → Tallies shape tally found below → state_meant (state_in shape tally) ≡ Trees.combined_state (combinator_of shape) found
+state_of_node shapes.Single tally found below h = h.first
+state_of_node shapes.FirstCompleted tally found below h = h.first
+state_of_node shapes.Unknown tally found below h = h.first
+state_of_node shapes.AllCompleted tally found below h =
+    one_test tally.are_all_completed ∙ ap (λ b. if b then Trees.Succeeded else Trees.Pending) h.all_completed
+state_of_node shapes.FirstSucceededOrAllFailed tally found below h =
+    succeeded_or_failed tally.is_one_succeeded tally.are_all_failed
+    ∙ ap (λ a. if a then Trees.Succeeded else (if tally.are_all_failed then Trees.Failed else Trees.Pending)) h.one_succeeded
+    ∙ ap (λ b. if list_any Trees.is_succeeded found then Trees.Succeeded else (if b then Trees.Failed else Trees.Pending)) h.all_failed
+state_of_node shapes.AllSucceededOrFirstFailed tally found below h =
+    failed_or_succeeded tally.is_one_failed tally.are_all_succeeded
+    ∙ ap (λ a. if a then Trees.Failed else (if tally.are_all_succeeded then Trees.Succeeded else Trees.Pending)) h.one_failed
+    ∙ ap (λ b. if list_any Trees.is_failed found then Trees.Failed else (if b then Trees.Succeeded else Trees.Pending)) h.all_succeeded

@@ -1,0 +1,24 @@
+-- A future's tree is a node over its leaves and the trees of the futures in it.
+use Rattle.std.specs.Prelude.{◌≡◌, List}
+use Rattle.journal_model.specs.AwaitTree as Trees
+use Rattle.journal_model.specs.declared.notification.NotificationId.{NotificationId}
+use Rattle.protocol_records.specs.declared.future.Future.{Future, out-Future, fold_out-Future}
+use Rattle.protocol_records.specs.declared.future.CombinatorType.{CombinatorType}
+use Rattle.protocol_records.specs.declared.future.CombinatorType.TheVariants as combinators
+use Rattle.protocol_trees.specs.Shape.{combinator_of, node, IsShaped}
+use Rattle.protocol_trees.specs.Future.{shape_in, ids_in, leaves_in, children_in, future_tree}
+
+pub future_tree_is : (f : Future) → future_tree f ≡ node (combinator_of (shape_in (out-Future f).combinator_type)) (leaves_in f) (children_in f)
+unfolding future_tree
+future_tree_is f = fold_out-Future (Trees.AwaitTree NotificationId) (λ f. node (combinator_of (shape_in f.combinator_type)) (ids_in f.waiting_completions f.waiting_signals f.waiting_named_signals) f.nested_futures) f
+
+shaped : (combinator : CombinatorType) (leaves : List NotificationId) (children : List (Trees.AwaitTree NotificationId)) (tree : Trees.AwaitTree NotificationId) → tree ≡ node (combinator_of (shape_in combinator)) leaves children → IsShaped (shape_in combinator) leaves children tree
+shaped combinators.Unknown leaves children tree e = e
+shaped combinators.FirstCompleted leaves children tree e = e
+shaped combinators.AllCompleted leaves children tree e = e
+shaped combinators.FirstSucceededOrAllFailed leaves children tree e = e
+shaped combinators.AllSucceededOrFirstFailed leaves children tree e = e
+shaped (combinators.Other number) leaves children tree e = e
+
+pub future_shaped : (f : Future) → IsShaped (shape_in (out-Future f).combinator_type) (leaves_in f) (children_in f) (future_tree f)
+future_shaped f = shaped (out-Future f).combinator_type (leaves_in f) (children_in f) (future_tree f) (future_tree_is f)

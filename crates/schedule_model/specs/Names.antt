@@ -1,0 +1,9 @@
+-- The names of refusals as they are printed.
+use Rattle.std.specs.Prelude.{ℕ, List, codes}
+use Rattle.store_refusals.specs.Names as store
+use Rattle.schedule_model.specs.declared.event.Refusal.{Refusal}
+use Rattle.schedule_model.specs.declared.event.Refusal.TheVariants.{Store, AttemptNotHeld}
+
+abbrev pub name_of : Refusal → List ℕ
+name_of (Store refusal) = store.name_of refusal
+name_of AttemptNotHeld = codes "X2"

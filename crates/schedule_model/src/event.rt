@@ -1,0 +1,82 @@
+//! What may happen next, and what it came to.
+ghost use Rattle.std.specs.Prelude.{◌≡◌};
+ghost use Rattle.schedule_model.specs.Names.{name_of};
+
+use bytes::ByteStr;
+use invocation_vm::Turn;
+use journal_model::NewInvocation;
+
+/// What may happen next.
+#[derive(Debug, Drop)]
+pub enum Event<H> {
+    /// An invocation is made.
+    Invoke(NewInvocation),
+    /// An attempt is begun, at a moment in milliseconds.
+    Begin {
+        invocation: ByteStr,
+        handler: H,
+        now: u64,
+    },
+    /// The next bytes of its input are handed to an attempt, at most so many.
+    Feed {
+        invocation: ByteStr,
+        attempt: u32,
+        count: usize,
+    },
+    /// An attempt makes one turn.
+    Turn {
+        invocation: ByteStr,
+        attempt: u32,
+    },
+    /// The next bytes of its output are moved to the store, at most so many.
+    Move {
+        invocation: ByteStr,
+        attempt: u32,
+        count: usize,
+    },
+    /// An attempt is stopped.
+    Stop {
+        invocation: ByteStr,
+        attempt: u32,
+    },
+}
+
+/// Why an event is refused.
+#[derive(Clone, Copy, Debug, PartialEq, Eq)]
+pub enum Refusal {
+    /// The store refuses it.
+    Store(store_refusals::Refusal),
+    /// X2: the scheduler does not hold this attempt.
+    AttemptNotHeld,
+}
+
+impl Refusal {
+    /// The name as it is printed.
+    pub fn name(self) -> &'static str
+        ensures { result.now ≡ name_of self }
+    {
+        match self {
+            Refusal::Store(refusal) => refusal.name(),
+            Refusal::AttemptNotHeld => "X2",
+        }
+    }
+}
+
+/// What an event came to.
+#[derive(Clone, Copy, Debug, PartialEq, Eq)]
+pub enum Reply {
+    /// An invocation was made, or an attempt stopped.
+    Done,
+    /// An attempt of this number was begun.
+    Begun(u32),
+    /// So many bytes were handed out.
+    Fed(usize),
+    Turned(Turn),
+    /// So many bytes were moved, so many frames taken, and why no further one was, where it was refused.
+    Moved {
+        bytes: usize,
+        frames: usize,
+        refusal: Option<store_refusals::Refusal>,
+    },
+    Refused(Refusal),
+}

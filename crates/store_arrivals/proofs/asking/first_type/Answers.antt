@@ -1,0 +1,40 @@
+use Rattle.std.proofs.Common.{◌≡◌, ◌∙◌, sym, ap, subst, arith, inr, IsTrue}
+use Rattle.sqlite.specs.Held.{state}
+use Rattle.sqlite.specs.State.{State, HasCleanDisk}
+use Rattle.std.proofs.Common.{option_and_then}
+use Rattle.journal_model.specs.Journal.{entries_of, request_asking}
+use Rattle.protocol_stream.specs.MessageType.{named_type}
+use Rattle.store_tables.specs.declared.row.EntryRow.{EntryRow}
+use Rattle.store_tables.specs.Questions.{asks_for}
+use Rattle.store_lookups.specs.Lookups.{asked_at, first_row}
+use Rattle.store_lookups.proofs.Asking.{asked_found}
+use Rattle.store_lookups.proofs.Only.{only_one}
+use Rattle.store_refusals.specs.Refused.{is_circumstance}
+use Rattle.store_invocations.proofs.Reading.{asked_once, found_is, told_err}
+use Rattle.store_arrivals.specs.Asked.{first_type}
+use Rattle.store_arrivals.proofs.Waiting.{type_first}
+use Rattle.store_arrivals.proofs.asking.first_type.Goals as goal
+
+pub returns-clause-told : goal.returns-clause-told
+returns-clause-told g c clean events store =
+    let old : State = state g.S.Store c.args.tables.now in
+    let early : HasCleanDisk old = omega (arith, c.entry_by_completion.ensures.looks.crash.clean) in
+    let id = c.args.id.now in
+    let n = c.args.completion in
+    let k = store.keeps early (c.in_ok-row.ensures.open clean) in
+    let asked = asked_at 1 (entries_of events id) n in
+    let found = found_is events old (λ r. r.entries) (asks_for id n) (option_and_then (first_row id n) asked) c.in_ok-row.row k
+    (λ r accepted kept. (asked_found events r id n accepted kept).0) (c.in_ok-row.ensures.found clean) in
+    c.type_of-ty.ensures ∙ ap (option_and_then (λ (e : EntryRow). named_type e.kind)) found ∙ type_first id n asked
+    ∙ ap (option_and_then (first_type n)) (asked_found events k.records id n k.accepted k.kept).2
+
+pub returns-in_err-row-clause-told : goal.returns-in_err-row-clause-told
+returns-in_err-row-clause-told g c clean events store =
+    let old : State = state g.S.Store c.args.tables.now in
+    let early : HasCleanDisk old = omega (arith, c.entry_by_completion.ensures.looks.crash.clean) in
+    let id = c.args.id.now in
+    let n = c.args.completion in
+    told_err (λ ty. ty ≡ option_and_then (first_type n) (request_asking (entries_of events id) n)) c.from_residual.result c.from_residual.ensures.1 (λ why gives.
+    inr (subst (λ w. IsTrue (is_circumstance w)) (sym gives)
+    (asked_once events old (λ r. r.entries) (asks_for id n) _ (c.in_err-row.ensures.open clean) (c.in_err-row.ensures.foreign clean) (store.keeps early)
+    (λ r accepted kept. only_one (asks_for id n) r.entries _ (asked_found events r id n accepted kept).0))))

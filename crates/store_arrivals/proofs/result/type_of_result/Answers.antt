@@ -1,0 +1,33 @@
+use Rattle.std.proofs.Common.{◌≡◌, ◌∙◌, sym, subst}
+use Rattle.journal_model.specs.declared.notification.NotificationId.TheVariants.{CompletionId}
+use Rattle.journal_model.specs.Journal.{entries_of, open_request}
+use Rattle.journal_model.specs.Attempt.{notification_type}
+use Rattle.journal_model.specs.Cause.{those_that_hold}
+use Rattle.protocol_stream.specs.MessageType.{number_of}
+use Rattle.store_refusals.specs.Refused.{IsRefused}
+use Rattle.store_invocations.specs.Rows.{Decides}
+use Rattle.store_invocations.proofs.Reading.{decided_err}
+use Rattle.store_invocations.proofs.Refusing.{refused_anyway}
+use Rattle.store_arrivals.specs.Asked.{completion_tests}
+use Rattle.store_arrivals.proofs.Completing.{given, not_open}
+use Rattle.store_arrivals.proofs.result.type_of_result.Goals as goal
+
+pub returns-in_err-open-clause-decided : goal.returns-in_err-open-clause-decided
+returns-in_err-open-clause-decided g c clean events store =
+    let id = c.args.id.now in
+    let n = c.args.completion in
+    let tests = completion_tests events id n c.args.brought.now in
+    decided_err tests (λ ty. number_of ty ≡ notification_type (entries_of events id) (CompletionId n)) c.from_residual.result c.from_residual.ensures.1 (λ why gives.
+    subst (IsRefused (those_that_hold tests)) (sym gives) (refused_anyway tests _ (c.in_err-open.ensures.told clean events store)))
+
+pub returns-in-None-clause-decided : goal.returns-in-None-clause-decided
+returns-in-None-clause-decided g c clean events store =
+    let n = c.args.completion in
+    not_open n c.args.brought.now (open_request (entries_of events c.args.id.now) n) (sym c.in-None.is ∙ c.in_ok-open.ensures.told clean events store)
+
+pub returns-in-Some-clause-decided : goal.returns-in-Some-clause-decided
+returns-in-Some-clause-decided g c clean events store =
+    let n = c.args.completion in
+    subst (λ r. Decides (completion_tests events c.args.id.now n c.args.brought.now) (λ ty. number_of ty ≡ notification_type (entries_of events c.args.id.now) (CompletionId n)) r)
+    (sym c.type_given.ensures)
+    (given (entries_of events c.args.id.now) n c.args.brought.now c.in-Some.asked (sym c.in-Some.is ∙ c.in_ok-open.ensures.told clean events store))

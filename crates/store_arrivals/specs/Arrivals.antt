@@ -1,0 +1,57 @@
+-- What an arrival makes ready.
+use Rattle.std.specs.Prelude.{◌≡◌, ℕ, ◌+◌, ◌-◌, ◌^◌, nat_lt, List, [], ◌∷◌, drop, length, Option, Some, None}
+use Rattle.journal_model.specs.Notification.{Bytes, Text, Arrival}
+use Rattle.journal_model.specs.Event.{Event}
+use Rattle.journal_model.specs.Spelling.{frame_bytes, notification_payload}
+use Rattle.journal_model.specs.Journal.{entries_of}
+use Rattle.journal_model.specs.Attempt.{notification_type}
+use Rattle.journal_model.specs.Cause.{Cause, Tests}
+use Rattle.protocol_controls.specs.declared.notification.NotificationMessage.{NotificationMessage}
+use Rattle.protocol_spellings.specs.Records.{id_record, result_record}
+use Rattle.store_tables.specs.declared.row.InvocationRow.{InvocationRow}
+use Rattle.store_tables.specs.declared.row.EntryRow.{EntryRow}
+use Rattle.store_tables.specs.declared.row.Write.TheVariants.{SetProgress, AddEntry}
+use Rattle.store_model.specs.Kept.{answered_by}
+use Rattle.store_model.specs.Writes.{writes_of}
+use Rattle.store_model.specs.Steps.{grown}
+use Rattle.store_invocations.specs.Rows.{payload_tests}
+use Rattle.store_arrivals.specs.declared.arrival.PreparedArrival.{PreparedArrival}
+
+-- its record
+abbrev pub message_of_arrival : Arrival → NotificationMessage
+message_of_arrival arrival = record { id = Some (id_record arrival.id); result = Some (result_record arrival.result) }
+
+-- its entry, behind those of the invocation that has this row
+abbrev pub entry_of_arrival : InvocationRow → ℕ → Option ℕ → Bytes → EntryRow
+entry_of_arrival row kind answered payload = record {
+  invocation = row.id;
+  place = row.progress.entries;
+  kind = kind;
+  payload = payload;
+  completion = None;
+  second_completion = None;
+  answered = answered;
+  moment = 0;
+}
+
+-- the tests of one more entry
+abbrev pub arrival_tests : InvocationRow → Arrival → Tests
+arrival_tests row arrival = (nat_lt (2 ^ 32 - 2) row.progress.entries, Cause.NumbersUsedUp) ∷ payload_tests (notification_payload arrival)
+
+-- made ready by its frame, whose payload stands behind a header of eight bytes
+pub record IsWritten (row : InvocationRow) (kind : ℕ) (answered : Option ℕ) (bytes : Bytes) (made : PreparedArrival) : Type 0 where
+  pub writes : made.writes.items ≡ AddEntry (entry_of_arrival row kind answered (drop 8 bytes)) ∷ SetProgress row.id (grown 1 row.progress) ∷ []
+  pub place : made.place ≡ row.progress.entries
+  pub frame : made.frame ≡ bytes
+
+-- made ready of the invocation that has this row
+pub record IsArrival (row : InvocationRow) (kind : ℕ) (arrival : Arrival) (made : PreparedArrival) : Type 0 where
+  pub writes : made.writes.items ≡ AddEntry (entry_of_arrival row kind (answered_by arrival.id) (notification_payload arrival)) ∷ SetProgress row.id (grown 1 row.progress) ∷ []
+  pub place : made.place ≡ row.progress.entries
+  pub frame : made.frame ≡ frame_bytes kind (notification_payload arrival)
+
+-- made ready of an event that adds the arrival to an invocation: what the event writes, and the next frame of an attempt's input
+pub record IsMadeReady (events : List Event) (event : Event) (id : Text) (arrival : Arrival) (made : PreparedArrival) : Type 0 where
+  pub writes : made.writes.items ≡ writes_of events event
+  pub place : made.place ≡ 1 + length (entries_of events id)
+  pub frame : made.frame ≡ frame_bytes (notification_type (entries_of events id) arrival.id) (notification_payload arrival)

@@ -1,0 +1,182 @@
+//! What the arrival of a notification makes ready, of an open invocation.
+
+ghost use Rattle.std.specs.Prelude.{◌≡◌, ◌+◌, ◌<◌, ◌≤◌, ◌^◌, ◌∷◌, [], drop as without, length, IfOk};
+ghost use Rattle.journal_model.specs.Spelling.{frame_bytes, notification_payload};
+ghost use Rattle.protocol_stream.specs.MessageType.{number_of};
+ghost use Rattle.store_tables.specs.declared.row.Write.{Write as RowWrite};
+ghost use Rattle.store_model.specs.Kept.{answered_by};
+ghost use Rattle.store_model.specs.Steps.{grown};
+ghost use Rattle.store_invocations.specs.Rows.{Decides, payload_tests};
+ghost use Rattle.store_arrivals.specs.Arrivals.{IsArrival, IsWritten, arrival_tests, entry_of_arrival};
+
+use crate::payload::payload_of;
+use bytes::{ByteStr, Bytes};
+use journal_model::{Notification, NotificationId};
+use protocol_stream::{MessageType, payload_of_frame};
+use store_invocations::payload_frame;
+use std::alloc::{AllocError, Global};
+use store_refusals::Refusal;
+use store_tables::{EntryRow, InvocationRow, Progress, Write};
+
+/// What an arrival writes, and what it adds to the input of a live attempt.
+#[derive(Debug, Drop)]
+pub struct PreparedArrival {
+    pub writes: Vec<Write>,
+    /// The place of its entry.
+    pub place: u32,
+    /// Its frame, which comes behind the input of the live attempt.
+    pub frame: Bytes,
+}
+
+fn answered_id(id: &NotificationId) -> Option<u32>
+    ensures { result ≡ answered_by id.now }
+{
+    match id {
+        NotificationId::CompletionId(number) => Some(*number),
+        _ => None,
+    }
+}
+
+/// The frame of an arrival.
+fn arrival_frame(alloc: Global, ty: MessageType, arrival: Notification) -> Result<Bytes, Refusal>
+    ensures { Decides (payload_tests (notification_payload arrival)) (λ frame. frame ≡ frame_bytes (number_of ty) (notification_payload arrival)) result }
+{
+    let payload = payload_of(alloc, arrival)?;
+    payload_frame(alloc, ty, payload.as_slice())
+}
+
+/// The entry of an arrival, whose payload is cut off its frame.
+fn entry_of(
+    row: &InvocationRow,
+    ty: MessageType,
+    answered: Option<u32>,
+    frame: &Bytes,
+) -> Result<EntryRow, AllocError>
+    requires { 8 ≤ length frame.now }
+    ensures { IfOk result (λ entry. entry ≡ entry_of_arrival row.now (number_of ty) answered (without 8 frame.now)) }
+{
+    let payload = payload_of_frame(frame)?;
+    Ok(EntryRow {
+        invocation: row.id.clone()?,
+        place: row.progress.entries,
+        kind: u32::from(u16::from(ty)),
+        payload,
+        completion: None,
+        second_completion: None,
+        answered,
+        moment: 0,
+    })
+}
+
+/// How far an invocation is that has one more entry.
+fn with_entry(mut progress: Progress) -> Progress
+    requires { progress.entries + 1 < 2 ^ 32 }
+    ensures { result ≡ grown 1 progress }
+{
+    progress.entries += 1;
+    progress.attempts_since_entry = 0;
+    progress.first_moment = 0;
+    progress
+}
+
+fn two_writes(
+    alloc: Global,
+    entry: EntryRow,
+    id: ByteStr,
+    progress: Progress,
+) -> Result<Vec<Write>, AllocError>
+    ensures { IfOk result (λ writes. writes.items ≡ RowWrite.AddEntry entry ∷ RowWrite.SetProgress id progress ∷ []) }
+{
+    let mut writes = Vec::new(alloc);
+    writes.push(Write::AddEntry(entry))?;
+    writes.push(Write::SetProgress { id, progress })?;
+    Ok(writes)
+}
+
+fn writes_of(alloc: Global, row: InvocationRow, entry: EntryRow) -> Result<Vec<Write>, AllocError>
+    requires { row.progress.entries + 1 < 2 ^ 32 }
+    ensures { IfOk result (λ writes. writes.items ≡ RowWrite.AddEntry entry ∷ RowWrite.SetProgress row.id (grown 1 row.progress) ∷ []) }
+{
+    let InvocationRow {
+        id,
+        object,
+        version: _,
+        seed: _,
+        is_whole: _,
+        progress,
+    } = row;
+    drop(object);
+    two_writes(alloc, entry, id, with_entry(progress))
+}
+
+/// The writes of an arrival whose frame stands.
+fn arrival_with(
+    alloc: Global,
+    row: InvocationRow,
+    ty: MessageType,
+    answered: Option<u32>,
+    frame: Bytes,
+) -> Result<PreparedArrival, AllocError>
+    requires room { row.progress.entries + 1 < 2 ^ 32 }
+    requires framed { 8 ≤ length frame }
+    ensures written { IfOk result (IsWritten row (number_of ty) answered frame) }
+    ensures place { IfOk result (λ made. made.place + 1 < 2 ^ 32) }
+{
+    let place = row.progress.entries;
+    match entry_of(&row, ty, answered, &frame) {
+        Ok(entry) => Ok(PreparedArrival {
+            writes: writes_of(alloc, row, entry)?,
+            place,
+            frame,
+        }),
+        Err(refused) => {
+            drop(row);
+            Err(refused)
+        }
+    }
+}
+
+/// What an arrival makes ready where one more entry has a place.
+fn arrival_in(
+    alloc: Global,
+    row: InvocationRow,
+    ty: MessageType,
+    arrival: Notification,
+) -> Result<PreparedArrival, Refusal>
+    requires { row.progress.entries + 1 < 2 ^ 32 }
+    ensures decided { Decides (payload_tests (notification_payload arrival)) (IsArrival row (number_of ty) arrival) result }
+    ensures place { IfOk result (λ made. made.place + 1 < 2 ^ 32) }
+{
+    let answered = answered_id(&arrival.id);
+    match arrival_frame(alloc, ty, arrival) {
+        Ok(frame) => {
+            let made = arrival_with(alloc, row, ty, answered, frame)?;
+            Ok(made)
+        }
+        Err(why) => {
+            drop(row);
+            Err(why)
+        }
+    }
+}
+
+/// What an arrival makes ready, of the open invocation that has this row, as a frame of this type: its entry behind the others,
+/// and how far the invocation is then.
+pub fn prepare_arrival(
+    alloc: Global,
+    row: InvocationRow,
+    ty: MessageType,
+    arrival: Notification,
+) -> Result<PreparedArrival, Refusal>
+    ensures decided { Decides (arrival_tests row arrival) (IsArrival row (number_of ty) arrival) result }
+    ensures place { IfOk result (λ made. made.place + 1 < 2 ^ 32) }
+{
+    let has_room = row.progress.entries < u32::MAX;
+    if has_room {
+        arrival_in(alloc, row, ty, arrival)
+    } else {
+        drop(row);
+        drop(arrival);
+        Err(Refusal::NumbersUsedUp)
+    }
+}

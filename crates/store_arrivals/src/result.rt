@@ -1,0 +1,97 @@
+//! What the result of a request makes ready.
+
+ghost use Rattle.std.specs.Prelude.{◌≡◌, ◌+◌, ◌<◌, ◌^◌, List, IfOk};
+ghost use Rattle.sqlite.specs.Held.{state};
+ghost use Rattle.sqlite.specs.State.{HasCleanDisk};
+ghost use Rattle.journal_model.specs.declared.notification.NotificationId.TheVariants.{CompletionId as ModelId};
+ghost use Rattle.journal_model.specs.Event.{Event};
+ghost use Rattle.journal_model.specs.Journal.{completion as arrival_of, entries_of};
+ghost use Rattle.journal_model.specs.Attempt.{notification_type};
+ghost use Rattle.journal_model.specs.Cause.{own_tests};
+ghost use Rattle.protocol_stream.specs.MessageType.{number_of};
+ghost use Rattle.store_tables.specs.Looks.{Looks};
+ghost use Rattle.store_refusals.specs.Prepared.{Prepares};
+ghost use Rattle.store_invocations.specs.Rows.{Decides, IsRowOf, IsStoreOf};
+ghost use Rattle.store_arrivals.specs.Arrivals.{IsMadeReady};
+ghost use Rattle.store_arrivals.specs.Asked.{completion_tests};
+
+use crate::arrival::{PreparedArrival, prepare_arrival};
+use crate::asking::open_request_of;
+use bytes::ByteStr;
+use journal_model::{Notification, NotificationId, NotificationResult};
+use protocol_stream::MessageType;
+use store_invocations::open_row;
+use sqlite::Alter;
+use std::alloc::Global;
+use store_refusals::Refusal;
+use store_tables::{InvocationRow, StoreTables};
+
+/// The type of the notification by which an open completion is given this.
+fn type_of_result<S: Alter>(
+    tables: &mut StoreTables<S>,
+    id: &ByteStr,
+    completion: u32,
+    brought: &NotificationResult,
+) -> Result<MessageType, Refusal>
+    ensures decided { HasCleanDisk (state S.Store tables.new) → (events : List Event) → IsStoreOf events (state S.Store tables.old)
+        → Decides (completion_tests events id.now completion brought.now) (λ ty. number_of ty ≡ notification_type (entries_of events id.now) (ModelId completion)) result }
+    ensures looks { Looks S.Store tables.old tables.new }
+{
+    let open = open_request_of(tables, id, completion)?;
+    match open {
+        Some(asked) => asked.type_given(brought),
+        None => Err(Refusal::CompletionNotOpen),
+    }
+}
+
+/// What a result makes ready, of the open invocation that has this row.
+fn prepare_for<S: Alter>(
+    tables: &mut StoreTables<S>,
+    row: InvocationRow,
+    id: &ByteStr,
+    completion: u32,
+    brought: NotificationResult,
+) -> Result<PreparedArrival, Refusal>
+    ensures decided { HasCleanDisk (state S.Store tables.new) → (events : List Event) → IsStoreOf events (state S.Store tables.old) → IsRowOf events id.now row
+        → Decides (own_tests events (Event.Complete id.now completion brought)) (IsMadeReady events (Event.Complete id.now completion brought) id.now (arrival_of completion brought)) result }
+    ensures place { IfOk result (λ made. made.place + 1 < 2 ^ 32) }
+    ensures looks { Looks S.Store tables.old tables.new }
+{
+    match type_of_result(tables, id, completion, &brought) {
+        Ok(ty) => prepare_arrival(
+            tables.alloc(),
+            row,
+            ty,
+            Notification {
+                id: NotificationId::CompletionId(completion),
+                result: brought,
+            },
+        ),
+        Err(why) => {
+            drop(row);
+            drop(brought);
+            Err(why)
+        }
+    }
+}
+
+/// What a result of a recorded request makes ready, or why it is refused: its entry, and its frame for a live attempt.
+pub fn prepare_result<S: Alter>(
+    tables: &mut StoreTables<S>,
+    id: &ByteStr,
+    completion: u32,
+    brought: NotificationResult,
+) -> Result<PreparedArrival, Refusal>
+    ensures prepared { HasCleanDisk (state S.Store tables.new) → (events : List Event) → IsStoreOf events (state S.Store tables.old)
+        → Prepares events (Event.Complete id.now completion brought) (IsMadeReady events (Event.Complete id.now completion brought) id.now (arrival_of completion brought)) result }
+    ensures place { IfOk result (λ made. made.place + 1 < 2 ^ 32) }
+    ensures looks { Looks S.Store tables.old tables.new }
+{
+    match open_row(tables, id) {
+        Ok(row) => prepare_for(tables, row, id, completion, brought),
+        Err(why) => {
+            drop(brought);
+            Err(why)
+        }
+    }
+}

@@ -1,0 +1,44 @@
+// How far an invocation is once an attempt of it is begun.
+ghost use Rattle.std.specs.Prelude.{◌≡◌, [], ◌∷◌, ◌+◌, ◌<◌, ◌≤◌, ◌^◌, IfOk};
+ghost use Rattle.store_model.specs.Steps.{after_begin};
+ghost use Rattle.store_tables.specs.declared.row.Write.TheVariants.{SetProgress};
+
+use std::alloc::{AllocError, Global};
+use store_tables::{InvocationRow, Progress, Write};
+
+/// The progress with one attempt more, which was begun at this moment.
+fn begun_progress(mut progress: Progress, now: u64) -> Progress
+    requires room { progress.attempts + 1 < 2 ^ 32 }
+    ensures { progress.attempts_since_entry ≤ progress.attempts → result ≡ after_begin now progress }
+{
+    if progress.attempts_since_entry == 0 {
+        progress.first_moment = now;
+    }
+    progress.attempts += 1;
+    progress.attempts_since_entry = progress.attempts_since_entry.saturating_add(1);
+    progress.handed = None;
+    drop(progress.suspension.take());
+    progress
+}
+
+/// What is written of it.
+pub(crate) fn begun_writes(
+    alloc: Global,
+    row: InvocationRow,
+    now: u64,
+) -> Result<Vec<Write>, AllocError>
+    requires room { row.progress.attempts + 1 < 2 ^ 32 }
+    ensures { row.progress.attempts_since_entry ≤ row.progress.attempts → IfOk result (λ writes. writes.items ≡ SetProgress row.id (after_begin now row.progress) ∷ []) }
+{
+    let InvocationRow {
+        id,
+        object,
+        progress,
+        ..
+    } = row;
+    drop(object);
+    let progress = begun_progress(progress, now);
+    let mut writes = Vec::new(alloc);
+    writes.push(Write::SetProgress { id, progress })?;
+    Ok(writes)
+}

@@ -1,0 +1,120 @@
+-- What is kept of a message says which frame it is.
+use Rattle.std.proofs.Common.{◌≡◌, ℕ, nat_lt, ◌==◌, Bool, true, false, List, Option, Some, None, Result, Ok, Err, refl, sym, ap, subst, ◌∙◌}
+use Rattle.std.specs.Prelude.{if◌then◌else◌, IfOk}
+use Rattle.protocol_table.specs.declared.table.RecordType.{RecordType}
+use Rattle.protocol_table.specs.declared.table.RecordType.TheVariants as records
+use Rattle.protocol_wire.specs.Wire.{Field}
+use Rattle.protocol_wire.specs.Fields.{fields}
+use Rattle.protocol_wire.specs.Check.{payload_fault}
+use Rattle.protocol_wire.specs.declared.check.Fault.{Fault}
+use Rattle.protocol_wire.specs.declared.check.Fault.TheVariants.{BadPayload, TooDeep}
+use Rattle.protocol_wire.specs.declared.record.TheConstants.{LEVELS}
+use Rattle.journal_model.specs.Event.{Frame, Retry, Pause, Fail}
+use Rattle.protocol_records.specs.declared.sleep_command.SleepCommandMessage.{SleepCommandMessage}
+use Rattle.protocol_records.specs.declared.output_command.OutputCommandResult.{OutputCommandResult}
+use Rattle.protocol_records.specs.declared.suspension_v6.SuspensionMessageV6.{SuspensionMessageV6}
+use Rattle.protocol_records.specs.declared.future.Future.{Future}
+use Rattle.protocol_records.specs.SleepCommand.{sleep_command_of}
+use Rattle.protocol_records.specs.OutputCommand.{output_command_of}
+use Rattle.protocol_records.specs.Suspension.{suspension_of}
+use Rattle.protocol_records.specs.SuspensionV6.{suspension_v6_of}
+use Rattle.protocol_calls.specs.CallCommand.{call_command_of}
+use Rattle.protocol_calls.specs.declared.call_command.CallCommandMessage.{CallCommandMessage}
+use Rattle.protocol_controls.specs.Error.{error_of}
+use Rattle.protocol_controls.specs.declared.error.ErrorMessage.{ErrorMessage}
+use Rattle.protocol_stream.specs.declared.message_type.MessageType.{MessageType}
+use Rattle.protocol_stream.specs.declared.decoder.RawMessage.{RawMessage}
+use Rattle.protocol_stream.specs.Header.{message_type}
+use Rattle.protocol_stream.proofs.RecordSpellings.{sleeps_spelled}
+use Rattle.store_frames.specs.declared.kind.FrameKind.{FrameKind}
+use Rattle.store_frames.specs.declared.kind.FrameKind.TheVariants as kinds
+use Rattle.store_frames.specs.declared.frame.ErrorBehavior.TheVariants as behaviors
+use Rattle.store_frames.specs.declared.frame.AttemptFrame.{AttemptFrame}
+use Rattle.store_frames.specs.declared.frame.AttemptFrame.TheVariants as answers
+use Rattle.store_frames.specs.Kind.{kind_of, record_of}
+use Rattle.store_frames.specs.Requests.{request_of_sleep, request_of_call, request_of_output, suspension_of_tree, suspension_of_lists, behavior_numbered}
+use Rattle.store_frames.specs.Meaning.{unless_faulty, read_as, command_or_broken, error_frame, suspension_frame, other_frame, frame_by, frame_of}
+use Rattle.store_frames.specs.Told.{told_unless_faulty, told_as, told_sleep, told_call, told_output, told_tree, told_lists, told_number, told_error, told_suspension, told_other, told_by}
+use Rattle.store_frames.specs.Answer.{IsFrame, behavior_meant}
+use Rattle.store_frames.proofs.Payloads.{call_payload, output_payload, lists_payload}
+
+-- ---- records
+
+sleep_is : (one : SleepCommandMessage) → IsFrame (Frame.Command (request_of_sleep one)) (told_sleep one)
+sleep_is one = record { kind = refl; payload = sleeps_spelled one.wake_up_time one.result_completion_id one.name; completion = refl; second_completion = refl; moment = refl }
+
+call_is : (one : CallCommandMessage) → IsFrame (Frame.Command (request_of_call one)) (told_call one)
+call_is one = record { kind = refl; payload = call_payload one; completion = refl; second_completion = refl; moment = refl }
+
+output_is : (name : List ℕ) (result : Option OutputCommandResult)
+    → IsFrame (command_or_broken (request_of_output (record { name = name; result = result }))) (told_output (record { name = name; result = result }))
+output_is name None = tt
+output_is name (Some result) = record { kind = refl; payload = output_payload name result; completion = refl; second_completion = refl; moment = refl }
+
+tree_is : (awaited : Option Future) → IsFrame (Frame.Suspend (suspension_of_tree (record { awaiting_on = awaited }))) (told_tree (record { awaiting_on = awaited }))
+tree_is None = tt
+tree_is (Some future) = refl
+
+lists_are : (one : SuspensionMessageV6) → IsFrame (Frame.Suspend (Some (suspension_of_lists one))) (told_lists one)
+lists_are one = record { lists = one; lists_are = refl; payload_is = lists_payload one }
+
+named_by : (pauses fails : Bool) → behavior_meant (if pauses then behaviors.Pause else (if fails then behaviors.Fail else behaviors.Retry)) ≡ (if pauses then Pause else (if fails then Fail else Retry))
+named_by true fails = refl
+named_by false true = refl
+named_by false false = refl
+
+behavior_by : (is_before : Bool) (number : ℕ) → behavior_meant (if is_before then behaviors.Retry else told_number number) ≡ (if is_before then Retry else behavior_numbered number)
+behavior_by true number = refl
+behavior_by false number = named_by (number == 1) (number == 2)
+
+error_is : (version : ℕ) (one : ErrorMessage) → IsFrame (error_frame version one) (told_error version one)
+error_is version one = record { code_is = refl; message_is = refl; behavior_is = behavior_by (nat_lt version 7) one.behavior; delay_is = refl }
+
+-- ---- payloads
+
+unless_is : (fault : Option Fault) (frame : Frame) (answer : AttemptFrame) → IsFrame frame answer → IsFrame (unless_faulty fault frame) (told_unless_faulty fault answer)
+unless_is None frame answer h = h
+unless_is (Some BadPayload) frame answer h = tt
+unless_is (Some TooDeep) frame answer h = tt
+
+read_is : (t : RecordType) (payload : List ℕ) (frame : List Field → Frame) (answer : List Field → AttemptFrame)
+    → ((fs : List Field) → IsFrame (frame fs) (answer fs)) → IsFrame (read_as t frame payload) (told_as t answer payload)
+read_is t payload frame answer h = unless_is (payload_fault LEVELS t payload) (frame (fields payload)) (answer (fields payload)) (h (fields payload))
+
+suspension_is : (is_before : Bool) (payload : List ℕ) → IsFrame (suspension_frame is_before payload) (told_suspension is_before payload)
+suspension_is true payload =
+    read_is records.SuspensionV6 payload (λ fs. Frame.Suspend (Some (suspension_of_lists (suspension_v6_of LEVELS fs)))) (λ fs. told_lists (suspension_v6_of LEVELS fs)) (λ fs. lists_are (suspension_v6_of LEVELS fs))
+suspension_is false payload =
+    read_is records.Suspension payload (λ fs. Frame.Suspend (suspension_of_tree (suspension_of LEVELS fs))) (λ fs. told_tree (suspension_of LEVELS fs)) (λ fs. tree_is (suspension_of LEVELS fs).awaiting_on)
+
+other_is : (found : Option RecordType) (payload : List ℕ) → IsFrame (other_frame found payload) (told_other found payload)
+other_is None payload = tt
+other_is (Some t) payload = read_is t payload (λ fs. Frame.NotAccepted) (λ fs. answers.NotAccepted) (λ fs. tt)
+
+told_is : (version : ℕ) (kind : FrameKind) (ty : MessageType) (payload : List ℕ) → IsFrame (frame_by version kind ty payload) (told_by version kind ty payload)
+told_is version kinds.Sleep ty payload =
+    read_is records.SleepCommand payload (λ fs. Frame.Command (request_of_sleep (sleep_command_of LEVELS fs))) (λ fs. told_sleep (sleep_command_of LEVELS fs)) (λ fs. sleep_is (sleep_command_of LEVELS fs))
+told_is version kinds.Call ty payload =
+    read_is records.CallCommand payload (λ fs. Frame.Command (request_of_call (call_command_of LEVELS fs))) (λ fs. told_call (call_command_of LEVELS fs)) (λ fs. call_is (call_command_of LEVELS fs))
+told_is version kinds.Output ty payload =
+    read_is records.OutputCommand payload (λ fs. command_or_broken (request_of_output (output_command_of LEVELS fs))) (λ fs. told_output (output_command_of LEVELS fs))
+    (λ fs. output_is (output_command_of LEVELS fs).name (output_command_of LEVELS fs).result)
+told_is version kinds.AwaitingOn ty payload = read_is records.AwaitingOn payload (λ fs. Frame.AwaitingOn) (λ fs. answers.AwaitingOn) (λ fs. tt)
+told_is version kinds.Suspension ty payload = suspension_is (nat_lt version 7) payload
+told_is version kinds.Error ty payload =
+    read_is records.Error payload (λ fs. error_frame version (error_of LEVELS fs)) (λ fs. told_error version (error_of LEVELS fs)) (λ fs. error_is version (error_of LEVELS fs))
+told_is version kinds.End ty payload = read_is records.End payload (λ fs. Frame.End) (λ fs. answers.End) (λ fs. tt)
+told_is version kinds.Other ty payload = other_is (record_of ty) payload
+
+-- ---- messages
+
+moved : (version : ℕ) (one other : MessageType) (payload all : List ℕ) → one ≡ other → payload ≡ all → told_by version (kind_of one) one payload ≡ told_by version (kind_of other) other all
+moved version one other payload all same whole =
+    ap (λ (ty : MessageType). told_by version (kind_of ty) ty payload) same ∙ ap (λ (bytes : List ℕ). told_by version (kind_of other) other bytes) whole
+
+pub meant : {E : Type 0} (version : ℕ) (m : RawMessage) (ty : MessageType) (payload : List ℕ) (result : Result AttemptFrame E)
+    → ty ≡ message_type m.header → payload ≡ m.payload → IfOk result (λ frame. frame ≡ told_by version (kind_of ty) ty payload) → IfOk result (IsFrame (frame_of version m))
+meant version m ty payload (Ok frame) same whole is =
+    subst (λ (told : AttemptFrame). IsFrame (frame_of version m) told) (sym (is ∙ moved version ty (message_type m.header) payload m.payload same whole))
+    (told_is version (kind_of (message_type m.header)) (message_type m.header) m.payload)
+meant version m ty payload (Err e) same whole is = tt

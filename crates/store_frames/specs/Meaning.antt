@@ -1,0 +1,70 @@
+-- Which frame of an attempt a message is.
+use Rattle.std.specs.Prelude.{ℕ, Bool, true, false, List, Option, Some, None}
+use Rattle.protocol_table.specs.declared.table.RecordType.{RecordType}
+use Rattle.protocol_table.specs.declared.table.RecordType.TheVariants as records
+use Rattle.protocol_wire.specs.Wire.{Field}
+use Rattle.protocol_wire.specs.Fields.{fields}
+use Rattle.protocol_wire.specs.Check.{payload_fault}
+use Rattle.protocol_wire.specs.declared.check.Fault.{Fault}
+use Rattle.protocol_wire.specs.declared.check.Fault.TheVariants.{BadPayload, TooDeep}
+use Rattle.protocol_wire.specs.declared.record.TheConstants.{LEVELS}
+use Rattle.journal_model.specs.Request.{Request}
+use Rattle.journal_model.specs.Event.{Frame}
+use Rattle.protocol_records.specs.SleepCommand.{sleep_command_of}
+use Rattle.protocol_records.specs.OutputCommand.{output_command_of}
+use Rattle.protocol_records.specs.Suspension.{suspension_of}
+use Rattle.protocol_records.specs.SuspensionV6.{suspension_v6_of}
+use Rattle.protocol_calls.specs.CallCommand.{call_command_of}
+use Rattle.protocol_controls.specs.Error.{error_of}
+use Rattle.protocol_controls.specs.declared.error.ErrorMessage.{ErrorMessage}
+use Rattle.protocol_stream.specs.declared.message_type.MessageType.{MessageType}
+use Rattle.protocol_stream.specs.declared.decoder.RawMessage.{RawMessage}
+use Rattle.protocol_stream.specs.Header.{message_type}
+use Rattle.protocol_stream.specs.declared.feature.Feature.TheVariants.{AwaitTree}
+use Rattle.protocol_stream.specs.Feature.{lacks_feature}
+use Rattle.store_frames.specs.declared.kind.FrameKind.{FrameKind}
+use Rattle.store_frames.specs.declared.kind.FrameKind.TheVariants as kinds
+use Rattle.store_frames.specs.Kind.{kind_of, record_of}
+use Rattle.store_frames.specs.Requests.{request_of_sleep, request_of_call, request_of_output, suspension_of_tree, suspension_of_lists, behavior_in}
+
+-- a payload with which something is wrong is no more than that
+abbrev pub unless_faulty : Option Fault → Frame → Frame
+unless_faulty None frame = frame
+unless_faulty (Some BadPayload) frame = Frame.Broken
+unless_faulty (Some TooDeep) frame = Frame.TooDeep
+
+-- a payload of this record, whose fields mean this
+abbrev pub read_as : RecordType → (List Field → Frame) → List ℕ → Frame
+read_as t frame payload = unless_faulty (payload_fault LEVELS t payload) (frame (fields payload))
+
+-- a command without what it must have is broken
+abbrev pub command_or_broken : Option Request → Frame
+command_or_broken None = Frame.Broken
+command_or_broken (Some request) = Frame.Command request
+
+abbrev pub error_frame : ℕ → ErrorMessage → Frame
+error_frame version one = Frame.Error one.code one.message (behavior_in version one.behavior) one.next_retry_delay
+
+-- three lists, or a tree
+abbrev pub suspension_frame : Bool → List ℕ → Frame
+suspension_frame true = read_as records.SuspensionV6 (λ fs. Frame.Suspend (Some (suspension_of_lists (suspension_v6_of LEVELS fs))))
+suspension_frame false = read_as records.Suspension (λ fs. Frame.Suspend (suspension_of_tree (suspension_of LEVELS fs)))
+
+-- Of a type that is not accepted too the payload is looked at, if it is one of a record: that it is broken comes first.
+abbrev pub other_frame : Option RecordType → List ℕ → Frame
+other_frame None payload = Frame.NotAccepted
+other_frame (Some t) payload = read_as t (λ fs. Frame.NotAccepted) payload
+
+abbrev pub frame_by : ℕ → FrameKind → MessageType → List ℕ → Frame
+frame_by version kinds.Sleep ty payload = read_as records.SleepCommand (λ fs. Frame.Command (request_of_sleep (sleep_command_of LEVELS fs))) payload
+frame_by version kinds.Call ty payload = read_as records.CallCommand (λ fs. Frame.Command (request_of_call (call_command_of LEVELS fs))) payload
+frame_by version kinds.Output ty payload = read_as records.OutputCommand (λ fs. command_or_broken (request_of_output (output_command_of LEVELS fs))) payload
+frame_by version kinds.AwaitingOn ty payload = read_as records.AwaitingOn (λ fs. Frame.AwaitingOn) payload
+frame_by version kinds.Suspension ty payload = suspension_frame (lacks_feature version AwaitTree) payload
+frame_by version kinds.Error ty payload = read_as records.Error (λ fs. error_frame version (error_of LEVELS fs)) payload
+frame_by version kinds.End ty payload = read_as records.End (λ fs. Frame.End) payload
+frame_by version kinds.Other ty payload = other_frame (record_of ty) payload
+
+-- the frame that a message from an attempt of this version is
+abbrev pub frame_of : (version : ℕ) → RawMessage → Frame
+frame_of version m = frame_by version (kind_of (message_type m.header)) (message_type m.header) m.payload

@@ -1,0 +1,54 @@
+// What is kept of a message from an attempt.
+use bytes::{ByteStr, Bytes};
+use protocol_stream::MessageType;
+
+/// A command as it is recorded.
+#[derive(Debug, Drop)]
+pub struct RecordedCommand {
+    pub kind: MessageType,
+    /// In its one canonical spelling, however the attempt spelled it.
+    pub payload: Bytes,
+    /// The completion that it asks for first; of a call, that of the invocation's id.
+    pub completion: Option<u32>,
+    /// Of a call, the completion of its answer.
+    pub second_completion: Option<u32>,
+    /// Of a sleep, when it ends, in milliseconds; else 0.
+    pub moment: u64,
+}
+
+/// What an attempt that failed wants done.
+#[derive(Clone, Copy, Debug, PartialEq, Eq)]
+pub enum ErrorBehavior {
+    Retry,
+    Pause,
+    Fail,
+}
+
+/// A message from an attempt.
+#[derive(Debug, Drop)]
+pub enum AttemptFrame {
+    Command(RecordedCommand),
+    /// What the attempt waits for while it goes on. Nothing is recorded of it.
+    AwaitingOn,
+    /// The attempt is over until what it waits for has come.
+    Suspension {
+        /// In its canonical spelling: a tree from version 7 on, and three lists before.
+        payload: Bytes,
+    },
+    /// The attempt failed.
+    Error {
+        code: u32,
+        message: ByteStr,
+        behavior: ErrorBehavior,
+        /// In milliseconds.
+        delay: Option<u64>,
+    },
+    /// The handler is done.
+    End,
+    /// The payload cannot be read, or lacks what a frame of its type must have.
+    Broken,
+    /// Nothing else is wrong with the payload, but it is nested more than a hundred levels deep.
+    TooDeep,
+    /// The payload can be read, if its type is that of a record, and no attempt may write the type.
+    NotAccepted,
+}

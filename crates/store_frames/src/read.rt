@@ -1,0 +1,130 @@
+// Reading a message from an attempt.
+ghost use Rattle.std.specs.Prelude.{◌≡◌, IfOk};
+ghost use Rattle.protocol_wire.specs.Check.{payload_fault};
+ghost use Rattle.protocol_wire.specs.declared.record.TheConstants.{LEVELS as the_levels};
+ghost use Rattle.protocol_stream.specs.declared.feature.Feature.TheVariants.{AwaitTree};
+ghost use Rattle.protocol_stream.specs.Feature.{lacks_feature};
+ghost use Rattle.store_frames.specs.Answer.{IsFrame};
+ghost use Rattle.store_frames.specs.Kind.{kind_of as the_kind_of, record_of as the_record_of};
+ghost use Rattle.store_frames.specs.Meaning.{frame_of};
+ghost use Rattle.store_frames.specs.Told.{told_faulty, told_unless_faulty, told_as, told_by, told_other, told_suspension};
+
+use crate::frame::AttemptFrame;
+use crate::kind::{FrameKind, kind_of, record_of};
+use crate::record::FrameRecord;
+use protocol_calls::CallCommandMessage;
+use protocol_controls::ErrorMessage;
+use protocol_stream::{Feature, MessageHeader, MessageType, RawMessage};
+use protocol_records::{
+    OutputCommandMessage, SleepCommandMessage, SuspensionMessage, SuspensionMessageV6,
+};
+use protocol_wire::{Fault, LEVELS, RecordType, fault_of};
+use std::alloc::{AllocError, Global};
+
+fn faulty(fault: Fault) -> AttemptFrame
+    ensures { result ≡ told_faulty fault }
+{
+    match fault {
+        Fault::BadPayload => AttemptFrame::Broken,
+        Fault::TooDeep => AttemptFrame::TooDeep,
+    }
+}
+
+/// The frame, of whose record nothing is kept, unless its payload has a fault.
+fn unless_faulty(of: RecordType, payload: &[u8], frame: AttemptFrame) -> AttemptFrame
+    ensures { result ≡ told_unless_faulty (payload_fault the_levels of payload.now) frame }
+{
+    match fault_of(of, payload, LEVELS) {
+        None => frame,
+        Some(fault) => {
+            drop(frame);
+            faulty(fault)
+        }
+    }
+}
+
+/// What is kept of the record that a payload is.
+fn read_as<R: FrameRecord>(
+    alloc: Global,
+    version: u32,
+    payload: &[u8],
+) -> Result<AttemptFrame, AllocError>
+    ensures { IfOk result (λ frame. frame ≡ told_as R.record_type (λ fs. R.told version (R.of the_levels fs)) payload.now) }
+{
+    match fault_of(R::record_type(), payload, LEVELS) {
+        Some(fault) => Ok(faulty(fault)),
+        None => {
+            let one = R::select(alloc, payload, LEVELS)?;
+            let frame = one.to_frame(alloc, version);
+            drop(one);
+            frame
+        }
+    }
+}
+
+fn read_suspension(alloc: Global, version: u32, payload: &[u8]) -> Result<AttemptFrame, AllocError>
+    ensures { IfOk result (λ frame. frame ≡ told_suspension (lacks_feature version AwaitTree) payload.now) }
+{
+    if Feature::AwaitTree.is_later_than(version) {
+        read_as::<SuspensionMessageV6>(alloc, version, payload)
+    } else {
+        read_as::<SuspensionMessage>(alloc, version, payload)
+    }
+}
+
+fn read_other(ty: MessageType, payload: &[u8]) -> AttemptFrame
+    ensures { result ≡ told_other (the_record_of ty) payload.now }
+{
+    match record_of(ty) {
+        Some(of) => unless_faulty(of, payload, AttemptFrame::NotAccepted),
+        None => AttemptFrame::NotAccepted,
+    }
+}
+
+fn read_payload(
+    alloc: Global,
+    version: u32,
+    ty: MessageType,
+    payload: &[u8],
+) -> Result<AttemptFrame, AllocError>
+    ensures { IfOk result (λ frame. frame ≡ told_by version (the_kind_of ty) ty payload.now) }
+{
+    match kind_of(ty) {
+        FrameKind::Sleep => read_as::<SleepCommandMessage>(alloc, version, payload),
+        FrameKind::Call => read_as::<CallCommandMessage>(alloc, version, payload),
+        FrameKind::Output => read_as::<OutputCommandMessage>(alloc, version, payload),
+        FrameKind::AwaitingOn => Ok(unless_faulty(
+            RecordType::AwaitingOn,
+            payload,
+            AttemptFrame::AwaitingOn,
+        )),
+        FrameKind::Suspension => read_suspension(alloc, version, payload),
+        FrameKind::Error => read_as::<ErrorMessage>(alloc, version, payload),
+        FrameKind::End => Ok(unless_faulty(RecordType::End, payload, AttemptFrame::End)),
+        FrameKind::Other => Ok(read_other(ty, payload)),
+    }
+}
+
+/// The frame that a message from an attempt of this version of the protocol is, whose payload is looked at in its place. An
+/// `Err` is for want of memory alone.
+pub fn read_frame_at(
+    alloc: Global,
+    version: u32,
+    header: MessageHeader,
+    payload: &[u8],
+) -> Result<AttemptFrame, AllocError>
+    ensures { IfOk result (IsFrame (frame_of version (record { header = header; payload = payload.now }))) }
+{
+    read_payload(alloc, version, header.message_type(), payload)
+}
+
+/// The frame that a message from an attempt of this version of the protocol is. An `Err` is for want of memory alone.
+pub fn read_frame(
+    alloc: Global,
+    version: u32,
+    message: &RawMessage,
+) -> Result<AttemptFrame, AllocError>
+    ensures { IfOk result (IsFrame (frame_of version message.now)) }
+{
+    read_payload(alloc, version, message.ty(), message.payload.as_slice())
+}

@@ -1,0 +1,26 @@
+use Rattle.std.proofs.Common.{◌≡◌, ◌∙◌, sym, ap, subst, arith, inr, IsTrue}
+use Rattle.sqlite.specs.Held.{state}
+use Rattle.sqlite.specs.State.{State, HasCleanDisk}
+use Rattle.std.proofs.Common.{is_some}
+use Rattle.journal_model.specs.Journal.{is_busy}
+use Rattle.store_tables.specs.Questions.{is_open_of}
+use Rattle.store_lookups.proofs.Opening.{open_found}
+use Rattle.store_refusals.specs.Refused.{is_circumstance}
+use Rattle.store_invocations.proofs.Reading.{asked_once, told_err}
+use Rattle.store_invocations.proofs.invoke.has_open.Goals as goal
+
+pub returns-clause-told : goal.returns-clause-told
+returns-clause-told g c clean events store =
+    let old : State = state g.S.Store c.args.tables.now in
+    let early : HasCleanDisk old = omega (arith, c.open_invocation.ensures.looks.crash.clean) in
+    let k = store.keeps early (c.in_ok-row.ensures.open clean) in
+    c.is_some-busy.ensures ∙ ap (λ o. is_some o) (c.in_ok-row.ensures.found clean k.records k.held) ∙ (open_found events k.records c.args.object.now k.accepted k.kept).0
+
+pub returns-in_err-row-clause-told : goal.returns-in_err-row-clause-told
+returns-in_err-row-clause-told g c clean events store =
+    let old : State = state g.S.Store c.args.tables.now in
+    let early : HasCleanDisk old = omega (arith, c.open_invocation.ensures.looks.crash.clean) in
+    told_err (λ busy. busy ≡ is_busy events c.args.object.now) c.from_residual.result c.from_residual.ensures.1 (λ why gives.
+    inr (subst (λ w. IsTrue (is_circumstance w)) (sym gives)
+    (asked_once events old (λ r. r.invocations) (is_open_of c.args.object.now) _ (c.in_err-row.ensures.open clean) (c.in_err-row.ensures.foreign clean) (store.keeps early)
+    (λ r accepted kept. (open_found events r c.args.object.now accepted kept).1))))

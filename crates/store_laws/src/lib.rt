@@ -1,0 +1,20 @@
+//! What crashes leave of a store, said by the accepted events. Each function does nothing: its contract is the law.
+#![tactic(auto)]
+
+ghost use Rattle.store_laws.specs.Crashing.{CallsLeave, ImagesAreStores, OpensLeave, QuietCallsLeave};
+
+use sqlite::Alter;
+
+/// A call leaves what could be left before it, or what keeps its one event too. So does an open, of which the one commit keeps what
+/// is kept of no events.
+pub fn crashes_leave_events<S: Alter>()
+    ensures calls { CallsLeave S.Store }
+    ensures quiet { QuietCallsLeave S.Store }
+    ensures opens { OpensLeave S.Store }
+{}
+
+/// A connection that finds what a crash left keeps one of these lists of events. An open that takes it stands for that list, with
+/// every attempt stopped.
+pub fn images_are_stores<S: Alter>()
+    ensures { ImagesAreStores S.Store }
+{}

@@ -1,0 +1,12 @@
+-- What is left to count gives, of the frames that are left, what the whole count gives of all.
+use Rattle.std.proofs.Common.{◌≡◌, length}
+use Rattle.store_live.specs.Input.{pieces_after, place_after}
+use Rattle.store_live.proofs.input.pass.Given as goal
+
+abbrev pub invariant-loop-first : goal.invariant-loop-first
+invariant-loop-first l =
+    (pieces_after l.left l.pieces.items ≡ pieces_after l.initial.left l.initial.pieces.items)
+    × (place_after l.left l.pieces.items l.handed ≡ place_after l.initial.left l.initial.pieces.items l.initial.handed)
+
+abbrev pub decreases-loop-first : goal.decreases-loop-first
+decreases-loop-first l = length l.pieces.items

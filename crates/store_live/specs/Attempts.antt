@@ -1,0 +1,51 @@
+-- The live attempts, one at most of each invocation.
+use Rattle.std.specs.Prelude.{◌≡◌, ℕ, true, false, List, [], ◌++◌, take, drop, Option, Some, None, option_map, bytes_eq}
+use Rattle.std.specs.Map.{lookup}
+use Rattle.store_live.specs.declared.attempt.LiveAttempt.{LiveAttempt}
+use Rattle.store_live.specs.Input.{handed_out, with_room, with_frame}
+
+-- live attempts, each behind its invocation's id
+abbrev pub ByInvocation : Type 0
+ByInvocation = List (List ℕ × LiveAttempt)
+
+-- the attempts, and how many more are taken in with no memory asked for
+pub record Attempts : Type 0 where
+  pub attempts : ByInvocation
+  pub room : ℕ
+
+-- the live attempt of an invocation
+abbrev pub attempt_of : ByInvocation → List ℕ → Option LiveAttempt
+attempt_of attempts id = lookup (bytes_eq id) attempts
+
+-- of this invocation this attempt is live, and of the others the same as before
+pub record IsNow (id : List ℕ) (attempt : Option LiveAttempt) (old new : ByInvocation) : Type 0 where
+  pub own : attempt_of new id ≡ attempt
+  pub others : (other : List ℕ) → bytes_eq id other ≡ false → attempt_of new other ≡ attempt_of old other
+
+-- this is done to the live attempt of the invocation, if there is one, and nothing to the others
+abbrev pub Changes : List ℕ → (LiveAttempt → LiveAttempt) → ByInvocation → ByInvocation → Type 0
+Changes id change old new = IsNow id (option_map change (attempt_of old id)) old new
+
+-- the bytes that are handed out of an attempt's input, none where no attempt is live
+abbrev pub bytes_out : ℕ → Option LiveAttempt → List ℕ
+bytes_out most None = []
+bytes_out most (Some attempt) = take most attempt.input.bytes
+
+-- what is done to one
+abbrev pub after_hand_out : ℕ → LiveAttempt → LiveAttempt
+after_hand_out most attempt = record attempt { input = handed_out most attempt.input }
+
+abbrev pub after_reserve : ℕ → LiveAttempt → LiveAttempt
+after_reserve len attempt = record attempt { input = with_room len attempt.input }
+
+abbrev pub after_put : ℕ → List ℕ → LiveAttempt → LiveAttempt
+after_put place frame attempt = record attempt { input = with_frame place frame attempt.input }
+
+abbrev pub after_close : LiveAttempt → LiveAttempt
+after_close attempt = record attempt { is_input_closed = true }
+
+abbrev pub after_output : List ℕ → LiveAttempt → LiveAttempt
+after_output bytes attempt = record attempt { output = attempt.output ++ bytes }
+
+abbrev pub after_take : ℕ → LiveAttempt → LiveAttempt
+after_take count attempt = record attempt { output = drop count attempt.output }

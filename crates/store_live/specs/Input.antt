@@ -1,0 +1,61 @@
+-- What is left of an attempt's input.
+use Rattle.std.specs.Prelude.{ℕ, ◌+◌, ◌-◌, min, nat_le, if◌then◌else◌, List, [], ◌∷◌, ◌++◌, length, drop, Option, None, Some}
+use Rattle.store_live.specs.declared.input.PieceLeft.{PieceLeft}
+
+pub record InputLeft : Type 0 where
+  pub bytes : List ℕ
+  -- the frames that these bytes are, or the ends of them
+  pub pieces : List PieceLeft
+  -- the place behind the last frame that was handed whole, 0 where none was
+  pub handed : ℕ
+  -- how long the next frame is, where room was made for it
+  pub reserved : Option ℕ
+
+-- the frames that are left when so many more bytes were handed out
+abbrev pub pieces_after : ℕ → List PieceLeft → List PieceLeft
+pieces_after count [] = []
+pieces_after count (piece ∷ pieces) =
+    if nat_le piece.len count then pieces_after (count - piece.len) pieces else record piece { len = piece.len - count } ∷ pieces
+
+-- the place behind the last of them that is then handed whole
+abbrev pub place_after : ℕ → List PieceLeft → ℕ → ℕ
+place_after count [] handed = handed
+place_after count (piece ∷ pieces) handed =
+    if nat_le piece.len count then place_after (count - piece.len) pieces piece.behind else handed
+
+abbrev pub count_out : ℕ → InputLeft → ℕ
+count_out most input = min (length input.bytes) most
+
+-- when at most so many bytes were handed out
+abbrev pub handed_out : ℕ → InputLeft → InputLeft
+handed_out most input = record {
+  bytes = drop most input.bytes;
+  pieces = pieces_after (count_out most input) input.pieces;
+  handed = place_after (count_out most input) input.pieces input.handed;
+  reserved = None;
+}
+
+-- with room for a frame of this length
+abbrev pub with_room : ℕ → InputLeft → InputLeft
+with_room len input = record input { reserved = Some len }
+
+-- with the frame of the entry at this place behind
+abbrev pub with_frame : ℕ → List ℕ → InputLeft → InputLeft
+with_frame place frame input = record input {
+  bytes = input.bytes ++ frame;
+  pieces = input.pieces ++ record { behind = place + 1; len = length frame } ∷ [];
+  reserved = None;
+}
+
+-- nothing is left, and nothing was handed out
+abbrev pub no_input : InputLeft
+no_input = record { bytes = []; pieces = []; handed = 0; reserved = None }
+
+-- the frames of a journal from a place on, by their lengths
+abbrev pub pieces_from : ℕ → List ℕ → List PieceLeft
+pieces_from place [] = []
+pieces_from place (len ∷ lengths) = record { behind = place + 1; len = len } ∷ pieces_from (place + 1) lengths
+
+-- all of a journal is left
+abbrev pub journal_left : List ℕ → List ℕ → InputLeft
+journal_left bytes lengths = record { bytes = bytes; pieces = pieces_from 0 lengths; handed = 0; reserved = None }

@@ -1,0 +1,14 @@
+//! The attempts that are live, which are kept in memory alone: of each, the input that it has still to be handed, and the
+//! output that came and was not taken.
+#![tactic(auto)]
+
+mod attempt;
+mod attempts;
+mod input;
+mod output;
+
+pub use attempt::LiveAttempt;
+pub use attempts::LiveAttempts;
+pub use input::{AttemptInput, PieceLeft};
+pub use protocol_stream::{FirstItem, HEADER_LEN};
+pub use output::AttemptOutput;

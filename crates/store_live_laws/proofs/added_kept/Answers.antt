@@ -1,0 +1,9 @@
+-- The laws are proved in `Added`.
+use Rattle.store_live_laws.proofs.Added.{ticked, commanded}
+use Rattle.store_live_laws.proofs.added_kept.Goals as goal
+
+pub returns-clause-ticked : goal.returns-clause-ticked
+returns-clause-ticked c = ticked
+
+pub returns-clause-commanded : goal.returns-clause-commanded
+returns-clause-commanded c = commanded

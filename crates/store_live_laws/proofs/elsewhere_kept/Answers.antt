@@ -1,0 +1,9 @@
+-- The laws are proved in `Steps`.
+use Rattle.store_live_laws.proofs.Steps.{at_first, elsewhere}
+use Rattle.store_live_laws.proofs.elsewhere_kept.Goals as goal
+
+pub returns-clause-first : goal.returns-clause-first
+returns-clause-first c = at_first
+
+pub returns-clause-elsewhere : goal.returns-clause-elsewhere
+returns-clause-elsewhere c = elsewhere

@@ -1,0 +1,99 @@
+-- An output that is read of a message is one that a message can hold.
+use Rattle.std.proofs.Common.{◌≡◌, refl, sym, ap, subst, ◌∙◌, ℕ, nat_lt, Bool, true, false, inl, inr, map, List, [], ◌∷◌, Option, Some, None, option_map}
+use Rattle.journal_model.specs.Notification.{Text}
+use Rattle.journal_model.specs.declared.value.NonEmptyValue.{NonEmptyValue}
+use Rattle.journal_model.specs.Request.{Request}
+use Rattle.journal_model.specs.Event.{Frame}
+use Rattle.protocol_table.specs.declared.table.RecordType.{RecordType}
+use Rattle.protocol_table.specs.declared.table.RecordType.TheVariants as records
+use Rattle.protocol_wire.specs.declared.record.TheConstants.{LEVELS}
+use Rattle.protocol_wire.specs.declared.check.Fault.{Fault}
+use Rattle.protocol_wire.specs.declared.check.Fault.TheVariants.{BadPayload, TooDeep}
+use Rattle.protocol_wire.specs.Check.{payload_fault}
+use Rattle.protocol_wire.specs.Fields.{fields}
+use Rattle.protocol_records.specs.declared.failure.FailureMetadata.{FailureMetadata}
+use Rattle.protocol_records.specs.declared.output_command.OutputCommandMessage.{OutputCommandMessage}
+use Rattle.protocol_records.specs.declared.output_command.OutputCommandResult.{OutputCommandResult}
+use Rattle.protocol_records.specs.declared.output_command.OutputCommandResult.TheVariants as results
+use Rattle.protocol_records.specs.OutputCommand.{OutputCommandFits, output_command_of}
+use Rattle.protocol_records.specs.SleepCommand.{sleep_command_of}
+use Rattle.protocol_records.specs.Suspension.{suspension_of}
+use Rattle.protocol_records.specs.SuspensionV6.{suspension_v6_of}
+use Rattle.protocol_calls.specs.CallCommand.{call_command_of}
+use Rattle.protocol_controls.specs.Error.{error_of}
+use Rattle.protocol_stream.specs.Header.{message_type}
+use Rattle.protocol_stream.specs.Records.{output_record, pair_record, pair_told, result_record}
+use Rattle.protocol_stream.specs.declared.message_type.MessageType.{MessageType}
+use Rattle.store_frames.specs.declared.kind.FrameKind.{FrameKind}
+use Rattle.store_frames.specs.declared.kind.FrameKind.TheVariants as kinds
+use Rattle.store_frames.specs.Kind.{kind_of, record_of}
+use Rattle.store_frames.specs.Meaning.{command_or_broken, error_frame, frame_by, other_frame, suspension_frame, unless_faulty}
+use Rattle.store_frames.specs.Requests.{request_of_call, request_of_output, request_of_sleep, suspension_of_lists, suspension_of_tree, value_put_out}
+use Rattle.protocol_laws.specs.FitsOutputCommand.{output_command_fits}
+use Rattle.store_reads.specs.Answered.{IsHeld}
+use Rattle.store_output_laws.specs.Held.{IsRead}
+
+-- ---- a record of what an output's record says is that record
+
+pairs_again : (pairs : List FailureMetadata) → map pair_record (map pair_told pairs) ≡ pairs
+pairs_again [] = refl
+pairs_again (pair ∷ pairs) = λ i. pair ∷ pairs_again pairs i
+
+result_again : (result : OutputCommandResult) → result_record (value_put_out result) ≡ result
+result_again (results.Value value) = refl
+result_again (results.Failure failure) =
+    λ i. results.Failure (record { code = failure.code; message = failure.message; metadata = pairs_again failure.metadata i })
+
+held_output : (one : OutputCommandMessage) (o : Option OutputCommandResult) (value : NonEmptyValue) (name : Text) → OutputCommandFits LEVELS one → one.result ≡ o
+    → command_or_broken (option_map (λ (result : OutputCommandResult). Request.Output (value_put_out result) one.name) o) ≡ Frame.Command (Request.Output value name)
+    → OutputCommandFits LEVELS (output_record value name)
+held_output one None value name fits is e = cc
+held_output one (Some result) value name fits is e =
+    let put : value_put_out result ≡ value = cc in
+    let named : one.name ≡ name = cc in
+    let same : one ≡ output_record (value_put_out result) one.name = λ i. record { name = one.name; result = (is ∙ ap Some (sym (result_again result))) i } in
+    subst (OutputCommandFits LEVELS) (same ∙ (λ i. output_record (put i) (named i))) fits
+
+-- ---- no other frame is an output
+
+module _ (value : NonEmptyValue) (name : Text) where
+  abbrev IsOutput : Frame → Type 0
+  IsOutput frame = frame ≡ Frame.Command (Request.Output value name)
+
+  no_fault : (o : Option Fault) (frame : Frame) → IsOutput (unless_faulty o frame) → (o ≡ None) × IsOutput frame
+  no_fault None frame e = (refl, e)
+  no_fault (Some BadPayload) frame e = cc
+  no_fault (Some TooDeep) frame e = cc
+
+  -- whatever is wrong with the payload
+  never : (t : RecordType) (payload : List ℕ) (frame : Frame) → (IsOutput frame → ⊥) → IsOutput (unless_faulty (payload_fault LEVELS t payload) frame) → ⊥
+  never t payload frame other e = other (no_fault (payload_fault LEVELS t payload) frame e).1
+
+  no_suspension : (b : Bool) (payload : List ℕ) → IsOutput (suspension_frame b payload) → ⊥
+  no_suspension true payload e = never records.SuspensionV6 payload (Frame.Suspend (Some (suspension_of_lists (suspension_v6_of LEVELS (fields payload))))) (λ is. cc) e
+  no_suspension false payload e = never records.Suspension payload (Frame.Suspend (suspension_of_tree (suspension_of LEVELS (fields payload)))) (λ is. cc) e
+
+  no_other : (o : Option RecordType) (payload : List ℕ) → IsOutput (other_frame o payload) → ⊥
+  no_other None payload e = cc
+  no_other (Some t) payload e = never t payload Frame.NotAccepted (λ is. cc) e
+
+  held_by : (version : ℕ) (kind : FrameKind) (ty : MessageType) (payload : List ℕ) → IsOutput (frame_by version kind ty payload) → OutputCommandFits LEVELS (output_record value name)
+  held_by version kinds.Sleep ty payload e =
+      absurd (never records.SleepCommand payload (Frame.Command (request_of_sleep (sleep_command_of LEVELS (fields payload)))) (λ is. cc) e)
+  held_by version kinds.Call ty payload e =
+      absurd (never records.CallCommand payload (Frame.Command (request_of_call (call_command_of LEVELS (fields payload)))) (λ is. cc) e)
+  held_by version kinds.Output ty payload e =
+      let one = output_command_of LEVELS (fields payload) in
+      let it = no_fault (payload_fault LEVELS records.OutputCommand payload) (command_or_broken (request_of_output one)) e in
+      held_output one one.result value name (output_command_fits LEVELS payload it.0) refl it.1
+  held_by version kinds.AwaitingOn ty payload e = absurd (never records.AwaitingOn payload Frame.AwaitingOn (λ is. cc) e)
+  held_by version kinds.Suspension ty payload e = absurd (no_suspension (nat_lt version 7) payload e)
+  held_by version kinds.Error ty payload e = absurd (never records.Error payload (error_frame version (error_of LEVELS (fields payload))) (λ is. cc) e)
+  held_by version kinds.End ty payload e = absurd (never records.End payload Frame.End (λ is. cc) e)
+  held_by version kinds.Other ty payload e = absurd (no_other (record_of ty) payload e)
+
+pub request_held : (request : Request) → IsRead (Frame.Command request) → IsHeld request
+request_held (Request.Output value name) (inl (version, m, e)) =
+    held_by value name version (kind_of (message_type m.header)) (message_type m.header) m.payload (sym e)
+request_held (Request.Output value name) (inr e) = cc
+request_held _ read = tt

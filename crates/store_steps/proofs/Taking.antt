@@ -1,0 +1,132 @@
+-- What is decided by the row of an invocation is what the events say.
+use Rattle.std.proofs.Common.{◌≡◌, refl, sym, ap, subst, subst₂, ◌∙◌, inl, inr, ℕ, Bool, true, false, List, filter_map, Option, Some, None, is_some, option_map, unwrap_or, bytes_eq, Result, Ok, Err}
+use Rattle.std.specs.Prelude.{IfOk, IfErr}
+use Rattle.std.proofs.lemmas.Slice.Eq.{bytes_eq-Decides}
+use Rattle.sqlite.specs.State.{State}
+use Rattle.sql_tables.specs.declared.read.ReadError.{ReadError}
+use Rattle.sql_tables.specs.declared.read.ReadError.TheVariants as reading
+use Rattle.journal_model.specs.Notification.{Text}
+use Rattle.journal_model.specs.declared.invocation.NewInvocation.{NewInvocation}
+use Rattle.journal_model.specs.Event.{Frame, Event}
+use Rattle.journal_model.specs.Journal.{invoked_by, invocation_begun, version_of, is_open}
+use Rattle.journal_model.specs.Cause.{causes_of, those_that_hold}
+use Rattle.journal_laws.proofs.ObjectState.{find-passes}
+use Rattle.store_frames.specs.declared.frame.AttemptFrame.{AttemptFrame}
+use Rattle.store_frames.specs.Answer.{IsFrame}
+use Rattle.store_tables.specs.Questions.{IsFound, IsAmbiguous, has_id}
+use Rattle.store_tables.specs.declared.row.InvocationRow.{InvocationRow}
+use Rattle.store_tables.specs.declared.row.Progress.{Progress}
+use Rattle.store_model.specs.Progress.{progress_of}
+use Rattle.store_model.specs.Kept.{invocation_row}
+use Rattle.store_lookups.proofs.Only.{only_found, only_one}
+use Rattle.store_lookups.proofs.Finding.{all_found}
+use Rattle.store_refusals.specs.declared.refusal.Refusal.{Refusal}
+use Rattle.store_refusals.specs.declared.refusal.Refusal.TheVariants.{OutOfMemory}
+use Rattle.store_refusals.specs.Refused.{IsRefused, first_of, is_circumstance, refusal_by, reading_refusal}
+use Rattle.store_refusals.specs.Prepared.{Keeps, Prepares}
+use Rattle.store_refusals.proofs.First.{first_holds, none_holds}
+use Rattle.store_steps.specs.declared.frame.LiveFacts.{LiveFacts}
+use Rattle.store_steps.specs.declared.frame.PreparedFrame.{PreparedFrame}
+use Rattle.store_steps.specs.Stateless.{LeavesState}
+use Rattle.store_steps.specs.Told.{tests_of_told, writes_of_told}
+use Rattle.store_steps.specs.Taken.{IsLive, IsReply, IsTaken, Takes, IsMade, IsWhy}
+use Rattle.store_steps.proofs.Live.{begun_open, live_open}
+use Rattle.store_steps.proofs.Tests.{tests_left, causes_left, tests_same}
+use Rattle.store_steps.proofs.Writes.{written, replied}
+
+-- ---- a frame of a live attempt of an invocation that was begun so
+
+module _ (events : List Event) (id : Text) (number : ℕ) (new : NewInvocation) (is : invocation_begun events id ≡ Some new) (opened : is_open events id ≡ true)
+    (attempt : LiveFacts) (live : IsLive events id number attempt) (frame : Frame) (read : AttemptFrame) (stateless : LeavesState frame) (h : IsFrame frame read) where
+  causes_are : causes_of events (Event.Take id number frame) ≡ those_that_hold (tests_left events id number frame)
+  causes_are = causes_left events id number frame (ap (λ (o : Option NewInvocation). is_some o) is) opened live.live
+
+  same : refusal_by (tests_left events id number frame) ≡ refusal_by (tests_of_told (progress_of events id) attempt.is_input_closed read)
+  same = tests_same events id number frame read stateless h ∙ ap (λ (b : Bool). refusal_by (tests_of_told (progress_of events id) b read)) (sym live.closed)
+
+  version_is : new.version ≡ version_of events id
+  version_is = sym (ap (λ (o : Option NewInvocation). unwrap_or (option_map (λ (begun : NewInvocation). begun.version) o) 0) is)
+
+  pub prepared : (result : Result PreparedFrame Refusal) → IfOk result (IsMade id new.version (progress_of events id) attempt read) → IfErr result (IsWhy (progress_of events id) attempt read)
+      → Prepares events (Event.Take id number frame) (IsTaken events id number frame) result
+  prepared (Ok made) ok err = (
+    causes_are ∙ none_holds (tests_left events id number frame) (same ∙ ok.accepted),
+    record {
+      writes =
+          ok.writes
+          ∙ (λ i. writes_of_told id (version_is i) (live.handed i) (progress_of events id) read)
+          ∙ sym (written events id number attempt.is_input_closed frame read stateless h ok.accepted);
+      reply = subst (IsReply events id frame) (sym ok.reply) (replied events id number attempt.is_input_closed frame read h ok.accepted);
+    },
+  )
+  prepared (Err why) ok err = by_first (refusal_by (tests_of_told (progress_of events id) attempt.is_input_closed read)) refl
+    where
+      by_first : (first : Option Refusal) → refusal_by (tests_of_told (progress_of events id) attempt.is_input_closed read) ≡ first
+          → IsRefused (causes_of events (Event.Take id number frame)) why
+      by_first None e = inr (ap is_circumstance (err ∙ ap (λ (o : Option Refusal). unwrap_or o OutOfMemory) e))
+      by_first (Some refusal) e =
+          inl (ap first_of causes_are ∙ first_holds (tests_left events id number frame) ∙ same ∙ e
+          ∙ ap Some (sym (err ∙ ap (λ (o : Option Refusal). unwrap_or o OutOfMemory) e)))
+
+-- ---- by the row that was found
+
+module _ (events : List Event) (s : State) (keeps : Keeps events s) (id : Text) where
+  row_found : (found : Option InvocationRow) → IsFound (λ r. r.invocations) (has_id id) s.now.trees found
+      → found ≡ option_map (invocation_row events) (invocation_begun events id)
+  row_found found h =
+      h keeps.records keeps.held
+      ∙ only_found (has_id id) keeps.records.invocations (option_map (invocation_row events) (invocation_begun events id))
+      ((all_found events keeps.records keeps.accepted keeps.kept).invocation id)
+
+  pub never_foreign : IsAmbiguous (λ r. r.invocations) (has_id id) s.now.trees → ⊥
+  never_foreign h =
+      h keeps.records keeps.held
+      (only_one (has_id id) keeps.records.invocations (option_map (invocation_row events) (invocation_begun events id))
+      ((all_found events keeps.records keeps.accepted keeps.kept).invocation id))
+
+  opened_live : (number : ℕ) (attempt : LiveFacts) → IsLive events id number attempt → is_open events id ≡ true
+  opened_live number attempt live = live_open events id number keeps.accepted live.live
+
+  same_row : (row : InvocationRow) (new : NewInvocation) → Some row ≡ Some (invocation_row events new) → row ≡ invocation_row events new
+  same_row row new e = cc
+
+  made_as : (attempt : LiveFacts) (read : AttemptFrame) (result : Result PreparedFrame Refusal) (v version : ℕ) (p progress : Progress) → v ≡ version → p ≡ progress
+      → IfOk result (IsMade id v p attempt read) → IfOk result (IsMade id version progress attempt read)
+  made_as attempt read result v version p progress same_version same_progress ok =
+      subst₂ (λ (v : ℕ) (p : Progress). IfOk result (IsMade id v p attempt read)) same_version same_progress ok
+
+  why_as : (attempt : LiveFacts) (read : AttemptFrame) (result : Result PreparedFrame Refusal) (p progress : Progress) → p ≡ progress
+      → IfErr result (IsWhy p attempt read) → IfErr result (IsWhy progress attempt read)
+  why_as attempt read result p progress same_progress err = subst (λ (p : Progress). IfErr result (IsWhy p attempt read)) same_progress err
+
+  pub taken_by_row : (row : InvocationRow) → IsFound (λ r. r.invocations) (has_id id) s.now.trees (Some row) → (attempt : LiveFacts) (read : AttemptFrame) (result : Result PreparedFrame Refusal)
+      → IfOk result (IsMade id row.version row.progress attempt read) → IfErr result (IsWhy row.progress attempt read) → Takes events id attempt read result
+  taken_by_row row found attempt read result ok err number frame live stateless h = by_begun (invocation_begun events id) refl
+    where
+      by_begun : (o : Option NewInvocation) → invocation_begun events id ≡ o → Prepares events (Event.Take id number frame) (IsTaken events id number frame) result
+      by_begun None e = let no : Some row ≡ None = row_found (Some row) found ∙ ap (option_map (invocation_row events)) e in absurd cc
+      by_begun (Some new) e =
+          let is_row : row ≡ invocation_row events new = same_row row new (row_found (Some row) found ∙ ap (option_map (invocation_row events)) e) in
+          let named : new.id ≡ id = (bytes_eq-Decides new.id id).0 (find-passes (λ other. bytes_eq other.id id) (filter_map invoked_by events) new e) in
+          let progress_is : row.progress ≡ progress_of events id = ap (λ (r : InvocationRow). r.progress) is_row ∙ ap (progress_of events) named in
+          let version_is : row.version ≡ new.version = ap (λ (r : InvocationRow). r.version) is_row in
+          prepared events id number new e (opened_live number attempt live) attempt live frame read stateless h result
+          (made_as attempt read result row.version new.version row.progress (progress_of events id) version_is progress_is ok)
+          (why_as attempt read result row.progress (progress_of events id) progress_is err)
+
+  pub never_missing : IsFound (λ r. r.invocations) (has_id id) s.now.trees None → (attempt : LiveFacts) (read : AttemptFrame) (result : Result PreparedFrame Refusal) → Takes events id attempt read result
+  never_missing found attempt read result number frame live stateless h = absurd (by_begun (invocation_begun events id) refl)
+    where
+      by_begun : (o : Option NewInvocation) → invocation_begun events id ≡ o → ⊥
+      by_begun None e =
+          let begun : is_some (invocation_begun events id) ≡ true = begun_open events id (opened_live number attempt live) in
+          let no : false ≡ true = sym (ap (λ (o : Option NewInvocation). is_some o) e) ∙ begun in
+          cc
+      by_begun (Some new) e = let no : None ≡ Some (invocation_row events new) = row_found None found ∙ ap (option_map (invocation_row events)) e in cc
+
+-- a row that could not be read, and is no foreign one
+pub read_failed : (events : List Event) (id : Text) (error : ReadError) → (error ≡ reading.Foreign → ⊥) → (attempt : LiveFacts) (read : AttemptFrame)
+    → Takes events id attempt read (Err (reading_refusal error))
+read_failed events id (reading.Refused cause) foreign attempt read number frame live stateless h = inr refl
+read_failed events id reading.Foreign foreign attempt read number frame live stateless h = absurd (foreign refl)
+read_failed events id reading.OutOfMemory foreign attempt read number frame live stateless h = inr refl

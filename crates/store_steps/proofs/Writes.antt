@@ -1,0 +1,182 @@
+-- What is written of a frame, by what is kept of its invocation and of the frame, is what the event writes.
+use Rattle.std.proofs.Common.{◌≡◌, refl, sym, ap, ap₂, ◌∙◌, ℕ, ◌+◌, max, Bool, false, if◌then◌else◌, List, [], ◌∷◌, ◌++◌, length, map, Option, Some, None}
+use Rattle.journal_model.specs.Notification.{Bytes, Text, Arrival}
+use Rattle.journal_model.specs.State.{state_after}
+use Rattle.journal_model.specs.Request.{Request, completions_asked}
+use Rattle.journal_model.specs.Spelling.{request_type, request_payload}
+use Rattle.journal_model.specs.Event.{Behavior, Frame, Event}
+use Rattle.journal_model.specs.Journal.{Entry, Recorded, Arrived, version_of, object_of, closes, sleep_in, starting_state, requests_in, entries_of}
+use Rattle.journal_model.specs.Cause.{greatest}
+use Rattle.store_frames.specs.declared.frame.RecordedCommand.{RecordedCommand}
+use Rattle.store_frames.specs.declared.frame.ErrorBehavior.{ErrorBehavior}
+use Rattle.store_frames.specs.declared.frame.ErrorBehavior.TheVariants as behaviors
+use Rattle.store_frames.specs.declared.frame.AttemptFrame.{AttemptFrame}
+use Rattle.store_frames.specs.declared.frame.AttemptFrame.TheVariants as told
+use Rattle.store_frames.specs.Answer.{first_asked, second_asked, moment_of as moment_told, behavior_meant, IsCommand, IsError, IsFrame}
+use Rattle.store_refusals.specs.Refused.{refusal_by}
+use Rattle.store_tables.specs.declared.row.Closing.TheVariants.{Failed}
+use Rattle.store_tables.specs.declared.row.Progress.{Progress}
+use Rattle.store_tables.specs.declared.row.EntryRow.{EntryRow}
+use Rattle.store_tables.specs.declared.row.Write.{Write}
+use Rattle.store_tables.specs.declared.row.Write.TheVariants.{SetProgress, AddEntry}
+use Rattle.store_model.specs.Places.{handed_place}
+use Rattle.store_model.specs.Progress.{first_of, second_of, output_payload, behavior_number, progress_of}
+use Rattle.store_model.specs.Kept.{moment_of, entry_row, rows_from}
+use Rattle.store_model.specs.Writes.{state_writes, writes_of}
+use Rattle.store_model.specs.Steps.{grown, payload_or, after_command, after_frame}
+use Rattle.store_model.proofs.Following.{follows}
+use Rattle.store_steps.specs.Stateless.{is_of_state, LeavesState}
+use Rattle.store_steps.specs.Taken.{IsReply}
+use Rattle.protocol_stream.specs.MessageType.{number_of}
+use Rattle.protocol_stream.specs.CommandFacts.{facts_of, type_of_request}
+use Rattle.protocol_stream.proofs.Facts.{request_number}
+use Rattle.store_steps.specs.Told.{puts_out, value_put_out, command_row, tests_of_told, reply_to_told, after_recorded, number_of_behavior, does_fail, after_suspension, after_error, after_end, error_told, writes_of_told}
+use Rattle.store_steps.proofs.Stateless.{no_answer, none_at_once, no_writes, nothing_written}
+use Rattle.store_steps.proofs.Tests.{asked_same}
+use Rattle.store_steps.proofs.Lists.{payload_kept}
+
+-- ---- commands
+
+first_same : (ns : List ℕ) → first_of ns ≡ first_asked ns
+first_same [] = refl
+first_same (n ∷ ns) = refl
+
+second_same : (ns : List ℕ) → second_of ns ≡ second_asked ns
+second_same [] = refl
+second_same (n ∷ ns) = first_same ns
+
+moment_same : (request : Request) → moment_of (sleep_in request) ≡ moment_told request
+moment_same (Request.Sleep moment n name) = refl
+moment_same _ = refl
+
+row_same : (id : Text) (before : List Entry) (place : ℕ) (request : Request) (command : RecordedCommand) → IsCommand request command
+    → entry_row id before place (Recorded request) ≡ command_row id place command
+row_same id before place request command h = λ i. record {
+  invocation = id;
+  place = place;
+  kind = kind i;
+  payload = sym h.payload i;
+  completion = first i;
+  second_completion = second i;
+  answered = None;
+  moment = moment i;
+}
+  where
+    kind : request_type request ≡ number_of command.kind
+    kind = sym (request_number request) ∙ ap number_of (sym h.kind)
+
+    first : first_of (completions_asked request) ≡ command.completion
+    first = first_same (completions_asked request) ∙ sym h.completion
+
+    second : second_of (completions_asked request) ≡ command.second_completion
+    second = second_same (completions_asked request) ∙ sym h.second_completion
+
+    moment : moment_of (sleep_in request) ≡ command.moment
+    moment = moment_same request ∙ sym h.moment
+
+output_same : (request : Request) → output_payload request ≡ (if puts_out (facts_of (type_of_request request)) then Some (request_payload request) else None)
+output_same (Request.Output value name) = refl
+output_same _ = refl
+
+command_progress : (request : Request) (command : RecordedCommand) (p : Progress) → is_of_state request ≡ false → IsCommand request command
+    → after_command request p ≡ after_recorded command p
+command_progress request command p stateless h = λ i. record (grown (1 + none_at_once request stateless i) p) {
+  last_completion = max p.last_completion (greatest (asked_same request command h i));
+  answer = payload_or (put_out i) p.answer;
+}
+  where
+    put_out : output_payload request ≡ value_put_out command
+    put_out = output_same request ∙ (λ i. if puts_out (facts_of (sym h.kind i)) then Some (sym h.payload i) else None)
+
+-- ---- errors
+
+behavior_same : (told_behavior : ErrorBehavior) → behavior_number (behavior_meant told_behavior) ≡ number_of_behavior told_behavior
+behavior_same behaviors.Retry = refl
+behavior_same behaviors.Pause = refl
+behavior_same behaviors.Fail = refl
+
+closes_same : (version code : ℕ) (message : Text) (delay : Option ℕ) (told_behavior : ErrorBehavior)
+    → closes version (Frame.Error code message (behavior_meant told_behavior) delay) ≡ does_fail version told_behavior
+closes_same version code message delay behaviors.Retry = refl
+closes_same version code message delay behaviors.Pause = refl
+closes_same version code message delay behaviors.Fail = refl
+
+error_progress : (version place code : ℕ) (message : Text) (behavior : Behavior) (delay : Option ℕ) (told_code : ℕ) (told_message : Text) (told_behavior : ErrorBehavior) (told_delay : Option ℕ) (p : Progress)
+    → IsError code message behavior delay told_code told_message told_behavior told_delay
+    → after_frame version place (Frame.Error code message behavior delay) p ≡ after_error (error_told told_code told_message told_behavior told_delay) (does_fail version told_behavior) p
+error_progress version place code message behavior delay told_code told_message told_behavior told_delay p h = λ i. record p {
+  last_error = Some (record { code = sym h.code_is i; behavior = number i; delay = sym h.delay_is i; message = sym h.message_is i });
+  open_object = if fails i then None else p.open_object;
+  closing = if fails i then Some Failed else p.closing;
+}
+  where
+    number : behavior_number behavior ≡ number_of_behavior told_behavior
+    number = ap behavior_number (sym h.behavior_is) ∙ behavior_same told_behavior
+
+    fails : closes version (Frame.Error code message behavior delay) ≡ does_fail version told_behavior
+    fails = ap (λ (meant : Behavior). closes version (Frame.Error code message meant delay)) (sym h.behavior_is) ∙ closes_same version code message delay told_behavior
+
+-- ---- all frames
+
+module _ (events : List Event) (id : Text) (number : ℕ) where
+  abbrev object : Frame → Option Text
+  object frame = object_of events (Event.Take id number frame)
+
+  abbrev after : Frame → Progress
+  after frame = progress_of (Event.Take id number frame ∷ events) id
+
+  -- the progress after a frame, as it is told
+  progress_is : (frame : Frame) (p : Progress) → after_frame (version_of events id) (handed_place events id) frame (progress_of events id) ≡ p → after frame ≡ p
+  progress_is frame p e = follows events (Event.Take id number frame) id refl refl ∙ e
+
+  only_progress : (frame : Frame) (p : Progress) → writes_of events (Event.Take id number frame) ≡ SetProgress id (after frame) ∷ state_writes (object frame) []
+      → after_frame (version_of events id) (handed_place events id) frame (progress_of events id) ≡ p
+      → writes_of events (Event.Take id number frame) ≡ SetProgress id p ∷ []
+  only_progress frame p shape e =
+      shape ∙ ap₂ (λ (q : Progress) (writes : List Write). SetProgress id q ∷ writes) (progress_is frame p e) (nothing_written (object frame))
+
+  command_written : (request : Request) (command : RecordedCommand) → is_of_state request ≡ false → IsCommand request command
+      → writes_of events (Event.Take id number (Frame.Command request))
+      ≡ AddEntry (command_row id (1 + length (entries_of events id)) command) ∷ SetProgress id (after_recorded command (progress_of events id)) ∷ []
+  command_written request command stateless h =
+      let entries = entries_of events id in
+      let place = 1 + length (entries_of events id) in
+      let state = state_after (requests_in (entries_of events id)) (starting_state events id) in
+      ap₂ (λ (answers : List Arrival) (writes : List Write).
+      ((AddEntry (entry_row id entries place (Recorded request)) ∷ map AddEntry (rows_from id (entries ++ Recorded request ∷ []) (place + 1) (map Arrived answers)))
+      ++ SetProgress id (after (Frame.Command request)) ∷ []) ++ [] ++ writes)
+      (no_answer state request stateless) (no_writes (object (Frame.Command request)) request stateless)
+      ∙ ap₂ (λ (row : EntryRow) (p : Progress). AddEntry row ∷ SetProgress id p ∷ []) (row_same id entries place request command h)
+      (progress_is (Frame.Command request) (after_recorded command (progress_of events id)) (command_progress request command (progress_of events id) stateless h))
+
+  -- of a frame that no test refuses
+  pub written : (is_closed : Bool) (frame : Frame) (read : AttemptFrame) → LeavesState frame → IsFrame frame read
+      → refusal_by (tests_of_told (progress_of events id) is_closed read) ≡ None
+      → writes_of events (Event.Take id number frame) ≡ writes_of_told id (version_of events id) (handed_place events id) (progress_of events id) read
+  written is_closed (Frame.Command request) (told.Command command) stateless h e = command_written request command stateless h
+  written is_closed Frame.AwaitingOn told.AwaitingOn stateless h e = nothing_written (object Frame.AwaitingOn)
+  written is_closed (Frame.Suspend None) told.Broken stateless h e = cc
+  written is_closed (Frame.Suspend (Some suspension)) (told.Suspension payload) stateless h e =
+      only_progress (Frame.Suspend (Some suspension)) (after_suspension payload (handed_place events id) (progress_of events id)) refl
+      (ap (λ (bytes : Bytes). after_suspension bytes (handed_place events id) (progress_of events id)) (payload_kept suspension payload h))
+  written is_closed (Frame.Error code message behavior delay) (told.Error told_code told_message told_behavior told_delay) stateless h e =
+      only_progress (Frame.Error code message behavior delay) (after_error (error_told told_code told_message told_behavior told_delay) (does_fail (version_of events id) told_behavior) (progress_of events id)) refl
+      (error_progress (version_of events id) (handed_place events id) code message behavior delay told_code told_message told_behavior told_delay (progress_of events id) h)
+  written is_closed Frame.End told.End stateless h e = only_progress Frame.End (after_end (handed_place events id) (progress_of events id)) refl refl
+  written is_closed Frame.Broken told.Broken stateless h e = cc
+  written is_closed Frame.TooDeep told.TooDeep stateless h e = cc
+  written is_closed Frame.NotAccepted told.NotAccepted stateless h e = cc
+  written is_closed _ _ stateless h e = absurd h
+
+  pub replied : (is_closed : Bool) (frame : Frame) (read : AttemptFrame) → IsFrame frame read → refusal_by (tests_of_told (progress_of events id) is_closed read) ≡ None
+      → IsReply events id frame (reply_to_told (progress_of events id) read)
+  replied is_closed (Frame.Command request) (told.Command command) h e = refl
+  replied is_closed Frame.AwaitingOn told.AwaitingOn h e = tt
+  replied is_closed (Frame.Suspend None) told.Broken h e = absurd cc
+  replied is_closed (Frame.Suspend (Some suspension)) (told.Suspension payload) h e = tt
+  replied is_closed (Frame.Error code message behavior delay) (told.Error told_code told_message told_behavior told_delay) h e = tt
+  replied is_closed Frame.End told.End h e = tt
+  replied is_closed Frame.Broken told.Broken h e = absurd cc
+  replied is_closed Frame.TooDeep told.TooDeep h e = absurd cc
+  replied is_closed Frame.NotAccepted told.NotAccepted h e = absurd cc
+  replied is_closed _ _ h e = absurd h

@@ -1,0 +1,125 @@
+-- Why a frame is refused, what is written of it and how it is answered, by what is kept of its invocation and of the frame.
+use Rattle.std.specs.Prelude.{ℕ, ◌<◌, ◌-◌, ◌^◌, max, nat_lt, Bool, true, false, not, if◌then◌else◌, List, [], ◌∷◌, Option, Some, None, option_to_list}
+use Rattle.journal_model.specs.Notification.{Bytes, Text}
+use Rattle.journal_model.specs.Cause.{BrokenPayload, NestedTooDeep, FrameNotAccepted, BadCompletion, InputNotClosed, NumbersUsedUp, PayloadTooLong, Tests, do_ascend, greatest, is_too_long}
+use Rattle.protocol_stream.specs.declared.command_facts.CommandFacts.{CommandFacts}
+use Rattle.protocol_stream.specs.CommandFacts.{facts_of, is_answer}
+use Rattle.protocol_stream.specs.declared.feature.Feature.TheVariants as features
+use Rattle.protocol_stream.specs.Feature.{has_feature}
+use Rattle.protocol_stream.specs.MessageType.{number_of}
+use Rattle.store_frames.specs.declared.frame.RecordedCommand.{RecordedCommand}
+use Rattle.store_frames.specs.declared.frame.ErrorBehavior.{ErrorBehavior}
+use Rattle.store_frames.specs.declared.frame.ErrorBehavior.TheVariants as behaviors
+use Rattle.store_frames.specs.declared.frame.AttemptFrame.{AttemptFrame}
+use Rattle.store_frames.specs.declared.frame.AttemptFrame.TheVariants as told
+use Rattle.store_tables.specs.declared.row.LastError.{LastError}
+use Rattle.store_tables.specs.declared.row.Progress.{Progress}
+use Rattle.store_tables.specs.declared.row.Closing.TheVariants.{Ended, Failed}
+use Rattle.store_tables.specs.declared.row.EntryRow.{EntryRow}
+use Rattle.store_tables.specs.declared.row.Write.{Write}
+use Rattle.store_tables.specs.declared.row.Write.TheVariants.{SetProgress, AddEntry}
+use Rattle.store_model.specs.Steps.{grown, payload_or}
+use Rattle.store_steps.specs.declared.frame.FrameReply.{FrameReply}
+use Rattle.store_steps.specs.declared.frame.FrameReply.TheVariants as replies
+
+-- ---- commands
+
+-- the completions that a command asks for, in order
+abbrev pub asked : Option ℕ → Option ℕ → List ℕ
+asked None second = []
+asked (Some n) second = n ∷ option_to_list second
+
+abbrev pub asked_by : RecordedCommand → List ℕ
+asked_by command = asked command.completion command.second_completion
+
+-- whether a command of this line puts a value out
+abbrev pub puts_out : Option CommandFacts → Bool
+puts_out None = false
+puts_out (Some facts) = is_answer facts.kept
+
+-- the payload of a command that puts a value out
+abbrev pub value_put_out : RecordedCommand → Option Bytes
+value_put_out command = if puts_out (facts_of command.kind) then Some command.payload else None
+
+abbrev pub command_row : Text → ℕ → RecordedCommand → EntryRow
+command_row id place command = record {
+  invocation = id;
+  place = place;
+  kind = number_of command.kind;
+  payload = command.payload;
+  completion = command.completion;
+  second_completion = command.second_completion;
+  answered = None;
+  moment = command.moment;
+}
+
+abbrev pub after_recorded : RecordedCommand → Progress → Progress
+after_recorded command p = record (grown 1 p) {
+  last_completion = max p.last_completion (greatest (asked_by command));
+  answer = payload_or (value_put_out command) p.answer;
+}
+
+-- ---- ends of attempts
+
+abbrev pub number_of_behavior : ErrorBehavior → ℕ
+number_of_behavior behaviors.Retry = 0
+number_of_behavior behaviors.Pause = 1
+number_of_behavior behaviors.Fail = 2
+
+-- whether an error closes its invocation
+abbrev pub does_fail : ℕ → ErrorBehavior → Bool
+does_fail version behaviors.Fail = has_feature version features.ErrorBehavior
+does_fail version _ = false
+
+abbrev pub after_suspension : Bytes → ℕ → Progress → Progress
+after_suspension payload place p = record p { suspension = Some payload; handed = Some place }
+
+abbrev pub after_error : LastError → Bool → Progress → Progress
+after_error error fails p = record p {
+  last_error = Some error;
+  open_object = if fails then None else p.open_object;
+  closing = if fails then Some Failed else p.closing;
+}
+
+abbrev pub after_end : ℕ → Progress → Progress
+after_end place p = record p { open_object = None; closing = Some Ended; handed = Some place }
+
+abbrev pub error_told : ℕ → Text → ErrorBehavior → Option ℕ → LastError
+error_told code message behavior delay = record { code = code; behavior = number_of_behavior behavior; delay = delay; message = message }
+
+-- ---- all frames
+
+-- why a frame of an attempt is refused, whose input is closed or not
+abbrev pub tests_of_told : Progress → Bool → AttemptFrame → Tests
+tests_of_told p is_closed (told.Command command) =
+    (not (do_ascend p.last_completion (asked_by command)), BadCompletion)
+    ∷ (nat_lt (2 ^ 32 - 2) p.entries, NumbersUsedUp)
+    ∷ (is_too_long command.payload, PayloadTooLong) ∷ []
+tests_of_told p is_closed (told.Suspension payload) = (not is_closed, InputNotClosed) ∷ []
+tests_of_told p is_closed told.Broken = (true, BrokenPayload) ∷ []
+tests_of_told p is_closed told.TooDeep = (true, NestedTooDeep) ∷ []
+tests_of_told p is_closed told.NotAccepted = (true, FrameNotAccepted) ∷ []
+tests_of_told p is_closed _ = []
+
+-- what is written of a frame: of an invocation that speaks this version, whose attempt was handed what stands before the place
+abbrev pub writes_of_told : Text → ℕ → ℕ → Progress → AttemptFrame → List Write
+writes_of_told id version place p (told.Command command) =
+    AddEntry (command_row id p.entries command) ∷ SetProgress id (after_recorded command p) ∷ []
+writes_of_told id version place p (told.Suspension payload) = SetProgress id (after_suspension payload place p) ∷ []
+writes_of_told id version place p (told.Error code message behavior delay) =
+    SetProgress id (after_error (error_told code message behavior delay) (does_fail version behavior) p) ∷ []
+writes_of_told id version place p told.End = SetProgress id (after_end place p) ∷ []
+writes_of_told id version place p _ = []
+
+-- how a frame is answered; one that is always refused has no answer of its own
+abbrev pub reply_to_told : Progress → AttemptFrame → FrameReply
+reply_to_told p (told.Command command) = replies.Recorded p.entries
+reply_to_told p (told.Suspension payload) = replies.Suspended
+reply_to_told p (told.Error code message behavior delay) = replies.Failed
+reply_to_told p told.End = replies.Ended
+reply_to_told p _ = replies.Noted
+
+-- a command has a place to stand at
+abbrev pub HasRoom : Progress → AttemptFrame → Type 0
+HasRoom p (told.Command command) = p.entries < 2 ^ 32 - 1
+HasRoom p _ = Unit {0}

@@ -1,0 +1,81 @@
+// Taking a frame of a live attempt: what is asked of the database, and what is decided by it.
+ghost use Rattle.std.specs.Prelude.{◌≡◌, List, IfErr, IfOk};
+ghost use Rattle.sqlite.specs.Held.{state};
+ghost use Rattle.sqlite.specs.State.{HasCleanDisk};
+ghost use Rattle.store_tables.specs.Looks.{Looks};
+ghost use Rattle.journal_model.specs.Event.{Event};
+ghost use Rattle.store_invocations.specs.Rows.{IsStoreOf};
+ghost use Rattle.store_steps.specs.Taken.{IsMade, IsWhy, Takes};
+
+use crate::frame::{LiveFacts, PreparedFrame};
+use crate::refuse::frame_refusal;
+use crate::write::{frame_writes, reply_to};
+use store_frames::AttemptFrame;
+use bytes::ByteStr;
+use sqlite::Alter;
+use std::alloc::Global;
+use store_refusals::Refusal;
+use store_tables::{InvocationRow, Progress, StoreTables, invocation_by_id};
+
+/// What is made ready of a frame, by how far its invocation is.
+fn decide(
+    alloc: Global,
+    id: &ByteStr,
+    version: u32,
+    progress: Progress,
+    attempt: LiveFacts,
+    frame: AttemptFrame,
+) -> Result<PreparedFrame, Refusal>
+    ensures ok { IfOk result (IsMade id.now version progress attempt frame) }
+    ensures err { IfErr result (IsWhy progress attempt frame) }
+{
+    match frame_refusal(&progress, attempt, &frame) {
+        Some(refusal) => {
+            drop(progress);
+            drop(frame);
+            Err(refusal)
+        }
+        None => {
+            let reply = reply_to(&progress, &frame);
+            let writes = frame_writes(alloc, id, version, attempt.handed, progress, frame)?;
+            Ok(PreparedFrame { writes, reply })
+        }
+    }
+}
+
+fn decide_by_row(
+    alloc: Global,
+    id: &ByteStr,
+    row: InvocationRow,
+    attempt: LiveFacts,
+    frame: AttemptFrame,
+) -> Result<PreparedFrame, Refusal>
+    ensures ok { IfOk result (IsMade id.now row.version row.progress attempt frame) }
+    ensures err { IfErr result (IsWhy row.progress attempt frame) }
+{
+    decide(alloc, id, row.version, row.progress, attempt, frame)
+}
+
+/// Decides on a frame that the live attempt of the invocation has written, and makes ready what is written of it. The row of the
+/// invocation is all that is read. Whether the attempt is live is the caller's to know.
+pub fn prepare_frame<S: Alter>(
+    tables: &mut StoreTables<S>,
+    id: &ByteStr,
+    attempt: LiveFacts,
+    frame: AttemptFrame,
+) -> Result<PreparedFrame, Refusal>
+    ensures prepared { HasCleanDisk (state S.Store tables.new) → (events : List Event) → IsStoreOf events (state S.Store tables.old) → Takes events id.now attempt frame result }
+    ensures looks { Looks S.Store tables.old tables.new }
+{
+    match invocation_by_id(tables, id) {
+        Ok(Some(row)) => decide_by_row(tables.alloc(), id, row, attempt, frame),
+        Ok(None) => {
+            drop(frame);
+            Err(Refusal::UnknownInvocation)
+        }
+        Err(error) => {
+            drop(frame);
+            Err(Refusal::from(error))
+        }
+    }
+}

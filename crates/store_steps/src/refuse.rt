@@ -1,0 +1,62 @@
+// Why a frame is refused.
+ghost use Rattle.std.specs.Prelude.{◌≡◌, true};
+ghost use Rattle.journal_model.specs.Cause.{do_ascend};
+ghost use Rattle.store_refusals.specs.Refused.{refusal_by};
+ghost use Rattle.store_steps.specs.Told.{asked, tests_of_told};
+
+use crate::frame::LiveFacts;
+use store_frames::{AttemptFrame, RecordedCommand};
+use store_refusals::Refusal;
+use store_tables::Progress;
+
+/// The greatest place.
+const LAST_PLACE: u32 = 0xFFFF_FFFE;
+
+/// Whether the completions that a command asks for ascend from above every earlier one.
+fn do_completions_ascend(last: u32, first: Option<u32>, second: Option<u32>) -> bool
+    ensures { result ≡ do_ascend last (asked first second) }
+{
+    match (first, second) {
+        (None, _) => true,
+        (Some(first), None) => last < first,
+        (Some(first), Some(second)) => last < first && first < second,
+    }
+}
+
+fn command_refusal(progress: &Progress, command: &RecordedCommand) -> Option<Refusal>
+    ensures { result ≡ refusal_by (tests_of_told progress.now true (AttemptFrame.Command command.now)) }
+{
+    let last = progress.last_completion;
+    if !do_completions_ascend(last, command.completion, command.second_completion) {
+        Some(Refusal::BadCompletion)
+    } else if progress.entries > LAST_PLACE {
+        Some(Refusal::NumbersUsedUp)
+    } else if command.payload.len() > u32::MAX as usize {
+        Some(Refusal::PayloadTooLong)
+    } else {
+        None
+    }
+}
+
+/// Why the frame of an attempt is refused, if it is.
+pub(crate) fn frame_refusal(
+    progress: &Progress,
+    attempt: LiveFacts,
+    frame: &AttemptFrame,
+) -> Option<Refusal>
+    ensures { result ≡ refusal_by (tests_of_told progress.now attempt.is_input_closed frame.now) }
+{
+    match frame {
+        AttemptFrame::Command(command) => command_refusal(progress, command),
+        AttemptFrame::Suspension { .. } if !attempt.is_input_closed => {
+            Some(Refusal::InputNotClosed)
+        }
+        AttemptFrame::Broken => Some(Refusal::BrokenPayload),
+        AttemptFrame::TooDeep => Some(Refusal::NestedTooDeep),
+        AttemptFrame::NotAccepted => Some(Refusal::FrameNotAccepted),
+        AttemptFrame::Suspension { .. }
+        | AttemptFrame::AwaitingOn
+        | AttemptFrame::Error { .. }
+        | AttemptFrame::End => None,
+    }
+}

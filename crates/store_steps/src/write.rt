@@ -1,0 +1,242 @@
+// What is written of a frame, and how it is answered.
+ghost use Rattle.std.specs.Prelude.{◌≡◌, ◌<◌, ◌-◌, ◌^◌, max, [], ◌∷◌, IfOk, OnOk};
+ghost use Rattle.journal_model.specs.Cause.{greatest};
+ghost use Rattle.store_tables.specs.declared.row.Write.TheVariants.{AddEntry, SetProgress};
+ghost use Rattle.store_model.specs.Steps.{payload_or};
+ghost use Rattle.protocol_stream.specs.CommandFacts.{facts_of};
+ghost use Rattle.store_steps.specs.Told.{HasRoom, after_end, after_error, after_recorded, after_suspension, asked, command_row, does_fail, number_of_behavior, puts_out as puts_value_out, reply_to_told, value_put_out, writes_of_told};
+
+use crate::frame::FrameReply;
+use store_frames::{AttemptFrame, ErrorBehavior, RecordedCommand};
+use bytes::{ByteStr, Bytes};
+use protocol_stream::Feature;
+use std::alloc::{AllocError, Global};
+use store_tables::{Closing, EntryRow, LastError, Progress, Write};
+
+/// How a frame is answered. One that is always refused is not asked for.
+pub(crate) fn reply_to(progress: &Progress, frame: &AttemptFrame) -> FrameReply
+    ensures { result ≡ reply_to_told progress.now frame.now }
+{
+    match frame {
+        AttemptFrame::Command(_) => FrameReply::Recorded {
+            place: progress.entries,
+        },
+        AttemptFrame::Suspension { .. } => FrameReply::Suspended,
+        AttemptFrame::Error { .. } => FrameReply::Failed,
+        AttemptFrame::End => FrameReply::Ended,
+        AttemptFrame::AwaitingOn
+        | AttemptFrame::Broken
+        | AttemptFrame::TooDeep
+        | AttemptFrame::NotAccepted => FrameReply::Noted,
+    }
+}
+
+/// The greatest of a number and the completions that a command asks for.
+fn greatest_of(last: u32, first: Option<u32>, second: Option<u32>) -> u32
+    ensures { result ≡ max last (greatest (asked first second)) }
+{
+    match (first, second) {
+        (None, _) => last,
+        (Some(first), None) => last.max(first),
+        (Some(first), Some(second)) => last.max(first).max(second),
+    }
+}
+
+/// Whether a command puts a value out.
+fn puts_out(command: &RecordedCommand) -> bool
+    ensures { result ≡ puts_value_out (facts_of command.now.kind) }
+{
+    match command.kind.command_facts() {
+        Some(facts) => facts.kept.is_answer(),
+        None => false,
+    }
+}
+
+/// What is put out last is the invocation's answer.
+fn note_answer(answer: &mut Option<Bytes>, command: &RecordedCommand) -> Result<(), AllocError>
+    ensures { OnOk result (answer.new ≡ payload_or (value_put_out command.now) answer.old) }
+{
+    if puts_out(command) {
+        let payload = command.payload.clone()?;
+        drop(answer.replace(payload));
+    }
+    Ok(())
+}
+
+fn note_command(progress: &mut Progress, command: &RecordedCommand) -> Result<(), AllocError>
+    requires { progress.old.entries < 2 ^ 32 - 1 }
+    ensures { OnOk result (progress.new ≡ after_recorded command.now progress.old) }
+{
+    note_answer(&mut progress.answer, command)?;
+    progress.last_completion = greatest_of(
+        progress.last_completion,
+        command.completion,
+        command.second_completion,
+    );
+    progress.entries += 1;
+    progress.attempts_since_entry = 0;
+    progress.first_moment = 0;
+    Ok(())
+}
+
+/// The entry of a command at a place.
+fn entry_of(id: ByteStr, place: u32, command: RecordedCommand) -> EntryRow
+    ensures { result ≡ command_row id place command }
+{
+    EntryRow {
+        invocation: id,
+        place,
+        kind: u32::from(u16::from(command.kind)),
+        payload: command.payload,
+        completion: command.completion,
+        second_completion: command.second_completion,
+        answered: None,
+        moment: command.moment,
+    }
+}
+
+/// Two of one id, once the progress is that after the command.
+fn start_recording(
+    id: &ByteStr,
+    progress: &mut Progress,
+    command: &RecordedCommand,
+) -> Result<(ByteStr, ByteStr), AllocError>
+    requires { progress.old.entries < 2 ^ 32 - 1 }
+    ensures ids { IfOk result (λ ids. (ids.0 ≡ id.now) × (ids.1 ≡ id.now)) }
+    ensures progress { OnOk result (progress.new ≡ after_recorded command.now progress.old) }
+{
+    note_command(progress, command)?;
+    Ok((id.clone()?, id.clone()?))
+}
+
+fn command_writes(
+    alloc: Global,
+    id: &ByteStr,
+    mut progress: Progress,
+    command: RecordedCommand,
+) -> Result<Vec<Write>, AllocError>
+    requires { progress.entries < 2 ^ 32 - 1 }
+    ensures { IfOk result (λ writes. writes.items ≡ AddEntry (command_row id.now progress.entries command) ∷ SetProgress id.now (after_recorded command progress) ∷ []) }
+{
+    let place = progress.entries;
+    match start_recording(id, &mut progress, &command) {
+        Ok((invocation, id)) => {
+            let entry = entry_of(invocation, place, command);
+            Ok(vec![in alloc; Write::AddEntry(entry), Write::SetProgress { id, progress }]?)
+        }
+        Err(error) => {
+            drop(progress);
+            drop(command);
+            Err(error)
+        }
+    }
+}
+
+fn progress_write(alloc: Global, id: &ByteStr, progress: Progress) -> Result<Vec<Write>, AllocError>
+    ensures { IfOk result (λ writes. writes.items ≡ SetProgress id.now progress ∷ []) }
+{
+    match id.clone() {
+        Ok(id) => Ok(vec![in alloc; Write::SetProgress { id, progress }]?),
+        Err(error) => {
+            drop(progress);
+            Err(error)
+        }
+    }
+}
+
+fn suspend(progress: &mut Progress, payload: Bytes, handed: u32)
+    ensures { progress.new ≡ after_suspension payload handed progress.old }
+{
+    drop(progress.suspension.replace(payload));
+    progress.handed = Some(handed);
+}
+
+fn behavior_number(behavior: ErrorBehavior) -> u32
+    ensures { result ≡ number_of_behavior behavior }
+{
+    match behavior {
+        ErrorBehavior::Retry => 0,
+        ErrorBehavior::Pause => 1,
+        ErrorBehavior::Fail => 2,
+    }
+}
+
+/// Whether an error closes its invocation.
+fn closes(version: u32, behavior: ErrorBehavior) -> bool
+    ensures { result ≡ does_fail version behavior }
+{
+    match behavior {
+        ErrorBehavior::Fail => Feature::ErrorBehavior.is_in(version),
+        ErrorBehavior::Retry | ErrorBehavior::Pause => false,
+    }
+}
+
+fn close(progress: &mut Progress, closing: Closing)
+    ensures { progress.new ≡ record progress.old { open_object = None; closing = Some closing } }
+{
+    drop(progress.open_object.take());
+    progress.closing = Some(closing);
+}
+
+fn fail(progress: &mut Progress, error: LastError, is_closed: bool)
+    ensures { progress.new ≡ after_error error is_closed progress.old }
+{
+    drop(progress.last_error.replace(error));
+    if is_closed {
+        close(progress, Closing::Failed);
+    }
+}
+
+fn end(progress: &mut Progress, handed: u32)
+    ensures { progress.new ≡ after_end handed progress.old }
+{
+    close(progress, Closing::Ended);
+    progress.handed = Some(handed);
+}
+
+/// What is written of a frame that is accepted.
+pub(crate) fn frame_writes(
+    alloc: Global,
+    id: &ByteStr,
+    version: u32,
+    handed: u32,
+    mut progress: Progress,
+    frame: AttemptFrame,
+) -> Result<Vec<Write>, AllocError>
+    requires { HasRoom progress frame }
+    ensures { IfOk result (λ writes. writes.items ≡ writes_of_told id.now version handed progress frame) }
+{
+    match frame {
+        AttemptFrame::Command(command) => command_writes(alloc, id, progress, command),
+        AttemptFrame::Suspension { payload } => {
+            suspend(&mut progress, payload, handed);
+            progress_write(alloc, id, progress)
+        }
+        AttemptFrame::Error {
+            code,
+            message,
+            behavior,
+            delay,
+        } => {
+            let error = LastError {
+                code,
+                behavior: behavior_number(behavior),
+                delay,
+                message,
+            };
+            fail(&mut progress, error, closes(version, behavior));
+            progress_write(alloc, id, progress)
+        }
+        AttemptFrame::End => {
+            end(&mut progress, handed);
+            progress_write(alloc, id, progress)
+        }
+        AttemptFrame::AwaitingOn
+        | AttemptFrame::Broken
+        | AttemptFrame::TooDeep
+        | AttemptFrame::NotAccepted => {
+            drop(progress);
+            Ok(Vec::new(alloc))
+        }
+    }
+}

@@ -1,0 +1,138 @@
+-- Orders of records that were read.
+use Rattle.std.proofs.Common.{◌≡◌, inl, inr, ◌+◌, ◌-◌, ◌<◌, ◌≤◌, ℕ, pos, zero, suc, cond, Ordering, Less, Equal, Greater, nat_lt, List, [], ◌∷◌, ◌++◌, length, slice_get, slice_index_or, Some, IsTrue, refl, sym, ap, subst, ◌∙◌, arith}
+use Rattle.std.specs.List.Sorted.{IsPermutation}
+use Rattle.std.proofs.lemmas.List.Sorted.{IsPermutation-sym}
+use Rattle.std.proofs.lemmas.Bool.{cases_Bool, lt-ltb, ltb-true, ltb-false}
+use Rattle.std.specs.List.{AllByRecursion}
+use Rattle.std.specs.Prelude.{int_lt}
+use Rattle.std.specs.Cmp.Lexicographic.{slice_cmp}
+use Rattle.std.proofs.lemmas.Cmp.{nat_list_cmp_total}
+use Rattle.std.specs.Ordering.{int_cmp, is_lt, nat_cmp}
+use Rattle.sqlite_trees.specs.Tree.{IsAscending}
+use Rattle.sqlite_keyed.proofs.ListLemmas.{all_weaker, ascending_weaker}
+use Rattle.sqlite_value.specs.Order.{column, value_cmp}
+use Rattle.sqlite_value.proofs.OrderLemmas.{value_cmp-Int, value_cmp-Text, value_cmp-Blob}
+use Rattle.std.proofs.lemmas.Option.{slice_get_read}
+use Rattle.sqlite_rules.specs.Lists.{Has}
+use Rattle.sql_tables.proofs.Reading.{permuted}
+use Rattle.store_tables.specs.Records.{InvocationRow, EntryRow, StateRow, invocation_cells, entry_cells, state_cells}
+use Rattle.store_tables.specs.Questions.{AreInPlace, DoAscend, is_before}
+
+-- ---- places
+
+pub in_place_push : (n : ℕ) (es : List EntryRow) (e : EntryRow) → AreInPlace n es → e.place ≡ n + length es → AreInPlace n (es ++ e ∷ [])
+in_place_push n [] e h at = (omega arith, tt)
+in_place_push n (x ∷ es) e h at = (h.0, in_place_push (n + 1) es e h.1 (omega arith))
+
+no_earlier : (n : ℕ) (es : List EntryRow) (e : EntryRow) → AreInPlace n es → Has es e → n ≤ e.place
+no_earlier n [] e h has = absurd has
+no_earlier n (x ∷ es) e h (inl same) = let p : e.place ≡ n = ap (λ (y : EntryRow). y.place) same ∙ h.0 in omega arith
+no_earlier n (x ∷ es) e h (inr has) = let later = no_earlier (n + 1) es e h.1 has in omega arith
+
+same_members : (n : ℕ) (xs ys : List EntryRow) → AreInPlace n xs → AreInPlace n ys → ((e : EntryRow) → Has xs e → Has ys e) → ((e : EntryRow) → Has ys e → Has xs e) → xs ≡ ys
+same_members n [] [] p q f g = refl
+same_members n [] (y ∷ ys) p q f g = absurd (g y (inl refl))
+same_members n (x ∷ xs) [] p q f g = absurd (f x (inl refl))
+same_members n (x ∷ xs) (y ∷ ys) p q f g =
+    let head : x ≡ y = elim (f x (inl refl)) [ inl e ↦ e | inr later ↦ absurd (let late = no_earlier (n + 1) ys x q.1 later in omega (arith, p.0)) ] in
+    let tail = same_members (n + 1) xs ys p.1 q.1
+    (λ e h. elim (f e (inr h)) [ inl s ↦ absurd (let late = no_earlier (n + 1) xs e p.1 h in let at : e.place ≡ n = ap (λ (z : EntryRow). z.place) s ∙ q.0 in omega arith) | inr k ↦ k ])
+    (λ e h. elim (g e (inr h)) [ inl s ↦ absurd (let late = no_earlier (n + 1) ys e q.1 h in let at : e.place ≡ n = ap (λ (z : EntryRow). z.place) s ∙ p.0 in omega arith) | inr k ↦ k ]) in
+    ap (λ (z : EntryRow). z ∷ xs) head ∙ ap (λ l. y ∷ l) tail
+
+-- of the orders of entries whose places count up there is one
+pub one_order : (xs ys : List EntryRow) → IsPermutation xs ys → AreInPlace 0 xs → AreInPlace 0 ys → ys ≡ xs
+one_order xs ys same h k = same_members 0 ys xs k h (permuted xs ys same) (permuted ys xs (IsPermutation-sym xs ys same))
+
+places_from : (n : ℕ) (es : List EntryRow) → AreInPlace n es → AllByRecursion (λ (e : EntryRow). n ≤ e.place) es
+places_from n [] h = tt
+places_from n (e ∷ es) h = (omega (arith, h.0), all_weaker (λ (x : EntryRow). n + 1 ≤ x.place) (λ (x : EntryRow). n ≤ x.place) (λ (x : EntryRow) later. omega (arith, later)) es (places_from (n + 1) es h.1))
+
+int_before : (a b : ℕ) → a < b → int_cmp (pos a) (pos b) ≡ Less
+int_before a b less = ap (λ t. cond t Less (cond (int_lt (pos b) (pos a)) Greater Equal)) (lt-ltb a b less)
+
+abbrev pub IsPlacedBefore : EntryRow → EntryRow → Type 0
+IsPlacedBefore a b = value_cmp (column (entry_cells a) 1) (column (entry_cells b) 1) ≡ Less
+
+pub in_place_rises : (n : ℕ) (es : List EntryRow) → AreInPlace n es → IsAscending IsPlacedBefore es
+in_place_rises n [] h = tt
+in_place_rises n (e ∷ es) h = (
+  all_weaker (λ (x : EntryRow). n + 1 ≤ x.place) (IsPlacedBefore e) (λ (x : EntryRow) later. value_cmp-Int (pos e.place) (pos x.place) ∙ int_before e.place x.place (omega (arith, h.0, later))) es (places_from (n + 1) es h.1),
+  in_place_rises (n + 1) es h.1,
+)
+
+pub in_place_at : (n : ℕ) (es : List EntryRow) (k : ℕ) (x : EntryRow) → AreInPlace n es → k < length es → x ≡ slice_index_or es k x → x.place ≡ n + k
+in_place_at n [] k x h small is = absurd (omega (arith, small))
+in_place_at n (e ∷ es) zero x h small is = let here : x.place ≡ e.place = ap (λ (y : EntryRow). y.place) is in omega (arith, here, h.0)
+in_place_at n (e ∷ es) (suc k) x h small is = let later = in_place_at (n + 1) es k x h.1 (omega (arith, small)) is in omega (arith, later)
+
+-- ---- keys
+
+-- each of the first n is before the next
+abbrev pub DoAscendTo : {X : Type 0} → (X → List ℕ) → List X → ℕ → Type 0
+DoAscendTo {X} key xs n = (k : ℕ) (a b : X) → k + 1 < n → slice_get xs k ≡ Some a → slice_get xs (k + 1) ≡ Some b → IsTrue (is_before (key a) (key b))
+
+module _ {X : Type 0} (key : X → List ℕ) where
+  some_same : {a b : X} → Some a ≡ Some b → a ≡ b
+  some_same e = cc
+
+  pub ascends_on : (xs : List X) (at : ℕ) (x y : X) → 1 ≤ at → at < length xs → x ≡ slice_index_or xs (at - 1) x → y ≡ slice_index_or xs at y → IsTrue (is_before (key x) (key y))
+      → DoAscendTo key xs at → DoAscendTo key xs (at + 1)
+  ascends_on xs at x y past within first second before so k a b small ea eb = elim (cases_Bool (nat_lt (k + 1) at)) [
+    | inl earlier ↦ so k a b (ltb-true (k + 1) at earlier) ea eb
+    | inr last ↦
+        let here : at ≡ k + 1 = omega (arith, ltb-false (k + 1) at last) in
+        let before_it : at - 1 ≡ k = omega (arith, here) in
+        let one : x ≡ a = some_same (sym (subst (λ i. slice_get xs i ≡ Some x) before_it (slice_get_read xs (length xs) (at - 1) x refl (omega arith) first)) ∙ ea) in
+        let two : y ≡ b = some_same (sym (subst (λ i. slice_get xs i ≡ Some y) here (slice_get_read xs (length xs) at y refl within second)) ∙ eb) in
+        subst (λ z. IsTrue (is_before (key z) (key b))) one (subst (λ z. IsTrue (is_before (key x) (key z))) two before)
+  ]
+
+  later : (k : ℕ) → suc (k + 1) ≡ suc k + 1
+  later k = omega arith
+
+  pub all_ascend : (xs : List X) (n : ℕ) → length xs ≤ n → DoAscendTo key xs n → DoAscend key xs
+  all_ascend [] n long so = tt
+  all_ascend (x ∷ []) n long so = tt
+  all_ascend (x ∷ y ∷ xs) n long so = (so 0 x y (omega arith) refl refl, all_ascend (y ∷ xs) (n - 1) (omega (arith, long)) (λ k a b small ea eb. so (suc k) a b (omega (arith, small, long)) ea (subst (λ i. slice_get (x ∷ y ∷ xs) i ≡ Some b) (later k) eb)))
+
+  -- two neighbours of ascending keys
+  pub ascends_at : (xs : List X) (at : ℕ) (x y : X) → DoAscend key xs → 1 ≤ at → at < length xs → x ≡ slice_index_or xs (at - 1) x → y ≡ slice_index_or xs at y → IsTrue (is_before (key x) (key y))
+  ascends_at xs zero x y up past within first second = absurd (omega (arith, past))
+  ascends_at [] (suc at) x y up past within first second = absurd (omega (arith, within))
+  ascends_at (a ∷ []) (suc at) x y up past within first second = absurd (omega (arith, within))
+  ascends_at (a ∷ b ∷ xs) (suc zero) x y up past within first second = subst (λ z. IsTrue (is_before (key z) (key y))) (sym first) (subst (λ z. IsTrue (is_before (key a) (key z))) (sym second) up.0)
+  ascends_at (a ∷ b ∷ xs) (suc (suc at)) x y up past within first second =
+      let before : suc (suc at) - 1 ≡ suc (suc at - 1) = omega arith in
+      ascends_at (b ∷ xs) (suc at) x y up.1 (omega arith) (omega (arith, within)) (subst (λ i. x ≡ slice_index_or (a ∷ b ∷ xs) i x) before first) second
+
+  is_less : (o : Ordering) → IsTrue (is_lt o) → o ≡ Less
+  is_less Less h = refl
+  is_less Equal h = absurd cc
+  is_less Greater h = absurd cc
+
+  abbrev pub IsKeyedBefore : X → X → Type 0
+  IsKeyedBefore a b = slice_cmp nat_cmp (key a) (key b) ≡ Less
+
+  -- each key is before all later ones
+  pub ascending_rises : (xs : List X) → DoAscend key xs → IsAscending IsKeyedBefore xs
+  ascending_rises [] up = tt
+  ascending_rises (x ∷ []) up = (tt, tt)
+  ascending_rises (x ∷ y ∷ xs) up =
+      let rest = ascending_rises (y ∷ xs) up.1 in
+      let first : IsKeyedBefore x y = is_less (slice_cmp nat_cmp (key x) (key y)) up.0 in
+      ((first, all_weaker (IsKeyedBefore y) (IsKeyedBefore x) (λ z less. nat_list_cmp_total.trans (key x) (key y) (key z) first less) xs rest.0), rest)
+
+abbrev pub IsStateBefore : StateRow → StateRow → Type 0
+IsStateBefore a b = value_cmp (column (state_cells a) 1) (column (state_cells b) 1) ≡ Less
+
+pub states_rise : (xs : List StateRow) → DoAscend (λ (s : StateRow). s.key) xs → IsAscending IsStateBefore xs
+states_rise xs up =
+    ascending_weaker (IsKeyedBefore (λ (s : StateRow). s.key)) IsStateBefore (λ a b less. value_cmp-Blob a.key b.key ∙ less) xs (ascending_rises (λ (s : StateRow). s.key) xs up)
+
+abbrev pub IsInvocationBefore : InvocationRow → InvocationRow → Type 0
+IsInvocationBefore a b = value_cmp (column (invocation_cells a) 0) (column (invocation_cells b) 0) ≡ Less
+
+pub invocations_rise : (xs : List InvocationRow) → DoAscend (λ (i : InvocationRow). i.id) xs → IsAscending IsInvocationBefore xs
+invocations_rise xs up =
+    ascending_weaker (IsKeyedBefore (λ (i : InvocationRow). i.id)) IsInvocationBefore (λ a b less. value_cmp-Text a.id b.id ∙ less) xs (ascending_rises (λ (i : InvocationRow). i.id) xs up)

@@ -1,0 +1,16 @@
+use Rattle.std.proofs.Common.{arith}
+use Rattle.sqlite.specs.State.{State, HasCleanDisk}
+use Rattle.sqlite.specs.Held.{state}
+use Rattle.sql_tables.proofs.Queries.{on_ok}
+use Rattle.store_tables.proofs.Making.{marked}
+use Rattle.store_tables.proofs.opening.add_mark.Goals as goal
+
+pub returns-clause-ok : goal.returns-clause-ok
+returns-clause-ok g c clean =
+    let old : State = state g.S.Store c.args.tx.now.conn.now in
+    let new : State = state g.S.Store c.run.new.tx.conn.now in
+    let early : HasCleanDisk old = omega (arith, c.run.ensures.survives.clean) in
+    let made = c.requires early in
+    on_ok c.run.result (c.run.ensures.ran clean) (λ ran.
+    let done = marked old new made.schema made.bare ran in
+    (done.0, ran.inside, done.1))

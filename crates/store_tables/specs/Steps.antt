@@ -1,0 +1,48 @@
+-- What a call does to the records.
+use Rattle.std.specs.Prelude.{◌≡◌, ◌⊎◌, List, [], Result, Ok, Err, IsTrue}
+use Rattle.sqlite_trees.specs.Tree.{Trees}
+use Rattle.sqlite.specs.State.{State, HasCleanDisk}
+use Rattle.sql_tables.specs.declared.read.ReadError.{ReadError}
+use Rattle.sql_tables.specs.declared.read.ReadError.TheVariants.{Foreign}
+use Rattle.store_tables.specs.Records.{Records, Write, Holds, applied_all}
+use Rattle.store_tables.specs.Tables.{store_schema}
+
+-- whatever records the tables had, they have the changed ones then
+abbrev pub Turns : (Records → Records) → Trees → Trees → Type 0
+Turns change old new = (r : Records) → Holds old r → Holds new (change r)
+
+-- inside a transaction the records are changed so
+pub record Steps (change : Records → Records) (old new : State) : Type 0 where
+  pub was_open : IsTrue old.is_open
+  pub schema : new.now.schema ≡ store_schema
+  pub inside : IsTrue new.in_transaction
+  pub records : Turns change old.now.trees new.now.trees
+
+-- a connection that is open has the tables of a store; one that is shut says nothing
+abbrev pub IsStore : State → Type 0
+IsStore s = HasCleanDisk s → IsTrue s.is_open → s.now.schema ≡ store_schema
+
+-- the tables have no rows
+pub record AreBare (db : Trees) : Type 0 where
+  pub meta : db 0 ≡ []
+  pub invocations : db 1 ≡ []
+  pub entries : db 4 ≡ []
+  pub states : db 9 ≡ []
+
+-- they are just made, inside a transaction
+pub record IsMade (s : State) : Type 0 where
+  pub schema : s.now.schema ≡ store_schema
+  pub inside : IsTrue s.in_transaction
+  pub bare : AreBare s.now.trees
+
+-- the connection was open, unless nothing was to be written, and the records are changed so
+abbrev pub WasOpen : List Write → State → Type 0
+WasOpen writes s = (writes ≡ []) ⊎ IsTrue s.is_open
+
+abbrev pub Lands : List Write → State → Trees → Type 0
+Lands writes old trees = WasOpen writes old × Turns (applied_all writes) old.now.trees trees
+
+-- a question that was answered, or that met a foreign row, was asked of an open connection
+abbrev pub WasAsked : {A : Type 0} → Result A ReadError → State → Type 0
+WasAsked (Ok found) s = IsTrue s.is_open
+WasAsked (Err e) s = e ≡ Foreign → IsTrue s.is_open

@@ -1,0 +1,221 @@
+//! Records, read from their rows.
+
+ghost use Rattle.std.specs.Prelude.{◌≡◌, ◌≢◌, IfErr, IfOk};
+ghost use Rattle.sqlite_value.specs.Order.{column};
+ghost use Rattle.sqlite.specs.Values.{or_null};
+ghost use Rattle.store_tables.specs.Parts.{AreCounts, IsErrorAt, IsProgressAt};
+ghost use Rattle.store_tables.specs.Records.{FitsEntry, FitsInvocation, FitsState, FitsMark, InvocationRow as Invocation, EntryRow as Entry, Mark as Own, StateRow as State, cells_of_mark, closing_cell, entry_cells, invocation_cells, state_cells};
+
+use crate::row::{Closing, EntryRow, InvocationRow, LastError, Mark, Progress, StateRow};
+use sql_tables::read::{
+    ReadError, blob_at, blob_or_none_at, flag_at, long_at, long_or_none_at, short_at,
+    short_or_none_at, text_at, text_or_none_at,
+};
+use sql_tables::stored::Stored;
+use sqlite::Row;
+use std::alloc::Global;
+
+fn mark_from(alloc: Global, row: &Row) -> Result<Mark, ReadError>
+    ensures ok { IfOk result (λ m. (cells_of_mark m ≡ row.now) × FitsMark m) }
+    ensures foreign { IfErr result (λ e. e ≡ ReadError.Foreign → (x : Own) → FitsMark x → cells_of_mark x ≢ row.now) }
+{
+    if row.column_count() != 2 {
+        return Err(ReadError::Foreign);
+    }
+    let version = short_at(row, 1)?;
+    let name = text_at(alloc, row, 0)?;
+    Ok(Mark { name, version })
+}
+
+impl Stored for Mark {
+    ghost use Rattle.store_tables.specs.Records.{FitsMark, cells_of_mark};
+
+    ghost cells = { cells_of_mark };
+
+    ghost fits = { FitsMark };
+
+    fn from_row(alloc: Global, row: &Row) -> Result<Mark, ReadError> {
+        mark_from(alloc, row)
+    }
+}
+
+fn state_from(alloc: Global, row: &Row) -> Result<StateRow, ReadError>
+    ensures ok { IfOk result (λ s. (state_cells s ≡ row.now) × FitsState s) }
+    ensures foreign { IfErr result (λ e. e ≡ ReadError.Foreign → (x : State) → FitsState x → state_cells x ≢ row.now) }
+{
+    if row.column_count() != 3 {
+        return Err(ReadError::Foreign);
+    }
+    Ok(StateRow {
+        object: text_at(alloc, row, 0)?,
+        key: blob_at(alloc, row, 1)?,
+        value: blob_at(alloc, row, 2)?,
+    })
+}
+
+impl Stored for StateRow {
+    ghost use Rattle.store_tables.specs.Records.{FitsState, state_cells};
+
+    ghost cells = { state_cells };
+
+    ghost fits = { FitsState };
+
+    fn from_row(alloc: Global, row: &Row) -> Result<StateRow, ReadError> {
+        state_from(alloc, row)
+    }
+}
+
+fn entry_from(alloc: Global, row: &Row) -> Result<EntryRow, ReadError>
+    ensures ok { IfOk result (λ e. (entry_cells e ≡ row.now) × FitsEntry e) }
+    ensures foreign { IfErr result (λ e. e ≡ ReadError.Foreign → (x : Entry) → FitsEntry x → entry_cells x ≢ row.now) }
+{
+    if row.column_count() != 8 {
+        return Err(ReadError::Foreign);
+    }
+    let place = short_at(row, 1)?;
+    let kind = short_at(row, 2)?;
+    let completion = short_or_none_at(row, 4)?;
+    let second_completion = short_or_none_at(row, 5)?;
+    let answered = short_or_none_at(row, 6)?;
+    let moment = long_at(row, 7)?;
+    let payload = blob_at(alloc, row, 3)?;
+    let invocation = text_at(alloc, row, 0)?;
+    Ok(EntryRow {
+        invocation,
+        place,
+        kind,
+        payload,
+        completion,
+        second_completion,
+        answered,
+        moment,
+    })
+}
+
+impl Stored for EntryRow {
+    ghost use Rattle.store_tables.specs.Records.{FitsEntry, entry_cells};
+
+    ghost cells = { entry_cells };
+
+    ghost fits = { FitsEntry };
+
+    fn from_row(alloc: Global, row: &Row) -> Result<EntryRow, ReadError> {
+        entry_from(alloc, row)
+    }
+}
+
+fn closing_from(row: &Row) -> Result<Option<Closing>, ReadError>
+    ensures ok { IfOk result (λ o. or_null closing_cell o ≡ column row.now 8) }
+    ensures foreign { IfErr result (λ e. e ≡ ReadError.Foreign → (x : Invocation) → FitsInvocation x → invocation_cells x ≢ row.now) }
+{
+    match short_or_none_at(row, 8)? {
+        None => Ok(None),
+        Some(1) => Ok(Some(Closing::Ended)),
+        Some(2) => Ok(Some(Closing::Failed)),
+        Some(_) => Err(ReadError::Foreign),
+    }
+}
+
+fn error_from(alloc: Global, row: &Row) -> Result<Option<LastError>, ReadError>
+    ensures ok { IfOk result (IsErrorAt row.now) }
+    ensures foreign { IfErr result (λ e. e ≡ ReadError.Foreign → (x : Invocation) → FitsInvocation x → invocation_cells x ≢ row.now) }
+{
+    let code = short_or_none_at(row, 10)?;
+    let behavior = short_or_none_at(row, 11)?;
+    let delay = long_or_none_at(row, 12)?;
+    let message = text_or_none_at(alloc, row, 13)?;
+    match (code, behavior, message) {
+        (Some(code), Some(behavior), Some(message)) => Ok(Some(LastError {
+            code,
+            behavior,
+            delay,
+            message,
+        })),
+        (None, None, None) if delay.is_none() => Ok(None),
+        _ => Err(ReadError::Foreign),
+    }
+}
+
+/// The numbers at the end of an invocation's row.
+#[derive(Clone, Copy, Debug)]
+pub struct Counts {
+    pub attempts: u32,
+    pub attempts_since_entry: u32,
+    pub first_moment: u64,
+    pub last_completion: u32,
+    pub entries: u32,
+}
+
+fn counts_from(row: &Row) -> Result<Counts, ReadError>
+    ensures ok { IfOk result (AreCounts row.now) }
+    ensures foreign { IfErr result (λ e. e ≡ ReadError.Foreign → (x : Invocation) → FitsInvocation x → invocation_cells x ≢ row.now) }
+{
+    Ok(Counts {
+        attempts: short_at(row, 14)?,
+        attempts_since_entry: short_at(row, 15)?,
+        first_moment: long_at(row, 16)?,
+        last_completion: short_at(row, 17)?,
+        entries: short_at(row, 18)?,
+    })
+}
+
+fn progress_from(alloc: Global, row: &Row) -> Result<Progress, ReadError>
+    ensures ok { IfOk result (IsProgressAt row.now) }
+    ensures foreign { IfErr result (λ e. e ≡ ReadError.Foreign → (x : Invocation) → FitsInvocation x → invocation_cells x ≢ row.now) }
+{
+    let counts = counts_from(row)?;
+    let handed = short_or_none_at(row, 7)?;
+    let closing = closing_from(row)?;
+    let open_object = text_or_none_at(alloc, row, 5)?;
+    let suspension = blob_or_none_at(alloc, row, 6)?;
+    let answer = blob_or_none_at(alloc, row, 9)?;
+    let last_error = error_from(alloc, row)?;
+    Ok(Progress {
+        open_object,
+        suspension,
+        handed,
+        closing,
+        answer,
+        last_error,
+        attempts: counts.attempts,
+        attempts_since_entry: counts.attempts_since_entry,
+        first_moment: counts.first_moment,
+        last_completion: counts.last_completion,
+        entries: counts.entries,
+    })
+}
+
+fn invocation_from(alloc: Global, row: &Row) -> Result<InvocationRow, ReadError>
+    ensures ok { IfOk result (λ i. (invocation_cells i ≡ row.now) × FitsInvocation i) }
+    ensures foreign { IfErr result (λ e. e ≡ ReadError.Foreign → (x : Invocation) → FitsInvocation x → invocation_cells x ≢ row.now) }
+{
+    if row.column_count() != 19 {
+        return Err(ReadError::Foreign);
+    }
+    let version = short_at(row, 2)?;
+    let seed = long_at(row, 3)?;
+    let is_whole = flag_at(row, 4)?;
+    let id = text_at(alloc, row, 0)?;
+    let object = text_at(alloc, row, 1)?;
+    let progress = progress_from(alloc, row)?;
+    Ok(InvocationRow {
+        id,
+        object,
+        version,
+        seed,
+        is_whole,
+        progress,
+    })
+}
+
+impl Stored for InvocationRow {
+    ghost use Rattle.store_tables.specs.Records.{FitsInvocation, invocation_cells};
+
+    ghost cells = { invocation_cells };
+
+    ghost fits = { FitsInvocation };
+
+    fn from_row(alloc: Global, row: &Row) -> Result<InvocationRow, ReadError> {
+        invocation_from(alloc, row)
+    }
+}

@@ -1,0 +1,55 @@
+//! Whether records that were read stand in the order in which they were asked for.
+
+ghost use Rattle.std.specs.Prelude.{◌≡◌, IsTrue};
+ghost use Rattle.store_tables.specs.Questions.{AreInPlace, DoAscend, is_before};
+
+use crate::row::{EntryRow, InvocationRow, StateRow};
+
+/// Whether the places count up from 0.
+#[tactic(auto, using(crate::proofs::Orders::in_place_at))]
+pub(crate) fn are_in_place(entries: &[EntryRow]) -> bool
+    ensures exact { IsTrue result → AreInPlace 0 entries.now }
+    ensures complete { AreInPlace 0 entries.now → IsTrue result }
+{
+    for (place, entry) in entries.iter().enumerate() {
+        if entry.place as usize != place {
+            return false;
+        }
+    }
+    true
+}
+
+fn is_first(first: &[u8], second: &[u8]) -> bool
+    ensures { result ≡ is_before first.now second.now }
+{
+    first.cmp(second).is_lt()
+}
+
+/// Whether each key is before the next.
+pub(crate) fn do_states_ascend(states: &[StateRow]) -> bool
+    ensures exact { IsTrue result → DoAscend (λ s. s.key) states.now }
+    ensures complete { DoAscend (λ s. s.key) states.now → IsTrue result }
+{
+    for at in 1..states.len() {
+        if !is_first(states[at - 1].key.as_slice(), states[at].key.as_slice()) {
+            return false;
+        }
+    }
+    true
+}
+
+/// Whether each id is before the next.
+pub(crate) fn do_invocations_ascend(invocations: &[InvocationRow]) -> bool
+    ensures exact { IsTrue result → DoAscend (λ i. i.id) invocations.now }
+    ensures complete { DoAscend (λ i. i.id) invocations.now → IsTrue result }
+{
+    for at in 1..invocations.len() {
+        if !is_first(
+            invocations[at - 1].id.as_bytes().as_slice(),
+            invocations[at].id.as_bytes().as_slice(),
+        ) {
+            return false;
+        }
+    }
+    true
+}

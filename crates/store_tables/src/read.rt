@@ -1,0 +1,218 @@
+//! What is recorded, as it is asked for. A question leaves the tables as they were. Where they hold records of which one at most
+//! has the key, that one is found, and no row is foreign. What is answered was asked of an open connection, so questions in turn
+//! are all about the same tables.
+
+ghost use Rattle.std.specs.Prelude.{◌≡◌, IfErr, IfOk};
+ghost use Rattle.sqlite.specs.Held.{state};
+ghost use Rattle.sqlite.specs.State.{HasCleanDisk};
+ghost use Rattle.store_tables.specs.Looks.{Looks};
+ghost use Rattle.store_tables.specs.Questions.{AreFound, IsAmbiguous, IsFound, IsJournal, IsNoJournal, answers, asks_for, asks_second_for, has_id, is_any, is_at_key, is_at_place, is_of_object, is_open_of};
+ghost use Rattle.store_tables.specs.Orders.{IsArranged, IsUnarranged};
+ghost use Rattle.store_tables.specs.Steps.{WasAsked};
+
+use crate::order::{are_in_place, do_invocations_ascend, do_states_ascend};
+use crate::row::{EntryRow, InvocationRow, StateRow};
+use crate::tables::StoreTables;
+use bytes::{ByteStr, Bytes};
+use sql_tables::cell::{blob, short, text};
+use sql_tables::read::ReadError;
+use sql_tables::stored::{all_by, one_by};
+use sqlite::Alter;
+
+/// The invocation of that id.
+pub fn invocation_by_id<S: Alter>(
+    tables: &mut StoreTables<S>,
+    id: &ByteStr,
+) -> Result<Option<InvocationRow>, ReadError>
+    ensures found { HasCleanDisk (state S.Store tables.new) → IfOk result (IsFound (λ r. r.invocations) (has_id id.now) (state S.Store tables.old).now.trees) }
+    ensures foreign { HasCleanDisk (state S.Store tables.new) → IfErr result (λ e. e ≡ ReadError.Foreign → IsAmbiguous (λ r. r.invocations) (has_id id.now) (state S.Store tables.old).now.trees) }
+    ensures looks { Looks S.Store tables.old tables.new }
+    ensures open { HasCleanDisk (state S.Store tables.new) → WasAsked result (state S.Store tables.old) }
+{
+    one_by(
+        tables.alloc,
+        &mut tables.connection,
+        "SELECT * FROM invocation WHERE id = ?1",
+        &[text(id)],
+    )
+}
+
+/// The open invocation of an object.
+pub fn open_invocation<S: Alter>(
+    tables: &mut StoreTables<S>,
+    object: &ByteStr,
+) -> Result<Option<InvocationRow>, ReadError>
+    ensures found { HasCleanDisk (state S.Store tables.new) → IfOk result (IsFound (λ r. r.invocations) (is_open_of object.now) (state S.Store tables.old).now.trees) }
+    ensures foreign { HasCleanDisk (state S.Store tables.new) → IfErr result (λ e. e ≡ ReadError.Foreign → IsAmbiguous (λ r. r.invocations) (is_open_of object.now) (state S.Store tables.old).now.trees) }
+    ensures looks { Looks S.Store tables.old tables.new }
+    ensures open { HasCleanDisk (state S.Store tables.new) → WasAsked result (state S.Store tables.old) }
+{
+    one_by(
+        tables.alloc,
+        &mut tables.connection,
+        "SELECT * FROM invocation WHERE open_object = ?1",
+        &[text(object)],
+    )
+}
+
+/// The entry at a place of an invocation.
+pub fn entry_by_place<S: Alter>(
+    tables: &mut StoreTables<S>,
+    invocation: &ByteStr,
+    place: u32,
+) -> Result<Option<EntryRow>, ReadError>
+    ensures found { HasCleanDisk (state S.Store tables.new) → IfOk result (IsFound (λ r. r.entries) (is_at_place invocation.now place) (state S.Store tables.old).now.trees) }
+    ensures foreign { HasCleanDisk (state S.Store tables.new) → IfErr result (λ e. e ≡ ReadError.Foreign → IsAmbiguous (λ r. r.entries) (is_at_place invocation.now place) (state S.Store tables.old).now.trees) }
+    ensures looks { Looks S.Store tables.old tables.new }
+    ensures open { HasCleanDisk (state S.Store tables.new) → WasAsked result (state S.Store tables.old) }
+{
+    one_by(
+        tables.alloc,
+        &mut tables.connection,
+        "SELECT * FROM entry WHERE invocation = ?1 AND place = ?2",
+        &[text(invocation), short(place)],
+    )
+}
+
+/// The request that asks for a completion as its first.
+pub fn entry_by_completion<S: Alter>(
+    tables: &mut StoreTables<S>,
+    invocation: &ByteStr,
+    completion: u32,
+) -> Result<Option<EntryRow>, ReadError>
+    ensures found { HasCleanDisk (state S.Store tables.new) → IfOk result (IsFound (λ r. r.entries) (asks_for invocation.now completion) (state S.Store tables.old).now.trees) }
+    ensures foreign { HasCleanDisk (state S.Store tables.new) → IfErr result (λ e. e ≡ ReadError.Foreign → IsAmbiguous (λ r. r.entries) (asks_for invocation.now completion) (state S.Store tables.old).now.trees) }
+    ensures looks { Looks S.Store tables.old tables.new }
+    ensures open { HasCleanDisk (state S.Store tables.new) → WasAsked result (state S.Store tables.old) }
+{
+    one_by(
+        tables.alloc,
+        &mut tables.connection,
+        "SELECT * FROM entry WHERE invocation = ?1 AND completion = ?2",
+        &[text(invocation), short(completion)],
+    )
+}
+
+/// The request that asks for a completion as its second.
+pub fn entry_by_second_completion<S: Alter>(
+    tables: &mut StoreTables<S>,
+    invocation: &ByteStr,
+    completion: u32,
+) -> Result<Option<EntryRow>, ReadError>
+    ensures found { HasCleanDisk (state S.Store tables.new) → IfOk result (IsFound (λ r. r.entries) (asks_second_for invocation.now completion) (state S.Store tables.old).now.trees) }
+    ensures foreign { HasCleanDisk (state S.Store tables.new) → IfErr result (λ e. e ≡ ReadError.Foreign → IsAmbiguous (λ r. r.entries) (asks_second_for invocation.now completion) (state S.Store tables.old).now.trees) }
+    ensures looks { Looks S.Store tables.old tables.new }
+    ensures open { HasCleanDisk (state S.Store tables.new) → WasAsked result (state S.Store tables.old) }
+{
+    one_by(
+        tables.alloc,
+        &mut tables.connection,
+        "SELECT * FROM entry WHERE invocation = ?1 AND second_completion = ?2",
+        &[text(invocation), short(completion)],
+    )
+}
+
+/// The arrival that answers a completion.
+pub fn entry_by_answered<S: Alter>(
+    tables: &mut StoreTables<S>,
+    invocation: &ByteStr,
+    completion: u32,
+) -> Result<Option<EntryRow>, ReadError>
+    ensures found { HasCleanDisk (state S.Store tables.new) → IfOk result (IsFound (λ r. r.entries) (answers invocation.now completion) (state S.Store tables.old).now.trees) }
+    ensures foreign { HasCleanDisk (state S.Store tables.new) → IfErr result (λ e. e ≡ ReadError.Foreign → IsAmbiguous (λ r. r.entries) (answers invocation.now completion) (state S.Store tables.old).now.trees) }
+    ensures looks { Looks S.Store tables.old tables.new }
+    ensures open { HasCleanDisk (state S.Store tables.new) → WasAsked result (state S.Store tables.old) }
+{
+    one_by(
+        tables.alloc,
+        &mut tables.connection,
+        "SELECT * FROM entry WHERE invocation = ?1 AND answered = ?2",
+        &[text(invocation), short(completion)],
+    )
+}
+
+/// The value of a key in the state of an object.
+pub fn state_by_key<S: Alter>(
+    tables: &mut StoreTables<S>,
+    object: &ByteStr,
+    key: &Bytes,
+) -> Result<Option<StateRow>, ReadError>
+    ensures found { HasCleanDisk (state S.Store tables.new) → IfOk result (IsFound (λ r. r.states) (is_at_key object.now key.now) (state S.Store tables.old).now.trees) }
+    ensures foreign { HasCleanDisk (state S.Store tables.new) → IfErr result (λ e. e ≡ ReadError.Foreign → IsAmbiguous (λ r. r.states) (is_at_key object.now key.now) (state S.Store tables.old).now.trees) }
+    ensures looks { Looks S.Store tables.old tables.new }
+    ensures open { HasCleanDisk (state S.Store tables.new) → WasAsked result (state S.Store tables.old) }
+{
+    one_by(
+        tables.alloc,
+        &mut tables.connection,
+        "SELECT * FROM state WHERE object = ?1 AND key = ?2",
+        &[text(object), blob(key)],
+    )
+}
+
+/// The journal of an invocation, by place, where its places count up from 0.
+pub fn journal<S: Alter>(
+    tables: &mut StoreTables<S>,
+    invocation: &ByteStr,
+) -> Result<Vec<EntryRow>, ReadError>
+    ensures found { HasCleanDisk (state S.Store tables.new) → IfOk result (λ es. IsJournal invocation.now (state S.Store tables.old).now.trees es.items) }
+    ensures foreign { HasCleanDisk (state S.Store tables.new) → IfErr result (λ e. e ≡ ReadError.Foreign → IsNoJournal invocation.now (state S.Store tables.old).now.trees) }
+    ensures looks { Looks S.Store tables.old tables.new }
+    ensures open { HasCleanDisk (state S.Store tables.new) → WasAsked result (state S.Store tables.old) }
+{
+    let records: Vec<EntryRow> = all_by(
+        tables.alloc,
+        &mut tables.connection,
+        "SELECT * FROM entry WHERE invocation = ?1 ORDER BY place",
+        &[text(invocation)],
+    )?;
+    if !are_in_place(records.as_slice()) {
+        return Err(ReadError::Foreign);
+    }
+    Ok(records)
+}
+
+/// The state of an object, in the order of the bytes of its keys.
+pub fn states_of<S: Alter>(
+    tables: &mut StoreTables<S>,
+    object: &ByteStr,
+) -> Result<Vec<StateRow>, ReadError>
+    ensures found { HasCleanDisk (state S.Store tables.new) → IfOk result (λ es. AreFound (λ r. r.states) (is_of_object object.now) (λ s. s.key) (state S.Store tables.old).now.trees es.items) }
+    ensures arranged { HasCleanDisk (state S.Store tables.new) → IfOk result (λ es. IsArranged (λ r. r.states) (is_of_object object.now) (λ s. s.key) (state S.Store tables.old).now.trees es.items) }
+    ensures foreign { HasCleanDisk (state S.Store tables.new) → IfErr result (λ e. e ≡ ReadError.Foreign → IsUnarranged (λ r. r.states) (is_of_object object.now) (λ s. s.key) (state S.Store tables.old).now.trees) }
+    ensures looks { Looks S.Store tables.old tables.new }
+    ensures open { HasCleanDisk (state S.Store tables.new) → WasAsked result (state S.Store tables.old) }
+{
+    let records: Vec<StateRow> = all_by(
+        tables.alloc,
+        &mut tables.connection,
+        "SELECT * FROM state WHERE object = ?1 ORDER BY key",
+        &[text(object)],
+    )?;
+    if !do_states_ascend(records.as_slice()) {
+        return Err(ReadError::Foreign);
+    }
+    Ok(records)
+}
+
+/// Every invocation, in the order of the bytes of their ids.
+pub fn all_invocations<S: Alter>(
+    tables: &mut StoreTables<S>,
+) -> Result<Vec<InvocationRow>, ReadError>
+    ensures found { HasCleanDisk (state S.Store tables.new) → IfOk result (λ es. AreFound (λ r. r.invocations) is_any (λ i. i.id) (state S.Store tables.old).now.trees es.items) }
+    ensures arranged { HasCleanDisk (state S.Store tables.new) → IfOk result (λ es. IsArranged (λ r. r.invocations) is_any (λ i. i.id) (state S.Store tables.old).now.trees es.items) }
+    ensures foreign { HasCleanDisk (state S.Store tables.new) → IfErr result (λ e. e ≡ ReadError.Foreign → IsUnarranged (λ r. r.invocations) is_any (λ i. i.id) (state S.Store tables.old).now.trees) }
+    ensures looks { Looks S.Store tables.old tables.new }
+    ensures open { HasCleanDisk (state S.Store tables.new) → WasAsked result (state S.Store tables.old) }
+{
+    let records: Vec<InvocationRow> = all_by(
+        tables.alloc,
+        &mut tables.connection,
+        "SELECT * FROM invocation ORDER BY id",
+        &[],
+    )?;
+    if !do_invocations_ascend(records.as_slice()) {
+        return Err(ReadError::Foreign);
+    }
+    Ok(records)
+}

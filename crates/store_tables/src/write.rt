@@ -1,0 +1,252 @@
+//! Changes of the records, and one transaction over a list of them.
+
+ghost use Rattle.std.specs.Prelude.{◌≡◌, IfSome, IsUtf8, OnOk};
+ghost use Rattle.sqlite.specs.Held.{state};
+ghost use Rattle.sqlite.specs.State.{HasCleanDisk, KeepsCommit, Survives};
+ghost use Rattle.sqlite.specs.Values.{bound_value, or_null};
+ghost use Rattle.sqlite_value.specs.Value.{owned};
+ghost use Rattle.sqlite_value.specs.declared.value.Value.TheVariants.{Text as Words};
+ghost use Rattle.sql_tables.specs.Cells.{IsLong, IsShort, long_cell, short_cell};
+ghost use Rattle.store_tables.specs.Looks.{Lasts, Makes};
+ghost use Rattle.store_tables.specs.Records.{applied, closing_cell, delay_of, with_entry, with_invocation, with_progress, with_state, without_state, without_states};
+ghost use Rattle.store_tables.specs.Steps.{IsStore, Steps};
+
+use crate::row::{Closing, EntryRow, InvocationRow, LastError, Progress, StateRow, Write};
+use crate::tables::StoreTables;
+use bytes::{ByteStr, Bytes};
+use sql_tables::cell::{
+    blob, blob_or_null, flag, long, long_or_null, short, short_or_null, text, text_or_null,
+};
+use sql_tables::query::run;
+use sqlite::types::ValueRef;
+use sqlite::{Alter, Error, Transaction};
+
+fn closing<'a>(value: Option<Closing>) -> ValueRef<'a>
+    ensures { bound_value (owned result) ≡ or_null closing_cell value }
+{
+    match value {
+        Some(Closing::Ended) => short(1),
+        Some(Closing::Failed) => short(2),
+        None => ValueRef::Null,
+    }
+}
+
+fn error_code<'a>(error: &Option<LastError>) -> ValueRef<'a>
+    ensures cell { bound_value (owned result) ≡ or_null (λ e. short_cell e.code) error.now }
+    ensures fits { IfSome error.now (λ e. IsShort e.code) }
+{
+    match error {
+        Some(error) => short(error.code),
+        None => ValueRef::Null,
+    }
+}
+
+fn error_behavior<'a>(error: &Option<LastError>) -> ValueRef<'a>
+    ensures cell { bound_value (owned result) ≡ or_null (λ e. short_cell e.behavior) error.now }
+    ensures fits { IfSome error.now (λ e. IsShort e.behavior) }
+{
+    match error {
+        Some(error) => short(error.behavior),
+        None => ValueRef::Null,
+    }
+}
+
+fn error_delay<'a>(error: &Option<LastError>) -> ValueRef<'a>
+    ensures cell { bound_value (owned result) ≡ or_null long_cell (delay_of error.now) }
+    ensures fits { IfSome error.now (λ e. IfSome e.delay IsLong) }
+{
+    match error {
+        Some(error) => long_or_null(error.delay),
+        None => ValueRef::Null,
+    }
+}
+
+fn error_message(error: &Option<LastError>) -> ValueRef<'_>
+    ensures cell { bound_value (owned result) ≡ or_null (λ e. Words e.message) error.now }
+    ensures fits { IfSome error.now (λ e. IsUtf8 e.message) }
+{
+    match error {
+        Some(error) => text(&error.message),
+        None => ValueRef::Null,
+    }
+}
+
+fn add_invocation<S: Alter>(
+    tx: &mut Transaction<'_, S>,
+    invocation: &InvocationRow,
+) -> Result<(), Error>
+    requires { IsStore (state S.Store tx.old.conn.now) }
+    ensures same_reference { tx.new.conn.ghost_name ≡ tx.old.conn.ghost_name }
+    ensures ok { HasCleanDisk (state S.Store tx.new.conn.now) → OnOk result (Steps (with_invocation invocation.now) (state S.Store tx.old.conn.now) (state S.Store tx.new.conn.now)) }
+    ensures kept { HasCleanDisk (state S.Store tx.new.conn.now) → KeepsCommit (state S.Store tx.old.conn.now) (state S.Store tx.new.conn.now) }
+    ensures survives { Survives (state S.Store tx.old.conn.now) (state S.Store tx.new.conn.now) (λ _. ⊥) }
+{
+    let progress = &invocation.progress;
+    run(
+        tx,
+        "INSERT INTO invocation VALUES (?1, ?2, ?3, ?4, ?5, ?6, ?7, ?8, ?9, ?10, ?11, ?12, ?13, ?14, ?15, ?16, ?17, ?18, ?19)",
+        &[
+            text(&invocation.id),
+            text(&invocation.object),
+            short(invocation.version),
+            long(invocation.seed),
+            flag(invocation.is_whole),
+            text_or_null(&progress.open_object),
+            blob_or_null(&progress.suspension),
+            short_or_null(progress.handed),
+            closing(progress.closing),
+            blob_or_null(&progress.answer),
+            error_code(&progress.last_error),
+            error_behavior(&progress.last_error),
+            error_delay(&progress.last_error),
+            error_message(&progress.last_error),
+            short(progress.attempts),
+            short(progress.attempts_since_entry),
+            long(progress.first_moment),
+            short(progress.last_completion),
+            short(progress.entries),
+        ],
+    )
+}
+
+fn set_progress<S: Alter>(
+    tx: &mut Transaction<'_, S>,
+    id: &ByteStr,
+    progress: &Progress,
+) -> Result<(), Error>
+    requires { IsStore (state S.Store tx.old.conn.now) }
+    ensures same_reference { tx.new.conn.ghost_name ≡ tx.old.conn.ghost_name }
+    ensures ok { HasCleanDisk (state S.Store tx.new.conn.now) → OnOk result (Steps (with_progress id.now progress.now) (state S.Store tx.old.conn.now) (state S.Store tx.new.conn.now)) }
+    ensures kept { HasCleanDisk (state S.Store tx.new.conn.now) → KeepsCommit (state S.Store tx.old.conn.now) (state S.Store tx.new.conn.now) }
+    ensures survives { Survives (state S.Store tx.old.conn.now) (state S.Store tx.new.conn.now) (λ _. ⊥) }
+{
+    run(
+        tx,
+        "UPDATE invocation SET open_object = ?2, suspension = ?3, handed = ?4, closing = ?5, answer = ?6, error_code = ?7, error_behavior = ?8, error_delay = ?9, error_message = ?10, attempts = ?11, attempts_since_entry = ?12, first_moment = ?13, last_completion = ?14, entries = ?15 WHERE id = ?1",
+        &[
+            text(id),
+            text_or_null(&progress.open_object),
+            blob_or_null(&progress.suspension),
+            short_or_null(progress.handed),
+            closing(progress.closing),
+            blob_or_null(&progress.answer),
+            error_code(&progress.last_error),
+            error_behavior(&progress.last_error),
+            error_delay(&progress.last_error),
+            error_message(&progress.last_error),
+            short(progress.attempts),
+            short(progress.attempts_since_entry),
+            long(progress.first_moment),
+            short(progress.last_completion),
+            short(progress.entries),
+        ],
+    )
+}
+
+fn add_entry<S: Alter>(tx: &mut Transaction<'_, S>, entry: &EntryRow) -> Result<(), Error>
+    requires { IsStore (state S.Store tx.old.conn.now) }
+    ensures same_reference { tx.new.conn.ghost_name ≡ tx.old.conn.ghost_name }
+    ensures ok { HasCleanDisk (state S.Store tx.new.conn.now) → OnOk result (Steps (with_entry entry.now) (state S.Store tx.old.conn.now) (state S.Store tx.new.conn.now)) }
+    ensures kept { HasCleanDisk (state S.Store tx.new.conn.now) → KeepsCommit (state S.Store tx.old.conn.now) (state S.Store tx.new.conn.now) }
+    ensures survives { Survives (state S.Store tx.old.conn.now) (state S.Store tx.new.conn.now) (λ _. ⊥) }
+{
+    run(
+        tx,
+        "INSERT INTO entry VALUES (?1, ?2, ?3, ?4, ?5, ?6, ?7, ?8)",
+        &[
+            text(&entry.invocation),
+            short(entry.place),
+            short(entry.kind),
+            blob(&entry.payload),
+            short_or_null(entry.completion),
+            short_or_null(entry.second_completion),
+            short_or_null(entry.answered),
+            long(entry.moment),
+        ],
+    )
+}
+
+fn add_state<S: Alter>(tx: &mut Transaction<'_, S>, row: &StateRow) -> Result<(), Error>
+    requires { IsStore (state S.Store tx.old.conn.now) }
+    ensures same_reference { tx.new.conn.ghost_name ≡ tx.old.conn.ghost_name }
+    ensures ok { HasCleanDisk (state S.Store tx.new.conn.now) → OnOk result (Steps (with_state row.now) (state S.Store tx.old.conn.now) (state S.Store tx.new.conn.now)) }
+    ensures kept { HasCleanDisk (state S.Store tx.new.conn.now) → KeepsCommit (state S.Store tx.old.conn.now) (state S.Store tx.new.conn.now) }
+    ensures survives { Survives (state S.Store tx.old.conn.now) (state S.Store tx.new.conn.now) (λ _. ⊥) }
+{
+    run(
+        tx,
+        "INSERT INTO state VALUES (?1, ?2, ?3)",
+        &[text(&row.object), blob(&row.key), blob(&row.value)],
+    )
+}
+
+fn drop_state<S: Alter>(
+    tx: &mut Transaction<'_, S>,
+    object: &ByteStr,
+    key: &Bytes,
+) -> Result<(), Error>
+    requires { IsStore (state S.Store tx.old.conn.now) }
+    ensures same_reference { tx.new.conn.ghost_name ≡ tx.old.conn.ghost_name }
+    ensures ok { HasCleanDisk (state S.Store tx.new.conn.now) → OnOk result (Steps (without_state object.now key.now) (state S.Store tx.old.conn.now) (state S.Store tx.new.conn.now)) }
+    ensures kept { HasCleanDisk (state S.Store tx.new.conn.now) → KeepsCommit (state S.Store tx.old.conn.now) (state S.Store tx.new.conn.now) }
+    ensures survives { Survives (state S.Store tx.old.conn.now) (state S.Store tx.new.conn.now) (λ _. ⊥) }
+{
+    run(
+        tx,
+        "DELETE FROM state WHERE object = ?1 AND key = ?2",
+        &[text(object), blob(key)],
+    )
+}
+
+fn drop_states<S: Alter>(tx: &mut Transaction<'_, S>, object: &ByteStr) -> Result<(), Error>
+    requires { IsStore (state S.Store tx.old.conn.now) }
+    ensures same_reference { tx.new.conn.ghost_name ≡ tx.old.conn.ghost_name }
+    ensures ok { HasCleanDisk (state S.Store tx.new.conn.now) → OnOk result (Steps (without_states object.now) (state S.Store tx.old.conn.now) (state S.Store tx.new.conn.now)) }
+    ensures kept { HasCleanDisk (state S.Store tx.new.conn.now) → KeepsCommit (state S.Store tx.old.conn.now) (state S.Store tx.new.conn.now) }
+    ensures survives { Survives (state S.Store tx.old.conn.now) (state S.Store tx.new.conn.now) (λ _. ⊥) }
+{
+    run(tx, "DELETE FROM state WHERE object = ?1", &[text(object)])
+}
+
+fn put_state<S: Alter>(tx: &mut Transaction<'_, S>, row: &StateRow) -> Result<(), Error>
+    requires { IsStore (state S.Store tx.old.conn.now) }
+    ensures same_reference { tx.new.conn.ghost_name ≡ tx.old.conn.ghost_name }
+    ensures ok { HasCleanDisk (state S.Store tx.new.conn.now) → OnOk result (Steps (λ r. with_state row.now (without_state row.now.object row.now.key r)) (state S.Store tx.old.conn.now) (state S.Store tx.new.conn.now)) }
+    ensures kept { HasCleanDisk (state S.Store tx.new.conn.now) → KeepsCommit (state S.Store tx.old.conn.now) (state S.Store tx.new.conn.now) }
+    ensures survives { Survives (state S.Store tx.old.conn.now) (state S.Store tx.new.conn.now) (λ _. ⊥) }
+{
+    drop_state(tx, &row.object, &row.key)?;
+    add_state(tx, row)
+}
+
+fn apply<S: Alter>(tx: &mut Transaction<'_, S>, write: &Write) -> Result<(), Error>
+    requires { IsStore (state S.Store tx.old.conn.now) }
+    ensures same_reference { tx.new.conn.ghost_name ≡ tx.old.conn.ghost_name }
+    ensures ok { HasCleanDisk (state S.Store tx.new.conn.now) → OnOk result (Steps (applied write.now) (state S.Store tx.old.conn.now) (state S.Store tx.new.conn.now)) }
+    ensures kept { HasCleanDisk (state S.Store tx.new.conn.now) → KeepsCommit (state S.Store tx.old.conn.now) (state S.Store tx.new.conn.now) }
+    ensures survives { Survives (state S.Store tx.old.conn.now) (state S.Store tx.new.conn.now) (λ _. ⊥) }
+{
+    match write {
+        Write::AddInvocation(invocation) => add_invocation(tx, invocation),
+        Write::SetProgress { id, progress } => set_progress(tx, id, progress),
+        Write::AddEntry(entry) => add_entry(tx, entry),
+        Write::PutState(row) => put_state(tx, row),
+        Write::DropState { object, key } => drop_state(tx, object, key),
+        Write::DropStates { object } => drop_states(tx, object),
+    }
+}
+
+/// All of the writes or none of them, also over a crash. Once they are told to be made, a crash leaves them alone.
+#[tactic(auto, using(crate::proofs::Chained::lasts))]
+pub fn commit_all<S: Alter>(tables: &mut StoreTables<S>, writes: &[Write]) -> Result<(), Error>
+    ensures made { Makes S.Store writes.now tables.old tables.new result }
+    ensures settled { HasCleanDisk (state S.Store tables.new) → OnOk result (Lasts (state S.Store tables.new)) }
+{
+    let conn = &mut tables.connection;
+    let _settled = conn.is_autocommit();
+    let mut tx = conn.transaction();
+    for write in writes {
+        apply(&mut tx, write)?;
+    }
+    tx.commit()
+}

@@ -1,6 +1,0 @@
--- Proved in `Suspensions`.
-use Rattle.typed_messages.proofs.Suspensions.{suspensions_read_back}
-use Rattle.typed_messages.proofs.laws.suspensions_read_back.Goals as goal
-
-pub returns : goal.returns
-returns c = suspensions_read_back

@@ -1,6 +1,0 @@
-use Rattle.std.proofs.Common.{◌≡◌, take}
-use Rattle.typed_messages.proofs.Preorder.{with_nested}
-use Rattle.typed_messages.proofs.suspension.+push_leaves.Given as goal
-
-abbrev pub invariant-loop-nested : goal.invariant-loop-nested
-invariant-loop-nested l = l.lists ≡ with_nested l.initial.lists (take l.nested-index l.nested-items)
