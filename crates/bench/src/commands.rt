@@ -13,11 +13,11 @@ use protocol_commands::{
     GetLazyStateKeysCommandMessage, GetPromiseCommandMessage, PeekPromiseCommandMessage,
     RunCommandMessage, SetStateCommandMessage,
 };
-use protocol_stream::{RawMessage, Version};
+use protocol_messages::{Encoder, PlainMessage, RawMessageExt, RestateMessage};
 use protocol_records::{InputCommandMessage, OutputCommandMessage, SleepCommandMessage};
+use protocol_stream::{RawMessage, Version};
 use std::alloc::Global;
 use std::time::CpuClock;
-use protocol_messages::{Encoder, PlainMessage, RawMessageExt, RestateMessage};
 
 // Calls a function at the record of the command at a place.
 macro_rules! at_place {

@@ -1,10 +1,10 @@
 // What messages of one type take, apart from their framing.
 use crate::commands::read_as;
 use anyhow::Result;
+use protocol_messages::{Encoder, PlainMessage, RawMessageExt, RestateMessage};
 use protocol_stream::{RawMessage, Version};
 use std::alloc::Global;
 use std::time::{CpuClock, Duration};
-use protocol_messages::{Encoder, PlainMessage, RawMessageExt, RestateMessage};
 
 /// How many records are written between two looks at the clock: so many that a look costs none of them a nanosecond.
 const BLOCK: usize = 512;

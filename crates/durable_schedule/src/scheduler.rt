@@ -18,13 +18,13 @@ ghost use Rattle.durable_schedule.specs.Scheduled.{AppliesFirst, AppliesWith, Ex
 
 use crate::held::{hand_out, place_of, take_in};
 use bytes::ByteStr;
-use store_reads::RecordedFrame;
 use invocation_vm::{Attempt, VMOptions};
 use journal_model::{Handler, NewInvocation, NonEmptyValue};
 use journal_store::Store;
 use schedule_model::{Event, HeldAttempt, Refusal, Reply};
 use sqlite::Alter;
 use std::alloc::Global;
+use store_reads::RecordedFrame;
 use store_tables::LastError;
 
 /// A store, and the attempts that were begun: one that was stopped or overtaken can still make turns, and its bytes are refused.

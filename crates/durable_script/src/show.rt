@@ -9,12 +9,12 @@ use crate::reply::reply_line;
 use built_in_handlers::BuiltIn;
 use bytes::ByteStr;
 use durable_schedule::Scheduler;
-use store_reads::RecordedFrame;
 use journal_model::NonEmptyValue;
 use script_lines::text::{LineReply, ShownAnswer, ShownOpenness, ShownRequest};
 use sqlite::Alter;
 use std::alloc::AllocError;
 use std::fmt;
+use store_reads::RecordedFrame;
 use store_refusals::Refusal;
 
 /// What is recorded of an invocation: everything that is asked for before a line is printed.

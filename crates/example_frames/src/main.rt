@@ -2,11 +2,11 @@
 #![tactic(auto)]
 
 use anyhow::Result;
-use protocol_stream::{Decoder, MessageType};
+use protocol_messages::RawMessageExt;
 use protocol_records::SleepCommandMessage;
+use protocol_stream::{Decoder, MessageType};
 use std::alloc::Global;
 use std::{env, fs};
-use protocol_messages::RawMessageExt;
 
 fn show_journal<R: Print>(rt: &R, alloc: Global, journal: &[u8]) -> Result<()> {
     let mut decoder = Decoder::new(alloc);

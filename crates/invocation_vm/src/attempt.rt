@@ -10,8 +10,8 @@ use crate::preflight::{have_start, read_input};
 use crate::progress::{Progress, Turn, carry_out};
 use bytes::Bytes;
 use journal_model::{Handler, Input};
-use protocol_stream::Decoder;
 use protocol_records::StartMessage;
+use protocol_stream::Decoder;
 use std::alloc::{AllocError, Global};
 use std::marker::Model;
 

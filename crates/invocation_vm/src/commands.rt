@@ -9,10 +9,10 @@ use crate::failure::AttemptFailure;
 use crate::output::Output;
 use bytes::ByteStr;
 use journal_model::{ImplicitCancellationOption, NonEmptyValue, NotificationId};
-use protocol_stream::{MessageType, to_output_result};
 use protocol_records::{
     AwaitingOnMessage, CombinatorType, Future, OutputCommandMessage, SleepCommandMessage,
 };
+use protocol_stream::{MessageType, to_output_result};
 use protocol_wire::encode;
 use sequence::Sequence;
 use std::alloc::{AllocError, Global};

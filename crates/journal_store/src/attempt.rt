@@ -15,9 +15,9 @@ ghost use Rattle.journal_store.specs.Stands.{IsQuiet, KeepsOutputs, Leads, Waits
 
 use crate::store::Store;
 use bytes::{ByteStr, Bytes};
-use store_live::LiveAttempts;
-use store_invocations::open_row;
 use sqlite::Alter;
+use store_invocations::open_row;
+use store_live::LiveAttempts;
 use store_refusals::Refusal;
 use store_tables::StoreTables;
 

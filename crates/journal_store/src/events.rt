@@ -14,15 +14,15 @@ ghost use Rattle.journal_store.specs.Attempts.{IsToldAs, TakesIn, fresh};
 ghost use Rattle.journal_store.specs.Stands.{AreAsBefore, Commits, KeepsOutputs, Leads, Outlasts, Stands, WaitsAfter};
 
 use crate::store::Store;
-use store_begins::{AttemptFrames, JournalFrames, PreparedAttempt, prepare_begin};
 use bytes::ByteStr;
 use journal_model::{NewInvocation, NotificationResult};
-use store_live::{AttemptInput, AttemptOutput, LiveAttempt, LiveAttempts};
-use store_arrivals::{PreparedArrival, prepare_result};
-use store_invocations::prepare_invoke;
 use sqlite::Alter;
 use std::alloc::{AllocError, Global};
+use store_arrivals::{PreparedArrival, prepare_result};
+use store_begins::{AttemptFrames, JournalFrames, PreparedAttempt, prepare_begin};
 use store_calls::BegunAttempt;
+use store_invocations::prepare_invoke;
+use store_live::{AttemptInput, AttemptOutput, LiveAttempt, LiveAttempts};
 use store_refusals::Refusal;
 use store_tables::{StoreTables, Write, commit_all};
 

@@ -14,9 +14,9 @@ ghost use Rattle.journal_store.specs.Opened.{CanBeTaken, ComesBack, IsNotTaken, 
 ghost use Rattle.journal_store.specs.Stands.{Stands};
 
 use crate::store::Store;
-use store_live::LiveAttempts;
 use sqlite::{Alter, Connection};
 use std::alloc::Global;
+use store_live::LiveAttempts;
 use store_refusals::Refusal;
 use store_tables::{StoreTables, open};
 

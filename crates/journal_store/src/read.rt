@@ -12,9 +12,9 @@ ghost use Rattle.journal_store.specs.Stands.{Stands};
 
 use crate::store::Store;
 use bytes::ByteStr;
-use store_reads::{RecordedFrame, answer, arrivals, failure, is_open, requests};
 use journal_model::NonEmptyValue;
 use sqlite::Alter;
+use store_reads::{RecordedFrame, answer, arrivals, failure, is_open, requests};
 use store_refusals::Refusal;
 use store_tables::LastError;
 

@@ -15,14 +15,14 @@ ghost use Rattle.journal_store.specs.Taking.{HasMessage, HasMessageOf, HasWritte
 
 use crate::attempt::{is_live, stale_refusal};
 use crate::store::Store;
-use store_frames::{AttemptFrame, read_frame_at};
 use bytes::ByteStr;
-use store_live::{FirstItem, HEADER_LEN, LiveAttempt, LiveAttempts};
 use sqlite::{Alter, Connection, Error};
 use std::alloc::{AllocError, Global};
+use store_frames::{AttemptFrame, read_frame_at};
+use store_live::{FirstItem, HEADER_LEN, LiveAttempt, LiveAttempts};
 use store_refusals::Refusal;
-use store_tables::{StoreTables, Write, commit_all};
 use store_steps::{FrameReply, LiveFacts, PreparedFrame, prepare_frame, refusal_ends_attempt};
+use store_tables::{StoreTables, Write, commit_all};
 
 /// A whole frame that stands first.
 #[derive(Debug, Drop)]

@@ -1,10 +1,10 @@
 // The store, and what it is opened from.
 ghost use Rattle.std.specs.Prelude.{◌≡◌};
 
-use store_live::LiveAttempts;
 use sqlite::{Alter, Connection};
 use std::alloc::Global;
 use std::marker::Model;
+use store_live::LiveAttempts;
 use store_tables::StoreTables;
 
 /// What is recorded of invocations, and the attempts that are live.

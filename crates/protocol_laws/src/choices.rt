@@ -15,8 +15,9 @@ use protocol_calls::{
     GetInvocationOutputCommandMessage, SendSignalCommandMessage,
 };
 use protocol_commands::{CompletePromiseCommandMessage, GetEagerStateCommandMessage};
-use protocol_controls::{GetStateEphemeralNotificationMessage, ProposeRunCompletionMessage};
-use protocol_controls::NotificationMessage;
+use protocol_controls::{
+    GetStateEphemeralNotificationMessage, NotificationMessage, ProposeRunCompletionMessage,
+};
 use protocol_records::OutputCommandMessage;
 
 impl Joining for ProposeRunCompletionMessage {

@@ -8,8 +8,8 @@ ghost use Rattle.protocol_messages.specs.Decoded.{has_name, IsExpected, ReadsPay
 use crate::message::RestateMessage;
 use crate::notification::to_notification;
 use journal_model::Notification;
-use protocol_stream::{DecodingError, MessageType, RawMessage};
 use protocol_controls::NotificationMessage;
+use protocol_stream::{DecodingError, MessageType, RawMessage};
 use protocol_wire::{DecodeError, Record, decode};
 use std::alloc::Global;
 

@@ -2,12 +2,12 @@
 ghost use Rattle.std.specs.Prelude.{◌≡◌, IfOk};
 ghost use Rattle.protocol_messages.specs.Carried.{completion_record, awakeable_record, signal_record, proposed_record};
 
+use journal_model::NonEmptyValue;
 use protocol_calls::{CompleteAwakeableCommandResult, SendSignalCommandResult};
 use protocol_commands::CompletePromiseCommandCompletion;
 use protocol_controls::ProposeRunCompletionResult;
-use journal_model::NonEmptyValue;
-use protocol_stream::to_failure_record;
 use protocol_records::Value as ValueRecord;
+use protocol_stream::to_failure_record;
 use std::alloc::{AllocError, Global};
 
 /// What the command that completes a promise holds of the value.

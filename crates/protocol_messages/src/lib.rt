@@ -18,10 +18,10 @@ mod taken;
 
 pub use decode::RawMessageExt;
 pub use encode::{Encoder, RestateEncodableMessage, encode_record};
-pub use message::{PlainMessage, RestateMessage};
-pub use notification::is_failure;
-pub use suspension::to_suspension_v6;
 pub use handed::{
     to_awakeable_result, to_promise_completion, to_proposed_result, to_signal_result,
 };
+pub use message::{PlainMessage, RestateMessage};
+pub use notification::is_failure;
+pub use suspension::to_suspension_v6;
 pub use taken::{TakeError, to_taken_failure, to_value};

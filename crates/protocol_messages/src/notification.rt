@@ -3,8 +3,8 @@ ghost use Rattle.std.specs.Prelude.{◌≡◌, IfOk};
 ghost use Rattle.protocol_messages.specs.Told.{id_told, result_told, TellsNotification, is_failure as is_failure_spec};
 
 use journal_model::{Notification, NotificationId, NotificationResult};
-use protocol_stream::{DecodingError, NotificationField, to_failure};
 use protocol_controls::{NotificationMessage, NotificationMessageId, NotificationMessageResult};
+use protocol_stream::{DecodingError, NotificationField, to_failure};
 use std::alloc::{AllocError, Global};
 
 /// Whether a notification brings a failure.

@@ -5,8 +5,8 @@ ghost use Rattle.protocol_messages.specs.Leaves.{with_leaves, three_lists};
 use crate::encode::{RestateEncodableMessage, encode_record, is_before_7};
 use crate::leaf_lengths::lists_len;
 use bytes::{ByteStr, Bytes};
-use protocol_stream::{EncodingError, MessageType, Version};
 use protocol_records::{Future, SuspensionMessage, SuspensionMessageV6};
+use protocol_stream::{EncodingError, MessageType, Version};
 use sequence::Sequence;
 use std::alloc::{AllocError, Global};
 

@@ -13,8 +13,8 @@ use crate::payload::payload_of;
 use bytes::{ByteStr, Bytes};
 use journal_model::{Notification, NotificationId};
 use protocol_stream::{MessageType, payload_of_frame};
-use store_invocations::payload_frame;
 use std::alloc::{AllocError, Global};
+use store_invocations::payload_frame;
 use store_refusals::Refusal;
 use store_tables::{EntryRow, InvocationRow, Progress, Write};
 

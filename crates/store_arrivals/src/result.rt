@@ -20,9 +20,9 @@ use crate::asking::open_request_of;
 use bytes::ByteStr;
 use journal_model::{Notification, NotificationId, NotificationResult};
 use protocol_stream::MessageType;
-use store_invocations::open_row;
 use sqlite::Alter;
 use std::alloc::Global;
+use store_invocations::open_row;
 use store_refusals::Refusal;
 use store_tables::{InvocationRow, StoreTables};
 

@@ -11,9 +11,9 @@ ghost use Rattle.store_begins.specs.Begun.{IsBegun};
 use crate::attempt::PreparedAttempt;
 use crate::prepare::prepare_next;
 use bytes::ByteStr;
-use store_invocations::open_row;
 use sqlite::Alter;
 use std::alloc::Global;
+use store_invocations::open_row;
 use store_refusals::Refusal;
 use store_tables::StoreTables;
 

@@ -5,12 +5,12 @@ ghost use Rattle.journal_model.specs.Spelling.{frame_bytes};
 ghost use Rattle.store_invocations.specs.Rows.{Decides, payload_tests};
 
 use bytes::Bytes;
-use protocol_stream::MessageType;
-use store_invocations::payload_frame;
 use protocol_records::{StartMessage, StateEntry};
+use protocol_stream::MessageType;
 use protocol_wire::encode;
 use sequence::Sequence;
 use std::alloc::{AllocError, Global};
+use store_invocations::payload_frame;
 use store_refusals::Refusal;
 use store_tables::{InvocationRow, Progress, StateRow};
 

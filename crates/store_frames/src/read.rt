@@ -14,10 +14,10 @@ use crate::kind::{FrameKind, kind_of, record_of};
 use crate::record::FrameRecord;
 use protocol_calls::CallCommandMessage;
 use protocol_controls::ErrorMessage;
-use protocol_stream::{Feature, MessageHeader, MessageType, RawMessage};
 use protocol_records::{
     OutputCommandMessage, SleepCommandMessage, SuspensionMessage, SuspensionMessageV6,
 };
+use protocol_stream::{Feature, MessageHeader, MessageType, RawMessage};
 use protocol_wire::{Fault, LEVELS, RecordType, fault_of};
 use std::alloc::{AllocError, Global};
 

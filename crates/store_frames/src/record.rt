@@ -9,10 +9,10 @@ use crate::tree::tree_payload;
 use bytes::Bytes;
 use protocol_calls::CallCommandMessage;
 use protocol_controls::ErrorMessage;
-use protocol_stream::{Feature, MessageType};
 use protocol_records::{
     OutputCommandMessage, SleepCommandMessage, SuspensionMessage, SuspensionMessageV6,
 };
+use protocol_stream::{Feature, MessageType};
 use protocol_wire::{Record, encode};
 use std::alloc::{AllocError, Global};
 

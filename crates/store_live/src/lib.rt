@@ -10,5 +10,5 @@ mod output;
 pub use attempt::LiveAttempt;
 pub use attempts::LiveAttempts;
 pub use input::{AttemptInput, PieceLeft};
-pub use protocol_stream::{FirstItem, HEADER_LEN};
 pub use output::AttemptOutput;
+pub use protocol_stream::{FirstItem, HEADER_LEN};

@@ -10,13 +10,13 @@ ghost use Rattle.store_reads.specs.Answered.{Answers, IsShortPayload, Reads, ans
 
 use bytes::{ByteStr, Bytes};
 use journal_model::NonEmptyValue;
-use protocol_stream::{to_non_empty_value, to_terminal_failure};
-use store_invocations::known_row;
 use protocol_records::{Failure, OutputCommandMessage};
+use protocol_stream::{to_non_empty_value, to_terminal_failure};
 use protocol_wire::{DecodeError, decode};
 use sequence::Sequence;
 use sqlite::Alter;
 use std::alloc::{AllocError, Global};
+use store_invocations::known_row;
 use store_refusals::Refusal;
 use store_tables::{Closing, LastError, Progress, StoreTables};
 

@@ -10,9 +10,9 @@ ghost use Rattle.store_model.specs.Progress.{last_error_of};
 ghost use Rattle.store_invocations.specs.Rows.{Decides, IsStoreOf, known_tests};
 
 use bytes::ByteStr;
-use store_invocations::known_row;
 use sqlite::Alter;
 use std::alloc::Global;
+use store_invocations::known_row;
 use store_refusals::Refusal;
 use store_tables::{InvocationRow, LastError, StoreTables};
 

@@ -10,10 +10,10 @@ ghost use Rattle.store_steps.specs.Taken.{IsMade, IsWhy, Takes};
 use crate::frame::{LiveFacts, PreparedFrame};
 use crate::refuse::frame_refusal;
 use crate::write::{frame_writes, reply_to};
-use store_frames::AttemptFrame;
 use bytes::ByteStr;
 use sqlite::Alter;
 use std::alloc::Global;
+use store_frames::AttemptFrame;
 use store_refusals::Refusal;
 use store_tables::{InvocationRow, Progress, StoreTables, invocation_by_id};
 

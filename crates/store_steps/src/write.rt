@@ -7,10 +7,10 @@ ghost use Rattle.protocol_stream.specs.CommandFacts.{facts_of};
 ghost use Rattle.store_steps.specs.Told.{HasRoom, after_end, after_error, after_recorded, after_suspension, asked, command_row, does_fail, number_of_behavior, puts_out as puts_value_out, reply_to_told, value_put_out, writes_of_told};
 
 use crate::frame::FrameReply;
-use store_frames::{AttemptFrame, ErrorBehavior, RecordedCommand};
 use bytes::{ByteStr, Bytes};
 use protocol_stream::Feature;
 use std::alloc::{AllocError, Global};
+use store_frames::{AttemptFrame, ErrorBehavior, RecordedCommand};
 use store_tables::{Closing, EntryRow, LastError, Progress, Write};
 
 /// How a frame is answered. One that is always refused is not asked for.

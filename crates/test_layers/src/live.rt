@@ -1,9 +1,9 @@
 //! A live attempt from its begin to its end.
 
 use bytes::ByteStr;
-use store_live::{AttemptInput, AttemptOutput, LiveAttempt, LiveAttempts};
 use std::alloc::{AllocError, Global};
 use std::test::Fail;
+use store_live::{AttemptInput, AttemptOutput, LiveAttempt, LiveAttempts};
 
 /// The frame of an input that is empty.
 const INPUT: [u8; 8] = [0x04, 0, 0, 0, 0, 0, 0, 0];

@@ -6,11 +6,11 @@
 //! - `headers PAYLOAD`: the input with the records of the headers that its headers are.
 use crate::operands::bytes;
 use crate::records::record_told;
+use protocol_records::{Failure, InputCommandMessage, OutputCommandMessage, OutputCommandResult};
 use protocol_stream::{
     to_failure, to_failure_record, to_header_records, to_headers, to_non_empty_value,
     to_output_result, to_terminal_failure,
 };
-use protocol_records::{Failure, InputCommandMessage, OutputCommandMessage, OutputCommandResult};
 use protocol_wire::{Record, decode};
 use std::alloc::Global;
 

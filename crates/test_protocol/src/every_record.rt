@@ -13,9 +13,8 @@ use protocol_commands::{
 };
 use protocol_controls::{
     ErrorMessage, GetStateEphemeralCommandMessage, GetStateEphemeralNotificationMessage,
-    ProposeRunCompletionAckMessage, ProposeRunCompletionMessage,
+    NotificationMessage, ProposeRunCompletionAckMessage, ProposeRunCompletionMessage,
 };
-use protocol_controls::NotificationMessage;
 use protocol_records::{
     AwaitingOnMessage, EndMessage, Failure, FailureMetadata, Future, Header, InputCommandMessage,
     OutputCommandMessage, SleepCommandMessage, StartMessage, StateEntry, StateKeys,

@@ -2,10 +2,10 @@
 //! attempt of this version, and what is kept of it. Of a command: its type's number, its payload, the completions that it asks
 //! for, and its moment.
 use crate::operands::{Hex, bytes, message_type, number};
-use store_frames::{AttemptFrame, RecordedCommand, read_frame};
 use bytes::Bytes;
 use protocol_stream::{MessageHeader, MessageType, RawMessage};
 use std::alloc::Global;
+use store_frames::{AttemptFrame, RecordedCommand, read_frame};
 
 fn message(alloc: Global, ty: MessageType, payload: &[u8]) -> Option<RawMessage> {
     let length = u32::try_from(payload.len()).ok()?;

@@ -8,17 +8,16 @@
 use crate::operands::{Hex, bytes, message_type, version};
 use crate::records::refusal_told;
 use bytes::Bytes;
-use protocol_commands::{RunCommandMessage, SetStateCommandMessage};
-use protocol_controls::ProposeRunCompletionMessage;
 use journal_model::{Notification, NotificationId, NotificationResult};
-use protocol_stream::{Decoder, EncodingError, RawMessage};
-use protocol_controls::NotificationMessage;
-use protocol_records::{SleepCommandMessage, SuspensionMessage, SuspensionMessageV6};
-use protocol_wire::decode;
-use std::alloc::Global;
+use protocol_commands::{RunCommandMessage, SetStateCommandMessage};
+use protocol_controls::{NotificationMessage, ProposeRunCompletionMessage};
 use protocol_messages::{
     Encoder, RawMessageExt, RestateEncodableMessage, RestateMessage, encode_record, is_failure,
 };
+use protocol_records::{SleepCommandMessage, SuspensionMessage, SuspensionMessageV6};
+use protocol_stream::{Decoder, EncodingError, RawMessage};
+use protocol_wire::decode;
+use std::alloc::Global;
 
 /// The message at the front of these bytes.
 fn first_message(alloc: Global, frame: &str) -> Option<RawMessage> {

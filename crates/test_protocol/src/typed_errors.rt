@@ -11,7 +11,6 @@
 //! - `last`, `next NUMBER`: which command an error is about, and whether it is the last one.
 use crate::operands::{message_type, number, told, version};
 use bytes::ByteStr;
-use protocol_stream::CommandType;
 use protocol_differences::CommandRelationship;
 use protocol_errors::{
     AwaitedId, BadProposeRunCompletionAck, ClosedError, CommandMetadata, CommandTypeMismatchError,
@@ -19,6 +18,7 @@ use protocol_errors::{
     UnavailableEntryError, UncompletedDoProgressDuringReplay, UnexpectedStateError,
     UnsupportedFeatureForNegotiatedVersion, WithInvocationErrorCode, to_error,
 };
+use protocol_stream::CommandType;
 use std::alloc::Global;
 use std::fmt;
 

@@ -1,9 +1,9 @@
 //! What calls answer, each printed as the end of a line.
 use crate::fault::Fault;
-use store_reads::RecordedFrame;
 use journal_model::NonEmptyValue;
 use journal_store::{Accepted, BegunAttempt, FrameReply};
 use script_lines::text::Hex;
+use store_reads::RecordedFrame;
 use store_refusals::Refusal;
 use store_tables::LastError;
 

@@ -5,12 +5,12 @@ use crate::fault::Fault;
 use crate::words::parse_new;
 use bytes::{ByteStr, Bytes};
 use journal_model::{Notification, NotificationId, NotificationResult};
-use protocol_stream::MessageType;
 use journal_store::Store;
-use store_arrivals::prepare_arrival;
+use protocol_stream::MessageType;
 use script_lines::text::Hex;
 use sqlite::MemStore;
 use std::alloc::Global;
+use store_arrivals::prepare_arrival;
 use store_tables::{
     InvocationRow, StateRow, StoreTables, Write, all_invocations, commit_all, entry_by_place,
     invocation_by_id, is_ready, state_by_key, states_of,

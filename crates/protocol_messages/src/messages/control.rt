@@ -4,11 +4,11 @@ use protocol_controls::{
     ErrorMessage, GetStateEphemeralCommandMessage, GetStateEphemeralNotificationMessage,
     ProposeRunCompletionAckMessage, ProposeRunCompletionMessage,
 };
-use protocol_stream::MessageType;
 use protocol_records::{
     AwaitingOnMessage, EndMessage, InputCommandMessage, OutputCommandMessage, SleepCommandMessage,
     StartMessage, SuspensionMessage, SuspensionMessageV6,
 };
+use protocol_stream::MessageType;
 
 impl RestateMessage for StartMessage {
     fn ty() -> MessageType {
