@@ -4,14 +4,11 @@ pub mod CompleteAwakeableCommand
 pub mod GetInvocationOutputCommand
 pub mod IdempotentRequestTarget
 pub mod OneWayCallCommand
+pub mod ReadBack
 pub mod ReadBackAttachInvocationCommand
-pub mod ReadBackCallCommand
 pub mod ReadBackCompleteAwakeableCommand
 pub mod ReadBackGetInvocationOutputCommand
-pub mod ReadBackIdempotentRequestTarget
-pub mod ReadBackOneWayCallCommand
 pub mod ReadBackSendSignalCommand
-pub mod ReadBackWorkflowTarget
 pub mod SendSignalCommand
 pub mod Texts
 pub mod WorkflowTarget
