@@ -3,11 +3,13 @@ pub mod CallCommand
 pub mod CompleteAwakeableCommand
 pub mod GetInvocationOutputCommand
 pub mod IdempotentRequestTarget
+pub mod InvocationTarget
 pub mod OneWayCallCommand
 pub mod ReadBack
 pub mod ReadBackAttachInvocationCommand
 pub mod ReadBackCompleteAwakeableCommand
 pub mod ReadBackGetInvocationOutputCommand
+pub mod ReadBackInvocationTarget
 pub mod ReadBackSendSignalCommand
 pub mod SendSignalCommand
 pub mod Texts

@@ -17,7 +17,7 @@ use Rattle.protocol_wire.proofs.Holds.{text_holds, bytes_holds, optional_record_
 use Rattle.protocol_wire.proofs.Back.{text_back, optional_record_back, u32_back}
 use Rattle.protocol_records.specs.StateKeys.{state_keys_of, state_keys_parts, StateKeysFits}
 use Rattle.protocol_records.specs.Value.{value_of, value_parts, ValueFits}
-use Rattle.protocol_records.specs.ReadBack.{value_reads}
+use Rattle.protocol_records.specs.ReadBack.{state_keys_reads, value_reads}
 use Rattle.protocol_commands.specs.ClearAllStateCommand.{clear_all_state_command_of, clear_all_state_command_parts, ClearAllStateCommandFits}
 use Rattle.protocol_commands.specs.ClearStateCommand.{clear_state_command_of, clear_state_command_parts, ClearStateCommandFits}
 use Rattle.protocol_commands.specs.GetEagerStateKeysCommand.{get_eager_state_keys_command_of, get_eager_state_keys_command_parts, GetEagerStateKeysCommandFits}

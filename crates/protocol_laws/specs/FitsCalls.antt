@@ -8,10 +8,11 @@ use Rattle.protocol_records.specs.Failure.{FailureFits, failure_of}
 use Rattle.protocol_records.specs.Header.{HeaderFits, header_of}
 use Rattle.protocol_records.specs.Value.{ValueFits, value_of}
 use Rattle.protocol_records.specs.Void.{VoidFits, void_of}
-use Rattle.protocol_calls.specs.AttachInvocationCommand.{AttachInvocationCommandFits, AttachInvocationCommandTargetFits, attach_invocation_command_of, attach_invocation_command_target_of}
+use Rattle.protocol_calls.specs.AttachInvocationCommand.{AttachInvocationCommandFits, attach_invocation_command_of}
 use Rattle.protocol_calls.specs.CallCommand.{CallCommandFits, call_command_of}
 use Rattle.protocol_calls.specs.CompleteAwakeableCommand.{CompleteAwakeableCommandFits, CompleteAwakeableCommandResultFits, complete_awakeable_command_of, complete_awakeable_command_result_of}
-use Rattle.protocol_calls.specs.GetInvocationOutputCommand.{GetInvocationOutputCommandFits, GetInvocationOutputCommandTargetFits, get_invocation_output_command_of, get_invocation_output_command_target_of}
+use Rattle.protocol_calls.specs.GetInvocationOutputCommand.{GetInvocationOutputCommandFits, get_invocation_output_command_of}
+use Rattle.protocol_calls.specs.InvocationTarget.{target_of, InvocationTargetFits}
 use Rattle.protocol_calls.specs.IdempotentRequestTarget.{IdempotentRequestTargetFits, idempotent_request_target_of}
 use Rattle.protocol_calls.specs.OneWayCallCommand.{OneWayCallCommandFits, one_way_call_command_of}
 use Rattle.protocol_calls.specs.SendSignalCommand.{SendSignalCommandFits, SendSignalCommandResultFits, SendSignalCommandSignalIdFits, send_signal_command_of, send_signal_command_result_of, send_signal_command_signal_id_of}
@@ -27,8 +28,7 @@ use Rattle.protocol_table.specs.declared.table.send_signal_command.TheConstants 
 use Rattle.protocol_table.specs.declared.table.complete_awakeable_command.TheConstants as complete_awakeable_command
 use Rattle.protocol_table.specs.declared.table.attach_invocation_command.TheConstants as attach_invocation_command
 use Rattle.protocol_table.specs.declared.table.get_invocation_output_command.TheConstants as get_invocation_output_command
-use Rattle.protocol_calls.specs.declared.attach_invocation_command.AttachInvocationCommandTarget.TheVariants as attach_targets
-use Rattle.protocol_calls.specs.declared.get_invocation_output_command.GetInvocationOutputCommandTarget.TheVariants as output_targets
+use Rattle.protocol_calls.specs.declared.invocation_target.InvocationTarget.TheVariants as targets
 use Rattle.protocol_calls.specs.declared.complete_awakeable_command.CompleteAwakeableCommandResult.TheVariants as awakeable_results
 use Rattle.protocol_calls.specs.declared.send_signal_command.SendSignalCommandSignalId.TheVariants as signal_ids
 use Rattle.protocol_calls.specs.declared.send_signal_command.SendSignalCommandResult.TheVariants as signal_results
@@ -114,11 +114,11 @@ complete_awakeable_command_fits levels a fine = record {
   name = text_fits levels types.CompleteAwakeableCommand complete_awakeable_command.NAME.number a fine refl;
 }
 
-attach_invocation_command_target_fits : (levels : ℕ) (a : List ℕ) → IsFine levels types.AttachInvocationCommand a → AttachInvocationCommandTargetFits (levels - 1) (attach_invocation_command_target_of levels (fields a))
+attach_invocation_command_target_fits : (levels : ℕ) (a : List ℕ) → IsFine levels types.AttachInvocationCommand a → InvocationTargetFits (levels - 1) (target_of levels (fields a))
 attach_invocation_command_target_fits levels a fine =
-    first_fits (λ x. attach_targets.InvocationId x) (AttachInvocationCommandTargetFits (levels - 1)) _ _ (chosen_text_fits levels types.AttachInvocationCommand attach_invocation_command.INVOCATION_ID.number a fine refl attach_invocation_command.TARGET refl) (
-    first_fits (λ x. attach_targets.WorkflowTarget x) (AttachInvocationCommandTargetFits (levels - 1)) _ _ (chosen_record_fits levels types.AttachInvocationCommand attach_invocation_command.TARGET attach_invocation_command.WORKFLOW_TARGET.number a fine refl types.WorkflowTarget refl workflow_target_of WorkflowTargetFits workflow_target_fits) (
-    last_fits (λ x. attach_targets.IdempotentRequestTarget x) (AttachInvocationCommandTargetFits (levels - 1)) _ (chosen_record_fits levels types.AttachInvocationCommand attach_invocation_command.TARGET attach_invocation_command.IDEMPOTENT_REQUEST_TARGET.number a fine refl types.IdempotentRequestTarget refl idempotent_request_target_of IdempotentRequestTargetFits idempotent_request_target_fits) tt))
+    first_fits (λ x. targets.InvocationId x) (InvocationTargetFits (levels - 1)) _ _ (chosen_text_fits levels types.AttachInvocationCommand attach_invocation_command.INVOCATION_ID.number a fine refl attach_invocation_command.TARGET refl) (
+    first_fits (λ x. targets.WorkflowTarget x) (InvocationTargetFits (levels - 1)) _ _ (chosen_record_fits levels types.AttachInvocationCommand attach_invocation_command.TARGET attach_invocation_command.WORKFLOW_TARGET.number a fine refl types.WorkflowTarget refl workflow_target_of WorkflowTargetFits workflow_target_fits) (
+    last_fits (λ x. targets.IdempotentRequestTarget x) (InvocationTargetFits (levels - 1)) _ (chosen_record_fits levels types.AttachInvocationCommand attach_invocation_command.TARGET attach_invocation_command.IDEMPOTENT_REQUEST_TARGET.number a fine refl types.IdempotentRequestTarget refl idempotent_request_target_of IdempotentRequestTargetFits idempotent_request_target_fits) tt))
 
 pub attach_invocation_command_fits : ReadFits types.AttachInvocationCommand attach_invocation_command_of AttachInvocationCommandFits
 attach_invocation_command_fits levels a fine = record {
@@ -128,11 +128,11 @@ attach_invocation_command_fits levels a fine = record {
   name = text_fits levels types.AttachInvocationCommand attach_invocation_command.NAME.number a fine refl;
 }
 
-get_invocation_output_command_target_fits : (levels : ℕ) (a : List ℕ) → IsFine levels types.GetInvocationOutputCommand a → GetInvocationOutputCommandTargetFits (levels - 1) (get_invocation_output_command_target_of levels (fields a))
+get_invocation_output_command_target_fits : (levels : ℕ) (a : List ℕ) → IsFine levels types.GetInvocationOutputCommand a → InvocationTargetFits (levels - 1) (target_of levels (fields a))
 get_invocation_output_command_target_fits levels a fine =
-    first_fits (λ x. output_targets.InvocationId x) (GetInvocationOutputCommandTargetFits (levels - 1)) _ _ (chosen_text_fits levels types.GetInvocationOutputCommand get_invocation_output_command.INVOCATION_ID.number a fine refl get_invocation_output_command.TARGET refl) (
-    first_fits (λ x. output_targets.WorkflowTarget x) (GetInvocationOutputCommandTargetFits (levels - 1)) _ _ (chosen_record_fits levels types.GetInvocationOutputCommand get_invocation_output_command.TARGET get_invocation_output_command.WORKFLOW_TARGET.number a fine refl types.WorkflowTarget refl workflow_target_of WorkflowTargetFits workflow_target_fits) (
-    last_fits (λ x. output_targets.IdempotentRequestTarget x) (GetInvocationOutputCommandTargetFits (levels - 1)) _ (chosen_record_fits levels types.GetInvocationOutputCommand get_invocation_output_command.TARGET get_invocation_output_command.IDEMPOTENT_REQUEST_TARGET.number a fine refl types.IdempotentRequestTarget refl idempotent_request_target_of IdempotentRequestTargetFits idempotent_request_target_fits) tt))
+    first_fits (λ x. targets.InvocationId x) (InvocationTargetFits (levels - 1)) _ _ (chosen_text_fits levels types.GetInvocationOutputCommand get_invocation_output_command.INVOCATION_ID.number a fine refl get_invocation_output_command.TARGET refl) (
+    first_fits (λ x. targets.WorkflowTarget x) (InvocationTargetFits (levels - 1)) _ _ (chosen_record_fits levels types.GetInvocationOutputCommand get_invocation_output_command.TARGET get_invocation_output_command.WORKFLOW_TARGET.number a fine refl types.WorkflowTarget refl workflow_target_of WorkflowTargetFits workflow_target_fits) (
+    last_fits (λ x. targets.IdempotentRequestTarget x) (InvocationTargetFits (levels - 1)) _ (chosen_record_fits levels types.GetInvocationOutputCommand get_invocation_output_command.TARGET get_invocation_output_command.IDEMPOTENT_REQUEST_TARGET.number a fine refl types.IdempotentRequestTarget refl idempotent_request_target_of IdempotentRequestTargetFits idempotent_request_target_fits) tt))
 
 pub get_invocation_output_command_fits : ReadFits types.GetInvocationOutputCommand get_invocation_output_command_of GetInvocationOutputCommandFits
 get_invocation_output_command_fits levels a fine = record {

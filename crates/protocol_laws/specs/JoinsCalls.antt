@@ -7,21 +7,21 @@ use Rattle.protocol_records.specs.Failure.{failure_of}
 use Rattle.protocol_records.specs.Header.{header_of}
 use Rattle.protocol_records.specs.Value.{value_of}
 use Rattle.protocol_records.specs.Void.{void_of}
-use Rattle.protocol_calls.specs.AttachInvocationCommand.{attach_invocation_command_of, target_in as attach_invocation_command_target_in}
+use Rattle.protocol_calls.specs.AttachInvocationCommand.{attach_invocation_command_of}
 use Rattle.protocol_calls.specs.CallCommand.{call_command_of}
 use Rattle.protocol_calls.specs.CompleteAwakeableCommand.{complete_awakeable_command_of, result_in as complete_awakeable_command_result_in}
-use Rattle.protocol_calls.specs.GetInvocationOutputCommand.{get_invocation_output_command_of, target_in as get_invocation_output_command_target_in}
+use Rattle.protocol_calls.specs.GetInvocationOutputCommand.{get_invocation_output_command_of}
+use Rattle.protocol_calls.specs.InvocationTarget.{target_in}
 use Rattle.protocol_calls.specs.IdempotentRequestTarget.{idempotent_request_target_of}
 use Rattle.protocol_calls.specs.OneWayCallCommand.{one_way_call_command_of}
 use Rattle.protocol_calls.specs.SendSignalCommand.{send_signal_command_of, signal_id_in as send_signal_command_signal_id_in, result_in as send_signal_command_result_in}
 use Rattle.protocol_calls.specs.WorkflowTarget.{workflow_target_of}
 use Rattle.protocol_calls.specs.declared.attach_invocation_command.AttachInvocationCommandMessage.{AttachInvocationCommandMessage}
-use Rattle.protocol_calls.specs.declared.attach_invocation_command.AttachInvocationCommandTarget.{AttachInvocationCommandTarget}
+use Rattle.protocol_calls.specs.declared.invocation_target.InvocationTarget.{InvocationTarget}
 use Rattle.protocol_calls.specs.declared.call_command.CallCommandMessage.{CallCommandMessage}
 use Rattle.protocol_calls.specs.declared.complete_awakeable_command.CompleteAwakeableCommandMessage.{CompleteAwakeableCommandMessage}
 use Rattle.protocol_calls.specs.declared.complete_awakeable_command.CompleteAwakeableCommandResult.{CompleteAwakeableCommandResult}
 use Rattle.protocol_calls.specs.declared.get_invocation_output_command.GetInvocationOutputCommandMessage.{GetInvocationOutputCommandMessage}
-use Rattle.protocol_calls.specs.declared.get_invocation_output_command.GetInvocationOutputCommandTarget.{GetInvocationOutputCommandTarget}
 use Rattle.protocol_calls.specs.declared.idempotent_request_target.IdempotentRequestTarget.{IdempotentRequestTarget}
 use Rattle.protocol_calls.specs.declared.one_way_call_command.OneWayCallCommandMessage.{OneWayCallCommandMessage}
 use Rattle.protocol_calls.specs.declared.send_signal_command.SendSignalCommandMessage.{SendSignalCommandMessage}
@@ -39,8 +39,7 @@ use Rattle.protocol_table.specs.declared.table.send_signal_command.TheConstants 
 use Rattle.protocol_table.specs.declared.table.complete_awakeable_command.TheConstants as complete_awakeable_command
 use Rattle.protocol_table.specs.declared.table.attach_invocation_command.TheConstants as attach_invocation_command
 use Rattle.protocol_table.specs.declared.table.get_invocation_output_command.TheConstants as get_invocation_output_command
-use Rattle.protocol_calls.specs.declared.attach_invocation_command.AttachInvocationCommandTarget.TheVariants as attach_targets
-use Rattle.protocol_calls.specs.declared.get_invocation_output_command.GetInvocationOutputCommandTarget.TheVariants as output_targets
+use Rattle.protocol_calls.specs.declared.invocation_target.InvocationTarget.TheVariants as targets
 use Rattle.protocol_calls.specs.declared.complete_awakeable_command.CompleteAwakeableCommandResult.TheVariants as awakeable_results
 use Rattle.protocol_calls.specs.declared.send_signal_command.SendSignalCommandSignalId.TheVariants as signal_ids
 use Rattle.protocol_calls.specs.declared.send_signal_command.SendSignalCommandResult.TheVariants as signal_results
@@ -135,16 +134,16 @@ complete_awakeable_command_joins levels a b c p q h = joined types.CompleteAwake
   name = text_joins complete_awakeable_command.NAME.number (fields a) (fields b) (fields c) (ap (λ (r : CompleteAwakeableCommandMessage). r.name) h) i;
 })
 
-abbrev attach_invocation_command_target_number : AttachInvocationCommandTarget → ℕ
-attach_invocation_command_target_number (attach_targets.InvocationId x) = attach_invocation_command.INVOCATION_ID.number
-attach_invocation_command_target_number (attach_targets.WorkflowTarget x) = attach_invocation_command.WORKFLOW_TARGET.number
-attach_invocation_command_target_number (attach_targets.IdempotentRequestTarget x) = attach_invocation_command.IDEMPOTENT_REQUEST_TARGET.number
+abbrev target_number : InvocationTarget → ℕ
+target_number (targets.InvocationId x) = attach_invocation_command.INVOCATION_ID.number
+target_number (targets.WorkflowTarget x) = attach_invocation_command.WORKFLOW_TARGET.number
+target_number (targets.IdempotentRequestTarget x) = attach_invocation_command.IDEMPOTENT_REQUEST_TARGET.number
 
-attach_invocation_command_target_choice : (levels : ℕ) → Choice levels types.AttachInvocationCommand attach_invocation_command.TARGET attach_invocation_command_target_number attach_invocation_command.TARGET (attach_invocation_command_target_in levels)
+attach_invocation_command_target_choice : (levels : ℕ) → Choice levels types.AttachInvocationCommand attach_invocation_command.TARGET target_number attach_invocation_command.TARGET (target_in levels)
 attach_invocation_command_target_choice levels =
-    either attach_invocation_command_target_number (text_variant levels types.AttachInvocationCommand attach_invocation_command.TARGET attach_invocation_command.INVOCATION_ID.number refl refl) (λ x. attach_targets.InvocationId x) (λ x. refl) (λ x y h. cc) (
-    either attach_invocation_command_target_number (record_variant levels types.AttachInvocationCommand attach_invocation_command.TARGET attach_invocation_command.WORKFLOW_TARGET.number refl types.WorkflowTarget workflow_target_of workflow_target_joins refl) (λ x. attach_targets.WorkflowTarget x) (λ x. refl) (λ x y h. cc) (
-    only attach_invocation_command_target_number (record_variant levels types.AttachInvocationCommand attach_invocation_command.TARGET attach_invocation_command.IDEMPOTENT_REQUEST_TARGET.number refl types.IdempotentRequestTarget idempotent_request_target_of idempotent_request_target_joins refl) (λ x. attach_targets.IdempotentRequestTarget x) (λ x. refl) (λ x y h. cc)) refl) refl
+    either target_number (text_variant levels types.AttachInvocationCommand attach_invocation_command.TARGET attach_invocation_command.INVOCATION_ID.number refl refl) (λ x. targets.InvocationId x) (λ x. refl) (λ x y h. cc) (
+    either target_number (record_variant levels types.AttachInvocationCommand attach_invocation_command.TARGET attach_invocation_command.WORKFLOW_TARGET.number refl types.WorkflowTarget workflow_target_of workflow_target_joins refl) (λ x. targets.WorkflowTarget x) (λ x. refl) (λ x y h. cc) (
+    only target_number (record_variant levels types.AttachInvocationCommand attach_invocation_command.TARGET attach_invocation_command.IDEMPOTENT_REQUEST_TARGET.number refl types.IdempotentRequestTarget idempotent_request_target_of idempotent_request_target_joins refl) (λ x. targets.IdempotentRequestTarget x) (λ x. refl) (λ x y h. cc)) refl) refl
 
 pub attach_invocation_command_joins : Join types.AttachInvocationCommand attach_invocation_command_of
 attach_invocation_command_joins levels a b c p q h = joined types.AttachInvocationCommand (attach_invocation_command_of levels) levels a b c p q (λ i. record {
@@ -153,16 +152,11 @@ attach_invocation_command_joins levels a b c p q h = joined types.AttachInvocati
   name = text_joins attach_invocation_command.NAME.number (fields a) (fields b) (fields c) (ap (λ (r : AttachInvocationCommandMessage). r.name) h) i;
 })
 
-abbrev get_invocation_output_command_target_number : GetInvocationOutputCommandTarget → ℕ
-get_invocation_output_command_target_number (output_targets.InvocationId x) = get_invocation_output_command.INVOCATION_ID.number
-get_invocation_output_command_target_number (output_targets.WorkflowTarget x) = get_invocation_output_command.WORKFLOW_TARGET.number
-get_invocation_output_command_target_number (output_targets.IdempotentRequestTarget x) = get_invocation_output_command.IDEMPOTENT_REQUEST_TARGET.number
-
-get_invocation_output_command_target_choice : (levels : ℕ) → Choice levels types.GetInvocationOutputCommand get_invocation_output_command.TARGET get_invocation_output_command_target_number get_invocation_output_command.TARGET (get_invocation_output_command_target_in levels)
+get_invocation_output_command_target_choice : (levels : ℕ) → Choice levels types.GetInvocationOutputCommand attach_invocation_command.TARGET target_number attach_invocation_command.TARGET (target_in levels)
 get_invocation_output_command_target_choice levels =
-    either get_invocation_output_command_target_number (text_variant levels types.GetInvocationOutputCommand get_invocation_output_command.TARGET get_invocation_output_command.INVOCATION_ID.number refl refl) (λ x. output_targets.InvocationId x) (λ x. refl) (λ x y h. cc) (
-    either get_invocation_output_command_target_number (record_variant levels types.GetInvocationOutputCommand get_invocation_output_command.TARGET get_invocation_output_command.WORKFLOW_TARGET.number refl types.WorkflowTarget workflow_target_of workflow_target_joins refl) (λ x. output_targets.WorkflowTarget x) (λ x. refl) (λ x y h. cc) (
-    only get_invocation_output_command_target_number (record_variant levels types.GetInvocationOutputCommand get_invocation_output_command.TARGET get_invocation_output_command.IDEMPOTENT_REQUEST_TARGET.number refl types.IdempotentRequestTarget idempotent_request_target_of idempotent_request_target_joins refl) (λ x. output_targets.IdempotentRequestTarget x) (λ x. refl) (λ x y h. cc)) refl) refl
+    either target_number (text_variant levels types.GetInvocationOutputCommand attach_invocation_command.TARGET attach_invocation_command.INVOCATION_ID.number refl refl) (λ x. targets.InvocationId x) (λ x. refl) (λ x y h. cc) (
+    either target_number (record_variant levels types.GetInvocationOutputCommand attach_invocation_command.TARGET attach_invocation_command.WORKFLOW_TARGET.number refl types.WorkflowTarget workflow_target_of workflow_target_joins refl) (λ x. targets.WorkflowTarget x) (λ x. refl) (λ x y h. cc) (
+    only target_number (record_variant levels types.GetInvocationOutputCommand attach_invocation_command.TARGET attach_invocation_command.IDEMPOTENT_REQUEST_TARGET.number refl types.IdempotentRequestTarget idempotent_request_target_of idempotent_request_target_joins refl) (λ x. targets.IdempotentRequestTarget x) (λ x. refl) (λ x y h. cc)) refl) refl
 
 pub get_invocation_output_command_joins : Join types.GetInvocationOutputCommand get_invocation_output_command_of
 get_invocation_output_command_joins levels a b c p q h = joined types.GetInvocationOutputCommand (get_invocation_output_command_of levels) levels a b c p q (λ i. record {

@@ -9,6 +9,7 @@ pub mod Columns
 pub mod Entries
 pub mod Found
 pub mod Invocations
+pub mod Kept
 pub mod Making
 pub mod Moves
 pub mod Orders
