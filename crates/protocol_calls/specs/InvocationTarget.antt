@@ -4,8 +4,7 @@ use Rattle.protocol_wire.specs.Wire.{Field}
 use Rattle.protocol_wire.specs.Selection.{optional_text, optional_record, run, first_of}
 use Rattle.protocol_wire.specs.Parts.{Part, optional_bytes, payload_of}
 use Rattle.protocol_table.specs.declared.table.attach_invocation_command.TheConstants.{IDEMPOTENT_REQUEST_TARGET, INVOCATION_ID, TARGET, WORKFLOW_TARGET}
-use Rattle.protocol_calls.specs.IdempotentRequestTarget.{idempotent_request_target_of, idempotent_request_target_parts, IdempotentRequestTargetFits}
-use Rattle.protocol_calls.specs.WorkflowTarget.{workflow_target_of, workflow_target_parts, WorkflowTargetFits}
+use Rattle.protocol_calls.specs.Fields.{idempotent_request_target_of, idempotent_request_target_parts, IdempotentRequestTargetFits, workflow_target_of, workflow_target_parts, WorkflowTargetFits}
 use Rattle.protocol_calls.specs.declared.invocation_target.InvocationTarget.{InvocationTarget}
 use Rattle.protocol_calls.specs.declared.invocation_target.InvocationTarget.TheVariants as targets
 

@@ -1,10 +1,8 @@
 pub mod AttachInvocationCommand
-pub mod CallCommand
 pub mod CompleteAwakeableCommand
+pub mod Fields
 pub mod GetInvocationOutputCommand
-pub mod IdempotentRequestTarget
 pub mod InvocationTarget
-pub mod OneWayCallCommand
 pub mod ReadBack
 pub mod ReadBackAttachInvocationCommand
 pub mod ReadBackCompleteAwakeableCommand
@@ -13,4 +11,3 @@ pub mod ReadBackInvocationTarget
 pub mod ReadBackSendSignalCommand
 pub mod SendSignalCommand
 pub mod Texts
-pub mod WorkflowTarget

@@ -12,10 +12,7 @@ use Rattle.protocol_wire.proofs.Holds.{u32_holds, bytes_holds, text_holds, optio
 use Rattle.protocol_wire.proofs.Back.{u32_back, text_back, optional_text_back, records_back, u64_back}
 use Rattle.protocol_records.specs.Header.{header_of, header_parts, HeaderFits}
 use Rattle.protocol_records.specs.ReadBack.{header_reads}
-use Rattle.protocol_calls.specs.CallCommand.{call_command_of, call_command_parts, CallCommandFits}
-use Rattle.protocol_calls.specs.IdempotentRequestTarget.{idempotent_request_target_of, idempotent_request_target_parts, IdempotentRequestTargetFits}
-use Rattle.protocol_calls.specs.OneWayCallCommand.{one_way_call_command_of, one_way_call_command_parts, OneWayCallCommandFits}
-use Rattle.protocol_calls.specs.WorkflowTarget.{workflow_target_of, workflow_target_parts, WorkflowTargetFits}
+use Rattle.protocol_calls.specs.Fields.{call_command_of, call_command_parts, CallCommandFits, idempotent_request_target_of, idempotent_request_target_parts, IdempotentRequestTargetFits, one_way_call_command_of, one_way_call_command_parts, OneWayCallCommandFits, workflow_target_of, workflow_target_parts, WorkflowTargetFits}
 
 pub call_command_reads : Reads types.CallCommand call_command_of call_command_parts CallCommandFits
 call_command_reads levels v h small =

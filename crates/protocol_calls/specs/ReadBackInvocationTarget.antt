@@ -11,10 +11,9 @@ use Rattle.protocol_wire.proofs.Holds.{LengthFits}
 use Rattle.protocol_wire.proofs.Back.{optional_text_back, optional_record_back, held_among}
 use Rattle.protocol_calls.specs.declared.invocation_target.InvocationTarget.{InvocationTarget}
 use Rattle.protocol_calls.specs.declared.invocation_target.InvocationTarget.TheVariants as targets
-use Rattle.protocol_calls.specs.IdempotentRequestTarget.{idempotent_request_target_of, idempotent_request_target_parts}
+use Rattle.protocol_calls.specs.Fields.{idempotent_request_target_of, idempotent_request_target_parts, workflow_target_of, workflow_target_parts}
 use Rattle.protocol_calls.specs.declared.idempotent_request_target.IdempotentRequestTarget.{IdempotentRequestTarget}
 use Rattle.protocol_calls.specs.ReadBack.{idempotent_request_target_reads}
-use Rattle.protocol_calls.specs.WorkflowTarget.{workflow_target_of, workflow_target_parts}
 use Rattle.protocol_calls.specs.declared.workflow_target.WorkflowTarget.{WorkflowTarget}
 use Rattle.protocol_calls.specs.ReadBack.{workflow_target_reads}
 use Rattle.protocol_calls.specs.InvocationTarget.{target_in, target_parts, InvocationTargetFits, target_invocation_id, target_workflow_target, target_idempotent_request_target}

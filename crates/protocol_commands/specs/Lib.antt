@@ -1,15 +1,7 @@
-pub mod ClearAllStateCommand
-pub mod ClearStateCommand
 pub mod CompletePromiseCommand
+pub mod Fields
 pub mod GetEagerStateCommand
-pub mod GetEagerStateKeysCommand
-pub mod GetLazyStateCommand
-pub mod GetLazyStateKeysCommand
-pub mod GetPromiseCommand
-pub mod PeekPromiseCommand
 pub mod ReadBack
 pub mod ReadBackCompletePromiseCommand
 pub mod ReadBackGetEagerStateCommand
-pub mod RunCommand
-pub mod SetStateCommand
 pub mod Texts

@@ -18,15 +18,7 @@ use Rattle.protocol_wire.proofs.Back.{text_back, optional_record_back, u32_back}
 use Rattle.protocol_records.specs.StateKeys.{state_keys_of, state_keys_parts, StateKeysFits}
 use Rattle.protocol_records.specs.Value.{value_of, value_parts, ValueFits}
 use Rattle.protocol_records.specs.ReadBack.{state_keys_reads, value_reads}
-use Rattle.protocol_commands.specs.ClearAllStateCommand.{clear_all_state_command_of, clear_all_state_command_parts, ClearAllStateCommandFits}
-use Rattle.protocol_commands.specs.ClearStateCommand.{clear_state_command_of, clear_state_command_parts, ClearStateCommandFits}
-use Rattle.protocol_commands.specs.GetEagerStateKeysCommand.{get_eager_state_keys_command_of, get_eager_state_keys_command_parts, GetEagerStateKeysCommandFits}
-use Rattle.protocol_commands.specs.GetLazyStateCommand.{get_lazy_state_command_of, get_lazy_state_command_parts, GetLazyStateCommandFits}
-use Rattle.protocol_commands.specs.GetLazyStateKeysCommand.{get_lazy_state_keys_command_of, get_lazy_state_keys_command_parts, GetLazyStateKeysCommandFits}
-use Rattle.protocol_commands.specs.GetPromiseCommand.{get_promise_command_of, get_promise_command_parts, GetPromiseCommandFits}
-use Rattle.protocol_commands.specs.PeekPromiseCommand.{peek_promise_command_of, peek_promise_command_parts, PeekPromiseCommandFits}
-use Rattle.protocol_commands.specs.RunCommand.{run_command_of, run_command_parts, RunCommandFits}
-use Rattle.protocol_commands.specs.SetStateCommand.{set_state_command_of, set_state_command_parts, SetStateCommandFits}
+use Rattle.protocol_commands.specs.Fields.{clear_all_state_command_of, clear_all_state_command_parts, ClearAllStateCommandFits, clear_state_command_of, clear_state_command_parts, ClearStateCommandFits, get_eager_state_keys_command_of, get_eager_state_keys_command_parts, GetEagerStateKeysCommandFits, get_lazy_state_command_of, get_lazy_state_command_parts, GetLazyStateCommandFits, get_lazy_state_keys_command_of, get_lazy_state_keys_command_parts, GetLazyStateKeysCommandFits, get_promise_command_of, get_promise_command_parts, GetPromiseCommandFits, peek_promise_command_of, peek_promise_command_parts, PeekPromiseCommandFits, run_command_of, run_command_parts, RunCommandFits, set_state_command_of, set_state_command_parts, SetStateCommandFits}
 
 pub clear_all_state_command_reads : Reads types.ClearAllStateCommand clear_all_state_command_of clear_all_state_command_parts ClearAllStateCommandFits
 clear_all_state_command_reads levels v h small =

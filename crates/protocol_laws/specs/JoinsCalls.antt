@@ -8,14 +8,11 @@ use Rattle.protocol_records.specs.Header.{header_of}
 use Rattle.protocol_records.specs.Value.{value_of}
 use Rattle.protocol_records.specs.Void.{void_of}
 use Rattle.protocol_calls.specs.AttachInvocationCommand.{attach_invocation_command_of}
-use Rattle.protocol_calls.specs.CallCommand.{call_command_of}
+use Rattle.protocol_calls.specs.Fields.{call_command_of, idempotent_request_target_of, one_way_call_command_of, workflow_target_of}
 use Rattle.protocol_calls.specs.CompleteAwakeableCommand.{complete_awakeable_command_of, result_in as complete_awakeable_command_result_in}
 use Rattle.protocol_calls.specs.GetInvocationOutputCommand.{get_invocation_output_command_of}
 use Rattle.protocol_calls.specs.InvocationTarget.{target_in}
-use Rattle.protocol_calls.specs.IdempotentRequestTarget.{idempotent_request_target_of}
-use Rattle.protocol_calls.specs.OneWayCallCommand.{one_way_call_command_of}
 use Rattle.protocol_calls.specs.SendSignalCommand.{send_signal_command_of, signal_id_in as send_signal_command_signal_id_in, result_in as send_signal_command_result_in}
-use Rattle.protocol_calls.specs.WorkflowTarget.{workflow_target_of}
 use Rattle.protocol_calls.specs.declared.attach_invocation_command.AttachInvocationCommandMessage.{AttachInvocationCommandMessage}
 use Rattle.protocol_calls.specs.declared.invocation_target.InvocationTarget.{InvocationTarget}
 use Rattle.protocol_calls.specs.declared.call_command.CallCommandMessage.{CallCommandMessage}

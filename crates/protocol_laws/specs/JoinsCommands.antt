@@ -7,17 +7,9 @@ use Rattle.protocol_records.specs.Failure.{failure_of}
 use Rattle.protocol_records.specs.StateKeys.{state_keys_of}
 use Rattle.protocol_records.specs.Value.{value_of}
 use Rattle.protocol_records.specs.Void.{void_of}
-use Rattle.protocol_commands.specs.ClearAllStateCommand.{clear_all_state_command_of}
-use Rattle.protocol_commands.specs.ClearStateCommand.{clear_state_command_of}
+use Rattle.protocol_commands.specs.Fields.{clear_all_state_command_of, clear_state_command_of, get_eager_state_keys_command_of, get_lazy_state_command_of, get_lazy_state_keys_command_of, get_promise_command_of, peek_promise_command_of, run_command_of, set_state_command_of}
 use Rattle.protocol_commands.specs.CompletePromiseCommand.{complete_promise_command_of, completion_in as complete_promise_command_completion_in}
 use Rattle.protocol_commands.specs.GetEagerStateCommand.{get_eager_state_command_of, result_in as get_eager_state_command_result_in}
-use Rattle.protocol_commands.specs.GetEagerStateKeysCommand.{get_eager_state_keys_command_of}
-use Rattle.protocol_commands.specs.GetLazyStateCommand.{get_lazy_state_command_of}
-use Rattle.protocol_commands.specs.GetLazyStateKeysCommand.{get_lazy_state_keys_command_of}
-use Rattle.protocol_commands.specs.GetPromiseCommand.{get_promise_command_of}
-use Rattle.protocol_commands.specs.PeekPromiseCommand.{peek_promise_command_of}
-use Rattle.protocol_commands.specs.RunCommand.{run_command_of}
-use Rattle.protocol_commands.specs.SetStateCommand.{set_state_command_of}
 use Rattle.protocol_commands.specs.declared.clear_all_state_command.ClearAllStateCommandMessage.{ClearAllStateCommandMessage}
 use Rattle.protocol_commands.specs.declared.clear_state_command.ClearStateCommandMessage.{ClearStateCommandMessage}
 use Rattle.protocol_commands.specs.declared.complete_promise_command.CompletePromiseCommandCompletion.{CompletePromiseCommandCompletion}

@@ -1,9 +1,6 @@
 pub mod Choices
-pub mod FitsCalls
-pub mod FitsCommands
-pub mod FitsControls
+pub mod Fits
 pub mod FitsFuture
-pub mod FitsRecords
 pub mod JoinsCalls
 pub mod JoinsCommands
 pub mod JoinsControls

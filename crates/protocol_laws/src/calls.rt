@@ -1,5 +1,5 @@
 ghost use Rattle.protocol_laws.specs.JoinsCalls.{workflow_target_joins, idempotent_request_target_joins, call_command_joins, one_way_call_command_joins, send_signal_command_joins, complete_awakeable_command_joins, attach_invocation_command_joins, get_invocation_output_command_joins};
-ghost use Rattle.protocol_laws.specs.FitsCalls.{workflow_target_fits, idempotent_request_target_fits, call_command_fits, one_way_call_command_fits, send_signal_command_fits, complete_awakeable_command_fits, attach_invocation_command_fits, get_invocation_output_command_fits};
+ghost use Rattle.protocol_laws.specs.Fits.{workflow_target_fits, idempotent_request_target_fits, call_command_fits, one_way_call_command_fits, send_signal_command_fits, complete_awakeable_command_fits, attach_invocation_command_fits, get_invocation_output_command_fits};
 
 use crate::{FitsRead, Joining};
 use protocol_calls::{

@@ -1,5 +1,5 @@
 ghost use Rattle.protocol_laws.specs.JoinsCommands.{get_lazy_state_command_joins, get_lazy_state_keys_command_joins, get_eager_state_command_joins, get_eager_state_keys_command_joins, set_state_command_joins, clear_state_command_joins, clear_all_state_command_joins, get_promise_command_joins, peek_promise_command_joins, complete_promise_command_joins, run_command_joins};
-ghost use Rattle.protocol_laws.specs.FitsCommands.{get_lazy_state_command_fits, get_lazy_state_keys_command_fits, get_eager_state_command_fits, get_eager_state_keys_command_fits, set_state_command_fits, clear_state_command_fits, clear_all_state_command_fits, get_promise_command_fits, peek_promise_command_fits, complete_promise_command_fits, run_command_fits};
+ghost use Rattle.protocol_laws.specs.Fits.{get_lazy_state_command_fits, get_lazy_state_keys_command_fits, get_eager_state_command_fits, get_eager_state_keys_command_fits, set_state_command_fits, clear_state_command_fits, clear_all_state_command_fits, get_promise_command_fits, peek_promise_command_fits, complete_promise_command_fits, run_command_fits};
 
 use crate::{FitsRead, Joining};
 use protocol_commands::{

@@ -1,5 +1,5 @@
 ghost use Rattle.protocol_laws.specs.JoinsControls.{error_joins, propose_run_completion_ack_joins, propose_run_completion_joins, get_state_ephemeral_command_joins, get_state_ephemeral_notification_joins, notification_joins};
-ghost use Rattle.protocol_laws.specs.FitsControls.{error_fits, propose_run_completion_ack_fits, propose_run_completion_fits, get_state_ephemeral_command_fits, get_state_ephemeral_notification_fits, notification_fits};
+ghost use Rattle.protocol_laws.specs.Fits.{error_fits, propose_run_completion_ack_fits, propose_run_completion_fits, get_state_ephemeral_command_fits, get_state_ephemeral_notification_fits, notification_fits};
 
 use crate::{FitsRead, Joining};
 use protocol_controls::{

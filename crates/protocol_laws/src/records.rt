@@ -1,5 +1,5 @@
 ghost use Rattle.protocol_laws.specs.JoinsRecords.{void_joins, value_joins, failure_metadata_joins, failure_joins, header_joins, state_entry_joins, state_keys_joins, start_joins, suspension_v6_joins, end_joins, input_command_joins, output_command_joins, sleep_command_joins, suspension_joins, awaiting_on_joins};
-ghost use Rattle.protocol_laws.specs.FitsRecords.{void_fits, value_fits, failure_metadata_fits, failure_fits, header_fits, state_entry_fits, state_keys_fits, start_fits, suspension_v6_fits, end_fits, input_command_fits, output_command_fits, sleep_command_fits, suspension_fits, awaiting_on_fits};
+ghost use Rattle.protocol_laws.specs.Fits.{void_fits, value_fits, failure_metadata_fits, failure_fits, header_fits, state_entry_fits, state_keys_fits, start_fits, suspension_v6_fits, end_fits, input_command_fits, output_command_fits, sleep_command_fits, suspension_fits, awaiting_on_fits};
 ghost use Rattle.protocol_laws.specs.JoinsFuture.{future_joins};
 ghost use Rattle.protocol_laws.specs.FitsFuture.{future_fits};
 

@@ -10,19 +10,10 @@ use Rattle.protocol_records.specs.OutputCommand.{output_command_parts}
 use Rattle.protocol_records.specs.SleepCommand.{sleep_command_parts}
 use Rattle.protocol_records.specs.Suspension.{suspension_parts}
 use Rattle.protocol_controls.specs.ProposeRunCompletionAck.{propose_run_completion_ack_parts}
-use Rattle.protocol_commands.specs.GetLazyStateCommand.{get_lazy_state_command_parts}
+use Rattle.protocol_commands.specs.Fields.{get_lazy_state_command_parts, get_lazy_state_keys_command_parts, get_eager_state_keys_command_parts, set_state_command_parts, clear_state_command_parts, clear_all_state_command_parts, get_promise_command_parts, peek_promise_command_parts, run_command_parts}
 use Rattle.protocol_commands.specs.GetEagerStateCommand.{get_eager_state_command_parts}
-use Rattle.protocol_commands.specs.GetLazyStateKeysCommand.{get_lazy_state_keys_command_parts}
-use Rattle.protocol_commands.specs.GetEagerStateKeysCommand.{get_eager_state_keys_command_parts}
-use Rattle.protocol_commands.specs.SetStateCommand.{set_state_command_parts}
-use Rattle.protocol_commands.specs.ClearStateCommand.{clear_state_command_parts}
-use Rattle.protocol_commands.specs.ClearAllStateCommand.{clear_all_state_command_parts}
-use Rattle.protocol_commands.specs.GetPromiseCommand.{get_promise_command_parts}
-use Rattle.protocol_commands.specs.PeekPromiseCommand.{peek_promise_command_parts}
 use Rattle.protocol_commands.specs.CompletePromiseCommand.{complete_promise_command_parts}
-use Rattle.protocol_commands.specs.RunCommand.{run_command_parts}
-use Rattle.protocol_calls.specs.CallCommand.{call_command_parts}
-use Rattle.protocol_calls.specs.OneWayCallCommand.{one_way_call_command_parts}
+use Rattle.protocol_calls.specs.Fields.{call_command_parts, one_way_call_command_parts}
 use Rattle.protocol_calls.specs.SendSignalCommand.{send_signal_command_parts}
 use Rattle.protocol_calls.specs.AttachInvocationCommand.{attach_invocation_command_parts}
 use Rattle.protocol_calls.specs.GetInvocationOutputCommand.{get_invocation_output_command_parts}

@@ -3,6 +3,7 @@ pub mod AskingEntries
 pub mod AskingInvocations
 pub mod AskingMarks
 pub mod AskingStates
+pub mod Automatic
 pub mod Back
 pub mod Chained
 pub mod Columns

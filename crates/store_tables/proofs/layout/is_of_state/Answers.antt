@@ -1,10 +1,9 @@
-use Rattle.std.specs.Fmt.{digits}
+use Rattle.std.proofs.Common.{◌∙◌, sym}
+use Rattle.store_tables.proofs.Automatic.{of_state}
 use Rattle.store_tables.proofs.layout.is_of_state.Goals as goal
 
 pub returns-clause-exact : goal.returns-clause-exact
-unfolding digits
-returns-clause-exact c here = c.is_index.ensures.exact here
+returns-clause-exact c here = c.is_index.ensures.exact here ∙ sym of_state
 
 pub returns-clause-complete : goal.returns-clause-complete
-unfolding digits
-returns-clause-complete c here = c.is_index.ensures.complete here
+returns-clause-complete c here = c.is_index.ensures.complete (here ∙ of_state)

@@ -1,10 +1,9 @@
-use Rattle.std.specs.Fmt.{digits}
+use Rattle.std.proofs.Common.{◌∙◌, sym}
+use Rattle.store_tables.proofs.Automatic.{third_of_entry}
 use Rattle.store_tables.proofs.layout.is_third_of_entry.Goals as goal
 
 pub returns-clause-exact : goal.returns-clause-exact
-unfolding digits
-returns-clause-exact c here = c.is_index.ensures.exact here
+returns-clause-exact c here = c.is_index.ensures.exact here ∙ sym third_of_entry
 
 pub returns-clause-complete : goal.returns-clause-complete
-unfolding digits
-returns-clause-complete c here = c.is_index.ensures.complete here
+returns-clause-complete c here = c.is_index.ensures.complete (here ∙ third_of_entry)
