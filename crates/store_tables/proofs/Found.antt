@@ -1,24 +1,19 @@
 -- From rows to the records that were asked for.
 use Rattle.std.proofs.Common.{◌≡◌, ◌≤◌, ℕ, Bool, List, [], ◌∷◌, map, filter, length, Option, None, Some, sym, ap, ◌∙◌, arith}
-use Rattle.std.specs.Prelude.{IfErr, IfOk, IfSome, IsTrue, Result}
+use Rattle.std.specs.Prelude.{IfSome}
 use Rattle.std.specs.List.{AllByRecursion}
 use Rattle.std.specs.List.Sorted.{IsPermutation}
 use Rattle.std.specs.Option.{option_to_list}
 use Rattle.std.proofs.lemmas.List.Sorted.{IsPermutation-sym}
 use Rattle.sqlite_keyed.proofs.ListLemmas.{all-filter}
-use Rattle.sqlite_trees.specs.Tree.{IsAscending, Trees}
+use Rattle.sqlite_trees.specs.Tree.{IsAscending}
 use Rattle.sqlite_trees.proofs.ListLemmas.{all-permutation}
 use Rattle.sqlite_value.specs.Order.{Row}
-use Rattle.sqlite.specs.State.{State, HasCleanDisk}
+use Rattle.sqlite.specs.State.{State}
 use Rattle.sql_tables.specs.Asking.{IsAnswer, IsOther}
-use Rattle.sql_tables.specs.declared.read.ReadError.{ReadError}
-use Rattle.sql_tables.specs.declared.read.ReadError.TheVariants.{Foreign}
-use Rattle.sql_tables.proofs.Queries.{err_then, ok_then}
 use Rattle.sql_tables.proofs.Reading.{all_back, found_as, no_more, only_one, same_records}
 use Rattle.store_tables.specs.Records.{Records, Holds}
 use Rattle.store_tables.specs.Questions.{IsAmbiguous, IsFound}
-use Rattle.store_tables.specs.Steps.{IsStore}
-use Rattle.store_tables.specs.Tables.{store_schema}
 
 fits_listed : {X : Type 0} (Fits : X → Type 0) (o : Option X) → IfSome o Fits → AllByRecursion Fits (option_to_list o)
 fits_listed Fits None fits = tt
@@ -41,25 +36,6 @@ module _ {X : Type 0} (cells : X → Row) (back : Row → X) (Fits : X → Type 
       by_list [] few fits same = other.2 (None, tt, sym (no_more other.0 (IsPermutation-sym _ _ same)))
       by_list (x ∷ []) few fits same = other.2 (Some x, fits.0, sym (only_one other.0 (cells x) (IsPermutation-sym _ _ same)))
       by_list (x ∷ y ∷ xs) few fits same = omega arith
-
--- The records of one table: how each stands in a row, and is told from it.
-pub record Kept (X : Type 0) : Type 1 where
-  pub cells : X → Row
-  pub back : Row → X
-  pub Fits : X → Type 0
-  pub is : (x : X) → Fits x → back (cells x) ≡ x
-  pub records : Records → List X
-  pub fit : (trees : Trees) (r : Records) → Holds trees r → AllByRecursion Fits (records r)
-
--- A question about one of them, put to a store's tables.
-module _ {X : Type 0} (k : Kept X) (sql : List ℕ) (params : Row) (old : State) (test : X → Bool) (store : IsStore old) (early : HasCleanDisk old)
-    (read : (rows : List Row) → old.now.schema ≡ store_schema → IsAnswer sql params old rows → (r : Records) → Holds old.now.trees r → IsPermutation (map k.cells (filter test (k.records r))) rows) where
-  pub one_asked : (result : Result (Option X) ReadError) → IfOk result (λ o. IsTrue old.is_open × IsAnswer sql params old (map k.cells (option_to_list o)) × IfSome o k.Fits) → IfOk result (IsFound k.records test old.now.trees)
-  one_asked result answers = ok_then result answers (λ o it. one_found k.cells k.back k.Fits k.is sql params old k.records test (k.fit old.now.trees) (λ rows. read rows (store early it.0)) o it.1 it.2)
-
-  pub one_foreign : (result : Result (Option X) ReadError) → IfErr result (λ e. e ≡ Foreign → IsTrue old.is_open × IsOther sql params old (λ rows. (o : Option X) × IfSome o k.Fits × (map k.cells (option_to_list o) ≡ rows)))
-      → IfErr result (λ e. e ≡ Foreign → IsAmbiguous k.records test old.now.trees)
-  one_foreign result foreign = err_then result foreign (λ e it is. one_ambiguous k.cells k.back k.Fits k.is sql params old k.records test (k.fit old.now.trees) (λ rows. read rows (store early (it is).0)) (it is).1)
 
 -- the records in the one order that a relation gives them
 module _ {X : Type 0} (cells : X → Row) (back : Row → X) (Fits : X → Type 0) (is : (x : X) → Fits x → back (cells x) ≡ x) (sql : List ℕ) (params : Row) (old : State) (records : Records → List X) (test : X → Bool)

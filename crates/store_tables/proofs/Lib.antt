@@ -3,14 +3,12 @@ pub mod AskingEntries
 pub mod AskingInvocations
 pub mod AskingMarks
 pub mod AskingStates
-pub mod Automatic
 pub mod Back
 pub mod Chained
 pub mod Columns
 pub mod Entries
 pub mod Found
 pub mod Invocations
-pub mod Kept
 pub mod Making
 pub mod Moves
 pub mod Orders

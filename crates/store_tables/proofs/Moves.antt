@@ -1,15 +1,13 @@
 -- Changes of the records, one after another.
 use Rattle.std.proofs.Common.{◌≡◌, ℕ, List, [], ◌∷◌, ◌++◌, refl, sym, subst}
-use Rattle.std.specs.Prelude.{OnOk, Result}
 use Rattle.sqlite_value.specs.Order.{Row}
 use Rattle.sqlite_trees.specs.Tree.{Trees}
-use Rattle.sqlite.specs.State.{State, HasCleanDisk}
+use Rattle.sqlite.specs.State.{State}
 use Rattle.sql_tables.specs.Asking.{HasRun}
 use Rattle.sql_tables.specs.Content.{HasRows}
 use Rattle.store_tables.specs.Tables.{store_schema}
 use Rattle.store_tables.specs.Records.{Records, Write, applied, applied_all}
-use Rattle.sql_tables.proofs.Queries.{on_ok}
-use Rattle.store_tables.specs.Steps.{IsStore, Steps, Turns}
+use Rattle.store_tables.specs.Steps.{Steps, Turns}
 
 -- a table that a statement did not touch
 pub kept_rows : (old new : Trees) (tree : ℕ) (rows : List Row) → new tree ≡ old tree → HasRows (old tree) rows → HasRows (new tree) rows
@@ -18,14 +16,8 @@ kept_rows old new tree rows same h = subst (λ t. HasRows t rows) (sym same) h
 abbrev pub Moves : (Records → Records) → State → State → Type 0
 Moves change old new = (new.now.schema ≡ store_schema) × Turns change old.now.trees new.now.trees
 
-step_of : (change : Records → Records) (sql : List ℕ) (params : Row) (old new : State) → HasRun sql params old new → Moves change old new → Steps change old new
+pub step_of : (change : Records → Records) (sql : List ℕ) (params : Row) (old new : State) → HasRun sql params old new → Moves change old new → Steps change old new
 step_of change sql params old new ran moved = record { was_open = ran.was_open; schema = moved.0; inside = ran.inside; records = moved.1 }
-
--- a statement that ran over a store's tables
-pub written : {E : Type 0} (change : Records → Records) (sql : List ℕ) (params : Row) (old new : State) (result : Result (Unit {0}) E) → IsStore old → HasCleanDisk old → OnOk result (HasRun sql params old new)
-    → (old.now.schema ≡ store_schema → HasRun sql params old new → Moves change old new) → OnOk result (Steps change old new)
-written change sql params old new result store early ran moves =
-    on_ok result ran (λ run. step_of change sql params old new run (moves (store early run.was_open) run))
 
 pub steps_then : (f g : Records → Records) (a b c : State) → Steps f a b → Steps g b c → Steps (λ r. g (f r)) a c
 steps_then f g a b c one two = record {

@@ -1,9 +1,10 @@
-use Rattle.std.proofs.Common.{◌∙◌, sym}
-use Rattle.store_tables.proofs.Automatic.{second_of_invocation}
+use Rattle.std.specs.Fmt.{digits}
 use Rattle.store_tables.proofs.layout.is_second_of_invocation.Goals as goal
 
 pub returns-clause-exact : goal.returns-clause-exact
-returns-clause-exact c here = c.is_index.ensures.exact here ∙ sym second_of_invocation
+unfolding digits
+returns-clause-exact c here = c.is_index.ensures.exact here
 
 pub returns-clause-complete : goal.returns-clause-complete
-returns-clause-complete c here = c.is_index.ensures.complete (here ∙ second_of_invocation)
+unfolding digits
+returns-clause-complete c here = c.is_index.ensures.complete here
