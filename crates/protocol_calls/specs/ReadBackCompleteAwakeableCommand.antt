@@ -1,17 +1,15 @@
 -- The canonical payload of a complete awakeable command is read again, to the same value.
-use Rattle.std.specs.Prelude.{◌≡◌, ℕ, ◌-◌, ◌<◌, ◌^◌, [], ◌∷◌, length, Option, Some, None, IfSome, option_map, refl}
+use Rattle.std.specs.Prelude.{◌≡◌, ℕ, ◌-◌, [], ◌∷◌, Option, Some, None, IfSome, option_map, refl}
 use Rattle.std.specs.List.{AllByRecursion}
 use Rattle.std.proofs.Common.{sym, ap, ◌∙◌}
 use Rattle.protocol_wire.specs.Selection.{last_run, first_of, last_number, last_bytes, texts}
 use Rattle.protocol_wire.specs.Check.{payload_fault}
 use Rattle.protocol_table.specs.Table.{descriptors_of}
 use Rattle.protocol_wire.specs.Parts.{bytes_if, optional_bytes, payload_of}
-use Rattle.protocol_wire.specs.Decodes.{IsRead}
 use Rattle.protocol_table.specs.declared.table.RecordType.TheVariants as types
 use Rattle.protocol_table.specs.declared.table.complete_awakeable_command.TheConstants as complete_awakeable_command
-use Rattle.protocol_wire.proofs.Holds.{LengthFits, text_holds, optional_record_holds, lengths_fit, payload_holds}
+use Rattle.protocol_wire.proofs.Holds.{LengthFits, text_holds, optional_record_holds, lengths_fit, Reads, read_back}
 use Rattle.protocol_wire.proofs.Back.{text_back, optional_record_back, held_among, run-fields_of}
-use Rattle.protocol_calls.specs.declared.complete_awakeable_command.CompleteAwakeableCommandMessage.{CompleteAwakeableCommandMessage}
 use Rattle.protocol_calls.specs.declared.complete_awakeable_command.CompleteAwakeableCommandResult.{CompleteAwakeableCommandResult}
 use Rattle.protocol_calls.specs.declared.complete_awakeable_command.CompleteAwakeableCommandResult.TheVariants as results
 use Rattle.protocol_records.specs.Failure.{failure_of, failure_parts}
@@ -41,13 +39,14 @@ result_back levels (Some (results.Value v)) h k0 k1 =
 result_back levels (Some (results.Failure f)) h k0 k1 =
     ap (λ (o : Option Failure). option_map (λ f. results.Failure f) o) (optional_record_back (failure_of (levels - 1)) (λ r. payload_of (failure_parts r)) complete_awakeable_command.FAILURE.number (Some f) (optional_bytes complete_awakeable_command.FAILURE.number (Some (payload_of (failure_parts f))) ∷ []) refl (sym (failure_reads (levels - 1) f h k1.0).value))
 
-pub complete_awakeable_command_reads : (levels : ℕ) (v : CompleteAwakeableCommandMessage) → CompleteAwakeableCommandFits levels v → length (payload_of (complete_awakeable_command_parts v)) < 2 ^ 64 → IsRead levels types.CompleteAwakeableCommand complete_awakeable_command_of (payload_of (complete_awakeable_command_parts v)) v
+pub complete_awakeable_command_reads : Reads types.CompleteAwakeableCommand complete_awakeable_command_of complete_awakeable_command_parts CompleteAwakeableCommandFits
 complete_awakeable_command_reads levels v h small =
     let ps = complete_awakeable_command_parts v in
     let below = payload_fault (levels - 1) in
     let table = descriptors_of types.CompleteAwakeableCommand in
     let lengths = lengths_fit ps small in
-    let read = payload_holds levels types.CompleteAwakeableCommand ps h.level ((
+    let result = ap (result_in levels) (run-fields_of complete_awakeable_command.RESULT ps) ∙ result_back levels v.result h.result lengths.1.0 lengths.1.1.0 in
+    read_back levels types.CompleteAwakeableCommand complete_awakeable_command_of ps v h.level small (
       text_holds below table complete_awakeable_command.AWAKEABLE_ID.number v.awakeable_id (refl, refl) h.awakeable_id,
       (
         optional_record_holds below table complete_awakeable_command.VALUE.number types.Value (result_value v.result) (refl, refl) (result_value_holds (levels - 1) v.result h.result lengths.1.0),
@@ -59,13 +58,8 @@ complete_awakeable_command_reads levels v h small =
           ),
         ),
       ),
-    )) small in
-    let result = ap (result_in levels) (run-fields_of complete_awakeable_command.RESULT ps) ∙ result_back levels v.result h.result lengths.1.0 lengths.1.1.0 in
-    record {
-      sound = read.0;
-      value = sym (ap (complete_awakeable_command_of levels) read.1 ∙ λ i. record {
-        awakeable_id = text_back complete_awakeable_command.AWAKEABLE_ID.number v.awakeable_id ps refl i;
-        result = result i;
-        name = text_back complete_awakeable_command.NAME.number v.name ps refl i;
-      });
-    }
+    ) (λ i. record {
+      awakeable_id = text_back complete_awakeable_command.AWAKEABLE_ID.number v.awakeable_id ps refl i;
+      result = result i;
+      name = text_back complete_awakeable_command.NAME.number v.name ps refl i;
+    })

@@ -1,17 +1,15 @@
 -- The canonical payload of a send signal command is read again, to the same value.
-use Rattle.std.specs.Prelude.{◌≡◌, ℕ, ◌-◌, ◌<◌, ◌^◌, List, [], ◌∷◌, length, Option, Some, None, IfSome, IsUtf8, option_map, refl}
+use Rattle.std.specs.Prelude.{◌≡◌, ℕ, ◌-◌, ◌<◌, ◌^◌, List, [], ◌∷◌, Option, Some, None, IfSome, IsUtf8, option_map, refl}
 use Rattle.std.specs.List.{AllByRecursion}
 use Rattle.std.proofs.Common.{sym, ap, ◌∙◌}
 use Rattle.protocol_wire.specs.Selection.{last_run, first_of, last_number, last_bytes, texts}
 use Rattle.protocol_wire.specs.Check.{payload_fault}
 use Rattle.protocol_table.specs.Table.{descriptors_of}
 use Rattle.protocol_wire.specs.Parts.{bytes_if, optional_bytes, optional_number, payload_of}
-use Rattle.protocol_wire.specs.Decodes.{IsRead}
 use Rattle.protocol_table.specs.declared.table.RecordType.TheVariants as types
 use Rattle.protocol_table.specs.declared.table.send_signal_command.TheConstants as send_signal_command
-use Rattle.protocol_wire.proofs.Holds.{LengthFits, text_holds, optional_u32_holds, optional_text_holds, optional_record_holds, lengths_fit, payload_holds}
+use Rattle.protocol_wire.proofs.Holds.{LengthFits, text_holds, optional_u32_holds, optional_text_holds, optional_record_holds, lengths_fit, Reads, read_back}
 use Rattle.protocol_wire.proofs.Back.{text_back, optional_u32_back, optional_text_back, optional_record_back, held_among, run-fields_of}
-use Rattle.protocol_calls.specs.declared.send_signal_command.SendSignalCommandMessage.{SendSignalCommandMessage}
 use Rattle.protocol_calls.specs.declared.send_signal_command.SendSignalCommandSignalId.{SendSignalCommandSignalId}
 use Rattle.protocol_calls.specs.declared.send_signal_command.SendSignalCommandSignalId.TheVariants as signal_ids
 use Rattle.protocol_calls.specs.declared.send_signal_command.SendSignalCommandResult.{SendSignalCommandResult}
@@ -24,7 +22,7 @@ use Rattle.protocol_records.specs.declared.value.Value.{Value}
 use Rattle.protocol_records.specs.ReadBack.{value_reads}
 use Rattle.protocol_records.specs.Void.{void_of, void_parts}
 use Rattle.protocol_records.specs.declared.void.Void.{Void}
-use Rattle.protocol_records.specs.ReadBackVoid.{void_reads}
+use Rattle.protocol_records.specs.ReadBack.{void_reads}
 use Rattle.protocol_calls.specs.SendSignalCommand.{send_signal_command_of, send_signal_command_parts, SendSignalCommandFits, signal_id_in, signal_id_parts, SendSignalCommandSignalIdFits, signal_id_idx, signal_id_name, result_in, result_parts, SendSignalCommandResultFits, result_void, result_value, result_failure}
 
 signal_id_idx_holds : (levels : ℕ) (o : Option SendSignalCommandSignalId) → SendSignalCommandSignalIdFits levels o → IfSome (signal_id_idx o) (λ n. n < 2 ^ 32)
@@ -75,13 +73,15 @@ result_back levels (Some (results.Value v)) h k0 k1 k2 =
 result_back levels (Some (results.Failure f)) h k0 k1 k2 =
     ap (λ (o : Option Failure). option_map (λ f. results.Failure f) o) (optional_record_back (failure_of (levels - 1)) (λ r. payload_of (failure_parts r)) send_signal_command.FAILURE.number (Some f) (optional_bytes send_signal_command.FAILURE.number (Some (payload_of (failure_parts f))) ∷ []) refl (sym (failure_reads (levels - 1) f h k2.0).value))
 
-pub send_signal_command_reads : (levels : ℕ) (v : SendSignalCommandMessage) → SendSignalCommandFits levels v → length (payload_of (send_signal_command_parts v)) < 2 ^ 64 → IsRead levels types.SendSignalCommand send_signal_command_of (payload_of (send_signal_command_parts v)) v
+pub send_signal_command_reads : Reads types.SendSignalCommand send_signal_command_of send_signal_command_parts SendSignalCommandFits
 send_signal_command_reads levels v h small =
     let ps = send_signal_command_parts v in
     let below = payload_fault (levels - 1) in
     let table = descriptors_of types.SendSignalCommand in
     let lengths = lengths_fit ps small in
-    let read = payload_holds levels types.SendSignalCommand ps h.level ((
+    let signal_id = ap (signal_id_in levels) (run-fields_of send_signal_command.SIGNAL_ID ps) ∙ signal_id_back levels v.signal_id h.signal_id in
+    let result = ap (result_in levels) (run-fields_of send_signal_command.RESULT ps) ∙ result_back levels v.result h.result lengths.1.1.1.0 lengths.1.1.1.1.0 lengths.1.1.1.1.1.0 in
+    read_back levels types.SendSignalCommand send_signal_command_of ps v h.level small (
       text_holds below table send_signal_command.TARGET_INVOCATION_ID.number v.target_invocation_id (refl, refl) h.target_invocation_id,
       (
         optional_u32_holds below table send_signal_command.IDX.number (signal_id_idx v.signal_id) (refl, refl) (signal_id_idx_holds (levels - 1) v.signal_id h.signal_id),
@@ -102,15 +102,9 @@ send_signal_command_reads levels v h small =
           ),
         ),
       ),
-    )) small in
-    let signal_id = ap (signal_id_in levels) (run-fields_of send_signal_command.SIGNAL_ID ps) ∙ signal_id_back levels v.signal_id h.signal_id in
-    let result = ap (result_in levels) (run-fields_of send_signal_command.RESULT ps) ∙ result_back levels v.result h.result lengths.1.1.1.0 lengths.1.1.1.1.0 lengths.1.1.1.1.1.0 in
-    record {
-      sound = read.0;
-      value = sym (ap (send_signal_command_of levels) read.1 ∙ λ i. record {
-        target_invocation_id = text_back send_signal_command.TARGET_INVOCATION_ID.number v.target_invocation_id ps refl i;
-        signal_id = signal_id i;
-        result = result i;
-        entry_name = text_back send_signal_command.ENTRY_NAME.number v.entry_name ps refl i;
-      });
-    }
+    ) (λ i. record {
+      target_invocation_id = text_back send_signal_command.TARGET_INVOCATION_ID.number v.target_invocation_id ps refl i;
+      signal_id = signal_id i;
+      result = result i;
+      entry_name = text_back send_signal_command.ENTRY_NAME.number v.entry_name ps refl i;
+    })

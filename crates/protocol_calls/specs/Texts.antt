@@ -10,10 +10,8 @@ use Rattle.protocol_calls.specs.declared.send_signal_command.SendSignalCommandRe
 use Rattle.protocol_calls.specs.declared.send_signal_command.SendSignalCommandResult.TheVariants as results
 use Rattle.protocol_calls.specs.declared.workflow_target.WorkflowTarget.{WorkflowTarget}
 use Rattle.protocol_calls.specs.declared.idempotent_request_target.IdempotentRequestTarget.{IdempotentRequestTarget}
-use Rattle.protocol_calls.specs.declared.attach_invocation_command.AttachInvocationCommandTarget.{AttachInvocationCommandTarget}
-use Rattle.protocol_calls.specs.declared.attach_invocation_command.AttachInvocationCommandTarget.TheVariants as attached
-use Rattle.protocol_calls.specs.declared.get_invocation_output_command.GetInvocationOutputCommandTarget.{GetInvocationOutputCommandTarget}
-use Rattle.protocol_calls.specs.declared.get_invocation_output_command.GetInvocationOutputCommandTarget.TheVariants as asked
+use Rattle.protocol_calls.specs.declared.invocation_target.InvocationTarget.{InvocationTarget}
+use Rattle.protocol_calls.specs.declared.invocation_target.InvocationTarget.TheVariants as targets
 
 abbrev pub workflow_target_text : WorkflowTarget → List ℕ
 workflow_target_text target = (codes "workflow " ++ quoted target.workflow_name) ++ (codes ", key " ++ quoted target.workflow_key) ++ (codes ", scope " ++ optional_text quoted target.scope)
@@ -37,12 +35,7 @@ signal_result_text (results.Void void) = void_text void
 signal_result_text (results.Value value) = value_text value
 signal_result_text (results.Failure failure) = failure_text failure
 
-abbrev pub attached_target_text : AttachInvocationCommandTarget → List ℕ
-attached_target_text (attached.InvocationId id) = codes "invocation " ++ quoted id
-attached_target_text (attached.WorkflowTarget target) = workflow_target_text target
-attached_target_text (attached.IdempotentRequestTarget target) = idempotent_request_target_text target
-
-abbrev pub asked_target_text : GetInvocationOutputCommandTarget → List ℕ
-asked_target_text (asked.InvocationId id) = codes "invocation " ++ quoted id
-asked_target_text (asked.WorkflowTarget target) = workflow_target_text target
-asked_target_text (asked.IdempotentRequestTarget target) = idempotent_request_target_text target
+abbrev pub invocation_target_text : InvocationTarget → List ℕ
+invocation_target_text (targets.InvocationId id) = codes "invocation " ++ quoted id
+invocation_target_text (targets.WorkflowTarget target) = workflow_target_text target
+invocation_target_text (targets.IdempotentRequestTarget target) = idempotent_request_target_text target

@@ -32,8 +32,8 @@ pub struct CallCommandMessage {
 }
 
 impl Record for CallCommandMessage {
-    ghost use Rattle.protocol_calls.specs.CallCommand.{call_command_of, call_command_parts, CallCommandFits};
-    ghost use Rattle.protocol_calls.specs.ReadBackCallCommand.{call_command_reads};
+    ghost use Rattle.protocol_calls.specs.Fields.{call_command_of, call_command_parts, CallCommandFits};
+    ghost use Rattle.protocol_calls.specs.ReadBack.{call_command_reads};
     ghost use Rattle.protocol_table.specs.declared.table.RecordType.TheVariants.{CallCommand as call_command_type};
 
     ghost record_type = { call_command_type };

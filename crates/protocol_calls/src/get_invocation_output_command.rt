@@ -1,127 +1,22 @@
-ghost use Rattle.std.specs.Prelude.{◌≡◌, ◌++◌, None, IfOk, OnOk};
-ghost use Rattle.protocol_wire.specs.Fields.{fields};
-ghost use Rattle.protocol_wire.specs.Check.{payload_fault};
-ghost use Rattle.protocol_wire.specs.Parts.{payload_of};
-ghost use Rattle.protocol_wire.specs.Lengths.{counted};
-ghost use Rattle.protocol_table.specs.declared.table.RecordType.TheVariants.{GetInvocationOutputCommand as get_invocation_output_command_type};
-ghost use Rattle.protocol_calls.specs.GetInvocationOutputCommand.{get_invocation_output_command_target_of, target_parts};
-
-use crate::idempotent_request_target::IdempotentRequestTarget;
-use crate::workflow_target::WorkflowTarget;
+use crate::invocation_target::{InvocationTarget, len_target, put_target, target_at};
 use bytes::ByteStr;
-use protocol_wire::table::get_invocation_output_command::{
-    IDEMPOTENT_REQUEST_TARGET, INVOCATION_ID, NAME, RESULT_COMPLETION_ID, TARGET, WORKFLOW_TARGET,
-};
+use protocol_wire::table::get_invocation_output_command::{NAME, RESULT_COMPLETION_ID};
 use protocol_wire::{
-    Record, RecordType, both, chosen_record_at, chosen_text_at, len_present_text, len_record,
-    len_text, len_u32, put_present_text, put_record, put_text, put_u32, text_at, u32_at,
+    Record, RecordType, both, len_text, len_u32, put_text, put_u32, text_at, u32_at,
 };
 use std::alloc::{AllocError, Global};
-
-/// Which invocation is meant.
-#[derive(Debug, Drop)]
-pub enum GetInvocationOutputCommandTarget {
-    InvocationId(ByteStr),
-    WorkflowTarget(WorkflowTarget),
-    IdempotentRequestTarget(IdempotentRequestTarget),
-}
 
 /// The command that looks whether an invocation has answered. The store asks for a target.
 #[derive(Debug, Drop)]
 pub struct GetInvocationOutputCommandMessage {
-    pub target: Option<GetInvocationOutputCommandTarget>,
+    pub target: Option<InvocationTarget>,
     /// The completion id that the command's notification will carry.
     pub result_completion_id: u32,
     pub name: ByteStr,
 }
 
-fn target_at(
-    alloc: Global,
-    payload: &[u8],
-    levels: u32,
-) -> Result<Option<GetInvocationOutputCommandTarget>, AllocError>
-    requires { payload_fault levels get_invocation_output_command_type payload.now ≡ None }
-    ensures { IfOk result (λ r. r ≡ get_invocation_output_command_target_of levels (fields payload.now)) }
-{
-    if let Some(invocation_id) = chosen_text_at(alloc, payload, &TARGET, INVOCATION_ID)? {
-        return Ok(Some(GetInvocationOutputCommandTarget::InvocationId(invocation_id)));
-    }
-    if let Some(workflow_target) = chosen_record_at(
-        alloc,
-        payload,
-        &TARGET,
-        WORKFLOW_TARGET,
-        levels,
-    )? {
-        return Ok(Some(GetInvocationOutputCommandTarget::WorkflowTarget(workflow_target)));
-    }
-    if let Some(idempotent_request_target) = chosen_record_at(
-        alloc,
-        payload,
-        &TARGET,
-        IDEMPOTENT_REQUEST_TARGET,
-        levels,
-    )? {
-        return Ok(Some(GetInvocationOutputCommandTarget::IdempotentRequestTarget(
-            idempotent_request_target,
-        )));
-    }
-    Ok(None)
-}
-
-fn put_target(
-    alloc: Global,
-    out: &mut Vec<u8>,
-    one: &Option<GetInvocationOutputCommandTarget>,
-) -> Result<(), AllocError>
-    ensures { OnOk result (out.new.items ≡ out.old.items ++ payload_of (target_parts one.now)) }
-{
-    match one {
-        None => Ok(()),
-        Some(GetInvocationOutputCommandTarget::InvocationId(invocation_id)) => put_present_text(
-            out,
-            INVOCATION_ID,
-            invocation_id,
-        ),
-        Some(GetInvocationOutputCommandTarget::WorkflowTarget(workflow_target)) => put_record(
-            alloc,
-            out,
-            WORKFLOW_TARGET,
-            workflow_target,
-        ),
-        Some(
-            GetInvocationOutputCommandTarget::IdempotentRequestTarget(idempotent_request_target),
-        ) => put_record(
-            alloc,
-            out,
-            IDEMPOTENT_REQUEST_TARGET,
-            idempotent_request_target,
-        ),
-    }
-}
-
-fn len_target(before: u64, one: &Option<GetInvocationOutputCommandTarget>) -> u64
-    ensures { result ≡ counted before (payload_of (target_parts one.now)) }
-{
-    match one {
-        None => before,
-        Some(GetInvocationOutputCommandTarget::InvocationId(invocation_id)) => len_present_text(
-            before,
-            INVOCATION_ID,
-            invocation_id,
-        ),
-        Some(GetInvocationOutputCommandTarget::WorkflowTarget(workflow_target)) => len_record(
-            before,
-            WORKFLOW_TARGET,
-            workflow_target,
-        ),
-        Some(
-            GetInvocationOutputCommandTarget::IdempotentRequestTarget(idempotent_request_target),
-        ) => len_record(before, IDEMPOTENT_REQUEST_TARGET, idempotent_request_target),
-    }
-}
-
 impl Record for GetInvocationOutputCommandMessage {
+    ghost use Rattle.protocol_table.specs.declared.table.RecordType.TheVariants.{GetInvocationOutputCommand as get_invocation_output_command_type};
     ghost use Rattle.protocol_calls.specs.GetInvocationOutputCommand.{get_invocation_output_command_of, get_invocation_output_command_parts, GetInvocationOutputCommandFits};
     ghost use Rattle.protocol_calls.specs.ReadBackGetInvocationOutputCommand.{get_invocation_output_command_reads};
 

@@ -19,8 +19,8 @@ pub struct IdempotentRequestTarget {
 }
 
 impl Record for IdempotentRequestTarget {
-    ghost use Rattle.protocol_calls.specs.IdempotentRequestTarget.{idempotent_request_target_of, idempotent_request_target_parts, IdempotentRequestTargetFits};
-    ghost use Rattle.protocol_calls.specs.ReadBackIdempotentRequestTarget.{idempotent_request_target_reads};
+    ghost use Rattle.protocol_calls.specs.Fields.{idempotent_request_target_of, idempotent_request_target_parts, IdempotentRequestTargetFits};
+    ghost use Rattle.protocol_calls.specs.ReadBack.{idempotent_request_target_reads};
     ghost use Rattle.protocol_table.specs.declared.table.RecordType.TheVariants.{IdempotentRequestTarget as idempotent_request_target_type};
 
     ghost record_type = { idempotent_request_target_type };

@@ -32,8 +32,8 @@ pub struct OneWayCallCommandMessage {
 }
 
 impl Record for OneWayCallCommandMessage {
-    ghost use Rattle.protocol_calls.specs.OneWayCallCommand.{one_way_call_command_of, one_way_call_command_parts, OneWayCallCommandFits};
-    ghost use Rattle.protocol_calls.specs.ReadBackOneWayCallCommand.{one_way_call_command_reads};
+    ghost use Rattle.protocol_calls.specs.Fields.{one_way_call_command_of, one_way_call_command_parts, OneWayCallCommandFits};
+    ghost use Rattle.protocol_calls.specs.ReadBack.{one_way_call_command_reads};
     ghost use Rattle.protocol_table.specs.declared.table.RecordType.TheVariants.{OneWayCallCommand as one_way_call_command_type};
 
     ghost record_type = { one_way_call_command_type };

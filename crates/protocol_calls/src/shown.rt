@@ -1,10 +1,9 @@
 // How targets, and what commands choose among, are printed.
-ghost use Rattle.protocol_calls.specs.Texts.{workflow_target_text, idempotent_request_target_text, awakeable_result_text, signal_id_text, signal_result_text, attached_target_text, asked_target_text};
+ghost use Rattle.protocol_calls.specs.Texts.{workflow_target_text, idempotent_request_target_text, awakeable_result_text, signal_id_text, signal_result_text, invocation_target_text};
 
 use crate::{
-    AttachInvocationCommandTarget, CompleteAwakeableCommandResult,
-    GetInvocationOutputCommandTarget, IdempotentRequestTarget, SendSignalCommandResult,
-    SendSignalCommandSignalId, WorkflowTarget,
+    CompleteAwakeableCommandResult, IdempotentRequestTarget, InvocationTarget,
+    SendSignalCommandResult, SendSignalCommandSignalId, WorkflowTarget,
 };
 use protocol_shown::{Shown, show_labelled};
 use std::fmt;
@@ -65,30 +64,14 @@ impl Shown for SendSignalCommandResult {
     }
 }
 
-impl Shown for AttachInvocationCommandTarget {
-    ghost text = { attached_target_text };
+impl Shown for InvocationTarget {
+    ghost text = { invocation_target_text };
 
     fn show<W: fmt::Write>(&self, f: &mut fmt::Formatter<W>) -> fmt::Result {
         match self {
-            AttachInvocationCommandTarget::InvocationId(id) => show_labelled("invocation ", id, f),
-            AttachInvocationCommandTarget::WorkflowTarget(one) => one.show(f),
-            AttachInvocationCommandTarget::IdempotentRequestTarget(one) => one.show(f),
-        }
-    }
-}
-
-impl Shown for GetInvocationOutputCommandTarget {
-    ghost text = { asked_target_text };
-
-    fn show<W: fmt::Write>(&self, f: &mut fmt::Formatter<W>) -> fmt::Result {
-        match self {
-            GetInvocationOutputCommandTarget::InvocationId(id) => show_labelled(
-                "invocation ",
-                id,
-                f,
-            ),
-            GetInvocationOutputCommandTarget::WorkflowTarget(one) => one.show(f),
-            GetInvocationOutputCommandTarget::IdempotentRequestTarget(one) => one.show(f),
+            InvocationTarget::InvocationId(id) => show_labelled("invocation ", id, f),
+            InvocationTarget::WorkflowTarget(one) => one.show(f),
+            InvocationTarget::IdempotentRequestTarget(one) => one.show(f),
         }
     }
 }

@@ -15,8 +15,8 @@ pub struct WorkflowTarget {
 }
 
 impl Record for WorkflowTarget {
-    ghost use Rattle.protocol_calls.specs.WorkflowTarget.{workflow_target_of, workflow_target_parts, WorkflowTargetFits};
-    ghost use Rattle.protocol_calls.specs.ReadBackWorkflowTarget.{workflow_target_reads};
+    ghost use Rattle.protocol_calls.specs.Fields.{workflow_target_of, workflow_target_parts, WorkflowTargetFits};
+    ghost use Rattle.protocol_calls.specs.ReadBack.{workflow_target_reads};
     ghost use Rattle.protocol_table.specs.declared.table.RecordType.TheVariants.{WorkflowTarget as workflow_target_type};
 
     ghost record_type = { workflow_target_type };

@@ -10,8 +10,8 @@ pub struct ClearAllStateCommandMessage {
 }
 
 impl Record for ClearAllStateCommandMessage {
-    ghost use Rattle.protocol_commands.specs.ClearAllStateCommand.{clear_all_state_command_of, clear_all_state_command_parts, ClearAllStateCommandFits};
-    ghost use Rattle.protocol_commands.specs.ReadBackClearAllStateCommand.{clear_all_state_command_reads};
+    ghost use Rattle.protocol_commands.specs.Fields.{clear_all_state_command_of, clear_all_state_command_parts, ClearAllStateCommandFits};
+    ghost use Rattle.protocol_commands.specs.ReadBack.{clear_all_state_command_reads};
     ghost use Rattle.protocol_table.specs.declared.table.RecordType.TheVariants.{ClearAllStateCommand as clear_all_state_command_type};
 
     ghost record_type = { clear_all_state_command_type };

@@ -13,8 +13,8 @@ pub struct ClearStateCommandMessage {
 }
 
 impl Record for ClearStateCommandMessage {
-    ghost use Rattle.protocol_commands.specs.ClearStateCommand.{clear_state_command_of, clear_state_command_parts, ClearStateCommandFits};
-    ghost use Rattle.protocol_commands.specs.ReadBackClearStateCommand.{clear_state_command_reads};
+    ghost use Rattle.protocol_commands.specs.Fields.{clear_state_command_of, clear_state_command_parts, ClearStateCommandFits};
+    ghost use Rattle.protocol_commands.specs.ReadBack.{clear_state_command_reads};
     ghost use Rattle.protocol_table.specs.declared.table.RecordType.TheVariants.{ClearStateCommand as clear_state_command_type};
 
     ghost record_type = { clear_state_command_type };

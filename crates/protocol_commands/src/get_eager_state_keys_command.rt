@@ -15,8 +15,8 @@ pub struct GetEagerStateKeysCommandMessage {
 }
 
 impl Record for GetEagerStateKeysCommandMessage {
-    ghost use Rattle.protocol_commands.specs.GetEagerStateKeysCommand.{get_eager_state_keys_command_of, get_eager_state_keys_command_parts, GetEagerStateKeysCommandFits};
-    ghost use Rattle.protocol_commands.specs.ReadBackGetEagerStateKeysCommand.{get_eager_state_keys_command_reads};
+    ghost use Rattle.protocol_commands.specs.Fields.{get_eager_state_keys_command_of, get_eager_state_keys_command_parts, GetEagerStateKeysCommandFits};
+    ghost use Rattle.protocol_commands.specs.ReadBack.{get_eager_state_keys_command_reads};
     ghost use Rattle.protocol_table.specs.declared.table.RecordType.TheVariants.{GetEagerStateKeysCommand as get_eager_state_keys_command_type};
 
     ghost record_type = { get_eager_state_keys_command_type };

@@ -16,8 +16,8 @@ pub struct GetLazyStateCommandMessage {
 }
 
 impl Record for GetLazyStateCommandMessage {
-    ghost use Rattle.protocol_commands.specs.GetLazyStateCommand.{get_lazy_state_command_of, get_lazy_state_command_parts, GetLazyStateCommandFits};
-    ghost use Rattle.protocol_commands.specs.ReadBackGetLazyStateCommand.{get_lazy_state_command_reads};
+    ghost use Rattle.protocol_commands.specs.Fields.{get_lazy_state_command_of, get_lazy_state_command_parts, GetLazyStateCommandFits};
+    ghost use Rattle.protocol_commands.specs.ReadBack.{get_lazy_state_command_reads};
     ghost use Rattle.protocol_table.specs.declared.table.RecordType.TheVariants.{GetLazyStateCommand as get_lazy_state_command_type};
 
     ghost record_type = { get_lazy_state_command_type };

@@ -12,8 +12,8 @@ pub struct GetLazyStateKeysCommandMessage {
 }
 
 impl Record for GetLazyStateKeysCommandMessage {
-    ghost use Rattle.protocol_commands.specs.GetLazyStateKeysCommand.{get_lazy_state_keys_command_of, get_lazy_state_keys_command_parts, GetLazyStateKeysCommandFits};
-    ghost use Rattle.protocol_commands.specs.ReadBackGetLazyStateKeysCommand.{get_lazy_state_keys_command_reads};
+    ghost use Rattle.protocol_commands.specs.Fields.{get_lazy_state_keys_command_of, get_lazy_state_keys_command_parts, GetLazyStateKeysCommandFits};
+    ghost use Rattle.protocol_commands.specs.ReadBack.{get_lazy_state_keys_command_reads};
     ghost use Rattle.protocol_table.specs.declared.table.RecordType.TheVariants.{GetLazyStateKeysCommand as get_lazy_state_keys_command_type};
 
     ghost record_type = { get_lazy_state_keys_command_type };

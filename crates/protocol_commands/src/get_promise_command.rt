@@ -13,8 +13,8 @@ pub struct GetPromiseCommandMessage {
 }
 
 impl Record for GetPromiseCommandMessage {
-    ghost use Rattle.protocol_commands.specs.GetPromiseCommand.{get_promise_command_of, get_promise_command_parts, GetPromiseCommandFits};
-    ghost use Rattle.protocol_commands.specs.ReadBackGetPromiseCommand.{get_promise_command_reads};
+    ghost use Rattle.protocol_commands.specs.Fields.{get_promise_command_of, get_promise_command_parts, GetPromiseCommandFits};
+    ghost use Rattle.protocol_commands.specs.ReadBack.{get_promise_command_reads};
     ghost use Rattle.protocol_table.specs.declared.table.RecordType.TheVariants.{GetPromiseCommand as get_promise_command_type};
 
     ghost record_type = { get_promise_command_type };

@@ -13,8 +13,8 @@ pub struct PeekPromiseCommandMessage {
 }
 
 impl Record for PeekPromiseCommandMessage {
-    ghost use Rattle.protocol_commands.specs.PeekPromiseCommand.{peek_promise_command_of, peek_promise_command_parts, PeekPromiseCommandFits};
-    ghost use Rattle.protocol_commands.specs.ReadBackPeekPromiseCommand.{peek_promise_command_reads};
+    ghost use Rattle.protocol_commands.specs.Fields.{peek_promise_command_of, peek_promise_command_parts, PeekPromiseCommandFits};
+    ghost use Rattle.protocol_commands.specs.ReadBack.{peek_promise_command_reads};
     ghost use Rattle.protocol_table.specs.declared.table.RecordType.TheVariants.{PeekPromiseCommand as peek_promise_command_type};
 
     ghost record_type = { peek_promise_command_type };

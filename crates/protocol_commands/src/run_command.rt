@@ -12,8 +12,8 @@ pub struct RunCommandMessage {
 }
 
 impl Record for RunCommandMessage {
-    ghost use Rattle.protocol_commands.specs.RunCommand.{run_command_of, run_command_parts, RunCommandFits};
-    ghost use Rattle.protocol_commands.specs.ReadBackRunCommand.{run_command_reads};
+    ghost use Rattle.protocol_commands.specs.Fields.{run_command_of, run_command_parts, RunCommandFits};
+    ghost use Rattle.protocol_commands.specs.ReadBack.{run_command_reads};
     ghost use Rattle.protocol_table.specs.declared.table.RecordType.TheVariants.{RunCommand as run_command_type};
 
     ghost record_type = { run_command_type };

@@ -16,8 +16,8 @@ pub struct SetStateCommandMessage {
 }
 
 impl Record for SetStateCommandMessage {
-    ghost use Rattle.protocol_commands.specs.SetStateCommand.{set_state_command_of, set_state_command_parts, SetStateCommandFits};
-    ghost use Rattle.protocol_commands.specs.ReadBackSetStateCommand.{set_state_command_reads};
+    ghost use Rattle.protocol_commands.specs.Fields.{set_state_command_of, set_state_command_parts, SetStateCommandFits};
+    ghost use Rattle.protocol_commands.specs.ReadBack.{set_state_command_reads};
     ghost use Rattle.protocol_table.specs.declared.table.RecordType.TheVariants.{SetStateCommand as set_state_command_type};
 
     ghost record_type = { set_state_command_type };

@@ -1,12 +1,10 @@
 pub mod Error
 pub mod GetStateEphemeralCommand
 pub mod GetStateEphemeralNotification
+pub mod Notification
 pub mod ProposeRunCompletion
 pub mod ProposeRunCompletionAck
-pub mod ReadBackError
-pub mod ReadBackGetStateEphemeralCommand
+pub mod ReadBack
 pub mod ReadBackGetStateEphemeralNotification
-pub mod ReadBackProposeRunCompletion
-pub mod ReadBackProposeRunCompletionAck
-pub mod Notification
 pub mod ReadBackNotification
+pub mod ReadBackProposeRunCompletion

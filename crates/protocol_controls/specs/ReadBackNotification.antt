@@ -1,17 +1,15 @@
 -- The canonical payload of a notification is read again, to the same value.
-use Rattle.std.specs.Prelude.{◌≡◌, ℕ, ◌-◌, ◌<◌, ◌^◌, List, [], ◌∷◌, length, Option, Some, None, IfSome, IsUtf8, option_map, refl}
+use Rattle.std.specs.Prelude.{◌≡◌, ℕ, ◌-◌, ◌<◌, ◌^◌, List, [], ◌∷◌, Option, Some, None, IfSome, IsUtf8, option_map, refl}
 use Rattle.std.specs.List.{AllByRecursion}
 use Rattle.std.proofs.Common.{sym, ap, ◌∙◌}
 use Rattle.protocol_wire.specs.Selection.{last_run, first_of, last_number, last_bytes, texts}
 use Rattle.protocol_wire.specs.Check.{payload_fault}
 use Rattle.protocol_table.specs.Table.{descriptors_of}
 use Rattle.protocol_wire.specs.Parts.{bytes_if, optional_bytes, optional_number, payload_of}
-use Rattle.protocol_wire.specs.Decodes.{IsRead}
 use Rattle.protocol_table.specs.declared.table.RecordType.TheVariants as types
 use Rattle.protocol_table.specs.declared.table.notification.TheConstants as notification
-use Rattle.protocol_wire.proofs.Holds.{LengthFits, optional_u32_holds, optional_text_holds, optional_record_holds, lengths_fit, payload_holds}
+use Rattle.protocol_wire.proofs.Holds.{LengthFits, optional_u32_holds, optional_text_holds, optional_record_holds, lengths_fit, Reads, read_back}
 use Rattle.protocol_wire.proofs.Back.{optional_u32_back, optional_text_back, optional_record_back, held_among, run-fields_of}
-use Rattle.protocol_controls.specs.declared.notification.NotificationMessage.{NotificationMessage}
 use Rattle.protocol_controls.specs.declared.notification.NotificationMessageId.{NotificationMessageId}
 use Rattle.protocol_controls.specs.declared.notification.NotificationMessageId.TheVariants as ids
 use Rattle.protocol_controls.specs.declared.notification.NotificationMessageResult.{NotificationMessageResult}
@@ -21,13 +19,13 @@ use Rattle.protocol_records.specs.declared.failure.Failure.{Failure}
 use Rattle.protocol_records.specs.ReadBack.{failure_reads}
 use Rattle.protocol_records.specs.StateKeys.{state_keys_of, state_keys_parts}
 use Rattle.protocol_records.specs.declared.state_keys.StateKeys.{StateKeys}
-use Rattle.protocol_records.specs.ReadBackStateKeys.{state_keys_reads}
+use Rattle.protocol_records.specs.ReadBack.{state_keys_reads}
 use Rattle.protocol_records.specs.Value.{value_of, value_parts}
 use Rattle.protocol_records.specs.declared.value.Value.{Value}
 use Rattle.protocol_records.specs.ReadBack.{value_reads}
 use Rattle.protocol_records.specs.Void.{void_of, void_parts}
 use Rattle.protocol_records.specs.declared.void.Void.{Void}
-use Rattle.protocol_records.specs.ReadBackVoid.{void_reads}
+use Rattle.protocol_records.specs.ReadBack.{void_reads}
 use Rattle.protocol_controls.specs.Notification.{notification_of, notification_parts, NotificationFits, id_in, id_parts, NotificationMessageIdFits, id_completion_id, id_signal_id, id_signal_name, result_in, result_parts, NotificationMessageResultFits, result_void, result_value, result_failure, result_invocation_id, result_state_keys}
 
 id_completion_id_holds : (levels : ℕ) (o : Option NotificationMessageId) → NotificationMessageIdFits levels o → IfSome (id_completion_id o) (λ n. n < 2 ^ 32)
@@ -114,13 +112,15 @@ result_back levels (Some (results.InvocationId x)) h k0 k1 k2 k3 =
 result_back levels (Some (results.StateKeys s)) h k0 k1 k2 k3 =
     ap (λ (o : Option StateKeys). option_map (λ s. results.StateKeys s) o) (optional_record_back (state_keys_of (levels - 1)) (λ r. payload_of (state_keys_parts r)) notification.STATE_KEYS.number (Some s) (optional_bytes notification.STATE_KEYS.number (Some (payload_of (state_keys_parts s))) ∷ []) refl (sym (state_keys_reads (levels - 1) s h k3.0).value))
 
-pub notification_reads : (levels : ℕ) (v : NotificationMessage) → NotificationFits levels v → length (payload_of (notification_parts v)) < 2 ^ 64 → IsRead levels types.Notification notification_of (payload_of (notification_parts v)) v
+pub notification_reads : Reads types.Notification notification_of notification_parts NotificationFits
 notification_reads levels v h small =
     let ps = notification_parts v in
     let below = payload_fault (levels - 1) in
     let table = descriptors_of types.Notification in
     let lengths = lengths_fit ps small in
-    let read = payload_holds levels types.Notification ps h.level ((
+    let id = ap (id_in levels) (run-fields_of notification.ID ps) ∙ id_back levels v.id h.id in
+    let result = ap (result_in levels) (run-fields_of notification.RESULT ps) ∙ result_back levels v.result h.result lengths.1.1.1.0 lengths.1.1.1.1.0 lengths.1.1.1.1.1.0 lengths.1.1.1.1.1.1.1.0 in
+    read_back levels types.Notification notification_of ps v h.level small (
       optional_u32_holds below table notification.COMPLETION_ID.number (id_completion_id v.id) (refl, refl) (id_completion_id_holds (levels - 1) v.id h.id),
       (
         optional_u32_holds below table notification.SIGNAL_ID.number (id_signal_id v.id) (refl, refl) (id_signal_id_holds (levels - 1) v.id h.id),
@@ -144,13 +144,7 @@ notification_reads levels v h small =
           ),
         ),
       ),
-    )) small in
-    let id = ap (id_in levels) (run-fields_of notification.ID ps) ∙ id_back levels v.id h.id in
-    let result = ap (result_in levels) (run-fields_of notification.RESULT ps) ∙ result_back levels v.result h.result lengths.1.1.1.0 lengths.1.1.1.1.0 lengths.1.1.1.1.1.0 lengths.1.1.1.1.1.1.1.0 in
-    record {
-      sound = read.0;
-      value = sym (ap (notification_of levels) read.1 ∙ λ i. record {
-        id = id i;
-        result = result i;
-      });
-    }
+    ) (λ i. record {
+      id = id i;
+      result = result i;
+    })

@@ -28,7 +28,7 @@ pub struct ErrorMessage {
 
 impl Record for ErrorMessage {
     ghost use Rattle.protocol_controls.specs.Error.{error_of, error_parts, ErrorFits};
-    ghost use Rattle.protocol_controls.specs.ReadBackError.{error_reads};
+    ghost use Rattle.protocol_controls.specs.ReadBack.{error_reads};
     ghost use Rattle.protocol_table.specs.declared.table.RecordType.TheVariants.{Error as error_type};
 
     ghost record_type = { error_type };

@@ -13,7 +13,7 @@ pub struct GetStateEphemeralCommandMessage {
 
 impl Record for GetStateEphemeralCommandMessage {
     ghost use Rattle.protocol_controls.specs.GetStateEphemeralCommand.{get_state_ephemeral_command_of, get_state_ephemeral_command_parts, GetStateEphemeralCommandFits};
-    ghost use Rattle.protocol_controls.specs.ReadBackGetStateEphemeralCommand.{get_state_ephemeral_command_reads};
+    ghost use Rattle.protocol_controls.specs.ReadBack.{get_state_ephemeral_command_reads};
     ghost use Rattle.protocol_table.specs.declared.table.RecordType.TheVariants.{GetStateEphemeralCommand as get_state_ephemeral_command_type};
 
     ghost record_type = { get_state_ephemeral_command_type };

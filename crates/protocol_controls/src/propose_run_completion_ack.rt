@@ -10,7 +10,7 @@ pub struct ProposeRunCompletionAckMessage {
 
 impl Record for ProposeRunCompletionAckMessage {
     ghost use Rattle.protocol_controls.specs.ProposeRunCompletionAck.{propose_run_completion_ack_of, propose_run_completion_ack_parts, ProposeRunCompletionAckFits};
-    ghost use Rattle.protocol_controls.specs.ReadBackProposeRunCompletionAck.{propose_run_completion_ack_reads};
+    ghost use Rattle.protocol_controls.specs.ReadBack.{propose_run_completion_ack_reads};
     ghost use Rattle.protocol_table.specs.declared.table.RecordType.TheVariants.{ProposeRunCompletionAck as propose_run_completion_ack_type};
 
     ghost record_type = { propose_run_completion_ack_type };

@@ -2,11 +2,11 @@
 use Rattle.std.specs.Prelude.{◌≡◌, ℕ, ◌↔◌, false, List, [], ◌++◌, nat_eq, decimal, codes}
 use Rattle.std.specs.Option.{option_eq}
 use Rattle.protocol_headers.specs.Parts.{same_text}
-use Rattle.protocol_headers.specs.Choices.{same_signal_id, same_signal_result, same_attached_target, same_asked_target}
+use Rattle.protocol_headers.specs.Choices.{same_signal_id, same_signal_result, same_invocation_target}
 use Rattle.protocol_headers.specs.Payloads.{same_awakeable_result}
 use Rattle.protocol_headers.specs.Invocations.{erased_send_signal_command, send_signal_command_tells, erased_attach_invocation_command, attach_invocation_command_tells, erased_get_invocation_output_command, get_invocation_output_command_tells, erased_complete_awakeable_command, complete_awakeable_command_tells}
 use Rattle.protocol_shown.specs.Texts.{quoted, optional_text}
-use Rattle.protocol_calls.specs.Texts.{awakeable_result_text, signal_id_text, signal_result_text, attached_target_text, asked_target_text}
+use Rattle.protocol_calls.specs.Texts.{awakeable_result_text, signal_id_text, signal_result_text, invocation_target_text}
 use Rattle.protocol_differences.specs.Lines.{compared_line, line_silent, both_silent, silent_told}
 use Rattle.protocol_calls.specs.declared.send_signal_command.SendSignalCommandMessage.{SendSignalCommandMessage}
 use Rattle.protocol_calls.specs.declared.attach_invocation_command.AttachInvocationCommandMessage.{AttachInvocationCommandMessage}
@@ -30,27 +30,27 @@ send_signal_command_silent x y =
 
 abbrev pub attach_invocation_command_difference : AttachInvocationCommandMessage → AttachInvocationCommandMessage → List ℕ
 attach_invocation_command_difference x y =
-    compared_line (option_eq same_attached_target x.target y.target) (codes "target") (optional_text attached_target_text x.target) (optional_text attached_target_text y.target)
+    compared_line (option_eq same_invocation_target x.target y.target) (codes "target") (optional_text invocation_target_text x.target) (optional_text invocation_target_text y.target)
     ++ compared_line (nat_eq x.result_completion_id y.result_completion_id) (codes "result_completion_id") (decimal x.result_completion_id) (decimal y.result_completion_id)
     ++ compared_line (same_text x.name y.name) (codes "name") (quoted x.name) (quoted y.name)
 
 pub attach_invocation_command_silent : (x y : AttachInvocationCommandMessage) → (attach_invocation_command_difference x y ≡ []) ↔ (erased_attach_invocation_command false x ≡ erased_attach_invocation_command false y)
 attach_invocation_command_silent x y =
     silent_told (attach_invocation_command_tells false) x y
-    (both_silent (both_silent (line_silent (option_eq same_attached_target x.target y.target) (codes "target") (optional_text attached_target_text x.target) (optional_text attached_target_text y.target))
+    (both_silent (both_silent (line_silent (option_eq same_invocation_target x.target y.target) (codes "target") (optional_text invocation_target_text x.target) (optional_text invocation_target_text y.target))
     (line_silent (nat_eq x.result_completion_id y.result_completion_id) (codes "result_completion_id") (decimal x.result_completion_id) (decimal y.result_completion_id)))
     (line_silent (same_text x.name y.name) (codes "name") (quoted x.name) (quoted y.name)))
 
 abbrev pub get_invocation_output_command_difference : GetInvocationOutputCommandMessage → GetInvocationOutputCommandMessage → List ℕ
 get_invocation_output_command_difference x y =
-    compared_line (option_eq same_asked_target x.target y.target) (codes "target") (optional_text asked_target_text x.target) (optional_text asked_target_text y.target)
+    compared_line (option_eq same_invocation_target x.target y.target) (codes "target") (optional_text invocation_target_text x.target) (optional_text invocation_target_text y.target)
     ++ compared_line (nat_eq x.result_completion_id y.result_completion_id) (codes "result_completion_id") (decimal x.result_completion_id) (decimal y.result_completion_id)
     ++ compared_line (same_text x.name y.name) (codes "name") (quoted x.name) (quoted y.name)
 
 pub get_invocation_output_command_silent : (x y : GetInvocationOutputCommandMessage) → (get_invocation_output_command_difference x y ≡ []) ↔ (erased_get_invocation_output_command false x ≡ erased_get_invocation_output_command false y)
 get_invocation_output_command_silent x y =
     silent_told (get_invocation_output_command_tells false) x y
-    (both_silent (both_silent (line_silent (option_eq same_asked_target x.target y.target) (codes "target") (optional_text asked_target_text x.target) (optional_text asked_target_text y.target))
+    (both_silent (both_silent (line_silent (option_eq same_invocation_target x.target y.target) (codes "target") (optional_text invocation_target_text x.target) (optional_text invocation_target_text y.target))
     (line_silent (nat_eq x.result_completion_id y.result_completion_id) (codes "result_completion_id") (decimal x.result_completion_id) (decimal y.result_completion_id)))
     (line_silent (same_text x.name y.name) (codes "name") (quoted x.name) (quoted y.name)))
 

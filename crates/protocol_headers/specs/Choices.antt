@@ -8,10 +8,8 @@ use Rattle.protocol_calls.specs.declared.send_signal_command.SendSignalCommandSi
 use Rattle.protocol_calls.specs.declared.send_signal_command.SendSignalCommandSignalId.TheVariants as signals
 use Rattle.protocol_calls.specs.declared.send_signal_command.SendSignalCommandResult.{SendSignalCommandResult}
 use Rattle.protocol_calls.specs.declared.send_signal_command.SendSignalCommandResult.TheVariants as results
-use Rattle.protocol_calls.specs.declared.attach_invocation_command.AttachInvocationCommandTarget.{AttachInvocationCommandTarget}
-use Rattle.protocol_calls.specs.declared.attach_invocation_command.AttachInvocationCommandTarget.TheVariants as attached
-use Rattle.protocol_calls.specs.declared.get_invocation_output_command.GetInvocationOutputCommandTarget.{GetInvocationOutputCommandTarget}
-use Rattle.protocol_calls.specs.declared.get_invocation_output_command.GetInvocationOutputCommandTarget.TheVariants as asked
+use Rattle.protocol_calls.specs.declared.invocation_target.InvocationTarget.{InvocationTarget}
+use Rattle.protocol_calls.specs.declared.invocation_target.InvocationTarget.TheVariants as targets
 
 abbrev pub same_signal_id : SendSignalCommandSignalId → SendSignalCommandSignalId → Bool
 same_signal_id (signals.Idx x) (signals.Idx y) = nat_eq x y
@@ -64,64 +62,33 @@ signal_result_tells = record { alike = alike; found = found }
     found (results.Failure x) (results.Value y) h = cc
     found (results.Failure x) (results.Failure y) h = failure_tells.found x y (cc)
 
-abbrev pub same_attached_target : AttachInvocationCommandTarget → AttachInvocationCommandTarget → Bool
-same_attached_target (attached.InvocationId x) (attached.InvocationId y) = same_text x y
-same_attached_target (attached.WorkflowTarget x) (attached.WorkflowTarget y) = same_workflow_target x y
-same_attached_target (attached.IdempotentRequestTarget x) (attached.IdempotentRequestTarget y) = same_idempotent_request_target x y
-same_attached_target _ _ = false
+abbrev pub same_invocation_target : InvocationTarget → InvocationTarget → Bool
+same_invocation_target (targets.InvocationId x) (targets.InvocationId y) = same_text x y
+same_invocation_target (targets.WorkflowTarget x) (targets.WorkflowTarget y) = same_workflow_target x y
+same_invocation_target (targets.IdempotentRequestTarget x) (targets.IdempotentRequestTarget y) = same_idempotent_request_target x y
+same_invocation_target _ _ = false
 
-pub attached_target_tells : Tells same_attached_target (whole {A = AttachInvocationCommandTarget})
-attached_target_tells = record { alike = alike; found = found }
+pub invocation_target_tells : Tells same_invocation_target (whole {A = InvocationTarget})
+invocation_target_tells = record { alike = alike; found = found }
   where
-    alike : (x y : AttachInvocationCommandTarget) → same_attached_target x y ≡ true → x ≡ y
-    alike (attached.InvocationId x) (attached.InvocationId y) h = ap attached.InvocationId (texts_tell.alike x y h)
-    alike (attached.InvocationId x) (attached.WorkflowTarget y) h = cc
-    alike (attached.InvocationId x) (attached.IdempotentRequestTarget y) h = cc
-    alike (attached.WorkflowTarget x) (attached.InvocationId y) h = cc
-    alike (attached.WorkflowTarget x) (attached.WorkflowTarget y) h = ap attached.WorkflowTarget (workflow_target_tells.alike x y h)
-    alike (attached.WorkflowTarget x) (attached.IdempotentRequestTarget y) h = cc
-    alike (attached.IdempotentRequestTarget x) (attached.InvocationId y) h = cc
-    alike (attached.IdempotentRequestTarget x) (attached.WorkflowTarget y) h = cc
-    alike (attached.IdempotentRequestTarget x) (attached.IdempotentRequestTarget y) h = ap attached.IdempotentRequestTarget (idempotent_request_target_tells.alike x y h)
+    alike : (x y : InvocationTarget) → same_invocation_target x y ≡ true → x ≡ y
+    alike (targets.InvocationId x) (targets.InvocationId y) h = ap targets.InvocationId (texts_tell.alike x y h)
+    alike (targets.InvocationId x) (targets.WorkflowTarget y) h = cc
+    alike (targets.InvocationId x) (targets.IdempotentRequestTarget y) h = cc
+    alike (targets.WorkflowTarget x) (targets.InvocationId y) h = cc
+    alike (targets.WorkflowTarget x) (targets.WorkflowTarget y) h = ap targets.WorkflowTarget (workflow_target_tells.alike x y h)
+    alike (targets.WorkflowTarget x) (targets.IdempotentRequestTarget y) h = cc
+    alike (targets.IdempotentRequestTarget x) (targets.InvocationId y) h = cc
+    alike (targets.IdempotentRequestTarget x) (targets.WorkflowTarget y) h = cc
+    alike (targets.IdempotentRequestTarget x) (targets.IdempotentRequestTarget y) h = ap targets.IdempotentRequestTarget (idempotent_request_target_tells.alike x y h)
 
-    found : (x y : AttachInvocationCommandTarget) → x ≡ y → same_attached_target x y ≡ true
-    found (attached.InvocationId x) (attached.InvocationId y) h = texts_tell.found x y (cc)
-    found (attached.InvocationId x) (attached.WorkflowTarget y) h = cc
-    found (attached.InvocationId x) (attached.IdempotentRequestTarget y) h = cc
-    found (attached.WorkflowTarget x) (attached.InvocationId y) h = cc
-    found (attached.WorkflowTarget x) (attached.WorkflowTarget y) h = workflow_target_tells.found x y (cc)
-    found (attached.WorkflowTarget x) (attached.IdempotentRequestTarget y) h = cc
-    found (attached.IdempotentRequestTarget x) (attached.InvocationId y) h = cc
-    found (attached.IdempotentRequestTarget x) (attached.WorkflowTarget y) h = cc
-    found (attached.IdempotentRequestTarget x) (attached.IdempotentRequestTarget y) h = idempotent_request_target_tells.found x y (cc)
-
-abbrev pub same_asked_target : GetInvocationOutputCommandTarget → GetInvocationOutputCommandTarget → Bool
-same_asked_target (asked.InvocationId x) (asked.InvocationId y) = same_text x y
-same_asked_target (asked.WorkflowTarget x) (asked.WorkflowTarget y) = same_workflow_target x y
-same_asked_target (asked.IdempotentRequestTarget x) (asked.IdempotentRequestTarget y) = same_idempotent_request_target x y
-same_asked_target _ _ = false
-
-pub asked_target_tells : Tells same_asked_target (whole {A = GetInvocationOutputCommandTarget})
-asked_target_tells = record { alike = alike; found = found }
-  where
-    alike : (x y : GetInvocationOutputCommandTarget) → same_asked_target x y ≡ true → x ≡ y
-    alike (asked.InvocationId x) (asked.InvocationId y) h = ap asked.InvocationId (texts_tell.alike x y h)
-    alike (asked.InvocationId x) (asked.WorkflowTarget y) h = cc
-    alike (asked.InvocationId x) (asked.IdempotentRequestTarget y) h = cc
-    alike (asked.WorkflowTarget x) (asked.InvocationId y) h = cc
-    alike (asked.WorkflowTarget x) (asked.WorkflowTarget y) h = ap asked.WorkflowTarget (workflow_target_tells.alike x y h)
-    alike (asked.WorkflowTarget x) (asked.IdempotentRequestTarget y) h = cc
-    alike (asked.IdempotentRequestTarget x) (asked.InvocationId y) h = cc
-    alike (asked.IdempotentRequestTarget x) (asked.WorkflowTarget y) h = cc
-    alike (asked.IdempotentRequestTarget x) (asked.IdempotentRequestTarget y) h = ap asked.IdempotentRequestTarget (idempotent_request_target_tells.alike x y h)
-
-    found : (x y : GetInvocationOutputCommandTarget) → x ≡ y → same_asked_target x y ≡ true
-    found (asked.InvocationId x) (asked.InvocationId y) h = texts_tell.found x y (cc)
-    found (asked.InvocationId x) (asked.WorkflowTarget y) h = cc
-    found (asked.InvocationId x) (asked.IdempotentRequestTarget y) h = cc
-    found (asked.WorkflowTarget x) (asked.InvocationId y) h = cc
-    found (asked.WorkflowTarget x) (asked.WorkflowTarget y) h = workflow_target_tells.found x y (cc)
-    found (asked.WorkflowTarget x) (asked.IdempotentRequestTarget y) h = cc
-    found (asked.IdempotentRequestTarget x) (asked.InvocationId y) h = cc
-    found (asked.IdempotentRequestTarget x) (asked.WorkflowTarget y) h = cc
-    found (asked.IdempotentRequestTarget x) (asked.IdempotentRequestTarget y) h = idempotent_request_target_tells.found x y (cc)
+    found : (x y : InvocationTarget) → x ≡ y → same_invocation_target x y ≡ true
+    found (targets.InvocationId x) (targets.InvocationId y) h = texts_tell.found x y (cc)
+    found (targets.InvocationId x) (targets.WorkflowTarget y) h = cc
+    found (targets.InvocationId x) (targets.IdempotentRequestTarget y) h = cc
+    found (targets.WorkflowTarget x) (targets.InvocationId y) h = cc
+    found (targets.WorkflowTarget x) (targets.WorkflowTarget y) h = workflow_target_tells.found x y (cc)
+    found (targets.WorkflowTarget x) (targets.IdempotentRequestTarget y) h = cc
+    found (targets.IdempotentRequestTarget x) (targets.InvocationId y) h = cc
+    found (targets.IdempotentRequestTarget x) (targets.WorkflowTarget y) h = cc
+    found (targets.IdempotentRequestTarget x) (targets.IdempotentRequestTarget y) h = idempotent_request_target_tells.found x y (cc)

@@ -4,13 +4,12 @@ use Rattle.std.proofs.Common.{ap, sym, ◌∙◌}
 use Rattle.std.specs.Option.{option_eq, option_map}
 use Rattle.protocol_headers.specs.Tells.{Tells, in_full, deciding, options_tell, options_decide, both_tell, parts_tell}
 use Rattle.protocol_headers.specs.Parts.{same_text, numbers_tell, texts_tell}
-use Rattle.protocol_headers.specs.Choices.{same_signal_id, signal_id_tells, same_signal_result, signal_result_tells, same_attached_target, attached_target_tells, same_asked_target, asked_target_tells}
+use Rattle.protocol_headers.specs.Choices.{same_signal_id, signal_id_tells, same_signal_result, signal_result_tells, same_invocation_target, invocation_target_tells}
 use Rattle.protocol_headers.specs.Payloads.{same_awakeable_result, erased_awakeable_result, awakeable_result_tells, options_erased, awakeable_result_erased}
 use Rattle.protocol_calls.specs.declared.complete_awakeable_command.CompleteAwakeableCommandResult.{CompleteAwakeableCommandResult}
 use Rattle.protocol_calls.specs.declared.send_signal_command.SendSignalCommandSignalId.{SendSignalCommandSignalId}
 use Rattle.protocol_calls.specs.declared.send_signal_command.SendSignalCommandResult.{SendSignalCommandResult}
-use Rattle.protocol_calls.specs.declared.attach_invocation_command.AttachInvocationCommandTarget.{AttachInvocationCommandTarget}
-use Rattle.protocol_calls.specs.declared.get_invocation_output_command.GetInvocationOutputCommandTarget.{GetInvocationOutputCommandTarget}
+use Rattle.protocol_calls.specs.declared.invocation_target.InvocationTarget.{InvocationTarget}
 use Rattle.protocol_calls.specs.declared.send_signal_command.SendSignalCommandMessage.{SendSignalCommandMessage}
 use Rattle.protocol_calls.specs.declared.attach_invocation_command.AttachInvocationCommandMessage.{AttachInvocationCommandMessage}
 use Rattle.protocol_calls.specs.declared.get_invocation_output_command.GetInvocationOutputCommandMessage.{GetInvocationOutputCommandMessage}
@@ -48,17 +47,17 @@ erased_attach_invocation_command ignoring x = record { target = x.target; result
 
 abbrev pub same_attach_invocation_command : Bool → AttachInvocationCommandMessage → AttachInvocationCommandMessage → Bool
 same_attach_invocation_command ignoring x y =
-    option_eq same_attached_target x.target y.target
+    option_eq same_invocation_target x.target y.target
     && nat_eq x.result_completion_id y.result_completion_id
     && same_text x.name y.name
 
-abbrev attach_invocation_command_parts : AttachInvocationCommandMessage → ((Option AttachInvocationCommandTarget) × ℕ) × (List ℕ)
+abbrev attach_invocation_command_parts : AttachInvocationCommandMessage → ((Option InvocationTarget) × ℕ) × (List ℕ)
 attach_invocation_command_parts x = ((x.target, x.result_completion_id), x.name)
 
 pub attach_invocation_command_tells : (ignoring : Bool) → Tells (same_attach_invocation_command ignoring) (erased_attach_invocation_command ignoring)
 attach_invocation_command_tells ignoring =
     parts_tell attach_invocation_command_parts (erased_attach_invocation_command ignoring) (λ x y h i. record { target = (h i).0.0; result_completion_id = (h i).0.1; name = (h i).1 }) (λ x y h. ap attach_invocation_command_parts h)
-    (both_tell (both_tell (in_full (options_decide (deciding attached_target_tells))) numbers_tell) texts_tell)
+    (both_tell (both_tell (in_full (options_decide (deciding invocation_target_tells))) numbers_tell) texts_tell)
 
 pub attach_invocation_command_coarser : (x y : AttachInvocationCommandMessage) → erased_attach_invocation_command false x ≡ erased_attach_invocation_command false y
     → erased_attach_invocation_command true x ≡ erased_attach_invocation_command true y
@@ -69,17 +68,17 @@ erased_get_invocation_output_command ignoring x = record { target = x.target; re
 
 abbrev pub same_get_invocation_output_command : Bool → GetInvocationOutputCommandMessage → GetInvocationOutputCommandMessage → Bool
 same_get_invocation_output_command ignoring x y =
-    option_eq same_asked_target x.target y.target
+    option_eq same_invocation_target x.target y.target
     && nat_eq x.result_completion_id y.result_completion_id
     && same_text x.name y.name
 
-abbrev get_invocation_output_command_parts : GetInvocationOutputCommandMessage → ((Option GetInvocationOutputCommandTarget) × ℕ) × (List ℕ)
+abbrev get_invocation_output_command_parts : GetInvocationOutputCommandMessage → ((Option InvocationTarget) × ℕ) × (List ℕ)
 get_invocation_output_command_parts x = ((x.target, x.result_completion_id), x.name)
 
 pub get_invocation_output_command_tells : (ignoring : Bool) → Tells (same_get_invocation_output_command ignoring) (erased_get_invocation_output_command ignoring)
 get_invocation_output_command_tells ignoring =
     parts_tell get_invocation_output_command_parts (erased_get_invocation_output_command ignoring) (λ x y h i. record { target = (h i).0.0; result_completion_id = (h i).0.1; name = (h i).1 }) (λ x y h. ap get_invocation_output_command_parts h)
-    (both_tell (both_tell (in_full (options_decide (deciding asked_target_tells))) numbers_tell) texts_tell)
+    (both_tell (both_tell (in_full (options_decide (deciding invocation_target_tells))) numbers_tell) texts_tell)
 
 pub get_invocation_output_command_coarser : (x y : GetInvocationOutputCommandMessage) → erased_get_invocation_output_command false x ≡ erased_get_invocation_output_command false y
     → erased_get_invocation_output_command true x ≡ erased_get_invocation_output_command true y

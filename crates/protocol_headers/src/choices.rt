@@ -1,12 +1,9 @@
 // What a command chooses among, where everything is compared.
 ghost use Rattle.protocol_headers.specs.Tells.{deciding};
-ghost use Rattle.protocol_headers.specs.Choices.{same_signal_id, signal_id_tells, same_signal_result, signal_result_tells, same_attached_target, attached_target_tells, same_asked_target, asked_target_tells};
+ghost use Rattle.protocol_headers.specs.Choices.{same_signal_id, signal_id_tells, same_signal_result, signal_result_tells, same_invocation_target, invocation_target_tells};
 
 use crate::Same;
-use protocol_calls::{
-    AttachInvocationCommandTarget, GetInvocationOutputCommandTarget, SendSignalCommandResult,
-    SendSignalCommandSignalId,
-};
+use protocol_calls::{InvocationTarget, SendSignalCommandResult, SendSignalCommandSignalId};
 
 impl Same for SendSignalCommandSignalId {
     ghost same = { same_signal_id };
@@ -43,50 +40,22 @@ impl Same for SendSignalCommandResult {
     ghost decides = { deciding signal_result_tells };
 }
 
-impl Same for AttachInvocationCommandTarget {
-    ghost same = { same_attached_target };
+impl Same for InvocationTarget {
+    ghost same = { same_invocation_target };
 
-    fn is_same(&self, other: &AttachInvocationCommandTarget) -> bool {
+    fn is_same(&self, other: &InvocationTarget) -> bool {
         match (self, other) {
+            (InvocationTarget::InvocationId(one), InvocationTarget::InvocationId(two)) =>
+                one.is_same(two),
+            (InvocationTarget::WorkflowTarget(one), InvocationTarget::WorkflowTarget(two)) =>
+                one.is_same(two),
             (
-                AttachInvocationCommandTarget::InvocationId(one),
-                AttachInvocationCommandTarget::InvocationId(two),
-            ) => one.is_same(two),
-            (
-                AttachInvocationCommandTarget::WorkflowTarget(one),
-                AttachInvocationCommandTarget::WorkflowTarget(two),
-            ) => one.is_same(two),
-            (
-                AttachInvocationCommandTarget::IdempotentRequestTarget(one),
-                AttachInvocationCommandTarget::IdempotentRequestTarget(two),
+                InvocationTarget::IdempotentRequestTarget(one),
+                InvocationTarget::IdempotentRequestTarget(two),
             ) => one.is_same(two),
             _ => false,
         }
     }
 
-    ghost decides = { deciding attached_target_tells };
-}
-
-impl Same for GetInvocationOutputCommandTarget {
-    ghost same = { same_asked_target };
-
-    fn is_same(&self, other: &GetInvocationOutputCommandTarget) -> bool {
-        match (self, other) {
-            (
-                GetInvocationOutputCommandTarget::InvocationId(one),
-                GetInvocationOutputCommandTarget::InvocationId(two),
-            ) => one.is_same(two),
-            (
-                GetInvocationOutputCommandTarget::WorkflowTarget(one),
-                GetInvocationOutputCommandTarget::WorkflowTarget(two),
-            ) => one.is_same(two),
-            (
-                GetInvocationOutputCommandTarget::IdempotentRequestTarget(one),
-                GetInvocationOutputCommandTarget::IdempotentRequestTarget(two),
-            ) => one.is_same(two),
-            _ => false,
-        }
-    }
-
-    ghost decides = { deciding asked_target_tells };
+    ghost decides = { deciding invocation_target_tells };
 }

@@ -6,11 +6,12 @@ use Rattle.protocol_wire.specs.Fields.{fields}
 use Rattle.protocol_wire.specs.Selection.{u32, low, numbers, texts, records}
 use Rattle.protocol_table.specs.declared.table.RecordType.TheVariants as types
 use Rattle.protocol_table.specs.declared.table.future.TheConstants as future
-use Rattle.protocol_wire.proofs.Joins.{IsFine, number_joins, numbers_join, texts_join, records_join, fields_behind}
+use Rattle.protocol_wire.proofs.Joins.{number_joins, numbers_join, texts_join, records_join}
 use Rattle.protocol_records.specs.declared.future.Future.{Future, out-Future, roll-Future}
 use Rattle.protocol_records.specs.declared.future.Future.TheOpen.{Future-F}
 use Rattle.protocol_records.specs.declared.future.Future.TheViews.{out-roll-Future}
 use Rattle.protocol_records.specs.Future.{combinator_of, future_of}
+use Rattle.protocol_laws.specs.Choices.{Join, joined}
 
 abbrev layer : ℕ → List Field → Future-F Future
 layer levels fs = record {
@@ -30,13 +31,9 @@ layers_join levels x y z h = λ i. record {
   combinator_type = number_joins future.COMBINATOR_TYPE.number x y z (λ o. combinator_of (low (unwrap_or o 0))) (ap (λ (r : Future-F Future). r.combinator_type) h) i;
 }
 
-pub future_joins : (levels : ℕ) (a b c : List ℕ) → IsFine levels types.Future a → IsFine levels types.Future b → future_of levels (fields a) ≡ future_of levels (fields b) → future_of levels (fields (a ++ c)) ≡ future_of levels (fields (b ++ c))
+pub future_joins : Join types.Future future_of
 unfolding future_of
 future_joins zero a b c p q h = refl
 future_joins (suc levels) a b c p q h =
-    let x = fields a in
-    let y = fields b in
-    let same = sym (out-roll-Future (layer levels x)) ∙ ap out-Future h ∙ out-roll-Future (layer levels y) in
-    ap (future_of (suc levels)) (fields_behind (suc levels) types.Future a c p)
-    ∙ ap roll-Future (layers_join levels x y (fields c) same)
-    ∙ sym (ap (future_of (suc levels)) (fields_behind (suc levels) types.Future b c q))
+    let same = sym (out-roll-Future (layer levels (fields a))) ∙ ap out-Future h ∙ out-roll-Future (layer levels (fields b)) in
+    joined types.Future (future_of (suc levels)) (suc levels) a b c p q (ap roll-Future (layers_join levels (fields a) (fields b) (fields c) same))

@@ -17,6 +17,7 @@ use Rattle.protocol_wire.proofs.Joins.{IsFine}
 use Rattle.protocol_wire.proofs.Joined.{sound_joined}
 use Rattle.protocol_wire.proofs.SoundAt.{texts_sound}
 use Rattle.protocol_wire.proofs.Runs.{values-among}
+use Rattle.protocol_wire.proofs.Standing.{run_sound}
 
 -- ---- numbers
 
@@ -254,7 +255,20 @@ module _ {R : Type 0} (levels : ℕ) (t : RecordType) (of : List Field → R) (F
       go (bytes b ∷ ws) h = (each b h.0, go ws h.1)
       go (fixed ∷ ws) h = go ws h
 
+-- What was read of a record fits.
+abbrev pub ReadFits : {R : Type 0} → RecordType → (ℕ → List Field → R) → (ℕ → R → Type 0) → Type 0
+ReadFits t of Fits = (levels : ℕ) (a : List ℕ) → IsFine levels t a → Fits levels (of levels (fields a))
+
+-- The same, where the payload has to be one of bytes: a number of 64 bits is read.
+abbrev pub ReadOfBytesFits : {R : Type 0} → RecordType → (ℕ → List Field → R) → (ℕ → R → Type 0) → Type 0
+ReadOfBytesFits t of Fits = (levels : ℕ) (a : List ℕ) → AreBytes a → IsFine levels t a → Fits levels (of levels (fields a))
+
 -- ---- a choice
+
+pub chosen_record_fits : {R : Type 0} (levels : ℕ) (t : RecordType) (variants : List ℕ) (number : ℕ) (a : List ℕ) → IsFine levels t a → is_among variants number ≡ true → (r : RecordType) → kind_in (descriptors_of t) number ≡ Some (kinds.Record r)
+    → (of : ℕ → List Field → R) (Fits : ℕ → R → Type 0) → ReadFits r of Fits → IfSome (optional_record (of (levels - 1)) number (run variants (fields a))) (Fits (levels - 1))
+chosen_record_fits levels t variants number a fine member r kind of Fits each =
+    optional_record_fits (levels - 1) r (of (levels - 1)) (Fits (levels - 1)) (each (levels - 1)) number (run variants (fields a)) (run_sound levels t variants number a fine member r kind)
 
 module _ {A E : Type 0} (make : A → E) (Fits : Option E → Type 0) where
   pub first_fits : (o : Option A) (other : Option E) → IfSome o (λ x. Fits (Some (make x))) → Fits other → Fits (first_of (option_map make o) other)

@@ -10,13 +10,10 @@ ghost use Rattle.protocol_wire.specs.Decodes.{IsRead};
 ghost use Rattle.protocol_wire.specs.declared.record.TheConstants.{LEVELS};
 ghost use Rattle.protocol_laws.specs.ReadFits.{AreBytes};
 
-mod awaiting;
-mod choices;
-mod control;
-mod notification;
-mod shared;
-mod towards;
-mod within;
+mod calls;
+mod commands;
+mod controls;
+mod records;
 
 use protocol_wire::Record;
 

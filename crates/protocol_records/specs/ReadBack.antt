@@ -1,10 +1,9 @@
 -- The canonical payload of each record is read again, to the same value.
 use Rattle.std.specs.Prelude.{ℕ, ◌-◌, ◌<◌, ◌^◌, length, map, option_map, refl}
-use Rattle.std.proofs.Common.{sym, ap, ◌∙◌}
 use Rattle.protocol_wire.specs.Check.{payload_fault}
-use Rattle.protocol_table.specs.Table.{descriptors_of}
 use Rattle.protocol_wire.specs.Parts.{payload_of}
 use Rattle.protocol_wire.specs.Decodes.{IsRead}
+use Rattle.protocol_table.specs.Table.{descriptors_of}
 use Rattle.protocol_table.specs.declared.table.RecordType.TheVariants as types
 use Rattle.protocol_table.specs.declared.table.value.TheConstants as value
 use Rattle.protocol_table.specs.declared.table.header.TheConstants as header
@@ -14,16 +13,12 @@ use Rattle.protocol_table.specs.declared.table.state_entry.TheConstants as state
 use Rattle.protocol_table.specs.declared.table.start.TheConstants as start
 use Rattle.protocol_table.specs.declared.table.input_command.TheConstants as input_command
 use Rattle.protocol_table.specs.declared.table.sleep_command.TheConstants as sleep_command
-use Rattle.protocol_wire.proofs.Holds.{u64_holds, u32_holds, bool_holds, bytes_holds, text_holds, optional_text_holds, optional_record_holds, records_hold, lengths_fit, payload_holds, optional_sound, optional_reads_back, each_sound, each_reads_back}
-use Rattle.protocol_wire.proofs.Back.{u64_back, u32_back, bool_back, text_back, optional_text_back, optional_record_back, records_back}
-use Rattle.protocol_records.specs.declared.value.Value.{Value}
-use Rattle.protocol_records.specs.declared.header.Header.{Header}
-use Rattle.protocol_records.specs.declared.failure.FailureMetadata.{FailureMetadata}
-use Rattle.protocol_records.specs.declared.failure.Failure.{Failure}
-use Rattle.protocol_records.specs.declared.start.StateEntry.{StateEntry}
-use Rattle.protocol_records.specs.declared.start.StartMessage.{StartMessage}
-use Rattle.protocol_records.specs.declared.input_command.InputCommandMessage.{InputCommandMessage}
-use Rattle.protocol_records.specs.declared.sleep_command.SleepCommandMessage.{SleepCommandMessage}
+use Rattle.protocol_table.specs.declared.table.awaiting_on.TheConstants as awaiting_on
+use Rattle.protocol_table.specs.declared.table.state_keys.TheConstants as state_keys
+use Rattle.protocol_table.specs.declared.table.suspension.TheConstants as suspension
+use Rattle.protocol_table.specs.declared.table.suspension_v6.TheConstants as suspension_v6
+use Rattle.protocol_wire.proofs.Holds.{u64_holds, u32_holds, bool_holds, bytes_holds, text_holds, optional_text_holds, optional_record_holds, records_hold, lengths_fit, payload_holds, optional_sound, optional_reads_back, each_sound, each_reads_back, repeated_bytes_hold, texts_hold, numbers_hold, Reads, read_back}
+use Rattle.protocol_wire.proofs.Back.{u64_back, u32_back, bool_back, text_back, optional_text_back, optional_record_back, records_back, texts_back, numbers_back}
 use Rattle.protocol_records.specs.declared.end.EndMessage.{EndMessage}
 use Rattle.protocol_records.specs.Value.{value_of, value_parts, ValueFits}
 use Rattle.protocol_records.specs.Header.{header_of, header_parts, HeaderFits}
@@ -34,70 +29,66 @@ use Rattle.protocol_records.specs.Start.{start_of, start_parts, StartFits}
 use Rattle.protocol_records.specs.InputCommand.{input_command_of, input_command_parts, InputCommandFits}
 use Rattle.protocol_records.specs.SleepCommand.{sleep_command_of, sleep_command_parts, SleepCommandFits}
 use Rattle.protocol_records.specs.End.{end_of, end_parts, EndFits}
+use Rattle.protocol_records.specs.Future.{future_of, future_parts, FutureFits}
+use Rattle.protocol_records.specs.ReadBackFuture.{future_reads}
+use Rattle.protocol_records.specs.AwaitingOn.{awaiting_on_of, awaiting_on_parts, AwaitingOnFits}
+use Rattle.protocol_records.specs.StateKeys.{state_keys_of, state_keys_parts, StateKeysFits}
+use Rattle.protocol_records.specs.Suspension.{suspension_of, suspension_parts, SuspensionFits}
+use Rattle.protocol_records.specs.SuspensionV6.{suspension_v6_of, suspension_v6_parts, SuspensionV6Fits}
+use Rattle.protocol_records.specs.declared.void.Void.{Void}
+use Rattle.protocol_records.specs.Void.{void_of, void_parts, VoidFits}
 
-pub value_reads : (levels : ℕ) (v : Value) → ValueFits levels v → length (payload_of (value_parts v)) < 2 ^ 64 → IsRead levels types.Value value_of (payload_of (value_parts v)) v
+pub value_reads : Reads types.Value value_of value_parts ValueFits
 value_reads levels v h small =
     let ps = value_parts v in
     let below = payload_fault (levels - 1) in
     let table = descriptors_of types.Value in
-    let read = payload_holds levels types.Value ps h.level ((
+    read_back levels types.Value value_of ps v h.level small (
       bytes_holds below table value.CONTENT.number v.content (refl, refl),
       tt,
-    )) small in
-    record {
-      sound = read.0;
-      value = sym (ap (value_of levels) read.1 ∙ λ i. record {
-        content = text_back value.CONTENT.number v.content ps refl i;
-      });
-    }
+    ) (λ i. record {
+      content = text_back value.CONTENT.number v.content ps refl i;
+    })
 
-pub header_reads : (levels : ℕ) (v : Header) → HeaderFits levels v → length (payload_of (header_parts v)) < 2 ^ 64 → IsRead levels types.Header header_of (payload_of (header_parts v)) v
+pub header_reads : Reads types.Header header_of header_parts HeaderFits
 header_reads levels v h small =
     let ps = header_parts v in
     let below = payload_fault (levels - 1) in
     let table = descriptors_of types.Header in
-    let read = payload_holds levels types.Header ps h.level ((
+    read_back levels types.Header header_of ps v h.level small (
       text_holds below table header.KEY.number v.key (refl, refl) h.key,
       (
         text_holds below table header.VALUE.number v.value (refl, refl) h.value,
         tt,
       ),
-    )) small in
-    record {
-      sound = read.0;
-      value = sym (ap (header_of levels) read.1 ∙ λ i. record {
-        key = text_back header.KEY.number v.key ps refl i;
-        value = text_back header.VALUE.number v.value ps refl i;
-      });
-    }
+    ) (λ i. record {
+      key = text_back header.KEY.number v.key ps refl i;
+      value = text_back header.VALUE.number v.value ps refl i;
+    })
 
-pub failure_metadata_reads : (levels : ℕ) (v : FailureMetadata) → FailureMetadataFits levels v → length (payload_of (failure_metadata_parts v)) < 2 ^ 64 → IsRead levels types.FailureMetadata failure_metadata_of (payload_of (failure_metadata_parts v)) v
+pub failure_metadata_reads : Reads types.FailureMetadata failure_metadata_of failure_metadata_parts FailureMetadataFits
 failure_metadata_reads levels v h small =
     let ps = failure_metadata_parts v in
     let below = payload_fault (levels - 1) in
     let table = descriptors_of types.FailureMetadata in
-    let read = payload_holds levels types.FailureMetadata ps h.level ((
+    read_back levels types.FailureMetadata failure_metadata_of ps v h.level small (
       text_holds below table failure_metadata.KEY.number v.key (refl, refl) h.key,
       (
         text_holds below table failure_metadata.VALUE.number v.value (refl, refl) h.value,
         tt,
       ),
-    )) small in
-    record {
-      sound = read.0;
-      value = sym (ap (failure_metadata_of levels) read.1 ∙ λ i. record {
-        key = text_back failure_metadata.KEY.number v.key ps refl i;
-        value = text_back failure_metadata.VALUE.number v.value ps refl i;
-      });
-    }
+    ) (λ i. record {
+      key = text_back failure_metadata.KEY.number v.key ps refl i;
+      value = text_back failure_metadata.VALUE.number v.value ps refl i;
+    })
 
-pub failure_reads : (levels : ℕ) (v : Failure) → FailureFits levels v → length (payload_of (failure_parts v)) < 2 ^ 64 → IsRead levels types.Failure failure_of (payload_of (failure_parts v)) v
+pub failure_reads : Reads types.Failure failure_of failure_parts FailureFits
 failure_reads levels v h small =
     let ps = failure_parts v in
     let below = payload_fault (levels - 1) in
     let table = descriptors_of types.Failure in
     let lengths = lengths_fit ps small in
-    let read = payload_holds levels types.Failure ps h.level ((
+    read_back levels types.Failure failure_of ps v h.level small (
       u32_holds below table failure.CODE.number v.code (refl, refl) h.code,
       (
         text_holds below table failure.MESSAGE.number v.message (refl, refl) h.message,
@@ -106,43 +97,35 @@ failure_reads levels v h small =
           tt,
         ),
       ),
-    )) small in
-    record {
-      sound = read.0;
-      value = sym (ap (failure_of levels) read.1 ∙ λ i. record {
-        code = u32_back failure.CODE.number v.code ps refl h.code i;
-        message = text_back failure.MESSAGE.number v.message ps refl i;
-        metadata = records_back (failure_metadata_of (levels - 1)) (λ r. payload_of (failure_metadata_parts r)) failure.METADATA.number v.metadata ps refl (each_reads_back (levels - 1) types.FailureMetadata failure_metadata_of (λ r. payload_of (failure_metadata_parts r)) (FailureMetadataFits (levels - 1)) (failure_metadata_reads (levels - 1)) v.metadata h.metadata lengths.1.1.0) i;
-      });
-    }
+    ) (λ i. record {
+      code = u32_back failure.CODE.number v.code ps refl h.code i;
+      message = text_back failure.MESSAGE.number v.message ps refl i;
+      metadata = records_back (failure_metadata_of (levels - 1)) (λ r. payload_of (failure_metadata_parts r)) failure.METADATA.number v.metadata ps refl (each_reads_back (levels - 1) types.FailureMetadata failure_metadata_of (λ r. payload_of (failure_metadata_parts r)) (FailureMetadataFits (levels - 1)) (failure_metadata_reads (levels - 1)) v.metadata h.metadata lengths.1.1.0) i;
+    })
 
-pub state_entry_reads : (levels : ℕ) (v : StateEntry) → StateEntryFits levels v → length (payload_of (state_entry_parts v)) < 2 ^ 64 → IsRead levels types.StateEntry state_entry_of (payload_of (state_entry_parts v)) v
+pub state_entry_reads : Reads types.StateEntry state_entry_of state_entry_parts StateEntryFits
 state_entry_reads levels v h small =
     let ps = state_entry_parts v in
     let below = payload_fault (levels - 1) in
     let table = descriptors_of types.StateEntry in
-    let read = payload_holds levels types.StateEntry ps h.level ((
+    read_back levels types.StateEntry state_entry_of ps v h.level small (
       bytes_holds below table state_entry.KEY.number v.key (refl, refl),
       (
         bytes_holds below table state_entry.VALUE.number v.value (refl, refl),
         tt,
       ),
-    )) small in
-    record {
-      sound = read.0;
-      value = sym (ap (state_entry_of levels) read.1 ∙ λ i. record {
-        key = text_back state_entry.KEY.number v.key ps refl i;
-        value = text_back state_entry.VALUE.number v.value ps refl i;
-      });
-    }
+    ) (λ i. record {
+      key = text_back state_entry.KEY.number v.key ps refl i;
+      value = text_back state_entry.VALUE.number v.value ps refl i;
+    })
 
-pub start_reads : (levels : ℕ) (v : StartMessage) → StartFits levels v → length (payload_of (start_parts v)) < 2 ^ 64 → IsRead levels types.Start start_of (payload_of (start_parts v)) v
+pub start_reads : Reads types.Start start_of start_parts StartFits
 start_reads levels v h small =
     let ps = start_parts v in
     let below = payload_fault (levels - 1) in
     let table = descriptors_of types.Start in
     let lengths = lengths_fit ps small in
-    let read = payload_holds levels types.Start ps h.level ((
+    read_back levels types.Start start_of ps v h.level small (
       bytes_holds below table start.ID.number v.id (refl, refl),
       (
         text_holds below table start.DEBUG_ID.number v.debug_id (refl, refl) h.debug_id,
@@ -178,32 +161,28 @@ start_reads levels v h small =
           ),
         ),
       ),
-    )) small in
-    record {
-      sound = read.0;
-      value = sym (ap (start_of levels) read.1 ∙ λ i. record {
-        id = text_back start.ID.number v.id ps refl i;
-        debug_id = text_back start.DEBUG_ID.number v.debug_id ps refl i;
-        known_entries = u32_back start.KNOWN_ENTRIES.number v.known_entries ps refl h.known_entries i;
-        state_map = records_back (state_entry_of (levels - 1)) (λ r. payload_of (state_entry_parts r)) start.STATE_MAP.number v.state_map ps refl (each_reads_back (levels - 1) types.StateEntry state_entry_of (λ r. payload_of (state_entry_parts r)) (StateEntryFits (levels - 1)) (state_entry_reads (levels - 1)) v.state_map h.state_map lengths.1.1.1.0) i;
-        partial_state = bool_back start.PARTIAL_STATE.number v.partial_state ps refl i;
-        key = text_back start.KEY.number v.key ps refl i;
-        retry_count_since_last_stored_entry = u32_back start.RETRY_COUNT_SINCE_LAST_STORED_ENTRY.number v.retry_count_since_last_stored_entry ps refl h.retry_count_since_last_stored_entry i;
-        duration_since_last_stored_entry = u64_back start.DURATION_SINCE_LAST_STORED_ENTRY.number v.duration_since_last_stored_entry ps refl i;
-        random_seed = u64_back start.RANDOM_SEED.number v.random_seed ps refl i;
-        scope = optional_text_back start.SCOPE.number v.scope ps refl i;
-        limit_key = optional_text_back start.LIMIT_KEY.number v.limit_key ps refl i;
-        idempotency_key = optional_text_back start.IDEMPOTENCY_KEY.number v.idempotency_key ps refl i;
-      });
-    }
+    ) (λ i. record {
+      id = text_back start.ID.number v.id ps refl i;
+      debug_id = text_back start.DEBUG_ID.number v.debug_id ps refl i;
+      known_entries = u32_back start.KNOWN_ENTRIES.number v.known_entries ps refl h.known_entries i;
+      state_map = records_back (state_entry_of (levels - 1)) (λ r. payload_of (state_entry_parts r)) start.STATE_MAP.number v.state_map ps refl (each_reads_back (levels - 1) types.StateEntry state_entry_of (λ r. payload_of (state_entry_parts r)) (StateEntryFits (levels - 1)) (state_entry_reads (levels - 1)) v.state_map h.state_map lengths.1.1.1.0) i;
+      partial_state = bool_back start.PARTIAL_STATE.number v.partial_state ps refl i;
+      key = text_back start.KEY.number v.key ps refl i;
+      retry_count_since_last_stored_entry = u32_back start.RETRY_COUNT_SINCE_LAST_STORED_ENTRY.number v.retry_count_since_last_stored_entry ps refl h.retry_count_since_last_stored_entry i;
+      duration_since_last_stored_entry = u64_back start.DURATION_SINCE_LAST_STORED_ENTRY.number v.duration_since_last_stored_entry ps refl i;
+      random_seed = u64_back start.RANDOM_SEED.number v.random_seed ps refl i;
+      scope = optional_text_back start.SCOPE.number v.scope ps refl i;
+      limit_key = optional_text_back start.LIMIT_KEY.number v.limit_key ps refl i;
+      idempotency_key = optional_text_back start.IDEMPOTENCY_KEY.number v.idempotency_key ps refl i;
+    })
 
-pub input_command_reads : (levels : ℕ) (v : InputCommandMessage) → InputCommandFits levels v → length (payload_of (input_command_parts v)) < 2 ^ 64 → IsRead levels types.InputCommand input_command_of (payload_of (input_command_parts v)) v
+pub input_command_reads : Reads types.InputCommand input_command_of input_command_parts InputCommandFits
 input_command_reads levels v h small =
     let ps = input_command_parts v in
     let below = payload_fault (levels - 1) in
     let table = descriptors_of types.InputCommand in
     let lengths = lengths_fit ps small in
-    let read = payload_holds levels types.InputCommand ps h.level ((
+    read_back levels types.InputCommand input_command_of ps v h.level small (
       records_hold below table input_command.HEADERS.number types.Header (map (λ r. payload_of (header_parts r)) v.headers) (refl, refl) (each_sound (levels - 1) types.Header header_of (λ r. payload_of (header_parts r)) (HeaderFits (levels - 1)) (header_reads (levels - 1)) v.headers h.headers lengths.0),
       (
         text_holds below table input_command.NAME.number v.name (refl, refl) h.name,
@@ -212,22 +191,18 @@ input_command_reads levels v h small =
           tt,
         ),
       ),
-    )) small in
-    record {
-      sound = read.0;
-      value = sym (ap (input_command_of levels) read.1 ∙ λ i. record {
-        headers = records_back (header_of (levels - 1)) (λ r. payload_of (header_parts r)) input_command.HEADERS.number v.headers ps refl (each_reads_back (levels - 1) types.Header header_of (λ r. payload_of (header_parts r)) (HeaderFits (levels - 1)) (header_reads (levels - 1)) v.headers h.headers lengths.0) i;
-        name = text_back input_command.NAME.number v.name ps refl i;
-        value = optional_record_back (value_of (levels - 1)) (λ r. payload_of (value_parts r)) input_command.VALUE.number v.value ps refl (optional_reads_back (levels - 1) types.Value value_of (λ r. payload_of (value_parts r)) (ValueFits (levels - 1)) (value_reads (levels - 1)) v.value h.value lengths.1.1.0) i;
-      });
-    }
+    ) (λ i. record {
+      headers = records_back (header_of (levels - 1)) (λ r. payload_of (header_parts r)) input_command.HEADERS.number v.headers ps refl (each_reads_back (levels - 1) types.Header header_of (λ r. payload_of (header_parts r)) (HeaderFits (levels - 1)) (header_reads (levels - 1)) v.headers h.headers lengths.0) i;
+      name = text_back input_command.NAME.number v.name ps refl i;
+      value = optional_record_back (value_of (levels - 1)) (λ r. payload_of (value_parts r)) input_command.VALUE.number v.value ps refl (optional_reads_back (levels - 1) types.Value value_of (λ r. payload_of (value_parts r)) (ValueFits (levels - 1)) (value_reads (levels - 1)) v.value h.value lengths.1.1.0) i;
+    })
 
-pub sleep_command_reads : (levels : ℕ) (v : SleepCommandMessage) → SleepCommandFits levels v → length (payload_of (sleep_command_parts v)) < 2 ^ 64 → IsRead levels types.SleepCommand sleep_command_of (payload_of (sleep_command_parts v)) v
+pub sleep_command_reads : Reads types.SleepCommand sleep_command_of sleep_command_parts SleepCommandFits
 sleep_command_reads levels v h small =
     let ps = sleep_command_parts v in
     let below = payload_fault (levels - 1) in
     let table = descriptors_of types.SleepCommand in
-    let read = payload_holds levels types.SleepCommand ps h.level ((
+    read_back levels types.SleepCommand sleep_command_of ps v h.level small (
       u64_holds below table sleep_command.WAKE_UP_TIME.number v.wake_up_time (refl, refl) h.wake_up_time,
       (
         u32_holds below table sleep_command.RESULT_COMPLETION_ID.number v.result_completion_id (refl, refl) h.result_completion_id,
@@ -236,18 +211,76 @@ sleep_command_reads levels v h small =
           tt,
         ),
       ),
-    )) small in
-    record {
-      sound = read.0;
-      value = sym (ap (sleep_command_of levels) read.1 ∙ λ i. record {
-        wake_up_time = u64_back sleep_command.WAKE_UP_TIME.number v.wake_up_time ps refl i;
-        result_completion_id = u32_back sleep_command.RESULT_COMPLETION_ID.number v.result_completion_id ps refl h.result_completion_id i;
-        name = text_back sleep_command.NAME.number v.name ps refl i;
-      });
-    }
+    ) (λ i. record {
+      wake_up_time = u64_back sleep_command.WAKE_UP_TIME.number v.wake_up_time ps refl i;
+      result_completion_id = u32_back sleep_command.RESULT_COMPLETION_ID.number v.result_completion_id ps refl h.result_completion_id i;
+      name = text_back sleep_command.NAME.number v.name ps refl i;
+    })
 
-pub end_reads : (levels : ℕ) (v : EndMessage) → EndFits levels v → length (payload_of (end_parts v)) < 2 ^ 64 → IsRead levels types.End end_of (payload_of (end_parts v)) v
-end_reads levels v h small =
-    let ps = end_parts v in
-    let read = payload_holds levels types.End ps h.level tt small in
-    record { sound = read.0; value = refl }
+pub end_reads : Reads types.End end_of end_parts EndFits
+end_reads levels v h small = read_back levels types.End end_of (end_parts v) v h.level small tt refl
+
+pub awaiting_on_reads : Reads types.AwaitingOn awaiting_on_of awaiting_on_parts AwaitingOnFits
+awaiting_on_reads levels v h small =
+    let ps = awaiting_on_parts v in
+    let below = payload_fault (levels - 1) in
+    let table = descriptors_of types.AwaitingOn in
+    let lengths = lengths_fit ps small in
+    read_back levels types.AwaitingOn awaiting_on_of ps v h.level small (
+      optional_record_holds below table awaiting_on.AWAITING_ON.number types.Future (option_map (λ r. payload_of (future_parts r)) v.awaiting_on) (refl, refl) (optional_sound (levels - 1) types.Future future_of (λ r. payload_of (future_parts r)) (FutureFits (levels - 1)) (future_reads (levels - 1)) v.awaiting_on h.awaiting_on lengths.0),
+      (
+        bool_holds below table awaiting_on.EXECUTING_SIDE_EFFECTS.number v.executing_side_effects (refl, refl),
+        tt,
+      ),
+    ) (λ i. record {
+      awaiting_on = optional_record_back (future_of (levels - 1)) (λ r. payload_of (future_parts r)) awaiting_on.AWAITING_ON.number v.awaiting_on ps refl (optional_reads_back (levels - 1) types.Future future_of (λ r. payload_of (future_parts r)) (FutureFits (levels - 1)) (future_reads (levels - 1)) v.awaiting_on h.awaiting_on lengths.0) i;
+      executing_side_effects = bool_back awaiting_on.EXECUTING_SIDE_EFFECTS.number v.executing_side_effects ps refl i;
+    })
+
+pub state_keys_reads : Reads types.StateKeys state_keys_of state_keys_parts StateKeysFits
+state_keys_reads levels v h small =
+    let ps = state_keys_parts v in
+    let below = payload_fault (levels - 1) in
+    let table = descriptors_of types.StateKeys in
+    read_back levels types.StateKeys state_keys_of ps v h.level small (
+      repeated_bytes_hold below table state_keys.KEYS.number v.keys (refl, refl),
+      tt,
+    ) (λ i. record {
+      keys = texts_back state_keys.KEYS.number v.keys ps refl i;
+    })
+
+pub suspension_reads : Reads types.Suspension suspension_of suspension_parts SuspensionFits
+suspension_reads levels v h small =
+    let ps = suspension_parts v in
+    let below = payload_fault (levels - 1) in
+    let table = descriptors_of types.Suspension in
+    let lengths = lengths_fit ps small in
+    read_back levels types.Suspension suspension_of ps v h.level small (
+      optional_record_holds below table suspension.AWAITING_ON.number types.Future (option_map (λ r. payload_of (future_parts r)) v.awaiting_on) (refl, refl) (optional_sound (levels - 1) types.Future future_of (λ r. payload_of (future_parts r)) (FutureFits (levels - 1)) (future_reads (levels - 1)) v.awaiting_on h.awaiting_on lengths.0),
+      tt,
+    ) (λ i. record {
+      awaiting_on = optional_record_back (future_of (levels - 1)) (λ r. payload_of (future_parts r)) suspension.AWAITING_ON.number v.awaiting_on ps refl (optional_reads_back (levels - 1) types.Future future_of (λ r. payload_of (future_parts r)) (FutureFits (levels - 1)) (future_reads (levels - 1)) v.awaiting_on h.awaiting_on lengths.0) i;
+    })
+
+pub suspension_v6_reads : Reads types.SuspensionV6 suspension_v6_of suspension_v6_parts SuspensionV6Fits
+suspension_v6_reads levels v h small =
+    let ps = suspension_v6_parts v in
+    let below = payload_fault (levels - 1) in
+    let table = descriptors_of types.SuspensionV6 in
+    read_back levels types.SuspensionV6 suspension_v6_of ps v h.level small (
+      numbers_hold below table suspension_v6.WAITING_COMPLETIONS.number v.waiting_completions (refl, refl) h.waiting_completions,
+      (
+        numbers_hold below table suspension_v6.WAITING_SIGNALS.number v.waiting_signals (refl, refl) h.waiting_signals,
+        (
+          texts_hold below table suspension_v6.WAITING_NAMED_SIGNALS.number v.waiting_named_signals (refl, refl) h.waiting_named_signals,
+          tt,
+        ),
+      ),
+    ) (λ i. record {
+      waiting_completions = numbers_back suspension_v6.WAITING_COMPLETIONS.number v.waiting_completions ps refl h.waiting_completions i;
+      waiting_signals = numbers_back suspension_v6.WAITING_SIGNALS.number v.waiting_signals ps refl h.waiting_signals i;
+      waiting_named_signals = texts_back suspension_v6.WAITING_NAMED_SIGNALS.number v.waiting_named_signals ps refl i;
+    })
+
+pub void_reads : Reads types.Void void_of void_parts VoidFits
+void_reads levels v h small = read_back levels types.Void void_of (void_parts v) v h.level small tt refl

@@ -1,17 +1,15 @@
 -- The canonical payload of an output command is read again, to the same value.
-use Rattle.std.specs.Prelude.{◌≡◌, ℕ, ◌-◌, ◌<◌, ◌^◌, [], ◌∷◌, length, Option, Some, None, IfSome, option_map, refl}
+use Rattle.std.specs.Prelude.{◌≡◌, ℕ, ◌-◌, [], ◌∷◌, Option, Some, None, IfSome, option_map, refl}
 use Rattle.std.specs.List.{AllByRecursion}
 use Rattle.std.proofs.Common.{sym, ap, ◌∙◌}
 use Rattle.protocol_wire.specs.Selection.{last_run, first_of, last_number, last_bytes, texts}
 use Rattle.protocol_wire.specs.Check.{payload_fault}
 use Rattle.protocol_table.specs.Table.{descriptors_of}
 use Rattle.protocol_wire.specs.Parts.{bytes_if, optional_bytes, payload_of}
-use Rattle.protocol_wire.specs.Decodes.{IsRead}
 use Rattle.protocol_table.specs.declared.table.RecordType.TheVariants as types
 use Rattle.protocol_table.specs.declared.table.output_command.TheConstants as output_command
-use Rattle.protocol_wire.proofs.Holds.{LengthFits, text_holds, optional_record_holds, lengths_fit, payload_holds}
+use Rattle.protocol_wire.proofs.Holds.{LengthFits, text_holds, optional_record_holds, lengths_fit, Reads, read_back}
 use Rattle.protocol_wire.proofs.Back.{text_back, optional_record_back, held_among, run-fields_of}
-use Rattle.protocol_records.specs.declared.output_command.OutputCommandMessage.{OutputCommandMessage}
 use Rattle.protocol_records.specs.declared.output_command.OutputCommandResult.{OutputCommandResult}
 use Rattle.protocol_records.specs.declared.output_command.OutputCommandResult.TheVariants as results
 use Rattle.protocol_records.specs.Failure.{failure_of, failure_parts}
@@ -41,13 +39,14 @@ result_back levels (Some (results.Value v)) h k0 k1 =
 result_back levels (Some (results.Failure f)) h k0 k1 =
     ap (λ (o : Option Failure). option_map (λ f. results.Failure f) o) (optional_record_back (failure_of (levels - 1)) (λ r. payload_of (failure_parts r)) output_command.FAILURE.number (Some f) (optional_bytes output_command.FAILURE.number (Some (payload_of (failure_parts f))) ∷ []) refl (sym (failure_reads (levels - 1) f h k1.0).value))
 
-pub output_command_reads : (levels : ℕ) (v : OutputCommandMessage) → OutputCommandFits levels v → length (payload_of (output_command_parts v)) < 2 ^ 64 → IsRead levels types.OutputCommand output_command_of (payload_of (output_command_parts v)) v
+pub output_command_reads : Reads types.OutputCommand output_command_of output_command_parts OutputCommandFits
 output_command_reads levels v h small =
     let ps = output_command_parts v in
     let below = payload_fault (levels - 1) in
     let table = descriptors_of types.OutputCommand in
     let lengths = lengths_fit ps small in
-    let read = payload_holds levels types.OutputCommand ps h.level ((
+    let result = ap (result_in levels) (run-fields_of output_command.RESULT ps) ∙ result_back levels v.result h.result lengths.1.0 lengths.1.1.0 in
+    read_back levels types.OutputCommand output_command_of ps v h.level small (
       text_holds below table output_command.NAME.number v.name (refl, refl) h.name,
       (
         optional_record_holds below table output_command.VALUE.number types.Value (result_value v.result) (refl, refl) (result_value_holds (levels - 1) v.result h.result lengths.1.0),
@@ -56,12 +55,7 @@ output_command_reads levels v h small =
           tt,
         ),
       ),
-    )) small in
-    let result = ap (result_in levels) (run-fields_of output_command.RESULT ps) ∙ result_back levels v.result h.result lengths.1.0 lengths.1.1.0 in
-    record {
-      sound = read.0;
-      value = sym (ap (output_command_of levels) read.1 ∙ λ i. record {
-        result = result i;
-        name = text_back output_command.NAME.number v.name ps refl i;
-      });
-    }
+    ) (λ i. record {
+      result = result i;
+      name = text_back output_command.NAME.number v.name ps refl i;
+    })

@@ -14,7 +14,7 @@ pub struct StateKeys {
 
 impl Record for StateKeys {
     ghost use Rattle.protocol_records.specs.StateKeys.{state_keys_of, state_keys_parts, StateKeysFits};
-    ghost use Rattle.protocol_records.specs.ReadBackStateKeys.{state_keys_reads};
+    ghost use Rattle.protocol_records.specs.ReadBack.{state_keys_reads};
     ghost use Rattle.protocol_table.specs.declared.table.RecordType.TheVariants.{StateKeys as state_keys_type};
 
     ghost record_type = { state_keys_type };

@@ -14,7 +14,7 @@ pub struct SuspensionMessage {
 
 impl Record for SuspensionMessage {
     ghost use Rattle.protocol_records.specs.Suspension.{suspension_of, suspension_parts, SuspensionFits};
-    ghost use Rattle.protocol_records.specs.ReadBackSuspension.{suspension_reads};
+    ghost use Rattle.protocol_records.specs.ReadBack.{suspension_reads};
     ghost use Rattle.protocol_table.specs.declared.table.RecordType.TheVariants.{Suspension as suspension_type};
 
     ghost record_type = { suspension_type };

@@ -22,7 +22,7 @@ pub struct SuspensionMessageV6 {
 
 impl Record for SuspensionMessageV6 {
     ghost use Rattle.protocol_records.specs.SuspensionV6.{suspension_v6_of, suspension_v6_parts, SuspensionV6Fits};
-    ghost use Rattle.protocol_records.specs.ReadBackSuspensionV6.{suspension_v6_reads};
+    ghost use Rattle.protocol_records.specs.ReadBack.{suspension_v6_reads};
     ghost use Rattle.protocol_table.specs.declared.table.RecordType.TheVariants.{SuspensionV6 as suspension_v6_type};
 
     ghost record_type = { suspension_v6_type };

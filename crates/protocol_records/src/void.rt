@@ -7,7 +7,7 @@ pub struct Void {}
 
 impl Record for Void {
     ghost use Rattle.protocol_records.specs.Void.{void_of, void_parts, VoidFits};
-    ghost use Rattle.protocol_records.specs.ReadBackVoid.{void_reads};
+    ghost use Rattle.protocol_records.specs.ReadBack.{void_reads};
     ghost use Rattle.protocol_table.specs.declared.table.RecordType.TheVariants.{Void as void_type};
 
     ghost record_type = { void_type };

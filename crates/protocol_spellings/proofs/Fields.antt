@@ -8,8 +8,7 @@ use Rattle.journal_model.specs.Spelling as model
 use Rattle.journal_model.specs.Request.{CallRecord}
 use Rattle.protocol_records.specs.Header.{header_parts}
 use Rattle.protocol_records.specs.StateKeys.{state_keys_parts}
-use Rattle.protocol_calls.specs.WorkflowTarget.{workflow_target_parts}
-use Rattle.protocol_calls.specs.IdempotentRequestTarget.{idempotent_request_target_parts}
+use Rattle.protocol_calls.specs.Fields.{workflow_target_parts, idempotent_request_target_parts}
 use Rattle.protocol_stream.specs.Records.{header_record}
 use Rattle.protocol_stream.proofs.Spellings.{number_field-is, plain_bytes-is, optional_bytes-is, repeated_bytes-is, AreSpelled, spelled-cons, spelled-last, payload_is}
 use Rattle.protocol_stream.proofs.RecordSpellings.{header_spelling, repeated}

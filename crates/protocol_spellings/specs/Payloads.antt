@@ -10,25 +10,16 @@ use Rattle.protocol_records.specs.OutputCommand.{output_command_parts}
 use Rattle.protocol_records.specs.SleepCommand.{sleep_command_parts}
 use Rattle.protocol_records.specs.Suspension.{suspension_parts}
 use Rattle.protocol_controls.specs.ProposeRunCompletionAck.{propose_run_completion_ack_parts}
-use Rattle.protocol_commands.specs.GetLazyStateCommand.{get_lazy_state_command_parts}
+use Rattle.protocol_commands.specs.Fields.{get_lazy_state_command_parts, get_lazy_state_keys_command_parts, get_eager_state_keys_command_parts, set_state_command_parts, clear_state_command_parts, clear_all_state_command_parts, get_promise_command_parts, peek_promise_command_parts, run_command_parts}
 use Rattle.protocol_commands.specs.GetEagerStateCommand.{get_eager_state_command_parts}
-use Rattle.protocol_commands.specs.GetLazyStateKeysCommand.{get_lazy_state_keys_command_parts}
-use Rattle.protocol_commands.specs.GetEagerStateKeysCommand.{get_eager_state_keys_command_parts}
-use Rattle.protocol_commands.specs.SetStateCommand.{set_state_command_parts}
-use Rattle.protocol_commands.specs.ClearStateCommand.{clear_state_command_parts}
-use Rattle.protocol_commands.specs.ClearAllStateCommand.{clear_all_state_command_parts}
-use Rattle.protocol_commands.specs.GetPromiseCommand.{get_promise_command_parts}
-use Rattle.protocol_commands.specs.PeekPromiseCommand.{peek_promise_command_parts}
 use Rattle.protocol_commands.specs.CompletePromiseCommand.{complete_promise_command_parts}
-use Rattle.protocol_commands.specs.RunCommand.{run_command_parts}
-use Rattle.protocol_calls.specs.CallCommand.{call_command_parts}
-use Rattle.protocol_calls.specs.OneWayCallCommand.{one_way_call_command_parts}
+use Rattle.protocol_calls.specs.Fields.{call_command_parts, one_way_call_command_parts}
 use Rattle.protocol_calls.specs.SendSignalCommand.{send_signal_command_parts}
 use Rattle.protocol_calls.specs.AttachInvocationCommand.{attach_invocation_command_parts}
 use Rattle.protocol_calls.specs.GetInvocationOutputCommand.{get_invocation_output_command_parts}
 use Rattle.protocol_calls.specs.CompleteAwakeableCommand.{complete_awakeable_command_parts}
 use Rattle.protocol_controls.specs.Notification.{notification_parts}
-use Rattle.protocol_spellings.specs.Records.{keys_record, eager_result, promise_completion, call_record, one_way_call_record, signal_id, signal_result, awakeable_result, attached_target, asked_target, id_record, result_record}
+use Rattle.protocol_spellings.specs.Records.{keys_record, eager_result, promise_completion, call_record, one_way_call_record, signal_id, signal_result, awakeable_result, target_record, id_record, result_record}
 
 -- the parts of the record of a request
 abbrev pub record_parts : Request → List Part
@@ -48,8 +39,8 @@ record_parts (Request.CallService call m n name) = call_command_parts (call_reco
 record_parts (Request.OneWayCall call time m name) = one_way_call_command_parts (one_way_call_record call time m name)
 record_parts (Request.SendSignal target key value name) = send_signal_command_parts (record { target_invocation_id = target; signal_id = Some (signal_id key); result = Some (signal_result value); entry_name = name })
 record_parts (Request.Run n name) = run_command_parts (record { result_completion_id = n; name = name })
-record_parts (Request.AttachInvocation target n name) = attach_invocation_command_parts (record { target = Some (attached_target target); result_completion_id = n; name = name })
-record_parts (Request.GetInvocationOutput target n name) = get_invocation_output_command_parts (record { target = Some (asked_target target); result_completion_id = n; name = name })
+record_parts (Request.AttachInvocation target n name) = attach_invocation_command_parts (record { target = Some (target_record target); result_completion_id = n; name = name })
+record_parts (Request.GetInvocationOutput target n name) = get_invocation_output_command_parts (record { target = Some (target_record target); result_completion_id = n; name = name })
 record_parts (Request.CompleteAwakeable id value name) = complete_awakeable_command_parts (record { awakeable_id = id; result = Some (awakeable_result value); name = name })
 
 -- its payload

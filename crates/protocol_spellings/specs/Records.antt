@@ -27,10 +27,8 @@ use Rattle.protocol_calls.specs.declared.complete_awakeable_command.CompleteAwak
 use Rattle.protocol_calls.specs.declared.complete_awakeable_command.CompleteAwakeableCommandResult.TheVariants as awakeables
 use Rattle.protocol_calls.specs.declared.workflow_target.WorkflowTarget.{WorkflowTarget}
 use Rattle.protocol_calls.specs.declared.idempotent_request_target.IdempotentRequestTarget.{IdempotentRequestTarget}
-use Rattle.protocol_calls.specs.declared.attach_invocation_command.AttachInvocationCommandTarget.{AttachInvocationCommandTarget}
-use Rattle.protocol_calls.specs.declared.attach_invocation_command.AttachInvocationCommandTarget.TheVariants as attached
-use Rattle.protocol_calls.specs.declared.get_invocation_output_command.GetInvocationOutputCommandTarget.{GetInvocationOutputCommandTarget}
-use Rattle.protocol_calls.specs.declared.get_invocation_output_command.GetInvocationOutputCommandTarget.TheVariants as asked
+use Rattle.protocol_calls.specs.declared.invocation_target.InvocationTarget.{InvocationTarget}
+use Rattle.protocol_calls.specs.declared.invocation_target.InvocationTarget.TheVariants as targets
 use Rattle.protocol_controls.specs.declared.notification.NotificationMessageId.{NotificationMessageId}
 use Rattle.protocol_controls.specs.declared.notification.NotificationMessageId.TheVariants as ids
 use Rattle.protocol_controls.specs.declared.notification.NotificationMessageResult.{NotificationMessageResult}
@@ -105,15 +103,10 @@ workflow_record name key scope = record { workflow_name = name; workflow_key = k
 abbrev pub idempotent_record : Text → Text → Text → Option Text → Option Text → IdempotentRequestTarget
 idempotent_record service handler key service_key scope = record { service_name = service; service_key = service_key; handler_name = handler; idempotency_key = key; scope = scope }
 
-abbrev pub attached_target : AttachInvocationTarget → AttachInvocationCommandTarget
-attached_target (AttachInvocationTarget.InvocationId id) = attached.InvocationId id
-attached_target (AttachInvocationTarget.WorkflowId name key scope) = attached.WorkflowTarget (workflow_record name key scope)
-attached_target (AttachInvocationTarget.IdempotencyId service handler key service_key scope) = attached.IdempotentRequestTarget (idempotent_record service handler key service_key scope)
-
-abbrev pub asked_target : AttachInvocationTarget → GetInvocationOutputCommandTarget
-asked_target (AttachInvocationTarget.InvocationId id) = asked.InvocationId id
-asked_target (AttachInvocationTarget.WorkflowId name key scope) = asked.WorkflowTarget (workflow_record name key scope)
-asked_target (AttachInvocationTarget.IdempotencyId service handler key service_key scope) = asked.IdempotentRequestTarget (idempotent_record service handler key service_key scope)
+abbrev pub target_record : AttachInvocationTarget → InvocationTarget
+target_record (AttachInvocationTarget.InvocationId id) = targets.InvocationId id
+target_record (AttachInvocationTarget.WorkflowId name key scope) = targets.WorkflowTarget (workflow_record name key scope)
+target_record (AttachInvocationTarget.IdempotencyId service handler key service_key scope) = targets.IdempotentRequestTarget (idempotent_record service handler key service_key scope)
 
 -- ---- notifications
 

@@ -216,6 +216,16 @@ payload_holds levels t ps some h small =
     let above = payload_holds_above (levels - 1) t ps h small in
     (subst (λ (n : ℕ). payload_fault n t (payload_of ps) ≡ None) one above.0, above.1)
 
+-- A value that fits is read again from its canonical payload, where that is shorter than 2^64 bytes.
+abbrev pub Reads : {R : Type 0} → RecordType → (ℕ → List Field → R) → (R → List Part) → (ℕ → R → Type 0) → Type 0
+Reads {R = R} t of parts Fits = (levels : ℕ) (v : R) → Fits levels v → length (payload_of (parts v)) < 2 ^ 64 → IsRead levels t of (payload_of (parts v)) v
+
+-- It is, where nothing is wrong with its parts, and it is read from the fields that they are.
+pub read_back : {R : Type 0} (levels : ℕ) (t : RecordType) (of : ℕ → List Field → R) (ps : List Part) (v : R) → 0 < levels → length (payload_of ps) < 2 ^ 64 → Hold (payload_fault (levels - 1)) (descriptors_of t) ps → of levels (fields_of ps) ≡ v → IsRead levels t of (payload_of ps) v
+read_back levels t of ps v some small h same =
+    let read = payload_holds levels t ps some h small in
+    record { sound = read.0; value = sym (ap (of levels) read.1 ∙ same) }
+
 -- ---- records in records, where each is read again
 
 module _ {R : Type 0} (levels : ℕ) (t : RecordType) (of : ℕ → List Field → R) (write : R → List ℕ) (fits : R → Type 0)

@@ -18,7 +18,7 @@ use Rattle.protocol_records.specs.SleepCommand.{sleep_command_of}
 use Rattle.protocol_records.specs.OutputCommand.{output_command_of}
 use Rattle.protocol_records.specs.Suspension.{suspension_of}
 use Rattle.protocol_records.specs.SuspensionV6.{suspension_v6_of}
-use Rattle.protocol_calls.specs.CallCommand.{call_command_of}
+use Rattle.protocol_calls.specs.Fields.{call_command_of}
 use Rattle.protocol_calls.specs.declared.call_command.CallCommandMessage.{CallCommandMessage}
 use Rattle.protocol_controls.specs.Error.{error_of}
 use Rattle.protocol_controls.specs.declared.error.ErrorMessage.{ErrorMessage}

@@ -11,7 +11,7 @@ use Rattle.protocol_records.specs.declared.output_command.OutputCommandResult.Th
 use Rattle.protocol_records.specs.OutputCommand.{output_command_parts}
 use Rattle.protocol_records.specs.SuspensionV6.{suspension_v6_parts}
 use Rattle.protocol_records.specs.declared.suspension_v6.SuspensionMessageV6.{SuspensionMessageV6}
-use Rattle.protocol_calls.specs.CallCommand.{call_command_parts}
+use Rattle.protocol_calls.specs.Fields.{call_command_parts}
 use Rattle.protocol_calls.specs.declared.call_command.CallCommandMessage.{CallCommandMessage}
 use Rattle.protocol_stream.specs.Records.{header_record, header_told, pair_record, pair_told, result_record}
 use Rattle.protocol_stream.proofs.Spellings.{packed-is, repeated_bytes-is, spelled-cons, spelled-last, payload_is}

@@ -19,7 +19,7 @@ use Rattle.protocol_records.specs.OutputCommand.{OutputCommandFits, output_comma
 use Rattle.protocol_records.specs.SleepCommand.{sleep_command_of}
 use Rattle.protocol_records.specs.Suspension.{suspension_of}
 use Rattle.protocol_records.specs.SuspensionV6.{suspension_v6_of}
-use Rattle.protocol_calls.specs.CallCommand.{call_command_of}
+use Rattle.protocol_calls.specs.Fields.{call_command_of}
 use Rattle.protocol_controls.specs.Error.{error_of}
 use Rattle.protocol_stream.specs.Header.{message_type}
 use Rattle.protocol_stream.specs.Records.{output_record, pair_record, pair_told, result_record}
@@ -29,7 +29,7 @@ use Rattle.store_frames.specs.declared.kind.FrameKind.TheVariants as kinds
 use Rattle.store_frames.specs.Kind.{kind_of, record_of}
 use Rattle.store_frames.specs.Meaning.{command_or_broken, error_frame, frame_by, other_frame, suspension_frame, unless_faulty}
 use Rattle.store_frames.specs.Requests.{request_of_call, request_of_output, request_of_sleep, suspension_of_lists, suspension_of_tree, value_put_out}
-use Rattle.protocol_laws.specs.FitsOutputCommand.{output_command_fits}
+use Rattle.protocol_laws.specs.Fits.{output_command_fits}
 use Rattle.store_reads.specs.Answered.{IsHeld}
 use Rattle.store_output_laws.specs.Held.{IsRead}
 

@@ -2,7 +2,8 @@ use Rattle.std.proofs.Common.{refl, [], ◌∷◌}
 use Rattle.protocol_wire.specs.Parts.{plain_bytes, plain_number}
 use Rattle.protocol_wire.proofs.Lengths.{measured, counting_block}
 use Rattle.protocol_table.specs.declared.table.attach_invocation_command.TheConstants.{NAME, RESULT_COMPLETION_ID}
-use Rattle.protocol_calls.specs.AttachInvocationCommand.{attach_invocation_command_parts, target_parts}
+use Rattle.protocol_calls.specs.AttachInvocationCommand.{attach_invocation_command_parts}
+use Rattle.protocol_calls.specs.InvocationTarget.{target_parts}
 use Rattle.protocol_calls.proofs.attach_invocation_command.AttachInvocationCommandMessageRecord.payload_len.Goals as goal
 
 pub returns : goal.returns

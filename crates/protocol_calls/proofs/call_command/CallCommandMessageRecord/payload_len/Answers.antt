@@ -1,6 +1,6 @@
 use Rattle.std.proofs.Common.{refl}
 use Rattle.protocol_wire.proofs.Lengths.{measured}
-use Rattle.protocol_calls.specs.CallCommand.{call_command_parts}
+use Rattle.protocol_calls.specs.Fields.{call_command_parts}
 use Rattle.protocol_calls.proofs.call_command.CallCommandMessageRecord.payload_len.Goals as goal
 
 pub returns : goal.returns

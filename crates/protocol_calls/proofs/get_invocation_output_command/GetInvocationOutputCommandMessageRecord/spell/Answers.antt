@@ -2,7 +2,8 @@ use Rattle.std.proofs.Common.{refl, [], ◌∷◌}
 use Rattle.protocol_wire.specs.Parts.{plain_bytes, plain_number}
 use Rattle.protocol_wire.proofs.Puts.{chained, chain_block}
 use Rattle.protocol_table.specs.declared.table.get_invocation_output_command.TheConstants.{NAME, RESULT_COMPLETION_ID}
-use Rattle.protocol_calls.specs.GetInvocationOutputCommand.{get_invocation_output_command_parts, target_parts}
+use Rattle.protocol_calls.specs.GetInvocationOutputCommand.{get_invocation_output_command_parts}
+use Rattle.protocol_calls.specs.InvocationTarget.{target_parts}
 use Rattle.protocol_calls.proofs.get_invocation_output_command.GetInvocationOutputCommandMessageRecord.spell.Goals as goal
 
 pub returns : goal.returns

@@ -1,6 +1,6 @@
 use Rattle.std.proofs.Common.{refl}
 use Rattle.protocol_wire.proofs.Puts.{chained}
-use Rattle.protocol_calls.specs.IdempotentRequestTarget.{idempotent_request_target_parts}
+use Rattle.protocol_calls.specs.Fields.{idempotent_request_target_parts}
 use Rattle.protocol_calls.proofs.idempotent_request_target.IdempotentRequestTargetRecord.spell.Goals as goal
 
 pub returns : goal.returns

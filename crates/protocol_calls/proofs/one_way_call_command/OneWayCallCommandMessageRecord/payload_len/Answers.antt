@@ -1,6 +1,6 @@
 use Rattle.std.proofs.Common.{refl}
 use Rattle.protocol_wire.proofs.Lengths.{measured}
-use Rattle.protocol_calls.specs.OneWayCallCommand.{one_way_call_command_parts}
+use Rattle.protocol_calls.specs.Fields.{one_way_call_command_parts}
 use Rattle.protocol_calls.proofs.one_way_call_command.OneWayCallCommandMessageRecord.payload_len.Goals as goal
 
 pub returns : goal.returns

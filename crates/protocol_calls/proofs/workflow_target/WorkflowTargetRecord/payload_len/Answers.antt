@@ -1,6 +1,6 @@
 use Rattle.std.proofs.Common.{refl}
 use Rattle.protocol_wire.proofs.Lengths.{measured}
-use Rattle.protocol_calls.specs.WorkflowTarget.{workflow_target_parts}
+use Rattle.protocol_calls.specs.Fields.{workflow_target_parts}
 use Rattle.protocol_calls.proofs.workflow_target.WorkflowTargetRecord.payload_len.Goals as goal
 
 pub returns : goal.returns

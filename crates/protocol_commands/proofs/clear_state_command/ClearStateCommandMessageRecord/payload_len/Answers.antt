@@ -1,6 +1,6 @@
 use Rattle.std.proofs.Common.{refl}
 use Rattle.protocol_wire.proofs.Lengths.{measured}
-use Rattle.protocol_commands.specs.ClearStateCommand.{clear_state_command_parts}
+use Rattle.protocol_commands.specs.Fields.{clear_state_command_parts}
 use Rattle.protocol_commands.proofs.clear_state_command.ClearStateCommandMessageRecord.payload_len.Goals as goal
 
 pub returns : goal.returns

@@ -1,6 +1,6 @@
 use Rattle.std.proofs.Common.{refl}
 use Rattle.protocol_wire.proofs.Lengths.{measured}
-use Rattle.protocol_commands.specs.GetEagerStateKeysCommand.{get_eager_state_keys_command_parts}
+use Rattle.protocol_commands.specs.Fields.{get_eager_state_keys_command_parts}
 use Rattle.protocol_commands.proofs.get_eager_state_keys_command.GetEagerStateKeysCommandMessageRecord.payload_len.Goals as goal
 
 pub returns : goal.returns

@@ -1,6 +1,6 @@
 use Rattle.std.proofs.Common.{refl}
 use Rattle.protocol_wire.proofs.Lengths.{measured}
-use Rattle.protocol_commands.specs.GetLazyStateCommand.{get_lazy_state_command_parts}
+use Rattle.protocol_commands.specs.Fields.{get_lazy_state_command_parts}
 use Rattle.protocol_commands.proofs.get_lazy_state_command.GetLazyStateCommandMessageRecord.payload_len.Goals as goal
 
 pub returns : goal.returns

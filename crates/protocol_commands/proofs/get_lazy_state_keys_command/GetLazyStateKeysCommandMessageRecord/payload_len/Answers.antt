@@ -1,6 +1,6 @@
 use Rattle.std.proofs.Common.{refl}
 use Rattle.protocol_wire.proofs.Lengths.{measured}
-use Rattle.protocol_commands.specs.GetLazyStateKeysCommand.{get_lazy_state_keys_command_parts}
+use Rattle.protocol_commands.specs.Fields.{get_lazy_state_keys_command_parts}
 use Rattle.protocol_commands.proofs.get_lazy_state_keys_command.GetLazyStateKeysCommandMessageRecord.payload_len.Goals as goal
 
 pub returns : goal.returns

@@ -1,6 +1,6 @@
 use Rattle.std.proofs.Common.{refl}
 use Rattle.protocol_wire.proofs.Lengths.{measured}
-use Rattle.protocol_commands.specs.GetPromiseCommand.{get_promise_command_parts}
+use Rattle.protocol_commands.specs.Fields.{get_promise_command_parts}
 use Rattle.protocol_commands.proofs.get_promise_command.GetPromiseCommandMessageRecord.payload_len.Goals as goal
 
 pub returns : goal.returns

@@ -1,6 +1,6 @@
 use Rattle.std.proofs.Common.{refl}
 use Rattle.protocol_wire.proofs.Lengths.{measured}
-use Rattle.protocol_commands.specs.PeekPromiseCommand.{peek_promise_command_parts}
+use Rattle.protocol_commands.specs.Fields.{peek_promise_command_parts}
 use Rattle.protocol_commands.proofs.peek_promise_command.PeekPromiseCommandMessageRecord.payload_len.Goals as goal
 
 pub returns : goal.returns

@@ -1,6 +1,6 @@
 use Rattle.std.proofs.Common.{refl}
 use Rattle.protocol_wire.proofs.Lengths.{measured}
-use Rattle.protocol_commands.specs.RunCommand.{run_command_parts}
+use Rattle.protocol_commands.specs.Fields.{run_command_parts}
 use Rattle.protocol_commands.proofs.run_command.RunCommandMessageRecord.payload_len.Goals as goal
 
 pub returns : goal.returns

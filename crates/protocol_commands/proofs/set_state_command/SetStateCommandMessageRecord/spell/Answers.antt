@@ -1,6 +1,6 @@
 use Rattle.std.proofs.Common.{refl}
 use Rattle.protocol_wire.proofs.Puts.{chained}
-use Rattle.protocol_commands.specs.SetStateCommand.{set_state_command_parts}
+use Rattle.protocol_commands.specs.Fields.{set_state_command_parts}
 use Rattle.protocol_commands.proofs.set_state_command.SetStateCommandMessageRecord.spell.Goals as goal
 
 pub returns : goal.returns
