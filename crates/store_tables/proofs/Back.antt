@@ -1,5 +1,5 @@
 -- The record that has these cells.
-use Rattle.std.proofs.Common.{◌≡◌, ◌==◌, if◌then◌else◌, ℕ, pos, Bool, true, false, List, Option, None, Some, refl, ap}
+use Rattle.std.proofs.Common.{◌≡◌, ◌==◌, if◌then◌else◌, ℕ, pos, Bool, true, false, List, Option, None, Some, refl, ap, codes, arith}
 use Rattle.std.specs.Prelude.{IfSome, nat_abs}
 use Rattle.std.specs.Int.{w64, cast_unsigned}
 use Rattle.std.specs.Ordering.{int_eq}
@@ -10,7 +10,7 @@ use Rattle.sqlite.specs.Values.{or_null}
 use Rattle.sqlite_value.specs.Order.{Row, column, bytes}
 use Rattle.sqlite_rules.specs.Edit.{id_in}
 use Rattle.sql_tables.specs.Cells.{IsLong, flag_cell, long_cell, short_cell}
-use Rattle.store_tables.specs.Records.{Closing, EntryRow, FitsEntry, FitsInvocation, FitsError, FitsState, InvocationRow, LastError, StateRow, closing_cell, delay_of, entry_cells, invocation_cells, state_cells}
+use Rattle.store_tables.specs.Records.{Closing, EntryRow, FitsEntry, FitsInvocation, FitsError, FitsMark, FitsState, InvocationRow, LastError, Mark, StateRow, cells_of_mark, closing_cell, delay_of, entry_cells, invocation_cells, state_cells, the_mark}
 use Rattle.store_tables.specs.declared.row.Closing.TheVariants.{Ended, Failed}
 
 pub short_in : Value → ℕ
@@ -149,3 +149,16 @@ invocation_back_is i fits =
       short_back i.progress.last_completion,
       short_back i.progress.entries,
     ) (ap (λ (v : ℕ). record i { version = v }) (short_back i.version))
+
+-- ---- the mark
+
+pub mark_back : Row → Mark
+mark_back row = record { name = bytes (column row 0); version = short_in (column row 1) }
+
+pub mark_back_is : (m : Mark) → FitsMark m → mark_back (cells_of_mark m) ≡ m
+unfolding mark_back
+mark_back_is m fits = ap (λ (v : ℕ). record m { version = v }) (short_back m.version)
+
+pub mark_fits : FitsMark the_mark
+unfolding lib.Utf8.encode
+mark_fits = record { name = (codes "journal_store", (refl, refl)); version = omega arith }

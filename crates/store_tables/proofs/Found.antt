@@ -6,47 +6,46 @@ use Rattle.std.specs.List.Sorted.{IsPermutation}
 use Rattle.std.specs.Option.{option_to_list}
 use Rattle.std.proofs.lemmas.List.Sorted.{IsPermutation-sym}
 use Rattle.sqlite_keyed.proofs.ListLemmas.{all-filter}
-use Rattle.sqlite_trees.specs.Tree.{IsAscending}
 use Rattle.sqlite_trees.proofs.ListLemmas.{all-permutation}
 use Rattle.sqlite_value.specs.Order.{Row}
 use Rattle.sqlite.specs.State.{State}
 use Rattle.sql_tables.specs.Asking.{IsAnswer, IsOther}
 use Rattle.sql_tables.proofs.Reading.{all_back, found_as, no_more, only_one, same_records}
+use Rattle.store_tables.specs.Asks.{Asks, AsksInOrder, DoRise}
 use Rattle.store_tables.specs.Records.{Records, Holds}
 use Rattle.store_tables.specs.Questions.{IsAmbiguous, IsFound}
+use Rattle.store_tables.specs.Tables.{store_schema}
 
 fits_listed : {X : Type 0} (Fits : X → Type 0) (o : Option X) → IfSome o Fits → AllByRecursion Fits (option_to_list o)
 fits_listed Fits None fits = tt
 fits_listed Fits (Some x) fits = (fits, tt)
 
-module _ {X : Type 0} (cells : X → Row) (back : Row → X) (Fits : X → Type 0) (is : (x : X) → Fits x → back (cells x) ≡ x) (sql : List ℕ) (params : Row) (old : State) (records : Records → List X) (test : X → Bool)
-    (fit : (r : Records) → Holds old.now.trees r → AllByRecursion Fits (records r))
-    (read : (rows : List Row) → IsAnswer sql params old rows → (r : Records) → Holds old.now.trees r → IsPermutation (map cells (filter test (records r))) rows) where
-  pub one_found : (o : Option X) → IsAnswer sql params old (map cells (option_to_list o)) → IfSome o Fits → IsFound records test old.now.trees o
-  one_found o answer fits r h =
-      found_as test (records r) o (same_records cells back Fits is (filter test (records r)) (option_to_list o) (all-filter Fits test (records r) (fit r h)) (fits_listed Fits o fits) (read _ answer r h))
+module _ {X : Type 0} (cells : X → Row) (Fits : X → Type 0) (records : Records → List X) (test : X → Bool) (sql : List ℕ) (params : Row) (s : State) (has : s.now.schema ≡ store_schema) (asks : Asks cells Fits records test sql params s) where
+  fit_passing : (r : Records) → Holds s.now.trees r → AllByRecursion Fits (filter test (records r))
+  fit_passing r h = all-filter Fits test (records r) (asks.fit r h)
 
-  pub all_found : (xs : List X) → IsAnswer sql params old (map cells xs) → AllByRecursion Fits xs → (r : Records) → Holds old.now.trees r → IsPermutation (filter test (records r)) xs
-  all_found xs answer fits r h = same_records cells back Fits is (filter test (records r)) xs (all-filter Fits test (records r) (fit r h)) fits (read _ answer r h)
+  pub all_found : (xs : List X) → IsAnswer sql params s (map cells xs) → AllByRecursion Fits xs → (r : Records) → Holds s.now.trees r → IsPermutation (filter test (records r)) xs
+  all_found xs answer fits r h = same_records cells asks.back Fits asks.told (filter test (records r)) xs (fit_passing r h) fits (asks.read has _ answer r h)
 
-  pub one_ambiguous : IsOther sql params old (λ rows. (o : Option X) × IfSome o Fits × (map cells (option_to_list o) ≡ rows)) → IsAmbiguous records test old.now.trees
-  one_ambiguous other r h few = by_list (filter test (records r)) few (all-filter Fits test (records r) (fit r h)) (read other.0 other.1 r h)
+  pub one_found : (o : Option X) → IsAnswer sql params s (map cells (option_to_list o)) → IfSome o Fits → IsFound records test s.now.trees o
+  one_found o answer fits r h = found_as test (records r) o (all_found (option_to_list o) answer (fits_listed Fits o fits) r h)
+
+  pub one_ambiguous : IsOther sql params s (λ rows. (o : Option X) × IfSome o Fits × (map cells (option_to_list o) ≡ rows)) → IsAmbiguous records test s.now.trees
+  one_ambiguous other r h few = by_list (filter test (records r)) few (fit_passing r h) (asks.read has other.0 other.1 r h)
     where
       by_list : (xs : List X) → length xs ≤ 1 → AllByRecursion Fits xs → IsPermutation (map cells xs) other.0 → ⊥
       by_list [] few fits same = other.2 (None, tt, sym (no_more other.0 (IsPermutation-sym _ _ same)))
       by_list (x ∷ []) few fits same = other.2 (Some x, fits.0, sym (only_one other.0 (cells x) (IsPermutation-sym _ _ same)))
       by_list (x ∷ y ∷ xs) few fits same = omega arith
 
--- the records in the one order that a relation gives them
-module _ {X : Type 0} (cells : X → Row) (back : Row → X) (Fits : X → Type 0) (is : (x : X) → Fits x → back (cells x) ≡ x) (sql : List ℕ) (params : Row) (old : State) (records : Records → List X) (test : X → Bool)
-    (fit : (r : Records) → Holds old.now.trees r → AllByRecursion Fits (records r)) (R : X → X → Type 0)
-    (ordered : (rows : List Row) → IsAnswer sql params old rows → (r : Records) → Holds old.now.trees r → (zs : List X) → IsPermutation (filter test (records r)) zs → IsAscending R zs → rows ≡ map cells zs) where
-  fit_arranged : (r : Records) → Holds old.now.trees r → (zs : List X) → IsPermutation (filter test (records r)) zs → AllByRecursion Fits zs
-  fit_arranged r h zs same = all-permutation Fits (filter test (records r)) zs same (all-filter Fits test (records r) (fit r h))
+-- the records in the one order that a cell gives them
+module _ {X : Type 0} (cells : X → Row) (Fits : X → Type 0) (records : Records → List X) (test : X → Bool) (at : ℕ) (sql : List ℕ) (params : Row) (s : State) (has : s.now.schema ≡ store_schema) (it : AsksInOrder cells Fits records test at sql params s) where
+  fit_arranged : (r : Records) → Holds s.now.trees r → (zs : List X) → IsPermutation (filter test (records r)) zs → AllByRecursion Fits zs
+  fit_arranged r h zs same = all-permutation Fits (filter test (records r)) zs same (all-filter Fits test (records r) (it.asks.fit r h))
 
-  pub all_arranged : (xs : List X) → IsAnswer sql params old (map cells xs) → AllByRecursion Fits xs → (r : Records) → Holds old.now.trees r → (zs : List X) → IsPermutation (filter test (records r)) zs → IsAscending R zs → xs ≡ zs
+  pub all_arranged : (xs : List X) → IsAnswer sql params s (map cells xs) → AllByRecursion Fits xs → (r : Records) → Holds s.now.trees r → (zs : List X) → IsPermutation (filter test (records r)) zs → DoRise cells at zs → xs ≡ zs
   all_arranged xs answer fits r h zs same rising =
-      sym (all_back cells back Fits is xs fits) ∙ ap (map back) (ordered (map cells xs) answer r h zs same rising) ∙ all_back cells back Fits is zs (fit_arranged r h zs same)
+      sym (all_back cells it.asks.back Fits it.asks.told xs fits) ∙ ap (map it.asks.back) (it.ordered has (map cells xs) answer r h zs same rising) ∙ all_back cells it.asks.back Fits it.asks.told zs (fit_arranged r h zs same)
 
-  pub all_other : IsOther sql params old (λ rows. (xs : List X) × AllByRecursion Fits xs × (map cells xs ≡ rows)) → (r : Records) → Holds old.now.trees r → (zs : List X) → IsPermutation (filter test (records r)) zs → IsAscending R zs → ⊥
-  all_other other r h zs same rising = other.2 (zs, fit_arranged r h zs same, sym (ordered other.0 other.1 r h zs same rising))
+  pub all_other : IsOther sql params s (λ rows. (xs : List X) × AllByRecursion Fits xs × (map cells xs ≡ rows)) → (r : Records) → Holds s.now.trees r → (zs : List X) → IsPermutation (filter test (records r)) zs → DoRise cells at zs → ⊥
+  all_other other r h zs same rising = other.2 (zs, fit_arranged r h zs same, sym (it.ordered has other.0 other.1 r h zs same rising))

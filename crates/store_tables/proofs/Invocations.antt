@@ -1,5 +1,5 @@
 -- What the statements over invocations do to the records.
-use Rattle.std.proofs.Common.{◌≡◌, ◌/◌, ℕ, pos, Bool, true, false, if◌then◌else◌, List, [], ◌∷◌, ◌++◌, map, drop, length, cond, Option, None, Some, refl, sym, ap, subst, ◌∙◌, bytes_eq, codes, arith}
+use Rattle.std.proofs.Common.{◌≡◌, ℕ, pos, Bool, true, false, if◌then◌else◌, List, [], ◌∷◌, ◌++◌, map, drop, cond, Option, None, Some, refl, sym, ap, subst, ◌∙◌, bytes_eq, codes}
 use Rattle.std.specs.Prelude.{IfSome, IsUtf8}
 use Rattle.std.specs.List.{AllByRecursion}
 use Rattle.std.specs.Int.{w64, cast_signed}
@@ -9,48 +9,37 @@ use Rattle.sqlite.specs.declared.types.Value.TheVariants.{Null, Text}
 use Rattle.sqlite.specs.Values.{or_null}
 use Rattle.sqlite_value.specs.Order.{Row}
 use Rattle.sqlite.specs.Term.{Term, lit, col, eval_all}
-use Rattle.sqlite.specs.Source.TheVariants.{Values}
-use Rattle.sqlite.specs.Command.TheVariants.{Insert, Update}
+use Rattle.sqlite.specs.Command.TheVariants.{Update}
 use Rattle.sqlite.specs.Cast.{cast, cast_all}
 use Rattle.sqlite.specs.Kind.TheVariants.{Integer, Text as Words}
-use Rattle.sqlite.specs.Effect.{value_rows}
 use Rattle.sqlite.specs.State.{State}
 use Rattle.sqlite.specs.Listing.{understood}
 use Rattle.sqlite_tied.specs.Compute.{everything}
 use Rattle.sqlite.proofs.Callers.{IsPlain, command_of}
 use Rattle.sql_tables.specs.Asking.{HasRun}
 use Rattle.sql_tables.specs.Cells.{IsLong, IsShort, long_cell, short_cell}
-use Rattle.sql_tables.specs.Changes.{Changes}
 use Rattle.sql_tables.specs.Columns.{plain_orders}
 use Rattle.sql_tables.specs.Content.{HasRows}
-use Rattle.sql_tables.specs.Statements.{rows_of, program_of, equals}
+use Rattle.sql_tables.specs.Statements.{rows_of, program_of}
 use Rattle.sql_tables.proofs.Answers.{passes}
-use Rattle.sql_tables.proofs.Cells.{both_true, same_text, cast_or_null}
-use Rattle.sql_tables.proofs.Tables.{insert_changes, update_changes}
+use Rattle.sql_tables.proofs.Cells.{same_text, cast_or_null}
+use Rattle.sql_tables.proofs.Tables.{update_changes}
 use Rattle.sql_tables.proofs.Writes.{cast_null, cast_int}
 use Rattle.store_tables.specs.Tables.{store_schema, invocation_columns, invocation_keys}
 use Rattle.store_tables.specs.Statements.{add_invocation_text, set_progress_text}
-use Rattle.store_tables.specs.Records.{InvocationRow, Progress, LastError, Closing, FitsInvocation, FitsProgress, FitsError, invocation_cells, progress_cells, closing_cell, delay_of, entry_cells, state_cells, mark_cells, with_invocation, with_progress, set_in}
+use Rattle.store_tables.specs.Records.{InvocationRow, Progress, LastError, Closing, FitsInvocation, FitsProgress, FitsError, invocation_cells, progress_cells, closing_cell, delay_of, with_invocation, with_progress, set_in}
 use Rattle.store_tables.specs.declared.row.Closing.TheVariants.{Ended, Failed}
-use Rattle.store_tables.proofs.Making.{none_refers}
-use Rattle.store_tables.proofs.Moves.{Moves, kept_rows}
+use Rattle.store_tables.proofs.Matching.{cells_match, match_cells, one_test, tests_of}
+use Rattle.store_tables.proofs.Moves.{IsInsert, Moves, inserted, invocations_turned, none_refers}
 
 terms : List Term
 terms =
     lit Null ∷ col 0 0 ∷ col 0 1 ∷ col 0 2 ∷ col 0 3 ∷ col 0 4 ∷ col 0 5 ∷ col 0 6 ∷ col 0 7 ∷ col 0 8 ∷ col 0 9
     ∷ col 0 10 ∷ col 0 11 ∷ col 0 12 ∷ col 0 13 ∷ col 0 14 ∷ col 0 15 ∷ col 0 16 ∷ col 0 17 ∷ col 0 18 ∷ []
 
-add_is : command_of (understood store_schema add_invocation_text) ≡ Insert 1 (Values terms 20)
+adds : (i : InvocationRow) → IsInsert add_invocation_text (invocation_cells i) (invocation_cells i) 1 terms 20
 unfolding understood everything terms
-add_is = refl
-
-add_plain : IsPlain (understood store_schema add_invocation_text)
-unfolding understood everything
-add_plain = (refl, refl)
-
-add_values : (i : InvocationRow) → value_rows (invocation_cells i) 20 (length terms / 20) terms ≡ (Null ∷ invocation_cells i) ∷ []
-unfolding terms
-add_values i = refl
+adds i = record { command = refl; plain = (refl, refl); values = refl }
 
 cast_shorts : (o : Option ℕ) → cast Integer (or_null short_cell o) ≡ or_null short_cell o
 cast_shorts = cast_or_null Integer short_cell cast_null (λ n. cast_int (pos n))
@@ -95,20 +84,11 @@ casts i =
       cast_int (pos i.progress.entries),
     ) refl
 
-pub invocation_added : (old new : State) (i : InvocationRow) → FitsInvocation i → old.now.schema ≡ store_schema → HasRun add_invocation_text (invocation_cells i) old new → Moves (with_invocation i) old new
-invocation_added old new i fits has run =
-    let change : Changes store_schema 1 (λ rows. rows ++ invocation_cells i ∷ []) old.now new.now =
-    insert_changes store_schema none_refers add_invocation_text (invocation_cells i) old new has add_plain run.count run.ran 1 (codes "invocation") invocation_columns invocation_keys (plain_orders invocation_keys) 1 refl terms 20 (invocation_cells i) add_is (add_values i) (casts i) in (
+pub invocation_added : (i : InvocationRow) → FitsInvocation i → (old new : State) → old.now.schema ≡ store_schema → HasRun add_invocation_text (invocation_cells i) old new → Moves (with_invocation i) old new
+invocation_added i fits old new has run =
+    let change = inserted add_invocation_text (invocation_cells i) (invocation_cells i) 1 terms 20 (adds i) 1 (codes "invocation") invocation_columns invocation_keys refl (casts i) old new has run in (
       change.schema,
-      λ r h. record {
-        mark = kept_rows old.now.trees new.now.trees 0 (mark_cells ∷ []) (change.others.0 (λ e. omega arith)) h.mark;
-        invocations = subst (HasRows (new.now.trees 1)) (sym (map-append invocation_cells r.invocations (i ∷ []))) (change.rows _ h.invocations);
-        entries = kept_rows old.now.trees new.now.trees 4 (map entry_cells r.entries) (change.others.1.1.0 (λ e. omega arith)) h.entries;
-        states = kept_rows old.now.trees new.now.trees 9 (map state_cells r.states) (change.others.1.1.1.0 (λ e. omega arith)) h.states;
-        fit_invocations = all-append FitsInvocation r.invocations (i ∷ []) h.fit_invocations (fits, tt);
-        fit_entries = h.fit_entries;
-        fit_states = h.fit_states;
-      },
+      λ r h. invocations_turned old.now new.now r h change.others (r.invocations ++ i ∷ []) (subst (HasRows (new.now.trees 1)) (sym (map-append invocation_cells r.invocations (i ∷ []))) (change.rows _ h.invocations)) (all-append FitsInvocation r.invocations (i ∷ []) h.fit_invocations (fits, tt)),
     )
 
 -- ---- what changes of one
@@ -121,11 +101,8 @@ sets =
     col 1 1 ∷ col 1 2 ∷ col 1 3 ∷ col 1 4 ∷ col 1 5 ∷ col 0 1 ∷ col 0 2 ∷ col 0 3 ∷ col 0 4 ∷ col 0 5
     ∷ col 0 6 ∷ col 0 7 ∷ col 0 8 ∷ col 0 9 ∷ col 0 10 ∷ col 0 11 ∷ col 0 12 ∷ col 0 13 ∷ col 0 14 ∷ []
 
-tests : List Term
-tests = equals 1 0 ∷ []
-
-set_is : command_of (understood store_schema set_progress_text) ≡ Update 1 (program_of (rows_of 1 tests (col 1 0 ∷ col 1 0 ∷ sets) []))
-unfolding understood everything sets tests
+set_is : command_of (understood store_schema set_progress_text) ≡ Update 1 (program_of (rows_of 1 (tests_of ((0, 0) ∷ [])) (col 1 0 ∷ col 1 0 ∷ sets) []))
+unfolding understood everything sets
 set_is = refl
 
 set_plain : IsPlain (understood store_schema set_progress_text)
@@ -133,16 +110,15 @@ unfolding understood everything
 set_plain = (refl, refl)
 
 has_id : List ℕ → Progress → Row → Bool
-has_id id p cells = passes (params_of id p) tests (Null ∷ cells)
+has_id id p cells = match_cells (params_of id p) ((0, 0) ∷ []) cells
 
-has_id_there : (id : List ℕ) (p : Progress) (r : Row) → passes (params_of id p) tests r ≡ has_id id p (drop 1 r)
-unfolding has_id tests
-has_id_there id p [] = refl
-has_id_there id p (x ∷ r) = refl
+has_id_there : (id : List ℕ) (p : Progress) (r : Row) → passes (params_of id p) (tests_of ((0, 0) ∷ [])) r ≡ has_id id p (drop 1 r)
+unfolding has_id
+has_id_there id p r = cells_match (params_of id p) ((0, 0) ∷ []) r
 
 has_id_is : (id : List ℕ) (p : Progress) (i : InvocationRow) → has_id id p (invocation_cells i) ≡ bytes_eq i.id id
-unfolding has_id tests
-has_id_is id p i = both_true _ ∙ same_text i.id id
+unfolding has_id
+has_id_is id p i = one_test _ _ (same_text i.id id)
 
 changed : List ℕ → Progress → Row → Row
 changed id p cells = eval_all sets (params_of id p ∷ (Null ∷ cells) ∷ [])
@@ -179,21 +155,15 @@ set_fits id p fits (i ∷ is) all = (
   set_fits id p fits is all.1,
 )
 
-pub progress_set : (old new : State) (id : List ℕ) (p : Progress) → FitsProgress p → old.now.schema ≡ store_schema → HasRun set_progress_text (params_of id p) old new → Moves (with_progress id p) old new
-progress_set old new id p fits has run =
+pub progress_set : (id : List ℕ) (p : Progress) → FitsProgress p → (old new : State) → old.now.schema ≡ store_schema → HasRun set_progress_text (params_of id p) old new → Moves (with_progress id p) old new
+progress_set id p fits old new has run =
     let writes = λ (r : Row) (v : IsInvocation (drop 1 r)).
     ap (cast_all invocation_columns) (changed_there id p r ∙ ap (changed id p) v.1 ∙ changed_is id p v.0) ∙ casts (record v.0 { progress = p }) ∙ sym (ap (changed id p) v.1 ∙ changed_is id p v.0) in
-    let change = update_changes store_schema none_refers set_progress_text (params_of id p) old new has set_plain run.count run.ran 1 (codes "invocation") invocation_columns invocation_keys (plain_orders invocation_keys) 1 refl tests sets (has_id id p) (changed id p) IsInvocation set_is (has_id_there id p) writes in (
+    let change = update_changes store_schema none_refers set_progress_text (params_of id p) old new has set_plain run.count run.ran 1 (codes "invocation") invocation_columns invocation_keys (plain_orders invocation_keys) 1 refl (tests_of ((0, 0) ∷ [])) sets (has_id id p) (changed id p) IsInvocation set_is (has_id_there id p) writes in (
       change.0,
-      λ r h. record {
-        mark = kept_rows old.now.trees new.now.trees 0 (mark_cells ∷ []) (change.2.0 (λ e. omega arith)) h.mark;
-        invocations = subst (HasRows (new.now.trees 1)) (map-map _ invocation_cells r.invocations ∙ map_same _ _ (set_cells id p) r.invocations ∙ sym (map-map invocation_cells (set_in id p) r.invocations)) (change.1 _ (are_invocations r.invocations) h.invocations);
-        entries = kept_rows old.now.trees new.now.trees 4 (map entry_cells r.entries) (change.2.1.1.0 (λ e. omega arith)) h.entries;
-        states = kept_rows old.now.trees new.now.trees 9 (map state_cells r.states) (change.2.1.1.1.0 (λ e. omega arith)) h.states;
-        fit_invocations = set_fits id p fits r.invocations h.fit_invocations;
-        fit_entries = h.fit_entries;
-        fit_states = h.fit_states;
-      },
+      λ r h. invocations_turned old.now new.now r h change.2 (map (set_in id p) r.invocations)
+          (subst (HasRows (new.now.trees 1)) (map-map _ invocation_cells r.invocations ∙ map_same _ _ (set_cells id p) r.invocations ∙ sym (map-map invocation_cells (set_in id p) r.invocations)) (change.1 _ (are_invocations r.invocations) h.invocations))
+          (set_fits id p fits r.invocations h.fit_invocations),
     )
 
 -- ---- what the code holds fits

@@ -1,8 +1,5 @@
 pub mod Asked
-pub mod AskingEntries
-pub mod AskingInvocations
-pub mod AskingMarks
-pub mod AskingStates
+pub mod Asking
 pub mod Back
 pub mod Chained
 pub mod Columns
@@ -10,6 +7,7 @@ pub mod Entries
 pub mod Found
 pub mod Invocations
 pub mod Making
+pub mod Matching
 pub mod Moves
 pub mod Orders
 pub mod States

@@ -1,28 +1,20 @@
 -- What the tables' texts make, and the row that marks them.
-use Rattle.std.proofs.Common.{◌≡◌, ◌/◌, pos, List, [], ◌∷◌, ◌++◌, length, refl, ◌∙◌, arith, codes}
+use Rattle.std.proofs.Common.{◌≡◌, pos, List, [], ◌∷◌, refl, ◌∙◌, arith, codes}
 use Rattle.sqlite.specs.declared.types.Value.TheVariants.{Null, Int, Text}
 use Rattle.sqlite.specs.Term.{Term, lit}
-use Rattle.sqlite.specs.Source.TheVariants.{Values}
-use Rattle.sqlite.specs.Command.TheVariants.{Insert}
 use Rattle.sqlite.specs.Cast.{cast_all}
-use Rattle.sqlite.specs.Effect.{value_rows}
 use Rattle.sqlite.specs.State.{State}
 use Rattle.sql_tables.specs.Asking.{HasRun}
 use Rattle.sqlite.specs.Listing.{understood}
 use Rattle.sqlite_tied.specs.Compute.{everything}
-use Rattle.sqlite.proofs.Callers.{IsPlain, command_of}
-use Rattle.sql_tables.specs.Changes.{Changes}
-use Rattle.sql_tables.specs.Columns.{NoneRefers, no_schema}
+use Rattle.sql_tables.specs.Columns.{no_schema}
 use Rattle.sql_tables.proofs.Making.{IsMaking, table_made, has_none}
-use Rattle.sql_tables.proofs.Tables.{insert_changes}
 use Rattle.sql_tables.proofs.Writes.{cast_int}
 use Rattle.store_tables.specs.Tables.{meta, invocation, entry, state_table, meta_columns, with_meta, with_invocation, with_entry, store_schema, meta_text, invocation_text, entry_text, state_text}
 use Rattle.store_tables.specs.Statements.{mark_text}
 use Rattle.store_tables.specs.Records.{Holds, mark_cells, no_records}
 use Rattle.store_tables.specs.Steps.{AreBare}
-
-pub none_refers : NoneRefers store_schema
-none_refers = (refl, (refl, (refl, (refl, tt))))
+use Rattle.store_tables.proofs.Moves.{IsInsert, inserted}
 
 makes_meta : IsMaking no_schema meta_text (record meta { tree = 0 })
 unfolding understood everything
@@ -60,25 +52,16 @@ all_made a b c d e has p q r s =
 mark_terms : List Term
 mark_terms = lit Null ∷ lit (Text (codes "journal_store")) ∷ lit (Int (pos 1)) ∷ []
 
-mark_is : command_of (understood store_schema mark_text) ≡ Insert 0 (Values mark_terms 3)
+adds : IsInsert mark_text [] mark_cells 0 mark_terms 3
 unfolding understood everything mark_terms
-mark_is = refl
-
-mark_plain : IsPlain (understood store_schema mark_text)
-unfolding understood everything
-mark_plain = (refl, refl)
-
-mark_values : value_rows [] 3 (length mark_terms / 3) mark_terms ≡ (Null ∷ mark_cells) ∷ []
-unfolding mark_terms
-mark_values = refl
+adds = record { command = refl; plain = (refl, refl); values = refl }
 
 mark_casts : cast_all meta_columns mark_cells ≡ mark_cells
 mark_casts = rw (cast_int (pos 1)) refl
 
 pub marked : (old new : State) → old.now.schema ≡ store_schema → AreBare old.now.trees → HasRun mark_text [] old new → (new.now.schema ≡ store_schema) × Holds new.now.trees no_records
 marked old new has bare run =
-    let change : Changes store_schema 0 (λ rows. rows ++ mark_cells ∷ []) old.now new.now =
-    insert_changes store_schema none_refers mark_text [] old new has mark_plain run.count run.ran 0 (codes "meta") meta_columns [] [] 0 refl mark_terms 3 mark_cells mark_is mark_values mark_casts in (
+    let change = inserted mark_text [] mark_cells 0 mark_terms 3 adds 0 (codes "meta") meta_columns [] refl mark_casts old new has run in (
       change.schema,
       record {
         mark = change.rows [] (has_none (old.now.trees 0) bare.meta);

@@ -11,11 +11,11 @@ use Rattle.std.specs.Ordering.{int_cmp, is_lt, nat_cmp}
 use Rattle.sqlite_trees.specs.Tree.{IsAscending}
 use Rattle.sqlite_keyed.proofs.ListLemmas.{all_weaker, ascending_weaker}
 use Rattle.sqlite_value.specs.Order.{column, value_cmp}
-use Rattle.sqlite_value.proofs.OrderLemmas.{value_cmp-Int, value_cmp-Text, value_cmp-Blob}
+use Rattle.sqlite_value.proofs.OrderLemmas.{value_cmp-Int, value_cmp-Blob}
 use Rattle.std.proofs.lemmas.Option.{slice_get_read}
 use Rattle.sqlite_rules.specs.Lists.{Has}
 use Rattle.sql_tables.proofs.Reading.{permuted}
-use Rattle.store_tables.specs.Records.{InvocationRow, EntryRow, StateRow, invocation_cells, entry_cells, state_cells}
+use Rattle.store_tables.specs.Records.{EntryRow, StateRow, entry_cells, state_cells}
 use Rattle.store_tables.specs.Questions.{AreInPlace, DoAscend, is_before}
 
 -- ---- places
@@ -129,10 +129,3 @@ IsStateBefore a b = value_cmp (column (state_cells a) 1) (column (state_cells b)
 pub states_rise : (xs : List StateRow) → DoAscend (λ (s : StateRow). s.key) xs → IsAscending IsStateBefore xs
 states_rise xs up =
     ascending_weaker (IsKeyedBefore (λ (s : StateRow). s.key)) IsStateBefore (λ a b less. value_cmp-Blob a.key b.key ∙ less) xs (ascending_rises (λ (s : StateRow). s.key) xs up)
-
-abbrev pub IsInvocationBefore : InvocationRow → InvocationRow → Type 0
-IsInvocationBefore a b = value_cmp (column (invocation_cells a) 0) (column (invocation_cells b) 0) ≡ Less
-
-pub invocations_rise : (xs : List InvocationRow) → DoAscend (λ (i : InvocationRow). i.id) xs → IsAscending IsInvocationBefore xs
-invocations_rise xs up =
-    ascending_weaker (IsKeyedBefore (λ (i : InvocationRow). i.id)) IsInvocationBefore (λ a b less. value_cmp-Text a.id b.id ∙ less) xs (ascending_rises (λ (i : InvocationRow). i.id) xs up)

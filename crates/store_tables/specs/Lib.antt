@@ -1,3 +1,5 @@
+pub mod Asks
+pub mod Indexes
 pub mod Parts
 pub mod Questions
 pub mod Records

@@ -1,5 +1,5 @@
 -- What is asked of the records.
-use Rattle.std.specs.Prelude.{◌≡◌, ℕ, ◌+◌, ◌≤◌, ◌==◌, ◌&&◌, Bool, false, true, List, [], ◌∷◌, filter, length, bytes_eq, Option, None, Some, IsTrue, ⊤}
+use Rattle.std.specs.Prelude.{◌≡◌, ℕ, ◌+◌, ◌≤◌, ◌==◌, ◌&&◌, Bool, false, List, [], ◌∷◌, filter, length, bytes_eq, Option, None, Some, IsTrue, ⊤}
 use Rattle.std.specs.List.{find}
 use Rattle.std.specs.List.Sorted.{IsPermutation}
 use Rattle.std.specs.Ordering.{is_lt, nat_cmp}
@@ -44,9 +44,6 @@ has_id id i = bytes_eq i.id id
 -- the object's open invocation
 abbrev pub is_open_of : List ℕ → InvocationRow → Bool
 is_open_of object i = is_text object i.progress.open_object
-
-abbrev pub is_any : InvocationRow → Bool
-is_any i = true
 
 -- ---- entries
 

@@ -31,12 +31,6 @@ invocation_by_id_text = codes "SELECT * FROM invocation WHERE id = ?1"
 abbrev pub open_invocation_text : List ℕ
 open_invocation_text = codes "SELECT * FROM invocation WHERE open_object = ?1"
 
-abbrev pub all_invocations_text : List ℕ
-all_invocations_text = codes "SELECT * FROM invocation ORDER BY id"
-
-abbrev pub entry_by_place_text : List ℕ
-entry_by_place_text = codes "SELECT * FROM entry WHERE invocation = ?1 AND place = ?2"
-
 abbrev pub entry_by_completion_text : List ℕ
 entry_by_completion_text = codes "SELECT * FROM entry WHERE invocation = ?1 AND completion = ?2"
 
@@ -48,9 +42,6 @@ entry_by_answered_text = codes "SELECT * FROM entry WHERE invocation = ?1 AND an
 
 abbrev pub entries_text : List ℕ
 entries_text = codes "SELECT * FROM entry WHERE invocation = ?1 ORDER BY place"
-
-abbrev pub state_by_key_text : List ℕ
-state_by_key_text = codes "SELECT * FROM state WHERE object = ?1 AND key = ?2"
 
 abbrev pub states_text : List ℕ
 states_text = codes "SELECT * FROM state WHERE object = ?1 ORDER BY key"

@@ -1,7 +1,9 @@
 -- What a call does to the records.
-use Rattle.std.specs.Prelude.{◌≡◌, ◌⊎◌, List, [], Result, Ok, Err, IsTrue}
+use Rattle.std.specs.Prelude.{◌≡◌, ◌⊎◌, List, [], Result, Ok, Err, OnOk, IsTrue}
 use Rattle.sqlite_trees.specs.Tree.{Trees}
-use Rattle.sqlite.specs.State.{State, HasCleanDisk}
+use Rattle.sqlite_trees.specs.declared.store.Store.{Ghosts}
+use Rattle.sqlite.specs.Held.{Held, state}
+use Rattle.sqlite.specs.State.{State, HasCleanDisk, KeepsCommit, Survives}
 use Rattle.sql_tables.specs.declared.read.ReadError.{ReadError}
 use Rattle.sql_tables.specs.declared.read.ReadError.TheVariants.{Foreign}
 use Rattle.store_tables.specs.Records.{Records, Write, Holds, applied_all}
@@ -17,6 +19,12 @@ pub record Steps (change : Records → Records) (old new : State) : Type 0 where
   pub schema : new.now.schema ≡ store_schema
   pub inside : IsTrue new.in_transaction
   pub records : Turns change old.now.trees new.now.trees
+
+-- a statement inside a transaction changes the records so; until the commit, a crash knows nothing of it
+pub record Alters {S E : Type 0} (g : Ghosts S) (change : Records → Records) (old new : Held S) (result : Result (Unit {0}) E) : Type 0 where
+  pub done : HasCleanDisk (state g new) → OnOk result (Steps change (state g old) (state g new))
+  pub kept : HasCleanDisk (state g new) → KeepsCommit (state g old) (state g new)
+  pub survives : Survives (state g old) (state g new) (λ _. ⊥)
 
 -- a connection that is open has the tables of a store; one that is shut says nothing
 abbrev pub IsStore : State → Type 0

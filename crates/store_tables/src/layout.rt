@@ -1,9 +1,8 @@
 //! Whether a schema is the store's.
 
-ghost use Rattle.std.specs.Prelude.{◌≡◌, [], ◌∷◌, ◌++◌, IsTrue};
+ghost use Rattle.std.specs.Prelude.{◌≡◌, map, IsTrue};
 ghost use Rattle.sql_tables.specs.Columns.{no_schema};
-ghost use Rattle.sqlite_catalog.specs.Change.{automatics};
-ghost use Rattle.sqlite_catalog.specs.Listing.{automatic};
+ghost use Rattle.store_tables.specs.Indexes.{wanted_index};
 ghost use Rattle.store_tables.specs.Tables.{store_schema};
 ghost use Rattle.store_tables.specs.Tables as tables;
 
@@ -121,93 +120,56 @@ fn are_tables(tables: &[Table]) -> bool
         && is_state(state)
 }
 
-fn is_first_of_invocation(index: &Index) -> bool
-    ensures exact { IsTrue result → index.now ≡ automatic tables.invocation 0 (1 ∷ []) 2 }
-    ensures complete { index.now ≡ automatic tables.invocation 0 (1 ∷ []) 2 → IsTrue result }
-{
-    is_index(index, "sqlite_autoindex_invocation_1", 2, 1, &[1])
+/// The index that a table must have for a key.
+#[derive(Clone, Copy)]
+pub struct KeyIndex {
+    pub name: &'static str,
+    pub tree: u32,
+    pub table: u32,
+    pub columns: &'static [usize],
 }
 
-fn is_second_of_invocation(index: &Index) -> bool
-    ensures exact { IsTrue result → index.now ≡ automatic tables.invocation 1 (6 ∷ 1 ∷ []) 3 }
-    ensures complete { index.now ≡ automatic tables.invocation 1 (6 ∷ 1 ∷ []) 3 → IsTrue result }
+fn have_indexes(indexes: &[Index], wanted: &[KeyIndex]) -> bool
+    ensures exact { IsTrue result → indexes.now ≡ map wanted_index wanted.now }
+    ensures complete { indexes.now ≡ map wanted_index wanted.now → IsTrue result }
 {
-    is_index(index, "sqlite_autoindex_invocation_2", 3, 1, &[6, 1])
+    match (indexes, wanted) {
+        ([], []) => true,
+        ([first, rest @ ..], [want, wants @ ..]) => {
+            is_index(first, want.name, want.tree, want.table, want.columns)
+                && have_indexes(rest, wants)
+        }
+        _ => false,
+    }
 }
 
-fn is_first_of_entry(index: &Index) -> bool
-    ensures exact { IsTrue result → index.now ≡ automatic tables.entry 0 (1 ∷ 2 ∷ []) 5 }
-    ensures complete { index.now ≡ automatic tables.entry 0 (1 ∷ 2 ∷ []) 5 → IsTrue result }
+const fn key_index(name: &'static str, tree: u32, table: u32, columns: &'static [usize]) -> KeyIndex
+    ensures { result ≡ record { name = name.entry; tree = tree; table = table; columns = columns.entry } }
 {
-    is_index(index, "sqlite_autoindex_entry_1", 5, 4, &[1, 2])
-}
-
-fn is_second_of_entry(index: &Index) -> bool
-    ensures exact { IsTrue result → index.now ≡ automatic tables.entry 1 (1 ∷ 5 ∷ 2 ∷ []) 6 }
-    ensures complete { index.now ≡ automatic tables.entry 1 (1 ∷ 5 ∷ 2 ∷ []) 6 → IsTrue result }
-{
-    is_index(index, "sqlite_autoindex_entry_2", 6, 4, &[1, 5, 2])
-}
-
-fn is_third_of_entry(index: &Index) -> bool
-    ensures exact { IsTrue result → index.now ≡ automatic tables.entry 2 (1 ∷ 6 ∷ 2 ∷ []) 7 }
-    ensures complete { index.now ≡ automatic tables.entry 2 (1 ∷ 6 ∷ 2 ∷ []) 7 → IsTrue result }
-{
-    is_index(index, "sqlite_autoindex_entry_3", 7, 4, &[1, 6, 2])
-}
-
-fn is_fourth_of_entry(index: &Index) -> bool
-    ensures exact { IsTrue result → index.now ≡ automatic tables.entry 3 (1 ∷ 7 ∷ 2 ∷ []) 8 }
-    ensures complete { index.now ≡ automatic tables.entry 3 (1 ∷ 7 ∷ 2 ∷ []) 8 → IsTrue result }
-{
-    is_index(index, "sqlite_autoindex_entry_4", 8, 4, &[1, 7, 2])
-}
-
-fn is_of_state(index: &Index) -> bool
-    ensures exact { IsTrue result → index.now ≡ automatic tables.state_table 0 (1 ∷ 2 ∷ []) 10 }
-    ensures complete { index.now ≡ automatic tables.state_table 0 (1 ∷ 2 ∷ []) 10 → IsTrue result }
-{
-    is_index(index, "sqlite_autoindex_state_1", 10, 9, &[1, 2])
-}
-
-fn are_of_entry(indexes: &[Index]) -> bool
-    ensures exact { IsTrue result → indexes.now ≡ automatics tables.entry 0 5 tables.entry_keys ++ automatics tables.state_table 0 10 tables.state_keys }
-    ensures complete { indexes.now ≡ automatics tables.entry 0 5 tables.entry_keys ++ automatics tables.state_table 0 10 tables.state_keys → IsTrue result }
-{
-    let [first, others @ ..] = indexes else {
-        return false;
-    };
-    let [second, others @ ..] = others else {
-        return false;
-    };
-    let [third, others @ ..] = others else {
-        return false;
-    };
-    let [fourth, others @ ..] = others else {
-        return false;
-    };
-    let [fifth, others @ ..] = others else {
-        return false;
-    };
-    others.is_empty()
-        && is_first_of_entry(first)
-        && is_second_of_entry(second)
-        && is_third_of_entry(third)
-        && is_fourth_of_entry(fourth)
-        && is_of_state(fifth)
+    KeyIndex {
+        name,
+        tree,
+        table,
+        columns,
+    }
 }
 
 fn are_indexes(indexes: &[Index]) -> bool
     ensures exact { IsTrue result → indexes.now ≡ store_schema.indexes }
     ensures complete { indexes.now ≡ store_schema.indexes → IsTrue result }
 {
-    let [first, others @ ..] = indexes else {
-        return false;
-    };
-    let [second, others @ ..] = others else {
-        return false;
-    };
-    is_first_of_invocation(first) && is_second_of_invocation(second) && are_of_entry(others)
+    have_indexes(
+        indexes,
+        &[
+            key_index("sqlite_autoindex_invocation_1", 2, 1, &[1]),
+            key_index("sqlite_autoindex_invocation_2", 3, 1, &[6, 1]),
+            key_index("sqlite_autoindex_entry_1", 5, 4, &[1, 2]),
+            key_index("sqlite_autoindex_entry_2", 6, 4, &[1, 5, 2]),
+            key_index("sqlite_autoindex_entry_3", 7, 4, &[1, 6, 2]),
+            key_index("sqlite_autoindex_entry_4", 8, 4, &[1, 7, 2]),
+            key_index("sqlite_autoindex_state_1", 10, 9, &[1, 2]),
+        ],
+    )
 }
 
 /// Whether they are the tables and indexes that `create` makes.

@@ -14,9 +14,8 @@ mod write;
 pub use layout::{is_empty_schema, is_store_schema};
 pub use opening::{is_ready, open};
 pub use read::{
-    all_invocations, entry_by_answered, entry_by_completion, entry_by_place,
-    entry_by_second_completion, invocation_by_id, journal, open_invocation, state_by_key,
-    states_of,
+    entry_by_answered, entry_by_completion, entry_by_second_completion, invocation_by_id, journal,
+    open_invocation, states_of,
 };
 pub use row::{Closing, EntryRow, InvocationRow, LastError, Progress, StateRow, Write};
 pub use sql_tables::read::ReadError;

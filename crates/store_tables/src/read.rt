@@ -2,22 +2,56 @@
 //! has the key, that one is found, and no row is foreign. What is answered was asked of an open connection, so questions in turn
 //! are all about the same tables.
 
-ghost use Rattle.std.specs.Prelude.{◌≡◌, IfErr, IfOk};
+ghost use Rattle.std.specs.Prelude.{◌≡◌, ℕ, Bool, List, filter, IfErr, IfOk};
+ghost use Rattle.std.specs.List.Sorted.{IsPermutation};
 ghost use Rattle.sqlite.specs.Held.{state};
 ghost use Rattle.sqlite.specs.State.{HasCleanDisk};
+ghost use Rattle.sqlite.specs.Values.{bound};
+ghost use Rattle.store_tables.specs.Asks.{Asks, AsksInOrder, DoRise};
 ghost use Rattle.store_tables.specs.Looks.{Looks};
-ghost use Rattle.store_tables.specs.Questions.{AreFound, IsAmbiguous, IsFound, IsJournal, IsNoJournal, answers, asks_for, asks_second_for, has_id, is_any, is_at_key, is_at_place, is_of_object, is_open_of};
+ghost use Rattle.store_tables.specs.Questions.{AreFound, IsAmbiguous, IsFound, IsJournal, IsNoJournal, answers, asks_for, asks_second_for, has_id, is_of_object, is_open_of};
 ghost use Rattle.store_tables.specs.Orders.{IsArranged, IsUnarranged};
+ghost use Rattle.store_tables.specs.Records.{Holds, Records};
 ghost use Rattle.store_tables.specs.Steps.{WasAsked};
 
-use crate::order::{are_in_place, do_invocations_ascend, do_states_ascend};
+use crate::order::{are_in_place, do_states_ascend};
 use crate::row::{EntryRow, InvocationRow, StateRow};
 use crate::tables::StoreTables;
-use bytes::{ByteStr, Bytes};
-use sql_tables::cell::{blob, short, text};
+use bytes::ByteStr;
+use sql_tables::cell::{short, text};
 use sql_tables::read::ReadError;
-use sql_tables::stored::{all_by, one_by};
+use sql_tables::stored::{Stored, all_by, one_by};
 use sqlite::Alter;
+use sqlite::types::ValueRef;
+
+/// The record that a statement asks for, where there is one.
+fn find_one<R: Stored, S: Alter>(
+    tables: &mut StoreTables<S>,
+    sql: &str,
+    params: &[ValueRef<'_>],
+) -> Result<Option<R>, ReadError>
+    ensures found { HasCleanDisk (state S.Store tables.new) → IfOk result (λ o. (records : Records → List R) (test : R → Bool) → Asks R.Stored.cells R.Stored.fits records test sql.now (bound params.now) (state S.Store tables.old) → IsFound records test (state S.Store tables.old).now.trees o) }
+    ensures foreign { HasCleanDisk (state S.Store tables.new) → IfErr result (λ e. e ≡ ReadError.Foreign → (records : Records → List R) (test : R → Bool) → Asks R.Stored.cells R.Stored.fits records test sql.now (bound params.now) (state S.Store tables.old) → IsAmbiguous records test (state S.Store tables.old).now.trees) }
+    ensures looks { Looks S.Store tables.old tables.new }
+    ensures open { HasCleanDisk (state S.Store tables.new) → WasAsked result (state S.Store tables.old) }
+{
+    one_by(tables.alloc, &mut tables.connection, sql, params)
+}
+
+/// The records that a statement asks for, in the order of a cell.
+fn find_all<R: Stored, S: Alter>(
+    tables: &mut StoreTables<S>,
+    sql: &str,
+    params: &[ValueRef<'_>],
+) -> Result<Vec<R>, ReadError>
+    ensures found { HasCleanDisk (state S.Store tables.new) → IfOk result (λ xs. (records : Records → List R) (test : R → Bool) → Asks R.Stored.cells R.Stored.fits records test sql.now (bound params.now) (state S.Store tables.old) → (r : Records) → Holds (state S.Store tables.old).now.trees r → IsPermutation (filter test (records r)) xs.items) }
+    ensures arranged { HasCleanDisk (state S.Store tables.new) → IfOk result (λ xs. (records : Records → List R) (test : R → Bool) (at : ℕ) → AsksInOrder R.Stored.cells R.Stored.fits records test at sql.now (bound params.now) (state S.Store tables.old) → (r : Records) → Holds (state S.Store tables.old).now.trees r → (zs : List R) → IsPermutation (filter test (records r)) zs → DoRise R.Stored.cells at zs → xs.items ≡ zs) }
+    ensures foreign { HasCleanDisk (state S.Store tables.new) → IfErr result (λ e. e ≡ ReadError.Foreign → (records : Records → List R) (test : R → Bool) (at : ℕ) → AsksInOrder R.Stored.cells R.Stored.fits records test at sql.now (bound params.now) (state S.Store tables.old) → (r : Records) → Holds (state S.Store tables.old).now.trees r → (zs : List R) → IsPermutation (filter test (records r)) zs → DoRise R.Stored.cells at zs → ⊥) }
+    ensures looks { Looks S.Store tables.old tables.new }
+    ensures open { HasCleanDisk (state S.Store tables.new) → WasAsked result (state S.Store tables.old) }
+{
+    all_by(tables.alloc, &mut tables.connection, sql, params)
+}
 
 /// The invocation of that id.
 pub fn invocation_by_id<S: Alter>(
@@ -29,9 +63,8 @@ pub fn invocation_by_id<S: Alter>(
     ensures looks { Looks S.Store tables.old tables.new }
     ensures open { HasCleanDisk (state S.Store tables.new) → WasAsked result (state S.Store tables.old) }
 {
-    one_by(
-        tables.alloc,
-        &mut tables.connection,
+    find_one(
+        tables,
         "SELECT * FROM invocation WHERE id = ?1",
         &[text(id)],
     )
@@ -47,30 +80,10 @@ pub fn open_invocation<S: Alter>(
     ensures looks { Looks S.Store tables.old tables.new }
     ensures open { HasCleanDisk (state S.Store tables.new) → WasAsked result (state S.Store tables.old) }
 {
-    one_by(
-        tables.alloc,
-        &mut tables.connection,
+    find_one(
+        tables,
         "SELECT * FROM invocation WHERE open_object = ?1",
         &[text(object)],
-    )
-}
-
-/// The entry at a place of an invocation.
-pub fn entry_by_place<S: Alter>(
-    tables: &mut StoreTables<S>,
-    invocation: &ByteStr,
-    place: u32,
-) -> Result<Option<EntryRow>, ReadError>
-    ensures found { HasCleanDisk (state S.Store tables.new) → IfOk result (IsFound (λ r. r.entries) (is_at_place invocation.now place) (state S.Store tables.old).now.trees) }
-    ensures foreign { HasCleanDisk (state S.Store tables.new) → IfErr result (λ e. e ≡ ReadError.Foreign → IsAmbiguous (λ r. r.entries) (is_at_place invocation.now place) (state S.Store tables.old).now.trees) }
-    ensures looks { Looks S.Store tables.old tables.new }
-    ensures open { HasCleanDisk (state S.Store tables.new) → WasAsked result (state S.Store tables.old) }
-{
-    one_by(
-        tables.alloc,
-        &mut tables.connection,
-        "SELECT * FROM entry WHERE invocation = ?1 AND place = ?2",
-        &[text(invocation), short(place)],
     )
 }
 
@@ -85,9 +98,8 @@ pub fn entry_by_completion<S: Alter>(
     ensures looks { Looks S.Store tables.old tables.new }
     ensures open { HasCleanDisk (state S.Store tables.new) → WasAsked result (state S.Store tables.old) }
 {
-    one_by(
-        tables.alloc,
-        &mut tables.connection,
+    find_one(
+        tables,
         "SELECT * FROM entry WHERE invocation = ?1 AND completion = ?2",
         &[text(invocation), short(completion)],
     )
@@ -104,9 +116,8 @@ pub fn entry_by_second_completion<S: Alter>(
     ensures looks { Looks S.Store tables.old tables.new }
     ensures open { HasCleanDisk (state S.Store tables.new) → WasAsked result (state S.Store tables.old) }
 {
-    one_by(
-        tables.alloc,
-        &mut tables.connection,
+    find_one(
+        tables,
         "SELECT * FROM entry WHERE invocation = ?1 AND second_completion = ?2",
         &[text(invocation), short(completion)],
     )
@@ -123,30 +134,10 @@ pub fn entry_by_answered<S: Alter>(
     ensures looks { Looks S.Store tables.old tables.new }
     ensures open { HasCleanDisk (state S.Store tables.new) → WasAsked result (state S.Store tables.old) }
 {
-    one_by(
-        tables.alloc,
-        &mut tables.connection,
+    find_one(
+        tables,
         "SELECT * FROM entry WHERE invocation = ?1 AND answered = ?2",
         &[text(invocation), short(completion)],
-    )
-}
-
-/// The value of a key in the state of an object.
-pub fn state_by_key<S: Alter>(
-    tables: &mut StoreTables<S>,
-    object: &ByteStr,
-    key: &Bytes,
-) -> Result<Option<StateRow>, ReadError>
-    ensures found { HasCleanDisk (state S.Store tables.new) → IfOk result (IsFound (λ r. r.states) (is_at_key object.now key.now) (state S.Store tables.old).now.trees) }
-    ensures foreign { HasCleanDisk (state S.Store tables.new) → IfErr result (λ e. e ≡ ReadError.Foreign → IsAmbiguous (λ r. r.states) (is_at_key object.now key.now) (state S.Store tables.old).now.trees) }
-    ensures looks { Looks S.Store tables.old tables.new }
-    ensures open { HasCleanDisk (state S.Store tables.new) → WasAsked result (state S.Store tables.old) }
-{
-    one_by(
-        tables.alloc,
-        &mut tables.connection,
-        "SELECT * FROM state WHERE object = ?1 AND key = ?2",
-        &[text(object), blob(key)],
     )
 }
 
@@ -160,9 +151,8 @@ pub fn journal<S: Alter>(
     ensures looks { Looks S.Store tables.old tables.new }
     ensures open { HasCleanDisk (state S.Store tables.new) → WasAsked result (state S.Store tables.old) }
 {
-    let records: Vec<EntryRow> = all_by(
-        tables.alloc,
-        &mut tables.connection,
+    let records: Vec<EntryRow> = find_all(
+        tables,
         "SELECT * FROM entry WHERE invocation = ?1 ORDER BY place",
         &[text(invocation)],
     )?;
@@ -183,35 +173,12 @@ pub fn states_of<S: Alter>(
     ensures looks { Looks S.Store tables.old tables.new }
     ensures open { HasCleanDisk (state S.Store tables.new) → WasAsked result (state S.Store tables.old) }
 {
-    let records: Vec<StateRow> = all_by(
-        tables.alloc,
-        &mut tables.connection,
+    let records: Vec<StateRow> = find_all(
+        tables,
         "SELECT * FROM state WHERE object = ?1 ORDER BY key",
         &[text(object)],
     )?;
     if !do_states_ascend(records.as_slice()) {
-        return Err(ReadError::Foreign);
-    }
-    Ok(records)
-}
-
-/// Every invocation, in the order of the bytes of their ids.
-pub fn all_invocations<S: Alter>(
-    tables: &mut StoreTables<S>,
-) -> Result<Vec<InvocationRow>, ReadError>
-    ensures found { HasCleanDisk (state S.Store tables.new) → IfOk result (λ es. AreFound (λ r. r.invocations) is_any (λ i. i.id) (state S.Store tables.old).now.trees es.items) }
-    ensures arranged { HasCleanDisk (state S.Store tables.new) → IfOk result (λ es. IsArranged (λ r. r.invocations) is_any (λ i. i.id) (state S.Store tables.old).now.trees es.items) }
-    ensures foreign { HasCleanDisk (state S.Store tables.new) → IfErr result (λ e. e ≡ ReadError.Foreign → IsUnarranged (λ r. r.invocations) is_any (λ i. i.id) (state S.Store tables.old).now.trees) }
-    ensures looks { Looks S.Store tables.old tables.new }
-    ensures open { HasCleanDisk (state S.Store tables.new) → WasAsked result (state S.Store tables.old) }
-{
-    let records: Vec<InvocationRow> = all_by(
-        tables.alloc,
-        &mut tables.connection,
-        "SELECT * FROM invocation ORDER BY id",
-        &[],
-    )?;
-    if !do_invocations_ascend(records.as_slice()) {
         return Err(ReadError::Foreign);
     }
     Ok(records)

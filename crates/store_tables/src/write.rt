@@ -2,14 +2,14 @@
 
 ghost use Rattle.std.specs.Prelude.{◌≡◌, IfSome, IsUtf8, OnOk};
 ghost use Rattle.sqlite.specs.Held.{state};
-ghost use Rattle.sqlite.specs.State.{HasCleanDisk, KeepsCommit, Survives};
+ghost use Rattle.sqlite.specs.State.{HasCleanDisk};
 ghost use Rattle.sqlite.specs.Values.{bound_value, or_null};
 ghost use Rattle.sqlite_value.specs.Value.{owned};
 ghost use Rattle.sqlite_value.specs.declared.value.Value.TheVariants.{Text as Words};
 ghost use Rattle.sql_tables.specs.Cells.{IsLong, IsShort, long_cell, short_cell};
 ghost use Rattle.store_tables.specs.Looks.{Lasts, Makes};
 ghost use Rattle.store_tables.specs.Records.{applied, closing_cell, delay_of, with_entry, with_invocation, with_progress, with_state, without_state, without_states};
-ghost use Rattle.store_tables.specs.Steps.{IsStore, Steps};
+ghost use Rattle.store_tables.specs.Steps.{Alters, IsStore};
 
 use crate::row::{Closing, EntryRow, InvocationRow, LastError, Progress, StateRow, Write};
 use crate::tables::StoreTables;
@@ -77,9 +77,7 @@ fn add_invocation<S: Alter>(
 ) -> Result<(), Error>
     requires { IsStore (state S.Store tx.old.conn.now) }
     ensures same_reference { tx.new.conn.ghost_name ≡ tx.old.conn.ghost_name }
-    ensures ok { HasCleanDisk (state S.Store tx.new.conn.now) → OnOk result (Steps (with_invocation invocation.now) (state S.Store tx.old.conn.now) (state S.Store tx.new.conn.now)) }
-    ensures kept { HasCleanDisk (state S.Store tx.new.conn.now) → KeepsCommit (state S.Store tx.old.conn.now) (state S.Store tx.new.conn.now) }
-    ensures survives { Survives (state S.Store tx.old.conn.now) (state S.Store tx.new.conn.now) (λ _. ⊥) }
+    ensures alters { Alters S.Store (with_invocation invocation.now) tx.old.conn.now tx.new.conn.now result }
 {
     let progress = &invocation.progress;
     run(
@@ -116,9 +114,7 @@ fn set_progress<S: Alter>(
 ) -> Result<(), Error>
     requires { IsStore (state S.Store tx.old.conn.now) }
     ensures same_reference { tx.new.conn.ghost_name ≡ tx.old.conn.ghost_name }
-    ensures ok { HasCleanDisk (state S.Store tx.new.conn.now) → OnOk result (Steps (with_progress id.now progress.now) (state S.Store tx.old.conn.now) (state S.Store tx.new.conn.now)) }
-    ensures kept { HasCleanDisk (state S.Store tx.new.conn.now) → KeepsCommit (state S.Store tx.old.conn.now) (state S.Store tx.new.conn.now) }
-    ensures survives { Survives (state S.Store tx.old.conn.now) (state S.Store tx.new.conn.now) (λ _. ⊥) }
+    ensures alters { Alters S.Store (with_progress id.now progress.now) tx.old.conn.now tx.new.conn.now result }
 {
     run(
         tx,
@@ -146,9 +142,7 @@ fn set_progress<S: Alter>(
 fn add_entry<S: Alter>(tx: &mut Transaction<'_, S>, entry: &EntryRow) -> Result<(), Error>
     requires { IsStore (state S.Store tx.old.conn.now) }
     ensures same_reference { tx.new.conn.ghost_name ≡ tx.old.conn.ghost_name }
-    ensures ok { HasCleanDisk (state S.Store tx.new.conn.now) → OnOk result (Steps (with_entry entry.now) (state S.Store tx.old.conn.now) (state S.Store tx.new.conn.now)) }
-    ensures kept { HasCleanDisk (state S.Store tx.new.conn.now) → KeepsCommit (state S.Store tx.old.conn.now) (state S.Store tx.new.conn.now) }
-    ensures survives { Survives (state S.Store tx.old.conn.now) (state S.Store tx.new.conn.now) (λ _. ⊥) }
+    ensures alters { Alters S.Store (with_entry entry.now) tx.old.conn.now tx.new.conn.now result }
 {
     run(
         tx,
@@ -169,9 +163,7 @@ fn add_entry<S: Alter>(tx: &mut Transaction<'_, S>, entry: &EntryRow) -> Result<
 fn add_state<S: Alter>(tx: &mut Transaction<'_, S>, row: &StateRow) -> Result<(), Error>
     requires { IsStore (state S.Store tx.old.conn.now) }
     ensures same_reference { tx.new.conn.ghost_name ≡ tx.old.conn.ghost_name }
-    ensures ok { HasCleanDisk (state S.Store tx.new.conn.now) → OnOk result (Steps (with_state row.now) (state S.Store tx.old.conn.now) (state S.Store tx.new.conn.now)) }
-    ensures kept { HasCleanDisk (state S.Store tx.new.conn.now) → KeepsCommit (state S.Store tx.old.conn.now) (state S.Store tx.new.conn.now) }
-    ensures survives { Survives (state S.Store tx.old.conn.now) (state S.Store tx.new.conn.now) (λ _. ⊥) }
+    ensures alters { Alters S.Store (with_state row.now) tx.old.conn.now tx.new.conn.now result }
 {
     run(
         tx,
@@ -187,9 +179,7 @@ fn drop_state<S: Alter>(
 ) -> Result<(), Error>
     requires { IsStore (state S.Store tx.old.conn.now) }
     ensures same_reference { tx.new.conn.ghost_name ≡ tx.old.conn.ghost_name }
-    ensures ok { HasCleanDisk (state S.Store tx.new.conn.now) → OnOk result (Steps (without_state object.now key.now) (state S.Store tx.old.conn.now) (state S.Store tx.new.conn.now)) }
-    ensures kept { HasCleanDisk (state S.Store tx.new.conn.now) → KeepsCommit (state S.Store tx.old.conn.now) (state S.Store tx.new.conn.now) }
-    ensures survives { Survives (state S.Store tx.old.conn.now) (state S.Store tx.new.conn.now) (λ _. ⊥) }
+    ensures alters { Alters S.Store (without_state object.now key.now) tx.old.conn.now tx.new.conn.now result }
 {
     run(
         tx,
@@ -201,9 +191,7 @@ fn drop_state<S: Alter>(
 fn drop_states<S: Alter>(tx: &mut Transaction<'_, S>, object: &ByteStr) -> Result<(), Error>
     requires { IsStore (state S.Store tx.old.conn.now) }
     ensures same_reference { tx.new.conn.ghost_name ≡ tx.old.conn.ghost_name }
-    ensures ok { HasCleanDisk (state S.Store tx.new.conn.now) → OnOk result (Steps (without_states object.now) (state S.Store tx.old.conn.now) (state S.Store tx.new.conn.now)) }
-    ensures kept { HasCleanDisk (state S.Store tx.new.conn.now) → KeepsCommit (state S.Store tx.old.conn.now) (state S.Store tx.new.conn.now) }
-    ensures survives { Survives (state S.Store tx.old.conn.now) (state S.Store tx.new.conn.now) (λ _. ⊥) }
+    ensures alters { Alters S.Store (without_states object.now) tx.old.conn.now tx.new.conn.now result }
 {
     run(tx, "DELETE FROM state WHERE object = ?1", &[text(object)])
 }
@@ -211,9 +199,7 @@ fn drop_states<S: Alter>(tx: &mut Transaction<'_, S>, object: &ByteStr) -> Resul
 fn put_state<S: Alter>(tx: &mut Transaction<'_, S>, row: &StateRow) -> Result<(), Error>
     requires { IsStore (state S.Store tx.old.conn.now) }
     ensures same_reference { tx.new.conn.ghost_name ≡ tx.old.conn.ghost_name }
-    ensures ok { HasCleanDisk (state S.Store tx.new.conn.now) → OnOk result (Steps (λ r. with_state row.now (without_state row.now.object row.now.key r)) (state S.Store tx.old.conn.now) (state S.Store tx.new.conn.now)) }
-    ensures kept { HasCleanDisk (state S.Store tx.new.conn.now) → KeepsCommit (state S.Store tx.old.conn.now) (state S.Store tx.new.conn.now) }
-    ensures survives { Survives (state S.Store tx.old.conn.now) (state S.Store tx.new.conn.now) (λ _. ⊥) }
+    ensures alters { Alters S.Store (λ r. with_state row.now (without_state row.now.object row.now.key r)) tx.old.conn.now tx.new.conn.now result }
 {
     drop_state(tx, &row.object, &row.key)?;
     add_state(tx, row)
@@ -222,9 +208,7 @@ fn put_state<S: Alter>(tx: &mut Transaction<'_, S>, row: &StateRow) -> Result<()
 fn apply<S: Alter>(tx: &mut Transaction<'_, S>, write: &Write) -> Result<(), Error>
     requires { IsStore (state S.Store tx.old.conn.now) }
     ensures same_reference { tx.new.conn.ghost_name ≡ tx.old.conn.ghost_name }
-    ensures ok { HasCleanDisk (state S.Store tx.new.conn.now) → OnOk result (Steps (applied write.now) (state S.Store tx.old.conn.now) (state S.Store tx.new.conn.now)) }
-    ensures kept { HasCleanDisk (state S.Store tx.new.conn.now) → KeepsCommit (state S.Store tx.old.conn.now) (state S.Store tx.new.conn.now) }
-    ensures survives { Survives (state S.Store tx.old.conn.now) (state S.Store tx.new.conn.now) (λ _. ⊥) }
+    ensures alters { Alters S.Store (applied write.now) tx.old.conn.now tx.new.conn.now result }
 {
     match write {
         Write::AddInvocation(invocation) => add_invocation(tx, invocation),

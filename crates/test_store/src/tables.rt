@@ -1,5 +1,5 @@
-//! What no call of a store reaches so far: the state of an object is written, an entry is found by its place, all invocations are
-//! listed, and a signal is made ready.
+//! What no call of a store reaches so far: the state of an object is written, the records of a journal are listed, and a signal is
+//! made ready.
 use crate::database::open_memory;
 use crate::fault::Fault;
 use crate::words::parse_new;
@@ -12,8 +12,8 @@ use sqlite::MemStore;
 use std::alloc::Global;
 use store_arrivals::prepare_arrival;
 use store_tables::{
-    InvocationRow, StateRow, StoreTables, Write, all_invocations, commit_all, entry_by_place,
-    invocation_by_id, is_ready, state_by_key, states_of,
+    InvocationRow, StateRow, StoreTables, Write, commit_all, invocation_by_id, is_ready, journal,
+    states_of,
 };
 
 type Tables = StoreTables<MemStore>;
@@ -76,15 +76,24 @@ fn state_count(tables: &mut Tables) -> Option<usize> {
     }
 }
 
+fn len_at(states: &[StateRow], key: &[u8]) -> Option<usize> {
+    for state in states {
+        if state.key.as_slice() == key {
+            return Some(state.value.len());
+        }
+    }
+    None
+}
+
 /// How many bytes the value of the key `k` has.
 fn value_len(tables: &mut Tables) -> Option<usize> {
-    match state_by_key(tables, &object(), &Bytes::from_static(b"k")) {
-        Ok(Some(state)) => {
-            let len = state.value.len();
-            drop(state);
-            Some(len)
+    match states_of(tables, &object()) {
+        Ok(states) => {
+            let len = len_at(states.as_slice(), b"k");
+            drop(states);
+            len
         }
-        _ => None,
+        Err(_) => None,
     }
 }
 
@@ -116,19 +125,15 @@ fn print_states<R: Print>(rt: &R, tables: &mut Tables) -> Result<(), Fault> {
 }
 
 /// The number of the type of the entry at a place.
-fn kind_at(tables: &mut Tables, place: u32) -> Option<u32> {
-    match entry_by_place(tables, &i1(), place) {
-        Ok(Some(entry)) => Some(entry.kind),
-        _ => None,
-    }
-}
-
-fn invocation_count(tables: &mut Tables) -> Option<usize> {
-    match all_invocations(tables) {
-        Ok(rows) => {
-            let count = rows.len();
-            drop(rows);
-            Some(count)
+fn kind_at(tables: &mut Tables, place: usize) -> Option<u32> {
+    match journal(tables, &i1()) {
+        Ok(entries) => {
+            let kind = match entries.get(place) {
+                Some(entry) => Some(entry.kind),
+                None => None,
+            };
+            drop(entries);
+            kind
         }
         Err(_) => None,
     }
@@ -137,8 +142,7 @@ fn invocation_count(tables: &mut Tables) -> Option<usize> {
 fn print_found<R: Print>(rt: &R, tables: &mut Tables) -> Result<(), Fault> {
     let first = kind_at(tables, 0);
     let second = kind_at(tables, 1);
-    let count = invocation_count(tables);
-    Ok(println!(rt; "kind at 0 {first:?} at 1 {second:?} invocations {count:?}")?)
+    Ok(println!(rt; "kind at 0 {first:?} at 1 {second:?}")?)
 }
 
 fn row_of(tables: &mut Tables) -> Option<InvocationRow> {

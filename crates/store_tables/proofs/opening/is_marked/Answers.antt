@@ -1,11 +1,11 @@
-use Rattle.std.proofs.Common.{◌≡◌, ◌∙◌, [], ◌∷◌, map, Some, sym, ap, arith}
+use Rattle.std.proofs.Common.{◌≡◌, ◌∙◌, [], ◌∷◌, map, Some, true, sym, ap, arith}
 use Rattle.std.specs.Option.{option_to_list}
 use Rattle.sqlite.specs.Held.{state}
 use Rattle.sqlite.specs.State.{State, HasCleanDisk}
 use Rattle.sql_tables.proofs.Reading.{err_and}
 use Rattle.store_tables.specs.Records.{FitsMark, cells_of_mark, the_mark}
 use Rattle.store_tables.specs.Statements.{marks_text}
-use Rattle.store_tables.proofs.AskingMarks.{is_mark, mark_back, mark_fits, mark_back_is, marked, marks_read}
+use Rattle.store_tables.proofs.Asking.{asks_marks, marked}
 use Rattle.store_tables.proofs.Found.{one_ambiguous, one_found}
 use Rattle.store_tables.proofs.opening.is_marked.Goals as goal
 
@@ -22,7 +22,7 @@ returns-clause-held g c clean r h =
     let old : State = state g.S.Store c.args.conn.now in
     let early : HasCleanDisk old = omega (arith, c.one_by.ensures.crash.clean) in
     let it = c.in_ok-mark.ensures.answers clean in
-    c.is_own.ensures.held (one_found cells_of_mark mark_back FitsMark mark_back_is marks_text [] old (λ r. the_mark ∷ []) is_mark (λ r h. (mark_fits, tt)) (λ rows. marks_read old rows (c.requires.store early it.0)) c.in_ok-mark.mark it.1 it.2 r h)
+    c.is_own.ensures.held (one_found cells_of_mark FitsMark (λ r. the_mark ∷ []) (λ m. true) marks_text [] old (c.requires.store early it.0) (asks_marks old) c.in_ok-mark.mark it.1 it.2 r h)
 
 pub returns-in_err-mark-clause-foreign : goal.returns-in_err-mark-clause-foreign
 returns-in_err-mark-clause-foreign g c clean =
@@ -30,4 +30,4 @@ returns-in_err-mark-clause-foreign g c clean =
     let early : HasCleanDisk old = omega (arith, c.one_by.ensures.crash.clean) in
     err_and c.from_residual.result c.from_residual.ensures.1 (λ e gives is r h.
     let it = c.in_err-mark.ensures.foreign clean (sym gives ∙ is) in
-    one_ambiguous cells_of_mark mark_back FitsMark mark_back_is marks_text [] old (λ r. the_mark ∷ []) is_mark (λ r h. (mark_fits, tt)) (λ rows. marks_read old rows (c.requires.store early it.0)) it.1 r h (omega arith))
+    one_ambiguous cells_of_mark FitsMark (λ r. the_mark ∷ []) (λ m. true) marks_text [] old (c.requires.store early it.0) (asks_marks old) it.1 r h (omega arith))

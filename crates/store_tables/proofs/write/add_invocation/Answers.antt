@@ -1,22 +1,15 @@
-use Rattle.std.proofs.Common.{arith}
-use Rattle.sqlite.specs.State.{State, HasCleanDisk}
 use Rattle.sqlite.specs.Held.{state}
 use Rattle.sql_tables.specs.Asking.{HasRun}
-use Rattle.sql_tables.proofs.Queries.{on_ok}
 use Rattle.store_tables.specs.Statements.{add_invocation_text}
 use Rattle.store_tables.specs.Records.{invocation_cells, with_invocation}
 use Rattle.store_tables.proofs.Invocations.{error_fits, invocation_added}
-use Rattle.store_tables.proofs.Moves.{step_of}
+use Rattle.store_tables.proofs.Moves.{altered}
 use Rattle.store_tables.proofs.write.add_invocation.Goals as goal
 
-pub returns-clause-ok : goal.returns-clause-ok
-returns-clause-ok g c clean =
-    let old : State = state g.S.Store c.args.tx.now.conn.now in
-    let new : State = state g.S.Store c.run.new.tx.conn.now in
-    let early : HasCleanDisk old = omega (arith, c.run.ensures.survives.clean) in
-    on_ok c.run.result (c.run.ensures.ran clean) (λ ran.
-    let run : HasRun add_invocation_text (invocation_cells c.args.invocation.now) old new = rw (c.text.ensures.cell, c.text-2.ensures.cell, c.short.ensures.cell, c.long.ensures.cell, c.flag.ensures, c.text_or_null.ensures.cell, c.blob_or_null.ensures, c.short_or_null.ensures.cell, c.closing.ensures, c.blob_or_null-2.ensures, c.error_code.ensures.cell, c.error_behavior.ensures.cell, c.error_delay.ensures.cell, c.error_message.ensures.cell, c.short-2.ensures.cell, c.short-3.ensures.cell, c.long-2.ensures.cell, c.short-4.ensures.cell, c.short-5.ensures.cell) at ran in
-    step_of (with_invocation c.args.invocation.now) add_invocation_text (invocation_cells c.args.invocation.now) old new run (invocation_added old new c.args.invocation.now (record {
+pub returns-clause-alters : goal.returns-clause-alters
+returns-clause-alters g c =
+    altered g.S.Store (with_invocation c.args.invocation.now) add_invocation_text (invocation_cells c.args.invocation.now) _ c.args.tx.now.conn.now c.run.new.tx.conn.now c.run.result
+    (invocation_added c.args.invocation.now (record {
       id = c.text.ensures.fits;
       object = c.text-2.ensures.fits;
       version = c.short.ensures.fits;
@@ -31,4 +24,5 @@ returns-clause-ok g c clean =
         last_completion = c.short-4.ensures.fits;
         entries = c.short-5.ensures.fits;
       };
-    }) (c.requires early run.was_open) run))
+    }))
+    c.requires c.run.ensures.ran (λ ran. let run : HasRun add_invocation_text (invocation_cells c.args.invocation.now) (state g.S.Store c.args.tx.now.conn.now) (state g.S.Store c.run.new.tx.conn.now) = rw (c.text.ensures.cell, c.text-2.ensures.cell, c.short.ensures.cell, c.long.ensures.cell, c.flag.ensures, c.text_or_null.ensures.cell, c.blob_or_null.ensures, c.short_or_null.ensures.cell, c.closing.ensures, c.blob_or_null-2.ensures, c.error_code.ensures.cell, c.error_behavior.ensures.cell, c.error_delay.ensures.cell, c.error_message.ensures.cell, c.short-2.ensures.cell, c.short-3.ensures.cell, c.long-2.ensures.cell, c.short-4.ensures.cell, c.short-5.ensures.cell) at ran in run) c.run.ensures.kept c.run.ensures.survives
