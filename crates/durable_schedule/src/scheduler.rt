@@ -3,11 +3,11 @@ ghost use Rattle.std.specs.Prelude.{◌≡◌, ◌<◌, ◌≤◌, ◌+◌, ◌^
 ghost use Rattle.sqlite.specs.Held.{state};
 ghost use Rattle.sqlite.specs.State.{HasCleanDisk};
 ghost use Rattle.journal_model.specs.Event.{Event as Accepted};
-ghost use Rattle.journal_model.specs.Journal.{entries_of, is_open as is_open_after, recorded_arrivals, recorded_requests};
+ghost use Rattle.journal_model.specs.Journal.{is_open as is_open_after};
 ghost use Rattle.store_model.specs.Progress.{last_error_of};
 ghost use Rattle.store_invocations.specs.Rows.{Decides, known_tests};
-ghost use Rattle.store_reads.specs.Told.{arrival_told, request_told};
-ghost use Rattle.store_reads.specs.Answered.{Answers};
+ghost use Rattle.store_reads.specs.Told.{entries_told};
+ghost use Rattle.store_reads.specs.Answered.{answer_told};
 ghost use Rattle.store_calls.specs.declared.begun.BegunAttempt.{BegunAttempt};
 ghost use Rattle.store_calls.specs.Standing.{Adds, Standing};
 ghost use Rattle.store_calls.specs.Calls.{Begins, Invokes, Stops};
@@ -24,7 +24,7 @@ use journal_store::Store;
 use schedule_model::{Event, HeldAttempt, Refusal, Reply};
 use sqlite::Alter;
 use std::alloc::Global;
-use store_reads::RecordedFrame;
+use store_reads::RecordedEntry;
 use store_tables::LastError;
 
 /// A store, and the attempts that were begun: one that was stopped or overtaken can still make turns, and its bytes are refused.
@@ -182,27 +182,18 @@ impl<H: Handler + Drop, S: Alter + Drop> Scheduler<H, S> {
         self.turn(invocation, attempt)
     }
 
-    /// The recorded requests of an invocation, by place, each as the frame that its attempt wrote.
-    pub fn requests(&mut self, id: &ByteStr) -> Result<Vec<RecordedFrame>, store_refusals::Refusal>
-        ensures told { HasCleanDisk (state S.Store self.new.store.connection) → (s : Scheduled H) → IsScheduled S.Store s self.old → Decides (known_tests s.standing.events id.now) (λ frames. frames.items ≡ map request_told (recorded_requests s.standing.events id.now)) result × IsScheduled S.Store s self.new }
+    /// The recorded requests and arrivals of an invocation, by place.
+    pub fn entries(&mut self, id: &ByteStr) -> Result<Vec<RecordedEntry>, store_refusals::Refusal>
+        ensures told { HasCleanDisk (state S.Store self.new.store.connection) → (s : Scheduled H) → IsScheduled S.Store s self.old → Decides (known_tests s.standing.events id.now) (λ entries. entries.items ≡ entries_told s.standing.events id.now) result × IsScheduled S.Store s self.new }
         ensures kept { self.new ≡ record self.old { store = self.new.store } }
         ensures crash { IsQuiet S.Store self.old.store self.new.store }
     {
-        self.store.requests(id)
-    }
-
-    /// The recorded arrivals of an invocation, by place, each as a frame of the type by which its request is completed.
-    pub fn arrivals(&mut self, id: &ByteStr) -> Result<Vec<RecordedFrame>, store_refusals::Refusal>
-        ensures told { HasCleanDisk (state S.Store self.new.store.connection) → (s : Scheduled H) → IsScheduled S.Store s self.old → Decides (known_tests s.standing.events id.now) (λ frames. frames.items ≡ map (arrival_told (entries_of s.standing.events id.now)) (recorded_arrivals s.standing.events id.now)) result × IsScheduled S.Store s self.new }
-        ensures kept { self.new ≡ record self.old { store = self.new.store } }
-        ensures crash { IsQuiet S.Store self.old.store self.new.store }
-    {
-        self.store.arrivals(id)
+        self.store.entries(id)
     }
 
     /// What a closed invocation answers.
     pub fn answer(&mut self, id: &ByteStr) -> Result<Option<NonEmptyValue>, store_refusals::Refusal>
-        ensures told { HasCleanDisk (state S.Store self.new.store.connection) → (s : Scheduled H) → IsScheduled S.Store s self.old → Answers s.standing.events id.now result × IsScheduled S.Store s self.new }
+        ensures told { HasCleanDisk (state S.Store self.new.store.connection) → (s : Scheduled H) → IsScheduled S.Store s self.old → Decides (known_tests s.standing.events id.now) (λ answer. answer ≡ answer_told s.standing.events id.now) result × IsScheduled S.Store s self.new }
         ensures kept { self.new ≡ record self.old { store = self.new.store } }
         ensures crash { IsQuiet S.Store self.old.store self.new.store }
     {

@@ -1,47 +1,59 @@
 -- What a line that shows an invocation prints.
-use Rattle.std.specs.Prelude.{◌≡◌, ◌⊎◌, ℕ, ◌+◌, Bool, List, [], ◌∷◌, ◌++◌, map, Option, Some, None, Ok, Err, codes}
+use Rattle.std.specs.Prelude.{◌≡◌, ◌⊎◌, ℕ, Bool, List, [], ◌∷◌, ◌++◌, Option, Some, None, codes}
+use Rattle.std.specs.List.{flat_map}
 use Rattle.built_in_handlers.specs.declared.built_in.BuiltIn.{BuiltIn}
 use Rattle.journal_model.specs.Notification.{Text}
 use Rattle.journal_model.specs.declared.value.NonEmptyValue.{NonEmptyValue}
 use Rattle.journal_model.specs.declared.value.NonEmptyValue.TheVariants.{Success, Failure}
 use Rattle.journal_model.specs.Event.{Event}
-use Rattle.journal_model.specs.Journal.{recorded_requests, is_open}
+use Rattle.journal_model.specs.Journal.{is_open}
+use Rattle.journal_model.specs.Cause.{those_that_hold}
 use Rattle.store_refusals.specs.declared.refusal.Refusal.{Refusal}
 use Rattle.store_refusals.specs.Names.{name_of}
-use Rattle.store_reads.specs.declared.entries.RecordedFrame.{RecordedFrame}
-use Rattle.store_reads.specs.Told.{request_told}
-use Rattle.store_reads.specs.Answered.{Answers}
+use Rattle.store_refusals.specs.Refused.{IsRefused}
+use Rattle.store_invocations.specs.Rows.{known_tests}
+use Rattle.store_reads.specs.declared.recorded.EntryKind.{EntryKind}
+use Rattle.store_reads.specs.declared.recorded.EntryKind.TheVariants as kinds
+use Rattle.store_reads.specs.declared.recorded.RecordedEntry.{RecordedEntry}
+use Rattle.store_reads.specs.Told.{entries_told}
+use Rattle.store_reads.specs.Answered.{answer_told}
 use Rattle.schedule_model.specs.Schedule.{Scheduled}
 use Rattle.script_lines.specs.Text.{request_line, value_line, failure_line, open_text, refused_text}
 
--- a line for each request, the first of which has this place
-abbrev pub requests_from : ℕ → List RecordedFrame → List ℕ
-requests_from place [] = []
-requests_from place (request ∷ more) = (request_line place request.kind request.payload ++ 10 ∷ []) ++ requests_from (place + 1) more
+-- the line of a request, with its place; an arrival is not shown
+abbrev pub line_by : EntryKind → List ℕ → List ℕ
+line_by kinds.Request line = line ++ 10 ∷ []
+line_by kinds.Arrival line = []
+
+abbrev pub entry_text : RecordedEntry → List ℕ
+entry_text entry = line_by entry.kind (request_line entry.place entry.ty entry.payload)
 
 abbrev pub answer_line : Option NonEmptyValue → List ℕ
 answer_line None = codes "answer none"
 answer_line (Some (Success bytes)) = value_line bytes
 answer_line (Some (Failure failure)) = failure_line failure.code failure.message
 
--- the requests, counted from 1, the answer, and whether it is open
-abbrev pub shown_text : List RecordedFrame → Option NonEmptyValue → Bool → List ℕ
-shown_text requests answer is_open_now = requests_from 1 requests ++ (answer_line answer ++ 10 ∷ (open_text is_open_now ++ 10 ∷ []))
+-- the requests, the answer, and whether it is open
+abbrev pub shown_text : List RecordedEntry → Option NonEmptyValue → Bool → List ℕ
+shown_text entries answer is_open_now = flat_map entry_text entries ++ (answer_line answer ++ 10 ∷ (open_text is_open_now ++ 10 ∷ []))
+
+abbrev pub IsKnown : Text → List Event → Type 0
+IsKnown id events = those_that_hold (known_tests events id) ≡ []
 
 -- this is what is recorded of the invocation, which is known
-pub record HasRecords (id : Text) (requests : List RecordedFrame) (answer : Option NonEmptyValue) (is_open_now : Bool) (events : List Event) : Type 0 where
-  pub requests_are : requests ≡ map request_told (recorded_requests events id)
-  pub answer_is : Answers events id (Ok answer)
+pub record HasRecords (id : Text) (entries : List RecordedEntry) (answer : Option NonEmptyValue) (is_open_now : Bool) (events : List Event) : Type 0 where
+  pub known : IsKnown id events
+  pub entries_are : entries ≡ entries_told events id
+  pub answer_is : answer ≡ answer_told events id
   pub is_open_is : is_open_now ≡ is_open events id
 
 pub record ShowsRecords (id : Text) (text : List ℕ) (events : List Event) : Type 0 where
-  pub answer : Option NonEmptyValue
-  pub answer_is : Answers events id (Ok answer)
-  pub text_is : text ≡ shown_text (map request_told (recorded_requests events id)) answer (is_open events id)
+  pub known : IsKnown id events
+  pub text_is : text ≡ shown_text (entries_told events id) (answer_told events id) (is_open events id)
 
--- an unknown invocation is refused; or what is asked for is not told, for a circumstance or for an output that no message holds
+-- an unknown invocation is refused; or what is asked for is not told, for a circumstance
 abbrev pub RefusesShow : Text → Refusal → List Event → Type 0
-RefusesShow id refusal events = Answers events id (Err refusal)
+RefusesShow id refusal events = IsRefused (those_that_hold (known_tests events id)) refusal
 
 pub record ShowsRefusal (id : Text) (text : List ℕ) (events : List Event) : Type 0 where
   pub refusal : Refusal

@@ -3,7 +3,7 @@ ghost use Rattle.std.specs.Prelude.{◌≡◌, Some, IfOk, IfErr, string_bytes};
 ghost use Rattle.script_lines.specs.Text.{request_line, request_text, answer_text};
 ghost use Rattle.durable_script.specs.Printed.{Makes};
 ghost use Rattle.durable_script.specs.Reaching.{Nowhere, Reaches};
-ghost use Rattle.durable_script.specs.Shown.{shown_text, answer_line, Looks, RefusesShow, HasRecords, Shows};
+ghost use Rattle.durable_script.specs.Shown.{answer_line, entry_text, shown_text, HasRecords, Looks, RefusesShow, Shows};
 
 use crate::reply::reply_line;
 use built_in_handlers::BuiltIn;
@@ -14,25 +14,42 @@ use script_lines::text::{LineReply, ShownAnswer, ShownOpenness, ShownRequest};
 use sqlite::Alter;
 use std::alloc::AllocError;
 use std::fmt;
-use store_reads::RecordedFrame;
+use store_reads::{EntryKind, RecordedEntry};
 use store_refusals::Refusal;
 
 /// What is recorded of an invocation: everything that is asked for before a line is printed.
 #[derive(Drop)]
 struct ShownInvocation {
-    requests: Vec<RecordedFrame>,
+    entries: Vec<RecordedEntry>,
     answer: Option<NonEmptyValue>,
     is_open: bool,
 }
 
-/// A request at its place.
-fn shown_request(place: usize, request: &RecordedFrame) -> ShownRequest<'_>
-    ensures { request_text result ≡ request_line place request.now.kind request.now.payload }
+fn shown_request(entry: &RecordedEntry) -> ShownRequest<'_>
+    ensures { request_text result ≡ request_line entry.now.place entry.now.ty entry.now.payload }
 {
     ShownRequest {
-        place,
-        ty: request.kind,
-        payload: request.payload.as_slice(),
+        place: entry.place,
+        ty: entry.ty,
+        payload: entry.payload.as_slice(),
+    }
+}
+
+/// A request at its place. An arrival is not shown.
+#[derive(Clone, Copy)]
+struct ShownEntry<'a>(&'a RecordedEntry);
+
+impl fmt::Display for ShownEntry<'_> {
+    ghost output = { λ entry. Some (entry_text entry.0.now) };
+
+    fn fmt<W: fmt::Write>(&self, f: &mut fmt::Formatter<W>) -> fmt::Result {
+        match self.0.kind {
+            EntryKind::Request => {
+                let request = shown_request(self.0);
+                write!(f, "{request}\n")
+            }
+            EntryKind::Arrival => Ok(()),
+        }
     }
 }
 
@@ -50,12 +67,12 @@ fn shown_answer(answer: &Option<NonEmptyValue>) -> ShownAnswer<'_>
 }
 
 impl fmt::Display for ShownInvocation {
-    ghost output = { λ shown. Some (shown_text shown.requests.items shown.answer shown.is_open) };
+    ghost output = { λ shown. Some (shown_text shown.entries.items shown.answer shown.is_open) };
 
     fn fmt<W: fmt::Write>(&self, f: &mut fmt::Formatter<W>) -> fmt::Result {
-        for (index, request) in self.requests.iter().enumerate() {
-            let request = shown_request(index + 1, request);
-            write!(f, "{request}\n")?;
+        for entry in &self.entries {
+            let entry = ShownEntry(entry);
+            write!(f, "{entry}")?;
         }
         let answer = shown_answer(&self.answer);
         let is_open = ShownOpenness(self.is_open);
@@ -68,14 +85,14 @@ fn shown<S: Alter + Drop>(
     scheduler: &mut Scheduler<BuiltIn, S>,
     id: &ByteStr,
 ) -> Result<ShownInvocation, Refusal>
-    ensures ok { IfOk result (λ shown. Reaches S.Store Nowhere (Looks (HasRecords id.now shown.requests.items shown.answer shown.is_open)) scheduler.old scheduler.new) }
+    ensures ok { IfOk result (λ shown. Reaches S.Store Nowhere (Looks (HasRecords id.now shown.entries.items shown.answer shown.is_open)) scheduler.old scheduler.new) }
     ensures err { IfErr result (λ refusal. Reaches S.Store Nowhere (Looks (RefusesShow id.now refusal)) scheduler.old scheduler.new) }
 {
     let is_open = scheduler.is_open(id)?;
     let answer = scheduler.answer(id)?;
-    match scheduler.requests(id) {
-        Ok(requests) => Ok(ShownInvocation {
-            requests,
+    match scheduler.entries(id) {
+        Ok(entries) => Ok(ShownInvocation {
+            entries,
             answer,
             is_open,
         }),

@@ -127,7 +127,7 @@ pub begin_recorded : (events : List Event) (id : Text) (now : ℕ) (old mid new 
 begin_recorded events id now old mid new P Q attempts left made more (Ok told) tests before asked lives clean ready is wrote put why undone stands =
     let early : HasCleanDisk mid = omega (arith, lives.clean, clean) in
     let store = store_still events old mid P before asked stands.kept in
-    let after = written events (Event.Begin id now) mid new made.writes.items store early ready.0 ready.1.writes wrote.0 wrote.1 in
+    let after = written events (Event.Begin id now) mid new made.writes.items store tt early ready.0 ready.1.writes wrote.0 wrote.1 in
     let fits = fits_here events id now mid made more (store.keeps early wrote.0) (sym tests ∙ ready.0) ready.1 in
     let agrees = begun events id now _ stands.kept.accepted (begun_as events id now made ready.1) in (
       ready.0,

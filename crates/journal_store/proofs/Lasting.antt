@@ -14,7 +14,7 @@ use Rattle.journal_store.specs.Stands.{Outlasts, Stands}
 pub outlasts_now : (events : List Event) (database : State) (attempts : ByInvocation) → HasCleanDisk database → Stands events database attempts → Lasts database → Outlasts events database
 outlasts_now events database attempts clean stands lasts trees may =
     let k = stands.kept.keeps clean lasts.is_open in
-    record { records = k.records; held = subst (λ (db : Trees). Holds db k.records) (sym (lasts.left trees may)) k.held; kept = k.kept }
+    record { read = stands.kept.read; records = k.records; held = subst (λ (db : Trees). Holds db k.records) (sym (lasts.left trees may)) k.held; kept = k.kept }
 
 pub kept_then : (a b c : State) → (HasCleanDisk c → HasCleanDisk b) → IsKept a b → IsKept b c → IsKept a c
 kept_then a b c earlier one two clean is_open =

@@ -93,7 +93,7 @@ stop_kept events new more s None e apart store = store
 stop_kept events new more s (Some n) e apart store =
     let rest = stops_of events more ++ events in
     let live : live_attempt rest new.id ≡ Some n = stopped_live events more new.id ∙ ap (λ (b : Bool). if b then None else live_attempt events new.id) apart ∙ e in
-    unwritten rest (Event.Stop new.id n) s store (stop_accepted rest new.id n store.accepted live) (none_written (object_of rest (Event.Stop new.id n)))
+    unwritten rest (Event.Stop new.id n) s store tt (stop_accepted rest new.id n store.accepted live) (none_written (object_of rest (Event.Stop new.id n)))
 
 stops_kept : (events : List Event) (news : List NewInvocation) (s : State) → IsStoreOf events s → AreApart news → IsStoreOf (stops_of events news ++ events) s
 stops_kept events [] s store apart = store
@@ -109,6 +109,6 @@ opened_left events s attempts none store = subst (Stands (after_open events) s) 
 
 pub opened_fresh : (s : State) (attempts : ByInvocation) → attempts ≡ [] → Holds s.now.trees no_records → Stands [] s attempts
 opened_fresh s attempts none held = subst (Stands [] s) (sym none) (record {
-  kept = record { accepted = tt; keeps = λ clean is_open. record { accepted = tt; records = no_records; held = held; kept = kept_at_first } };
+  kept = record { accepted = tt; read = tt; keeps = λ clean is_open. record { accepted = tt; records = no_records; held = held; kept = kept_at_first } };
   live = λ id. refl;
 })

@@ -54,7 +54,7 @@ pub stands_stopped : (events : List Event) (database : State) (old new : ByInvoc
     → (causes_of events (Event.Stop id number) ≡ []) × Unit {0} × Stands (Event.Stop id number ∷ events) database new
 stands_stopped events database old new id number stands live now =
     let none = stop_causes events database old id number stands live in
-    let kept = unwritten events (Event.Stop id number) database stands.kept none (none_written (object_of events (Event.Stop id number))) in
+    let kept = unwritten events (Event.Stop id number) database stands.kept tt none (none_written (object_of events (Event.Stop id number))) in
     (none, tt, stands_after events (Event.Stop id number) id None database old new refl refl kept (stopped events id number) now stands.live)
 
 -- ---- refusals of an attempt that is not live
@@ -97,7 +97,7 @@ pub stands_handed : (events : List Event) (database : State) (old new : ByInvoca
 stands_handed events database old new id number most bytes stands live opened out changed =
     let none = hand_out_causes events database old id number most stands live false opened in
     let here = this_one number (attempt_of old id) live in
-    let kept = unwritten events (Event.HandOut id number most) database stands.kept none (none_written (object_of events (Event.HandOut id number most))) in (
+    let kept = unwritten events (Event.HandOut id number most) database stands.kept tt none (none_written (object_of events (Event.HandOut id number most))) in (
       none,
       out ∙ handed_bytes events id most (attempt_of old id) number here (stands.live id),
       stands_after events (Event.HandOut id number most) id (option_map (after_hand_out most) (attempt_of old id)) database old new refl refl kept
@@ -137,7 +137,7 @@ pub stands_closed : (events : List Event) (database : State) (old new : ByInvoca
     → (causes_of events (Event.CloseInput id number) ≡ []) × Unit {0} × Stands (Event.CloseInput id number ∷ events) database new
 stands_closed events database old new id number stands live rest opened changed =
     let none = close_causes events database old id number stands live false false rest opened in
-    let kept = unwritten events (Event.CloseInput id number) database stands.kept none (none_written (object_of events (Event.CloseInput id number))) in (
+    let kept = unwritten events (Event.CloseInput id number) database stands.kept tt none (none_written (object_of events (Event.CloseInput id number))) in (
       none,
       tt,
       stands_after events (Event.CloseInput id number) id (option_map after_close (attempt_of old id)) database old new refl refl kept

@@ -45,7 +45,7 @@ invokes g a mid b live new writes (Ok done) Q looks ready lives wrote why undone
     let made = ready early s.events is.stands.kept in
     let store = store_kept s.events (state g a) (state g mid) looks.crash looks.kept is.stands.kept in
     let all = wrote clean in
-    let after = written s.events (Event.Invoke new) (state g mid) (state g b) writes store early made.0 made.1 all.0 all.1 in
+    let after = written s.events (Event.Invoke new) (state g mid) (state g b) writes store tt early made.0 made.1 all.0 all.1 in
     adds g s (stored a live) (stored b live) is (Event.Invoke new) (stands_invoked s.events new (state g b) live.attempts made.0 is.stands.kept.accepted after is.stands.live) (λ id. refl)
 invokes g a mid b live new writes (Err why) Q looks ready lives wrote circumstance undone clean s is =
     let store = store_kept s.events (state g a) (state g mid) looks.crash looks.kept is.stands.kept in

@@ -13,6 +13,7 @@ use Rattle.journal_model.specs.Event.{Event}
 use Rattle.journal_model.specs.Journal.{invocation_of, is_tick, is_text, entries_of, version_of}
 use Rattle.journal_model.specs.Attempt.{live_attempt, acknowledged, notification_type}
 use Rattle.journal_model.specs.Cause.{causes_of, IsAccepted}
+use Rattle.store_frames.specs.Read.{AreRead, IsReadIn}
 use Rattle.store_tables.specs.Records.{Holds, applied_all}
 use Rattle.store_tables.specs.declared.row.Write.{Write}
 use Rattle.store_tables.specs.Steps.{Turns, Lands}
@@ -35,34 +36,37 @@ true_or_false false = inr refl
 
 -- ---- records
 
-all_kept : (events : List Event) (event : Event) (s : State) (writes : List Write) (trees : Trees) → Keeps events s → causes_of events event ≡ []
+all_kept : (events : List Event) (event : Event) (s : State) (writes : List Write) (trees : Trees) → Keeps events s → AreRead (event ∷ events) → causes_of events event ≡ []
     → writes ≡ writes_of events event → Turns (applied_all writes) s.now.trees trees → KeepsAll (event ∷ events) trees
-all_kept events event s writes trees k accepted are turns = record {
+all_kept events event s writes trees k read accepted are turns = record {
+  read = read;
   records = applied_all writes k.records;
   held = turns k.records k.held;
   kept = subst (λ (ws : List Write). IsKept (event ∷ events) (applied_all ws k.records)) (sym are) (kept_after events event k.records k.accepted accepted k.kept);
 }
 
 -- what was made ready of an event was written
-pub written : (events : List Event) (event : Event) (old new : State) (writes : List Write) → IsStoreOf events old → HasCleanDisk old → causes_of events event ≡ []
+pub written : (events : List Event) (event : Event) (old new : State) (writes : List Write) → IsStoreOf events old → IsReadIn event → HasCleanDisk old → causes_of events event ≡ []
     → writes ≡ writes_of events event → IsTrue old.is_open → Turns (applied_all writes) old.now.trees new.now.trees → IsStoreOf (event ∷ events) new
-written events event old new writes store clean accepted are is_open turns =
+written events event old new writes store read clean accepted are is_open turns =
     let k = store.keeps clean is_open in
-    let all = all_kept events event old writes new.now.trees k accepted are turns in
+    let all = all_kept events event old writes new.now.trees k (read, store.read) accepted are turns in
     record {
       accepted = (accepted, store.accepted);
+      read = (read, store.read);
       keeps = λ _ _. record { accepted = (accepted, store.accepted); records = all.records; held = all.held; kept = all.kept };
     }
 
 -- and so it is where a crash comes
-pub landed : (events : List Event) (event : Event) (old : State) (writes : List Write) (trees : Trees) → IsStoreOf events old → HasCleanDisk old → causes_of events event ≡ []
+pub landed : (events : List Event) (event : Event) (old : State) (writes : List Write) (trees : Trees) → IsStoreOf events old → IsReadIn event → HasCleanDisk old → causes_of events event ≡ []
     → writes ≡ writes_of events event → IsTrue old.is_open → Turns (applied_all writes) old.now.trees trees → KeepsAll (event ∷ events) trees
-landed events event old writes trees store clean accepted are is_open turns = all_kept events event old writes trees (store.keeps clean is_open) accepted are turns
+landed events event old writes trees store read clean accepted are is_open turns = all_kept events event old writes trees (store.keeps clean is_open) (read, store.read) accepted are turns
 
 -- an event that writes nothing
-pub unwritten : (events : List Event) (event : Event) (s : State) → IsStoreOf events s → causes_of events event ≡ [] → writes_of events event ≡ [] → IsStoreOf (event ∷ events) s
-unwritten events event s store accepted none = record {
+pub unwritten : (events : List Event) (event : Event) (s : State) → IsStoreOf events s → IsReadIn event → causes_of events event ≡ [] → writes_of events event ≡ [] → IsStoreOf (event ∷ events) s
+unwritten events event s store read accepted none = record {
   accepted = (accepted, store.accepted);
+  read = (read, store.read);
   keeps = λ clean is_open.
       let k = store.keeps clean is_open in
       record {
@@ -149,6 +153,7 @@ keeps_now events old new same k = record {
 pub store_still : (events : List Event) (old new : State) (P : Trees → Type 0) → Survives old new P → Asked old new → IsStoreOf events old → IsStoreOf events new
 store_still events old new P lives asked store = record {
   accepted = store.accepted;
+  read = store.read;
   keeps = λ clean is_open.
       let early : HasCleanDisk old = omega (arith, lives.clean, clean) in
       let it = asked clean is_open in
@@ -182,16 +187,16 @@ stands_invoked events new database attempts accepted before kept live =
 -- ---- crashes
 
 -- what one transaction of an event leaves where a crash comes, if what it writes was made ready before
-pub commits_after : (old mid new : State) (event : Event) (writes : List Write)
+pub commits_after : (old mid new : State) (event : Event) (writes : List Write) → IsReadIn event
     → Survives old mid (λ _. ⊥) → Asked old mid → Survives mid new (Lands writes mid)
     → (HasCleanDisk mid → (events : List Event) → IsStoreOf events old → (causes_of events event ≡ []) × (writes ≡ writes_of events event))
     → ((events : List Event) → writes_of events event ≡ [] → ⊥) → Survives old new (Commits event old)
-commits_after old mid new event writes before asked lives made some =
+commits_after old mid new event writes read before asked lives made some =
     survives_then old mid new (λ _. ⊥) (Lands writes mid) (Commits event old) (λ _ db none. absurd none)
     (λ clean db lands events kept.
     let early : HasCleanDisk mid = omega (arith, lives.clean, clean) in
     let is = made early events kept in
     let store = store_kept events old mid before asked kept in
     let is_open : IsTrue mid.is_open = elim lands.0 [ inl none ↦ absurd (some events (sym is.1 ∙ none)) | inr still ↦ still ] in
-    (is.0, landed events event mid writes db store early is.0 is.1 is_open lands.1))
+    (is.0, landed events event mid writes db store read early is.0 is.1 is_open lands.1))
     before lives

@@ -16,6 +16,7 @@ use Rattle.protocol_stream.specs.Item.{Item, unknown, message, item_at}
 use Rattle.store_frames.specs.declared.frame.AttemptFrame.{AttemptFrame}
 use Rattle.store_frames.specs.Answer.{IsFrame}
 use Rattle.store_frames.specs.Meaning.{frame_of}
+use Rattle.store_frames.specs.Read.{IsReadIn}
 use Rattle.store_tables.specs.declared.row.Write.{Write}
 use Rattle.store_tables.specs.Looks.{Looks}
 use Rattle.store_tables.specs.Steps.{Lands}
@@ -96,13 +97,13 @@ passed_left false len found attempt is = ap (option_map (after_take len)) is
 
 -- ---- what is written
 
-stands_written : (events : List Event) (event : Event) (mid new : State) (Q : Trees → Type 0) (writes : List Write) → Survives mid new Q → HasCleanDisk new → IsStoreOf events mid
+stands_written : (events : List Event) (event : Event) (mid new : State) (Q : Trees → Type 0) (writes : List Write) → Survives mid new Q → HasCleanDisk new → IsStoreOf events mid → IsReadIn event
     → causes_of events event ≡ [] → writes ≡ writes_of events event → HasWritten writes mid new → IsStoreOf (event ∷ events) new
-stands_written events event mid new Q writes lives clean store accepted are (inl none) =
-    unwritten events event new (store_still events mid new Q lives none.1 store) accepted (sym are ∙ none.0)
-stands_written events event mid new Q writes lives clean store accepted are (inr all) =
+stands_written events event mid new Q writes lives clean store read accepted are (inl none) =
+    unwritten events event new (store_still events mid new Q lives none.1 store) read accepted (sym are ∙ none.0)
+stands_written events event mid new Q writes lives clean store read accepted are (inr all) =
     let early : HasCleanDisk mid = omega (arith, lives.clean, clean) in
-    written events event mid new writes store early accepted are all.0 all.1
+    written events event mid new writes store read early accepted are all.0 all.1
 
 -- ---- refusals
 
@@ -213,7 +214,7 @@ module _ {S : Type 0} (g : Ghosts S) (a mid b : Held S) (before after : Attempts
       let early : HasCleanDisk (state g mid) = omega (arith, lives.clean, clean) in
       let ready = prepared early s.events is.stands in
       let store = store_still s.events (state g a) (state g mid) (λ _. ⊥) looks.crash looks.kept is.stands.kept in
-      let all = stands_written s.events event (state g mid) (state g b) Q made.writes.items lives clean store ready.0 ready.1.writes (wrote clean) in
+      let all = stands_written s.events event (state g mid) (state g b) Q made.writes.items lives clean store (attempt.version, seen.message_is, refl) ready.0 ready.1.writes (wrote clean) in
       let agrees : Agrees s.events id (Some attempt) = subst (Agrees s.events id) found (is.stands.live id) in
       let is_reply : IsReply s.events id frame reply = subst (IsReply s.events id frame) (sym replied) ready.1.reply in
       let is_now : IsNow id (attempt_left (does_end reply) left_of attempt) before.attempts after.attempts =
@@ -251,7 +252,7 @@ module _ {S : Type 0} (g : Ghosts S) (a mid b : Held S) (before after : Attempts
       let early : HasCleanDisk (state g mid) = omega (arith, lives.clean, clean) in
       let ready = prepared early s.events is.stands in
       let store = store_still s.events (state g a) (state g mid) (λ _. ⊥) looks.crash looks.kept is.stands.kept in
-      let all = landed s.events event (state g mid) made.writes.items db store early ready.0 ready.1.writes lands.0 lands.1 in
+      let all = landed s.events event (state g mid) made.writes.items db store (attempt.version, seen.message_is, refl) early ready.0 ready.1.writes lands.0 lands.1 in
       let next = next_item g (stored a before) (stored b after) s is id n attempt (message seen.message_is) left_of found seen.first in
       let to = frame_landed s id n (frame_of attempt.version seen.message_is) left_of made.reply next ready.1.reply ready.0 in
       (to.0, (made.reply, to.2), subst (λ (events : List Event). KeepsAll events db) (sym to.1) all))

@@ -7,6 +7,7 @@ use Rattle.sqlite.specs.State.{State, HasCleanDisk, Survives}
 use Rattle.journal_model.specs.Notification.{Bytes, Text}
 use Rattle.journal_model.specs.Event.{Event}
 use Rattle.journal_model.specs.Cause.{causes_of}
+use Rattle.store_frames.specs.Read.{AreRead}
 use Rattle.store_tables.specs.Records.{Records, Holds}
 use Rattle.store_model.specs.Kept.{IsKept}
 use Rattle.store_refusals.specs.declared.refusal.Refusal.{Refusal}
@@ -50,8 +51,9 @@ IsAsBefore _ _ = ⊥
 abbrev pub AreAsBefore : ByInvocation → ByInvocation → Type 0
 AreAsBefore old new = (id : Text) → IsAsBefore (attempt_of old id) (attempt_of new id)
 
--- the tables hold what is kept of these events
+-- the tables hold what is kept of these events, of which each frame that was taken is that of a message
 pub record KeepsAll (events : List Event) (trees : Trees) : Type 0 where
+  pub read : AreRead events
   pub records : Records
   pub held : Holds trees records
   pub kept : IsKept events records

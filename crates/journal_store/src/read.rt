@@ -1,46 +1,37 @@
 // What a store tells of an invocation.
-ghost use Rattle.std.specs.Prelude.{◌≡◌, map, List};
+ghost use Rattle.std.specs.Prelude.{◌≡◌, List};
 ghost use Rattle.sqlite.specs.Held.{state};
 ghost use Rattle.sqlite.specs.State.{HasCleanDisk, Survives};
 ghost use Rattle.journal_model.specs.Event.{Event};
-ghost use Rattle.journal_model.specs.Journal.{entries_of, is_open as is_open_after, recorded_arrivals, recorded_requests};
+ghost use Rattle.journal_model.specs.Journal.{is_open as is_open_after};
 ghost use Rattle.store_model.specs.Progress.{last_error_of};
 ghost use Rattle.store_invocations.specs.Rows.{Decides, known_tests};
-ghost use Rattle.store_reads.specs.Told.{arrival_told, request_told};
-ghost use Rattle.store_reads.specs.Answered.{Answers};
+ghost use Rattle.store_reads.specs.Told.{entries_told};
+ghost use Rattle.store_reads.specs.Answered.{answer_told};
 ghost use Rattle.journal_store.specs.Stands.{Stands};
 
 use crate::store::Store;
 use bytes::ByteStr;
 use journal_model::NonEmptyValue;
 use sqlite::Alter;
-use store_reads::{RecordedFrame, answer, arrivals, failure, is_open, requests};
+use store_reads::{RecordedEntry, answer, entries, failure, is_open};
 use store_refusals::Refusal;
 use store_tables::LastError;
 
 impl<S: Alter + Drop> Store<S> {
-    /// The recorded requests, by place, each as the frame that its attempt wrote.
-    pub fn requests(&mut self, id: &ByteStr) -> Result<Vec<RecordedFrame>, Refusal>
-        ensures told { HasCleanDisk (state S.Store self.new.connection) → (events : List Event) → Stands events (state S.Store self.old.connection) self.old.live.attempts → Decides (known_tests events id.now) (λ frames. frames.items ≡ map request_told (recorded_requests events id.now)) result × Stands events (state S.Store self.new.connection) self.new.live.attempts }
+    /// The recorded requests and arrivals, by place.
+    pub fn entries(&mut self, id: &ByteStr) -> Result<Vec<RecordedEntry>, Refusal>
+        ensures told { HasCleanDisk (state S.Store self.new.connection) → (events : List Event) → Stands events (state S.Store self.old.connection) self.old.live.attempts → Decides (known_tests events id.now) (λ entries. entries.items ≡ entries_told events id.now) result × Stands events (state S.Store self.new.connection) self.new.live.attempts }
         ensures live { self.new.live ≡ self.old.live }
         ensures crash { Survives (state S.Store self.old.connection) (state S.Store self.new.connection) (λ _. ⊥) }
     {
-        requests(&mut self.tables, id)
-    }
-
-    /// The recorded arrivals, by place, each as a frame of the type by which its request is completed.
-    pub fn arrivals(&mut self, id: &ByteStr) -> Result<Vec<RecordedFrame>, Refusal>
-        ensures told { HasCleanDisk (state S.Store self.new.connection) → (events : List Event) → Stands events (state S.Store self.old.connection) self.old.live.attempts → Decides (known_tests events id.now) (λ frames. frames.items ≡ map (arrival_told (entries_of events id.now)) (recorded_arrivals events id.now)) result × Stands events (state S.Store self.new.connection) self.new.live.attempts }
-        ensures live { self.new.live ≡ self.old.live }
-        ensures crash { Survives (state S.Store self.old.connection) (state S.Store self.new.connection) (λ _. ⊥) }
-    {
-        arrivals(&mut self.tables, id)
+        entries(&mut self.tables, id)
     }
 
     /// What a closed invocation answers: what its last output put out, or the failure that closed it. Nothing where it is open, and
     /// where it ended with no output.
     pub fn answer(&mut self, id: &ByteStr) -> Result<Option<NonEmptyValue>, Refusal>
-        ensures told { HasCleanDisk (state S.Store self.new.connection) → (events : List Event) → Stands events (state S.Store self.old.connection) self.old.live.attempts → Answers events id.now result × Stands events (state S.Store self.new.connection) self.new.live.attempts }
+        ensures told { HasCleanDisk (state S.Store self.new.connection) → (events : List Event) → Stands events (state S.Store self.old.connection) self.old.live.attempts → Decides (known_tests events id.now) (λ answer. answer ≡ answer_told events id.now) result × Stands events (state S.Store self.new.connection) self.new.live.attempts }
         ensures live { self.new.live ≡ self.old.live }
         ensures crash { Survives (state S.Store self.old.connection) (state S.Store self.new.connection) (λ _. ⊥) }
     {

@@ -130,7 +130,7 @@ fn low_bytes(number: u32) -> [u8; 2]
 /// A recorded request: its place, counted from 1, the number of its frame's type, which has sixteen bits, and its payload.
 #[derive(Clone, Copy)]
 pub struct ShownRequest<'a> {
-    pub place: usize,
+    pub place: u32,
     pub ty: u32,
     pub payload: &'a [u8],
 }

@@ -1,5 +1,6 @@
 pub mod Answer
 pub mod Kind
 pub mod Meaning
+pub mod Read
 pub mod Requests
 pub mod Told

@@ -20,15 +20,12 @@ keeps_now events old new same k = record {
 pub store_kept : (events : List Event) (old new : State) → Survives old new (λ _. ⊥) → IsKept old new → IsStoreOf events old → IsStoreOf events new
 store_kept events old new lives kept store = record {
   accepted = store.accepted;
+  read = store.read;
   keeps = λ clean is_open.
       let early : HasCleanDisk old = omega (arith, lives.clean, clean) in
       let it = kept clean is_open in
       keeps_now events old new it.1 (store.keeps early it.0);
 }
-
--- and where records are kept it is one
-pub store_of : (events : List Event) (s : State) → Keeps events s → IsStoreOf events s
-store_of events s k = record { accepted = k.accepted; keeps = λ clean is_open. k }
 
 pub kept_on : (a b c : State) → Survives b c (λ _. ⊥) → IsKept a b → IsKept b c → IsKept a c
 kept_on a b c lives one two clean is_open =

@@ -8,13 +8,16 @@ use Rattle.journal_model.specs.Journal.{invocation_begun, is_open}
 use Rattle.journal_model.specs.Cause.{Cause, Tests, those_that_hold, is_too_long, IsAccepted}
 use Rattle.store_tables.specs.declared.row.InvocationRow.{InvocationRow}
 use Rattle.store_model.specs.Kept.{invocation_row}
+use Rattle.store_frames.specs.Read.{AreRead}
 use Rattle.store_refusals.specs.declared.refusal.Refusal.{Refusal}
 use Rattle.store_refusals.specs.Refused.{IsRefused}
 use Rattle.store_refusals.specs.Prepared.{Keeps}
 
--- a connection that is open keeps the records of these events, which were accepted; one that is shut says nothing
+-- A connection that is open keeps the records of these events, which were accepted, and of which each frame that was taken is that
+-- of a message; one that is shut says nothing.
 pub record IsStoreOf (events : List Event) (s : State) : Type 0 where
   pub accepted : IsAccepted events
+  pub read : AreRead events
   pub keeps : HasCleanDisk s → IsTrue s.is_open → Keeps events s
 
 -- the first test that holds is answered, and if none does this is made

@@ -34,5 +34,5 @@ pub images_are : {S : Type 0} (g : Ghosts S) → ImagesAreStores g
 images_are g lists found (events, is, accepted, keeps) = (
   events,
   is,
-  record { accepted = accepted; keeps = λ clean is_open. record { accepted = accepted; records = keeps.records; held = keeps.held; kept = keeps.kept } },
+  record { accepted = accepted; read = keeps.read; keeps = λ clean is_open. record { accepted = accepted; records = keeps.records; held = keeps.held; kept = keeps.kept } },
 )

@@ -1,5 +1,5 @@
 -- What the row of a closed invocation answers is what the events say.
-use Rattle.std.proofs.Common.{◌≡◌, refl, sym, ap, subst, ◌∙◌, ℕ, ◌<◌, ◌^◌, inl, inr, length, map, List, [], ◌∷◌, Option, Some, None, option_map, IfSome, Result, Ok, Err, IsErrAnd, IsTrue}
+use Rattle.std.proofs.Common.{◌≡◌, refl, sym, ap, subst, ◌∙◌, ℕ, ◌<◌, ◌^◌, inl, inr, length, map, List, [], ◌∷◌, Option, Some, None, option_map, IfSome, Result, Ok, Err, IsTrue}
 use Rattle.std.specs.List.{AllByRecursion}
 use Rattle.journal_model.specs.Notification.{Bytes, Text}
 use Rattle.journal_model.specs.declared.value.NonEmptyValue.{NonEmptyValue}
@@ -7,7 +7,7 @@ use Rattle.journal_model.specs.Value.{code_taken}
 use Rattle.journal_model.specs.Request.{Request, answer_of, or_later}
 use Rattle.journal_model.specs.Spelling.{request_payload}
 use Rattle.journal_model.specs.Event.{Event}
-use Rattle.journal_model.specs.Journal.{Closing as Closed, ByEnd, ByFailure, answer_at_close, closing_of, recorded_answer, recorded_requests}
+use Rattle.journal_model.specs.Journal.{Closing as Closed, ByEnd, ByFailure, answer_at_close, closing_of, recorded_requests}
 use Rattle.journal_model.specs.Cause.{IsAccepted, those_that_hold}
 use Rattle.protocol_table.specs.declared.table.RecordType.TheVariants.{OutputCommand}
 use Rattle.protocol_wire.specs.declared.record.TheConstants.{LEVELS}
@@ -25,10 +25,13 @@ use Rattle.store_tables.specs.declared.row.LastError.{LastError}
 use Rattle.store_tables.specs.declared.row.InvocationRow.{InvocationRow}
 use Rattle.store_model.specs.Progress.{last_error_of, last_output, or_last, progress_of, way_closed}
 use Rattle.store_refusals.specs.declared.refusal.Refusal.{Refusal}
-use Rattle.store_refusals.specs.Refused.{IsRefused, is_circumstance}
-use Rattle.store_invocations.specs.Rows.{IsRowOf, known_tests}
-use Rattle.store_reads.specs.Answered.{Answers, AreHeld, IsHeld, IsShortPayload, Reads, answer_by, closed_by, failure_by, output_by, output_in, output_read, value_taken}
+use Rattle.store_frames.specs.Read.{AreRead}
+use Rattle.store_refusals.specs.Refused.{is_circumstance}
+use Rattle.store_invocations.specs.Rows.{Decides, IsRowOf, known_tests}
+use Rattle.store_reads.specs.Answered.{IsShortPayload, Reads, answer_by, answer_told, closed_by, failure_by, output_by, output_in, output_read, value_taken}
 use Rattle.store_reads.proofs.Closing.{IsFailure, closed_by_failure}
+use Rattle.store_reads.proofs.Reading.{IsHeld}
+use Rattle.store_reads.proofs.Recording.{outputs_held}
 
 -- ---- an output's payload
 
@@ -107,36 +110,33 @@ failed_back code message told is =
     ap (option_map (λ (one : LastError). Some (failure_by one))) is.is
     ∙ (λ i. Some (Some (NonEmptyValue.Failure (record { code = code_taken (is.has_code i); message = is.has_message i; metadata = [] }))))
 
-answer_back : (events : List Event) (id : Text) → IsAccepted events → IsShortPayload (progress_of events id) → AreHeld events id
-    → answer_by (progress_of events id) ≡ Some (option_map value_taken (recorded_answer events id))
-answer_back events id accepted short held = by_closing (closing_of events id) refl
+answer_back : (events : List Event) (id : Text) → IsAccepted events → AreRead events → IsShortPayload (progress_of events id)
+    → answer_by (progress_of events id) ≡ Some (answer_told events id)
+answer_back events id accepted read short = by_closing (closing_of events id) refl
   where
     by_closing : (o : Option Closed) → closing_of events id ≡ o
         → closed_by (option_map way_closed o) (last_output (recorded_requests events id)) (last_error_of events id) ≡ Some (option_map value_taken (answer_at_close (recorded_requests events id) o))
     by_closing None is = refl
     by_closing (Some ByEnd) is =
-        output_back (last_output (recorded_requests events id)) (answer_of (recorded_requests events id)) (put_out (recorded_requests events id) held) (short (ap (option_map way_closed) is))
+        output_back (last_output (recorded_requests events id)) (answer_of (recorded_requests events id)) (put_out (recorded_requests events id) (outputs_held events id read))
+        (short (ap (option_map way_closed) is))
     by_closing (Some (ByFailure code message)) is = failed_back code message (last_error_of events id) (closed_by_failure events id code message accepted is)
 
 some_is : {A : Type 0} (x y : A) → Some x ≡ Some y → x ≡ y
 some_is x y e = cc
 
-pub answered : (events : List Event) (id : Text) (row : InvocationRow) (result : Result (Option NonEmptyValue) Refusal) → IsAccepted events
-    → (those_that_hold (known_tests events id) ≡ []) × IsRowOf events id row → Reads (answer_by row.progress) result → IsShortPayload row.progress → Answers events id result
-answered events id row result accepted known reads short = by_result result reads
+pub answered : (events : List Event) (id : Text) (row : InvocationRow) (result : Result (Option NonEmptyValue) Refusal) → IsAccepted events → AreRead events
+    → (those_that_hold (known_tests events id) ≡ []) × IsRowOf events id row → Reads (answer_by row.progress) result → IsShortPayload row.progress
+    → Decides (known_tests events id) (λ answer. answer ≡ answer_told events id) result
+answered events id row result accepted read known reads short = by_result result reads
   where
     progress_is : row.progress ≡ progress_of events id
     progress_is = ap (λ (r : InvocationRow). r.progress) known.1.is ∙ ap (progress_of events) known.1.named
 
-    back : AreHeld events id → answer_by row.progress ≡ Some (option_map value_taken (recorded_answer events id))
-    back held = ap answer_by progress_is ∙ answer_back events id accepted (subst IsShortPayload progress_is short) held
+    back : answer_by row.progress ≡ Some (answer_told events id)
+    back = ap answer_by progress_is ∙ answer_back events id accepted read (subst IsShortPayload progress_is short)
 
-    by_result : (r : Result (Option NonEmptyValue) Refusal) → Reads (answer_by row.progress) r → Answers events id r
-    by_result (Ok answer) reads = (known.0, λ held. some_is answer (option_map value_taken (recorded_answer events id)) (sym reads ∙ back held))
-    by_result (Err why) (inl foreign) = inr (foreign.0, λ held. let none : None ≡ Some (option_map value_taken (recorded_answer events id)) = sym foreign.1 ∙ back held in cc)
-    by_result (Err why) (inr memory) = inl (inr (subst (λ (w : Refusal). IsTrue (is_circumstance w)) (sym memory) refl))
-
-pub answer_err : (events : List Event) (id : Text) (r : Result (Option NonEmptyValue) Refusal) (cause : Refusal) → IsErrAnd r (λ why. why ≡ cause)
-    → IsRefused (those_that_hold (known_tests events id)) cause → Answers events id r
-answer_err events id (Ok answer) cause gives refused = absurd gives
-answer_err events id (Err why) cause gives refused = inl (subst (IsRefused (those_that_hold (known_tests events id))) (sym gives) refused)
+    by_result : (r : Result (Option NonEmptyValue) Refusal) → Reads (answer_by row.progress) r → Decides (known_tests events id) (λ answer. answer ≡ answer_told events id) r
+    by_result (Ok answer) reads = (known.0, some_is answer (answer_told events id) (sym reads ∙ back))
+    by_result (Err why) (inl foreign) = let none : None ≡ Some (answer_told events id) = sym foreign.1 ∙ back in cc
+    by_result (Err why) (inr memory) = inr (subst (λ (w : Refusal). IsTrue (is_circumstance w)) (sym memory) refl)

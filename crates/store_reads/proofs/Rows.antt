@@ -7,9 +7,9 @@ use Rattle.journal_model.specs.declared.notification.NotificationId.{Notificatio
 use Rattle.journal_model.specs.declared.notification.NotificationId.TheVariants.{CompletionId, SignalId, SignalName}
 use Rattle.journal_model.specs.declared.invocation.NewInvocation.{NewInvocation}
 use Rattle.journal_model.specs.Request.{Request}
-use Rattle.journal_model.specs.Spelling.{request_type, completion_type, notification_payload}
+use Rattle.journal_model.specs.Spelling.{request_type, completion_type, request_payload, notification_payload}
 use Rattle.journal_model.specs.Event.{Event}
-use Rattle.journal_model.specs.Journal.{Entry, Recorded, Arrived, arrivals_in, requests_in, request_asking, entries_of, invocation_begun, recorded_arrivals, recorded_requests, starting_state}
+use Rattle.journal_model.specs.Journal.{Entry, Recorded, Arrived, request_asking, entries_of, invocation_begun, starting_state}
 use Rattle.journal_model.specs.Attempt.{notification_type, type_of_completion}
 use Rattle.journal_model.specs.Cause.{Cause, IsAccepted, those_that_hold}
 use Rattle.journal_laws.proofs.ObjectState.{no_entries}
@@ -24,8 +24,8 @@ use Rattle.store_refusals.specs.declared.refusal.Refusal.TheVariants.{UnknownInv
 use Rattle.store_refusals.specs.Refused.{IsRefused, is_circumstance, reading_refusal}
 use Rattle.store_refusals.specs.Prepared.{Keeps}
 use Rattle.store_invocations.specs.Rows.{known_tests}
-use Rattle.store_reads.specs.declared.entries.RecordedFrame.{RecordedFrame}
-use Rattle.store_reads.specs.Told.{arrival_told, frame_told, is_arrival, is_request, is_row_of_arrival, is_row_of_request, request_told}
+use Rattle.store_reads.specs.declared.recorded.RecordedEntry.{RecordedEntry}
+use Rattle.store_reads.specs.Told.{entries_told, entry_read, is_entry, is_request, kind_by, told_from}
 
 -- ---- what is read
 
@@ -46,10 +46,6 @@ request_is : (request : Request) → is_request (request_type request) ≡ true
 request_is (Request.Output value name) = refl
 request_is _ = refl
 
-request_is_no_arrival : (request : Request) → is_arrival (request_type request) ≡ false
-request_is_no_arrival (Request.Output value name) = refl
-request_is_no_arrival _ = refl
-
 of_a_call : {A : Type 0} (read : ℕ → A) (x : A) → read 0x800e ≡ x → read 0x800d ≡ x → (b : Bool) → read (if b then 0x800e else 0x800d) ≡ x
 of_a_call read x first second true = first
 of_a_call read x first second false = second
@@ -57,10 +53,6 @@ of_a_call read x first second false = second
 completion_is_no_request : (request : Request) (n : ℕ) → is_request (completion_type request n) ≡ false
 completion_is_no_request (Request.CallService call m k name) n = of_a_call is_request false refl refl (n == m)
 completion_is_no_request _ n = refl
-
-completion_is : (request : Request) (n : ℕ) → is_arrival (completion_type request n) ≡ true
-completion_is (Request.CallService call m k name) n = of_a_call is_arrival true refl refl (n == m)
-completion_is _ n = refl
 
 arrival_is_no_request : (entries : List Entry) (id : NotificationId) → is_request (notification_type entries id) ≡ false
 arrival_is_no_request entries (CompletionId n) = by_request (request_asking entries n)
@@ -71,66 +63,40 @@ arrival_is_no_request entries (CompletionId n) = by_request (request_asking entr
 arrival_is_no_request entries (SignalId n) = refl
 arrival_is_no_request entries (SignalName name) = refl
 
-arrival_is : (entries : List Entry) (id : NotificationId) → is_arrival (notification_type entries id) ≡ true
-arrival_is entries (CompletionId n) = by_request (request_asking entries n)
-  where
-    by_request : (o : Option Request) → is_arrival (type_of_completion o n) ≡ true
-    by_request None = refl
-    by_request (Some request) = completion_is request n
-arrival_is entries (SignalId n) = refl
-arrival_is entries (SignalName name) = refl
-
 -- ---- the rows
 
-abbrev frame_as : ℕ → Bytes → RecordedFrame
-frame_as kind payload = record { kind = kind; payload = payload }
+abbrev entry_with : ℕ → Bool → ℕ → Bytes → RecordedEntry
+entry_with place b ty payload = record { place = place; kind = kind_by b; ty = ty; payload = payload }
 
-told_if : EntryRow → List EntryRow → Bool → List RecordedFrame
-told_if row rest b = map frame_told (if b then row ∷ rest else rest)
+read_if : EntryRow → List EntryRow → Bool → List RecordedEntry
+read_if row rest b = map entry_read (if b then row ∷ rest else rest)
 
-requests_told : (id : Text) (before : List Entry) (place : ℕ) (entries : List Entry)
-    → map frame_told (filter is_row_of_request (rows_from id before place entries)) ≡ map request_told (requests_in entries)
-unfolding told_if
-requests_told id before place [] = refl
-requests_told id before place (Recorded request ∷ entries) =
-    ap (told_if (entry_row id before place (Recorded request)) (filter is_row_of_request (rows_from id (before ++ Recorded request ∷ []) (place + 1) entries))) (request_is request)
-    ∙ ap (λ (more : List RecordedFrame). request_told request ∷ more) (requests_told id (before ++ Recorded request ∷ []) (place + 1) entries)
-requests_told id before place (Arrived arrival ∷ entries) =
-    ap (told_if (entry_row id before place (Arrived arrival)) (filter is_row_of_request (rows_from id (before ++ Arrived arrival ∷ []) (place + 1) entries))) (arrival_is_no_request before arrival.id)
-    ∙ requests_told id (before ++ Arrived arrival ∷ []) (place + 1) entries
+behind_first : (place : ℕ) (b : Bool) → (place + 1 == 0) ≡ b → b ≡ false
+behind_first place true e = absurd (let zero = eqb-true (place + 1) 0 e in omega (arith, zero))
+behind_first place false e = refl
 
-arrivals_told : (id : Text) (before : List Entry) (place : ℕ) (entries all : List Entry) → AreAskedBefore before entries → (before ++ entries) ≡ all
-    → map frame_told (filter is_row_of_arrival (rows_from id before place entries)) ≡ map (arrival_told all) (arrivals_in entries)
-unfolding told_if
-arrivals_told id before place [] all h e = refl
-arrivals_told id before place (Recorded request ∷ entries) all h e =
-    ap (told_if (entry_row id before place (Recorded request)) (filter is_row_of_arrival (rows_from id (before ++ Recorded request ∷ []) (place + 1) entries))) (request_is_no_arrival request)
-    ∙ arrivals_told id (before ++ Recorded request ∷ []) (place + 1) entries all h.1 (append_assoc before (Recorded request ∷ []) entries ∙ e)
-arrivals_told id before place (Arrived arrival ∷ entries) all h e =
-    ap (told_if (entry_row id before place (Arrived arrival)) (filter is_row_of_arrival (rows_from id (before ++ Arrived arrival ∷ []) (place + 1) entries))) (arrival_is before arrival.id)
-    ∙ ap₂ (λ (kind : ℕ) (more : List RecordedFrame). frame_as kind (notification_payload arrival) ∷ more)
+read_from : (id : Text) (before : List Entry) (place : ℕ) (entries all : List Entry) → (place == 0) ≡ false → AreAskedBefore before entries → (before ++ entries) ≡ all
+    → map entry_read (filter is_entry (rows_from id before place entries)) ≡ told_from all place entries
+unfolding read_if
+read_from id before place [] all later h e = refl
+read_from id before place (Recorded request ∷ entries) all later h e =
+    ap (read_if (entry_row id before place (Recorded request)) (filter is_entry (rows_from id (before ++ Recorded request ∷ []) (place + 1) entries))) (ap not later)
+    ∙ ap₂ (λ (b : Bool) (more : List RecordedEntry). entry_with place b (request_type request) (request_payload request) ∷ more) (request_is request)
+    (read_from id (before ++ Recorded request ∷ []) (place + 1) entries all (behind_first place (place + 1 == 0) refl) h.1 (append_assoc before (Recorded request ∷ []) entries ∙ e))
+read_from id before place (Arrived arrival ∷ entries) all later h e =
+    ap (read_if (entry_row id before place (Arrived arrival)) (filter is_entry (rows_from id (before ++ Arrived arrival ∷ []) (place + 1) entries))) (ap not later)
+    ∙ ap (λ (b : Bool). entry_with place b (notification_type before arrival.id) (notification_payload arrival) ∷ map entry_read (filter is_entry (rows_from id (before ++ Arrived arrival ∷ []) (place + 1) entries))) (arrival_is_no_request before arrival.id)
+    ∙ ap₂ (λ (ty : ℕ) (more : List RecordedEntry). entry_with place false ty (notification_payload arrival) ∷ more)
     (kind_stays before (Arrived arrival ∷ entries) arrival.id h.0 ∙ ap (λ (some : List Entry). notification_type some arrival.id) e)
-    (arrivals_told id (before ++ Arrived arrival ∷ []) (place + 1) entries all h.1 (append_assoc before (Arrived arrival ∷ []) entries ∙ e))
+    (read_from id (before ++ Arrived arrival ∷ []) (place + 1) entries all (behind_first place (place + 1 == 0) refl) h.1 (append_assoc before (Arrived arrival ∷ []) entries ∙ e))
 
--- ---- of all that is kept
-
-pub requests_all : (events : List Event) (id : Text) → IsAccepted events
-    → map frame_told (filter is_row_of_request (journal_rows events id)) ≡ map request_told (recorded_requests events id)
-requests_all events id accepted = by_begun (invocation_begun events id) refl
+-- all that is kept
+pub entries_read : (events : List Event) (id : Text) → IsAccepted events → map entry_read (filter is_entry (journal_rows events id)) ≡ entries_told events id
+entries_read events id accepted = by_begun (invocation_begun events id) refl
   where
-    by_begun : (o : Option NewInvocation) → invocation_begun events id ≡ o
-        → map frame_told (filter is_row_of_request (rows_of_journal o id (entries_of events id))) ≡ map request_told (recorded_requests events id)
-    by_begun None is = sym (ap (λ (entries : List Entry). map request_told (requests_in entries)) (no_entries (starting_state events id) events accepted id is))
-    by_begun (Some new) is = requests_told id [] 1 (entries_of events id)
-
-pub arrivals_all : (events : List Event) (id : Text) → IsAccepted events
-    → map frame_told (filter is_row_of_arrival (journal_rows events id)) ≡ map (arrival_told (entries_of events id)) (recorded_arrivals events id)
-arrivals_all events id accepted = by_begun (invocation_begun events id) refl
-  where
-    by_begun : (o : Option NewInvocation) → invocation_begun events id ≡ o
-        → map frame_told (filter is_row_of_arrival (rows_of_journal o id (entries_of events id))) ≡ map (arrival_told (entries_of events id)) (recorded_arrivals events id)
-    by_begun None is = sym (ap (λ (entries : List Entry). map (arrival_told (entries_of events id)) (arrivals_in entries)) (no_entries (starting_state events id) events accepted id is))
-    by_begun (Some new) is = arrivals_told id [] 1 (entries_of events id) (entries_of events id) (all_asked_before id events accepted) refl
+    by_begun : (o : Option NewInvocation) → invocation_begun events id ≡ o → map entry_read (filter is_entry (rows_of_journal o id (entries_of events id))) ≡ entries_told events id
+    by_begun None is = sym (ap (λ (entries : List Entry). told_from entries 1 entries) (no_entries (starting_state events id) events accepted id is))
+    by_begun (Some new) is = read_from id [] 1 (entries_of events id) (entries_of events id) refl (all_asked_before id events accepted) refl
 
 -- ---- an invocation that was begun has rows
 

@@ -1,28 +1,23 @@
 -- What a closed invocation answers.
 use Rattle.std.specs.Prelude.{◌≡◌, ◌⊎◌, ◌<◌, ◌^◌, length, List, [], Option, Some, None, IfSome, option_map, Result, Ok, Err}
-use Rattle.std.specs.List.{AllByRecursion}
 use Rattle.journal_model.specs.Notification.{Bytes, Text}
 use Rattle.journal_model.specs.declared.value.NonEmptyValue.{NonEmptyValue}
 use Rattle.journal_model.specs.Value.{code_taken, failure_recorded, failure_taken}
-use Rattle.journal_model.specs.Request.{Request}
 use Rattle.journal_model.specs.Event.{Event}
-use Rattle.journal_model.specs.Journal.{recorded_answer, recorded_requests}
-use Rattle.journal_model.specs.Cause.{those_that_hold}
+use Rattle.journal_model.specs.Journal.{recorded_answer}
 use Rattle.protocol_table.specs.declared.table.RecordType.TheVariants.{OutputCommand}
 use Rattle.protocol_wire.specs.declared.record.TheConstants.{LEVELS}
 use Rattle.protocol_wire.specs.declared.check.Fault.{Fault}
 use Rattle.protocol_wire.specs.Check.{payload_fault}
 use Rattle.protocol_wire.specs.Fields.{fields}
-use Rattle.protocol_records.specs.OutputCommand.{OutputCommandFits, output_command_result_of}
-use Rattle.protocol_stream.specs.Records.{output_record, result_told}
+use Rattle.protocol_records.specs.OutputCommand.{output_command_result_of}
+use Rattle.protocol_stream.specs.Records.{result_told}
 use Rattle.store_tables.specs.declared.row.Closing.{Closing}
 use Rattle.store_tables.specs.declared.row.Closing.TheVariants.{Ended, Failed}
 use Rattle.store_tables.specs.declared.row.LastError.{LastError}
 use Rattle.store_tables.specs.declared.row.Progress.{Progress}
 use Rattle.store_refusals.specs.declared.refusal.Refusal.{Refusal}
 use Rattle.store_refusals.specs.declared.refusal.Refusal.TheVariants.{ForeignRow, OutOfMemory}
-use Rattle.store_refusals.specs.Refused.{IsRefused}
-use Rattle.store_invocations.specs.Rows.{known_tests}
 
 -- ---- of a row
 
@@ -66,15 +61,6 @@ abbrev pub value_taken : NonEmptyValue → NonEmptyValue
 value_taken (NonEmptyValue.Success bytes) = NonEmptyValue.Success bytes
 value_taken (NonEmptyValue.Failure failure) = NonEmptyValue.Failure (failure_taken (failure_recorded failure))
 
--- an output that a message can hold: its texts are UTF-8, and a code has at most 32 bits
-abbrev pub IsHeld : Request → Type 0
-IsHeld (Request.Output value name) = OutputCommandFits LEVELS (output_record value name)
-IsHeld _ = Unit {0}
-
-abbrev pub AreHeld : List Event → Text → Type 0
-AreHeld events id = AllByRecursion IsHeld (recorded_requests events id)
-
--- The answer of an invocation that is known. Of a recorded output that no message holds another value may be read, or none.
-abbrev pub Answers : List Event → Text → Result (Option NonEmptyValue) Refusal → Type 0
-Answers events id (Ok answer) = (those_that_hold (known_tests events id) ≡ []) × (AreHeld events id → answer ≡ option_map value_taken (recorded_answer events id))
-Answers events id (Err why) = IsRefused (those_that_hold (known_tests events id)) why ⊎ ((why ≡ ForeignRow) × ¬ AreHeld events id)
+-- what an invocation answers, as it is told
+abbrev pub answer_told : List Event → Text → Option NonEmptyValue
+answer_told events id = option_map value_taken (recorded_answer events id)

@@ -1,32 +1,46 @@
--- What is told of an invocation.
-use Rattle.std.specs.Prelude.{ℕ, nat_lt, nat_le, Bool, ◌&&◌, ◌||◌, List}
-use Rattle.journal_model.specs.Notification.{Arrival}
-use Rattle.journal_model.specs.Request.{Request}
+-- What is told of the journal of an invocation.
+use Rattle.std.specs.Prelude.{ℕ, ◌+◌, ◌==◌, nat_lt, Bool, true, false, not, ◌&&◌, List, [], ◌∷◌}
+use Rattle.journal_model.specs.Notification.{Text}
 use Rattle.journal_model.specs.Spelling.{request_type, request_payload, notification_payload}
-use Rattle.journal_model.specs.Journal.{Entry}
+use Rattle.journal_model.specs.Event.{Event}
+use Rattle.journal_model.specs.Journal.{Entry, Recorded, Arrived, entries_of}
 use Rattle.journal_model.specs.Attempt.{notification_type}
 use Rattle.store_tables.specs.declared.row.EntryRow.{EntryRow}
-use Rattle.store_reads.specs.declared.entries.RecordedFrame.{RecordedFrame}
+use Rattle.store_reads.specs.declared.recorded.EntryKind.{EntryKind}
+use Rattle.store_reads.specs.declared.recorded.EntryKind.TheVariants as kinds
+use Rattle.store_reads.specs.declared.recorded.RecordedEntry.{RecordedEntry}
 
--- the numbers of the types of requests, and those of arrivals; an input's is neither
+-- ---- of a row
+
+-- the numbers of the types of requests
 abbrev pub is_request : ℕ → Bool
-is_request kind = nat_lt 0x0400 kind && nat_lt kind 0x8000
+is_request ty = nat_lt 0x0400 ty && nat_lt ty 0x8000
 
-abbrev pub is_arrival : ℕ → Bool
-is_arrival kind = nat_lt kind 0x0400 || nat_le 0x8000 kind
+abbrev pub kind_by : Bool → EntryKind
+kind_by true = kinds.Request
+kind_by false = kinds.Arrival
 
-abbrev pub is_row_of_request : EntryRow → Bool
-is_row_of_request row = is_request row.kind
+-- the input stands before the entries
+abbrev pub is_entry : EntryRow → Bool
+is_entry row = not (row.place == 0)
 
-abbrev pub is_row_of_arrival : EntryRow → Bool
-is_row_of_arrival row = is_arrival row.kind
+abbrev pub entry_read : EntryRow → RecordedEntry
+entry_read row = record { place = row.place; kind = kind_by (is_request row.kind); ty = row.kind; payload = row.payload }
 
--- as frames
-abbrev pub frame_told : EntryRow → RecordedFrame
-frame_told row = record { kind = row.kind; payload = row.payload }
+-- ---- of the events
 
-abbrev pub request_told : Request → RecordedFrame
-request_told request = record { kind = request_type request; payload = request_payload request }
+-- an entry at its place, as its frame; the type of an arrival's is the one by which its request, which is among the entries, is completed
+abbrev pub entry_told : List Entry → ℕ → Entry → RecordedEntry
+entry_told entries place (Recorded request) =
+    record { place = place; kind = kinds.Request; ty = request_type request; payload = request_payload request }
+entry_told entries place (Arrived arrival) =
+    record { place = place; kind = kinds.Arrival; ty = notification_type entries arrival.id; payload = notification_payload arrival }
 
-abbrev pub arrival_told : List Entry → Arrival → RecordedFrame
-arrival_told entries arrival = record { kind = notification_type entries arrival.id; payload = notification_payload arrival }
+-- those from a place on
+abbrev pub told_from : List Entry → ℕ → List Entry → List RecordedEntry
+told_from all place [] = []
+told_from all place (entry ∷ entries) = entry_told all place entry ∷ told_from all (place + 1) entries
+
+-- all of an invocation, of which the first has place 1
+abbrev pub entries_told : List Event → Text → List RecordedEntry
+entries_told events id = told_from (entries_of events id) 1 (entries_of events id)

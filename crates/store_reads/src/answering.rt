@@ -5,8 +5,8 @@ ghost use Rattle.sqlite.specs.Held.{state};
 ghost use Rattle.sqlite.specs.State.{HasCleanDisk};
 ghost use Rattle.journal_model.specs.Event.{Event};
 ghost use Rattle.store_tables.specs.Looks.{Looks};
-ghost use Rattle.store_invocations.specs.Rows.{IsStoreOf};
-ghost use Rattle.store_reads.specs.Answered.{Answers, IsShortPayload, Reads, answer_by, failure_by, output_by, output_in};
+ghost use Rattle.store_invocations.specs.Rows.{Decides, IsStoreOf, known_tests};
+ghost use Rattle.store_reads.specs.Answered.{IsShortPayload, Reads, answer_by, answer_told, failure_by, output_by, output_in};
 
 use bytes::{ByteStr, Bytes};
 use journal_model::NonEmptyValue;
@@ -96,7 +96,7 @@ pub fn answer<S: Alter>(
     tables: &mut StoreTables<S>,
     id: &ByteStr,
 ) -> Result<Option<NonEmptyValue>, Refusal>
-    ensures told { HasCleanDisk (state S.Store tables.new) → (events : List Event) → IsStoreOf events (state S.Store tables.old) → Answers events id.now result }
+    ensures told { HasCleanDisk (state S.Store tables.new) → (events : List Event) → IsStoreOf events (state S.Store tables.old) → Decides (known_tests events id.now) (λ answer. answer ≡ answer_told events id.now) result }
     ensures looks { Looks S.Store tables.old tables.new }
 {
     let row = known_row(tables, id)?;

@@ -3,7 +3,7 @@ use crate::fault::Fault;
 use journal_model::NonEmptyValue;
 use journal_store::{Accepted, BegunAttempt, FrameReply};
 use script_lines::text::Hex;
-use store_reads::RecordedFrame;
+use store_reads::{EntryKind, RecordedEntry};
 use store_refusals::Refusal;
 use store_tables::LastError;
 
@@ -90,22 +90,35 @@ pub fn print_accepted<R: Print>(rt: &R, accepted: &Accepted) -> Result<(), Fault
     }
 }
 
-fn print_each<R: Print>(rt: &R, frames: &[RecordedFrame]) -> Result<(), Fault> {
-    for frame in frames {
-        print!(rt; "{:04x} {}, ", frame.kind, Hex(frame.payload.as_slice()))?;
+fn kind_word(kind: EntryKind) -> &'static str {
+    match kind {
+        EntryKind::Request => "request",
+        EntryKind::Arrival => "arrival",
+    }
+}
+
+fn print_entry<R: Print>(rt: &R, entry: &RecordedEntry) -> Result<(), Fault> {
+    let kind = kind_word(entry.kind);
+    let payload = Hex(entry.payload.as_slice());
+    Ok(print!(rt; "{} {kind} {:04x} {payload}, ", entry.place, entry.ty)?)
+}
+
+fn print_each<R: Print>(rt: &R, entries: &[RecordedEntry]) -> Result<(), Fault> {
+    for entry in entries {
+        print_entry(rt, entry)?;
     }
     Ok(println!(rt; "no more")?)
 }
 
-/// The type and the payload of each frame.
-pub fn print_frames<R: Print>(
+/// Each entry by its place, its kind, and the type and the payload of its frame.
+pub fn print_entries<R: Print>(
     rt: &R,
-    frames: Result<Vec<RecordedFrame>, Refusal>,
+    entries: Result<Vec<RecordedEntry>, Refusal>,
 ) -> Result<(), Fault> {
-    match frames {
-        Ok(frames) => {
-            let done = print_each(rt, frames.as_slice());
-            drop(frames);
+    match entries {
+        Ok(entries) => {
+            let done = print_each(rt, entries.as_slice());
+            drop(entries);
             done
         }
         Err(why) => print_refusal(rt, why),

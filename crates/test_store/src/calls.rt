@@ -2,7 +2,7 @@
 //! it answered, so that a file is printed as it stands where all is as it says.
 use crate::answers::{
     print_accepted, print_answer, print_begun, print_bytes, print_done, print_failure,
-    print_frames, print_openness, print_place, print_refusal, print_step,
+    print_entries, print_openness, print_place, print_refusal, print_step,
 };
 use crate::database::{Database, empty};
 use crate::fault::Fault;
@@ -138,8 +138,7 @@ fn ask_invocation<R: Print>(
     match (call, words) {
         ("result", [completion, value]) => result(rt, alloc, store, id, completion, value),
         ("begin", [now]) => begin(rt, store, id, now),
-        ("requests", []) => print_frames(rt, store.requests(id)),
-        ("arrivals", []) => print_frames(rt, store.arrivals(id)),
+        ("entries", []) => print_entries(rt, store.entries(id)),
         ("answer", []) => print_answer(rt, store.answer(id)),
         ("failure", []) => print_failure(rt, store.failure(id)),
         ("is_open", []) => print_openness(rt, store.is_open(id)),

@@ -1,5 +1,5 @@
 //! A schedule, from its events to its replies.
-use crate::answers::{print_answer, print_frames, print_openness};
+use crate::answers::{print_answer, print_entries, print_openness};
 use crate::database::open_memory;
 use crate::fault::Fault;
 use built_in_handlers::handlers::Nap;
@@ -88,12 +88,12 @@ fn print_replies<R: Print>(rt: &R, replies: &[Reply]) -> Result<(), Fault> {
 fn print_left<R: Print>(rt: &R, mut scheduler: Scheduler<Nap, MemStore>) -> Result<(), Fault> {
     let is_open = scheduler.is_open(&i1());
     let answer = scheduler.answer(&i1());
-    let requests = scheduler.requests(&i1());
-    let kept = scheduler.into_store().requests(&i1());
+    let entries = scheduler.entries(&i1());
+    let kept = scheduler.into_store().entries(&i1());
     print_openness(rt, is_open)?;
     print_answer(rt, answer)?;
-    print_frames(rt, requests)?;
-    print_frames(rt, kept)
+    print_entries(rt, entries)?;
+    print_entries(rt, kept)
 }
 
 /// Runs the events of a nap over a store in memory, and prints each reply.

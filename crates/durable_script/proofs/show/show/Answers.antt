@@ -9,9 +9,9 @@ use Rattle.durable_script.proofs.show.show.Goals as goal
 pub returns-in-Ok : goal.returns-in-Ok
 returns-in-Ok g c =
     let shown = c.in-Ok.shown in (
-      shown_text shown.requests.items shown.answer shown.is_open,
+      shown_text shown.entries.items shown.answer shown.is_open,
       c.format-text.ensures.ok,
-      records_printed g.S.Store c.args.id.now c.args.scheduler.now c.shown.new.scheduler shown.requests.items shown.answer shown.is_open c.in-Ok.ensures.ok,
+      records_printed g.S.Store c.args.id.now c.args.scheduler.now c.shown.new.scheduler shown.entries.items shown.answer shown.is_open c.in-Ok.ensures.ok,
     )
 
 pub returns-in-Err : goal.returns-in-Err

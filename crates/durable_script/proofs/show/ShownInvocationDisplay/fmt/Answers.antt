@@ -1,22 +1,19 @@
-use Rattle.std.proofs.Common.{ℕ, List, [], ◌∷◌, ◌++◌, ◌∙◌, ◌+◌, ◌<◌, sym, ap, rules, arith, take, length, length-take}
+use Rattle.std.proofs.Common.{ℕ, List, [], ◌∷◌, ◌++◌, ◌∙◌, ◌<◌, sym, ap, rules, arith, take, length}
+use Rattle.std.specs.List.{flat_map}
 use Rattle.std.proofs.Output.{has_written_append, has_written_of_eq}
-use Rattle.std.proofs.lemmas.List.{take_more}
-use Rattle.store_reads.specs.declared.entries.RecordedFrame.{RecordedFrame}
-use Rattle.script_lines.specs.Text.{request_text}
-use Rattle.durable_script.specs.Shown.{requests_from}
-use Rattle.durable_script.proofs.Showing.{requests_more}
+use Rattle.std.proofs.lemmas.List.{take_more, flat_map_more}
+use Rattle.store_reads.specs.declared.recorded.RecordedEntry.{RecordedEntry}
+use Rattle.durable_script.specs.Shown.{entry_text}
 use Rattle.durable_script.proofs.show.ShownInvocationDisplay.fmt.Goals as goal
 
-pub loop-index-preserved : goal.loop-index-preserved
-loop-index-preserved g c = λ p.
-    let requests = c.deref-request-items.result.now in
-    let i = c.loop-index.index in
-    let item = c.request-item.result in
-    let within : i < length requests = omega arith in
-    let text : List ℕ = request_text c.shown_request-request.result ++ 10 ∷ [] in
+pub loop-entry-preserved : goal.loop-entry-preserved
+loop-entry-preserved g c = λ p.
+    let entries = c.loop-entry.entry-items in
+    let i = c.loop-entry.entry-index in
+    let item = c.entry-item.result in
+    let within : i < length entries = omega arith in
     has_written_of_eq _ _ _ _ _
-    (ap (λ (t : List ℕ). requests_from 1 (take i requests) ++ (t ++ 10 ∷ [])) c.shown_request-request.ensures
-    ∙ sym (requests_more 1 (i + 1) (take i requests) item (omega (arith, length-take i requests)))
-    ∙ ap (λ (x : RecordedFrame). requests_from 1 (take i requests ++ x ∷ [])) c.request-item.is
-    ∙ ap (requests_from 1) (sym (take_more requests i item within)))
-    (has_written_append _ _ (requests_from 1 (take i requests)) _ text _ (c.loop-index.invariant p) (search rules))
+    (flat_map_more entry_text [] (take i entries) item
+    ∙ ap (λ (x : RecordedEntry). flat_map entry_text (take i entries ++ x ∷ [])) c.entry-item.is
+    ∙ ap (flat_map entry_text) (sym (take_more entries i item within)))
+    (has_written_append _ _ (flat_map entry_text (take i entries)) _ (entry_text item) _ (c.loop-entry.invariant p) (search rules))

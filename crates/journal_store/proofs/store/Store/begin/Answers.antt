@@ -32,7 +32,7 @@ returns-in-Err-clause-does g c =
 pub returns-in-Ok-clause-crash : goal.returns-in-Ok-clause-crash
 returns-in-Ok-clause-crash g c =
     rw (← c.self.view_is) (commits_after (state g.S.Store c.self.inside.tables) (state g.S.Store c.prepare_begin.new.tables) (state g.S.Store c.begin_prepared.new.tables)
-    (Event.Begin c.args.id.now c.args.now) c.in-Ok.made.writes.items c.prepare_begin.ensures.looks.crash c.prepare_begin.ensures.looks.kept
+    (Event.Begin c.args.id.now c.args.now) c.in-Ok.made.writes.items tt c.prepare_begin.ensures.looks.crash c.prepare_begin.ensures.looks.kept
     c.begin_prepared.ensures.crash (λ clean events store. let ready = c.in-Ok.ensures.prepared clean events store in (ready.0, ready.1.writes)) (λ events none. cc))
 
 pub returns-in-Ok-clause-settled : goal.returns-in-Ok-clause-settled

@@ -23,7 +23,7 @@ returns-in-Err-clause-does g c =
 pub returns-in-Ok-clause-crash : goal.returns-in-Ok-clause-crash
 returns-in-Ok-clause-crash g c =
     rw (← c.self.view_is) (commits_after (state g.S.Store c.self.inside.tables) (state g.S.Store c.prepare_invoke-prepared.new.tables) (state g.S.Store c.commit.new.tables)
-    (Event.Invoke c.args.new) c.in-Ok.writes.items c.prepare_invoke-prepared.ensures.looks.crash c.prepare_invoke-prepared.ensures.looks.kept
+    (Event.Invoke c.args.new) c.in-Ok.writes.items tt c.prepare_invoke-prepared.ensures.looks.crash c.prepare_invoke-prepared.ensures.looks.kept
     c.commit.ensures.crash c.in-Ok.ensures.prepared (λ events none. cc))
 
 pub returns-in-Ok-clause-settled : goal.returns-in-Ok-clause-settled

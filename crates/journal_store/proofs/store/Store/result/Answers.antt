@@ -24,7 +24,7 @@ returns-in-Ok-clause-does g c =
     (λ clean events stands.
     let early : HasCleanDisk mid = omega (arith, c.record_arrival.ensures.crash.clean, clean) in
     arrival_recorded events (Event.Complete id c.args.completion c.args.brought) id (completion c.args.completion c.args.brought) old mid new _ _
-    c.self.inside.live.attempts c.record_arrival.new.live.attempts c.in-Ok.made c.record_arrival.result refl refl (completed id c.args.completion c.args.brought) refl
+    c.self.inside.live.attempts c.record_arrival.new.live.attempts c.in-Ok.made c.record_arrival.result refl refl (completed id c.args.completion c.args.brought) refl tt
     c.prepare_result.ensures.looks.crash c.prepare_result.ensures.looks.kept c.record_arrival.ensures.crash clean (c.in-Ok.ensures.prepared early events stands.kept)
     c.record_arrival.ensures.place (c.record_arrival.ensures.written clean) c.record_arrival.ensures.put c.record_arrival.ensures.why c.record_arrival.ensures.undone stands)
     (arrived_waits _ id c.in-Ok.made.place c.in-Ok.made.frame c.self.inside.live.attempts c.record_arrival.new.live.attempts c.record_arrival.result
@@ -38,7 +38,7 @@ returns-in-Err-clause-does g c =
 pub returns-in-Ok-clause-crash : goal.returns-in-Ok-clause-crash
 returns-in-Ok-clause-crash g c =
     rw (← c.self.view_is) (commits_after (state g.S.Store c.self.inside.tables) (state g.S.Store c.prepare_result.new.tables) (state g.S.Store c.record_arrival.new.tables)
-    (Event.Complete c.args.id.now c.args.completion c.args.brought) c.in-Ok.made.writes.items c.prepare_result.ensures.looks.crash c.prepare_result.ensures.looks.kept
+    (Event.Complete c.args.id.now c.args.completion c.args.brought) c.in-Ok.made.writes.items tt c.prepare_result.ensures.looks.crash c.prepare_result.ensures.looks.kept
     c.record_arrival.ensures.crash (λ clean events store. let ready = c.in-Ok.ensures.prepared clean events store in (ready.0, ready.1.writes)) (λ events none. cc))
 
 pub returns-in-Ok-clause-waits : goal.returns-in-Ok-clause-waits

@@ -4,10 +4,9 @@ use Rattle.std.specs.List.{AllByRecursion}
 use Rattle.journal_model.specs.Notification.{Text, Arrival}
 use Rattle.journal_model.specs.State.{StateMap, state_after}
 use Rattle.journal_model.specs.Event.{Frame, Event}
-use Rattle.journal_model.specs.Journal.{Entry, Recorded, Arrived, adds_to, entries_added, entries_from, entries_of, entries_of_event, read_answer, requests_in, slept, starting_state}
-use Rattle.store_reads.specs.Answered.{IsHeld}
-use Rattle.store_output_laws.specs.Held.{AreRead, IsReadIn, OutputsAreHeld}
-use Rattle.store_output_laws.proofs.Reading.{request_held}
+use Rattle.journal_model.specs.Journal.{Entry, Recorded, Arrived, adds_to, entries_added, entries_from, entries_of, entries_of_event, read_answer, recorded_requests, requests_in, slept, starting_state}
+use Rattle.store_frames.specs.Read.{AreRead, IsReadIn}
+use Rattle.store_reads.proofs.Reading.{IsHeld, request_held}
 
 abbrev IsHeldEntry : Entry → Type 0
 IsHeldEntry (Recorded request) = IsHeld request
@@ -53,5 +52,6 @@ requests_held [] held = tt
 requests_held (Recorded request ∷ entries) held = (held.0, requests_held entries held.1)
 requests_held (Arrived arrival ∷ entries) held = requests_held entries held.1
 
-pub outputs_held : OutputsAreHeld
+-- where each frame that was taken is that of a message, every output that is recorded is one that a message can hold
+pub outputs_held : (events : List Event) (id : Text) → AreRead events → AllByRecursion IsHeld (recorded_requests events id)
 outputs_held events id read = requests_held (entries_of events id) (entries_held (starting_state events id) events id read)

@@ -1,5 +1,5 @@
--- An output that is read of a message is one that a message can hold.
-use Rattle.std.proofs.Common.{◌≡◌, refl, sym, ap, subst, ◌∙◌, ℕ, nat_lt, Bool, true, false, inl, inr, map, List, [], ◌∷◌, Option, Some, None, option_map}
+-- An output that was read of a message is one that a message can hold.
+use Rattle.std.proofs.Common.{◌≡◌, refl, sym, ap, subst, ◌∙◌, ℕ, nat_lt, Bool, true, false, map, List, [], ◌∷◌, Option, Some, None, option_map}
 use Rattle.journal_model.specs.Notification.{Text}
 use Rattle.journal_model.specs.declared.value.NonEmptyValue.{NonEmptyValue}
 use Rattle.journal_model.specs.Request.{Request}
@@ -29,9 +29,13 @@ use Rattle.store_frames.specs.declared.kind.FrameKind.TheVariants as kinds
 use Rattle.store_frames.specs.Kind.{kind_of, record_of}
 use Rattle.store_frames.specs.Meaning.{command_or_broken, error_frame, frame_by, other_frame, suspension_frame, unless_faulty}
 use Rattle.store_frames.specs.Requests.{request_of_call, request_of_output, request_of_sleep, suspension_of_lists, suspension_of_tree, value_put_out}
+use Rattle.store_frames.specs.Read.{IsRead}
 use Rattle.protocol_laws.specs.Fits.{output_command_fits}
-use Rattle.store_reads.specs.Answered.{IsHeld}
-use Rattle.store_output_laws.specs.Held.{IsRead}
+
+-- an output that a message can hold: its texts are UTF-8, and a code has at most 32 bits
+abbrev pub IsHeld : Request → Type 0
+IsHeld (Request.Output value name) = OutputCommandFits LEVELS (output_record value name)
+IsHeld _ = Unit {0}
 
 -- ---- a record of what an output's record says is that record
 
@@ -93,7 +97,6 @@ module _ (value : NonEmptyValue) (name : Text) where
   held_by version kinds.Other ty payload e = absurd (no_other (record_of ty) payload e)
 
 pub request_held : (request : Request) → IsRead (Frame.Command request) → IsHeld request
-request_held (Request.Output value name) (inl (version, m, e)) =
+request_held (Request.Output value name) (version, m, e) =
     held_by value name version (kind_of (message_type m.header)) (message_type m.header) m.payload (sym e)
-request_held (Request.Output value name) (inr e) = cc
 request_held _ read = tt

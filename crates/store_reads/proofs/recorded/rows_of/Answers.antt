@@ -7,7 +7,7 @@ use Rattle.store_refusals.specs.Refused.{is_circumstance}
 use Rattle.store_invocations.specs.Rows.{known_tests}
 use Rattle.store_invocations.proofs.Reading.{decided_err}
 use Rattle.store_reads.proofs.Rows.{asked_journal, rows_are, known_with_rows, unknown_without}
-use Rattle.store_reads.proofs.entries.rows_of.Goals as goal
+use Rattle.store_reads.proofs.recorded.rows_of.Goals as goal
 
 pub returns-clause-told : goal.returns-clause-told
 returns-clause-told g c clean events store =

@@ -1,8 +1,0 @@
-use Rattle.std.proofs.Common.{refl}
-use Rattle.durable_schedule.proofs.Scheduling.{read_still}
-use Rattle.durable_schedule.proofs.scheduler.Scheduler.requests.Goals as goal
-
-pub returns-clause-told : goal.returns-clause-told
-returns-clause-told g c clean s is =
-    let it = c.requests.ensures.told clean s.standing.events is.standing.stands in
-    (it.0, read_still g.S.Store s c.args.self.now _ is it.1 c.requests.ensures.live refl)
