@@ -4,7 +4,8 @@ use Rattle.schedule_model.specs.declared.event.Reply.TheVariants as reply
 use Rattle.schedule_model.specs.declared.held.HeldAttempt.{HeldAttempt}
 use Rattle.schedule_model.specs.Following.{is_held}
 use Rattle.schedule_model.specs.Schedule.{TurnsOne}
-use Rattle.schedule_model.proofs.Applying.{same_standing, not_held, found_at, changes_held}
+use Rattle.schedule_model.proofs.Applying.{not_held, found_at, changes_held}
+use Rattle.store_calls.proofs.Taking.{same_stays}
 use Rattle.durable_schedule.proofs.scheduler.Scheduler.turn.Goals as goal
 
 pub returns-in-None-clause-does : goal.returns-in-None-clause-does
@@ -24,5 +25,5 @@ returns-in-Some-clause-does g c clean s is =
       s,
       is,
       changes_held (TurnsOne g.H.Handler.next_call) c.args.invocation.now c.args.number held c.in-Some.place one (record one { attempt = c.turn.new.self }) s s (reply.Turned c.turn.result) found refl
-          (c.turn.ensures, same_standing s),
+          (c.turn.ensures, same_stays s),
     )
