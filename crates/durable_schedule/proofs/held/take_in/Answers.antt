@@ -1,4 +1,6 @@
-use Rattle.std.proofs.Common.{arith, List, ℕ, refl, sym, subst, ap, ap₂, ◌∙◌, length, min, take, Ok, Err}
+use Rattle.std.proofs.Common.{arith, List, ℕ, refl, sym, subst, ap, ap₂, ◌∙◌, length, min, take, Option, Ok, Err}
+use Rattle.store_refusals.specs.declared.refusal.Refusal.{Refusal}
+use Rattle.store_steps.specs.declared.frame.FrameReply.{FrameReply}
 use Rattle.store_calls.specs.Standing.{Standing}
 use Rattle.store_calls.specs.Frames.{Accepts, AcceptsFirst}
 use Rattle.durable_schedule.specs.Scheduled.{MovesSome}
@@ -10,7 +12,7 @@ pub returns-in-Ok-clause-does : goal.returns-in-Ok-clause-does
 returns-in-Ok-clause-does g c clean s is =
     let one = c.args.one.now in
     let it = c.in-Ok.ensures.does clean s is in
-    let told = (c.in-Ok.accepted.replies.items, c.in-Ok.accepted.refusal) in (
+    let told : List FrameReply × Option Refusal = (c.in-Ok.accepted.replies.items, c.in-Ok.accepted.refusal) in (
       it.0,
       it.1,
       (
