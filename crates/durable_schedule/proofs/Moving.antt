@@ -1,5 +1,6 @@
 -- What a crash leaves of a move.
-use Rattle.std.proofs.Common.{◌≡◌, refl, sym, subst, ℕ, List, ◌∷◌, length, min, take, drop, true, Option, Some, None, inl, inr}
+use Rattle.std.proofs.Common.{◌≡◌, ◌∙◌, refl, sym, ap, ap₂, subst, ℕ, List, ◌∷◌, length, min, take, drop, true, Option, Some, None, inl, inr}
+use Rattle.sqlite_trees.specs.declared.store.Store.{Ghosts}
 use Rattle.journal_model.specs.Event.{Event}
 use Rattle.journal_model.specs.Attempt.{is_live}
 use Rattle.store_refusals.specs.declared.refusal.Refusal.{Refusal}
@@ -10,6 +11,9 @@ use Rattle.store_calls.specs.Standing.{Standing}
 use Rattle.store_calls.specs.Calls.{PutsBehind}
 use Rattle.store_calls.specs.Frames.{AcceptsFirst, Rests}
 use Rattle.store_calls.proofs.Taking.{live_or_over, same_stays}
+use Rattle.journal_store.specs.Stored.{Stored}
+use Rattle.journal_store.specs.Stands.{Endures}
+use Rattle.journal_store.proofs.Enduring.{endures_so}
 use Rattle.durable_schedule.specs.Scheduled.{MovesSome}
 
 -- the first frames are taken, and then no further one
@@ -38,3 +42,10 @@ moves_first count one moved same s t it =
       | inl goes ↦ rests_behind count one moved same s t it (Some OutOfMemory) (inl (record { live = goes; memory = refl; stays = same_stays t }))
       | inr over ↦ rests_behind count one moved same s t it None (inl (record { over = over; stays = same_stays t }))
     ]
+
+-- so it is of the bytes that were seen first in line
+pub moves_crashed : {H S : Type 0} (g : Ghosts S) (count : ℕ) (one : HeldAttempt H) (bytes : ℕ) (all seen : List ℕ) → bytes ≡ min count (length all) → all ≡ one.attempt.output → seen ≡ one.attempt.output
+    → (old new : Stored S) → Endures g (AcceptsFirst one.invocation one.number (take bytes seen)) old new → Endures g (MovesSome count one) old new
+moves_crashed g count one bytes all seen fewest whole same old new lives =
+    endures_so g (AcceptsFirst one.invocation one.number (take bytes seen)) (MovesSome count one) old new
+    (moves_first count one (take bytes seen) (ap₂ (λ (n : ℕ) (output : List ℕ). take n output) (fewest ∙ ap (λ (output : List ℕ). min count (length output)) whole) same)) lives
