@@ -1,3 +1,4 @@
 pub mod Growing
 pub mod Scheduling
 pub mod Moving
+pub mod Holding

@@ -15,9 +15,11 @@ use Rattle.invocation_vm.specs.declared.options.VMOptions.{VMOptions}
 use Rattle.invocation_vm.specs.First.{given_by}
 use Rattle.invocation_vm.specs.View.{AttemptView}
 use Rattle.journal_store.specs.Stored.{Stored}
-use Rattle.journal_store.specs.Stands.{Stands, IsStanding, KeepsAll}
+use Rattle.journal_store.specs.Stands.{Stands, IsStanding, KeepsAll, Leads, Outlasts}
 use Rattle.schedule_model.specs.declared.event.Event as scheduled
+use Rattle.schedule_model.specs.declared.event.Event.TheVariants as event
 use Rattle.schedule_model.specs.declared.event.Reply.{Reply}
+use Rattle.schedule_model.specs.declared.event.Reply.TheVariants as reply
 use Rattle.schedule_model.specs.declared.held.HeldAttempt.{HeldAttempt}
 use Rattle.store_calls.specs.Standing.{Standing}
 use Rattle.schedule_model.specs.Schedule.{Scheduled, MovesOne, Does, AppliesAll, Brings}
@@ -36,6 +38,25 @@ abbrev pub Extends : {S : Type 0} → Ghosts S → (List Event → List Event �
 Extends g Relation old new =
     Survives (state g old.connection) (state g new.connection)
     (λ trees. (events : List Event) → Stands events (state g old.connection) old.live.attempts → KeepsMore Relation events trees)
+
+-- Whatever the store stood for, it stands for something in this relation to it then, and whatever a crash leaves from then on, the
+-- tables keep that.
+abbrev pub LeadsLasting : {S : Type 0} → Ghosts S → (Standing → Standing → Type 0) → Stored S → Stored S → Type 0
+LeadsLasting g Relation old new = Leads g (λ s t. Relation s t × Outlasts t.events (state g new.connection)) old new
+
+abbrev pub IsDone : Reply → Type 0
+IsDone reply.Done = Unit {0}
+IsDone _ = ⊥
+
+abbrev pub HasBegun : Reply → Type 0
+HasBegun (reply.Begun number) = Unit {0}
+HasBegun _ = ⊥
+
+-- an event is answered done that is written in one commit
+abbrev pub IsWritten : {H : Type 0} → scheduled.Event H → Reply → Type 0
+IsWritten (event.Invoke one) answer = IsDone answer
+IsWritten (event.Begin id handler now) answer = HasBegun answer
+IsWritten _ answer = ⊥
 
 -- so many bytes at most were moved, with some answer
 abbrev pub MovesSome : {H : Type 0} → (count : ℕ) → HeldAttempt H → Standing → Standing → Type 0

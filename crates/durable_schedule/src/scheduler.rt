@@ -11,10 +11,10 @@ ghost use Rattle.store_reads.specs.Answered.{answer_told};
 ghost use Rattle.store_calls.specs.declared.begun.BegunAttempt.{BegunAttempt};
 ghost use Rattle.store_calls.specs.Standing.{Adds, Standing};
 ghost use Rattle.store_calls.specs.Calls.{Begins, Invokes, Stops};
-ghost use Rattle.journal_store.specs.Stands.{Endures, IsQuiet, IsStanding, Leads, Stands};
+ghost use Rattle.journal_store.specs.Stands.{Endures, IsQuiet, IsStanding, Leads, Outlasts, Stands};
 ghost use Rattle.schedule_model.specs.Following.{held_of};
 ghost use Rattle.schedule_model.specs.Schedule.{RepliesDone, BeginDoes, IfHeld, FeedsOne, TurnsOne, MovesOne, Applies, AppliesAll, FitsEvent, Scheduled};
-ghost use Rattle.durable_schedule.specs.Scheduled.{AppliesFirst, AppliesWith, Extends, FollowRuns, IsScheduled, at_first};
+ghost use Rattle.durable_schedule.specs.Scheduled.{AppliesFirst, AppliesWith, Extends, FollowRuns, HasBegun, IsDone, IsScheduled, IsWritten, LeadsLasting, at_first};
 
 use crate::held::{hand_out, place_of, take_in};
 use bytes::ByteStr;
@@ -54,6 +54,7 @@ impl<H: Handler + Drop, S: Alter + Drop> Scheduler<H, S> {
     fn invoke(&mut self, new: NewInvocation) -> Reply
         ensures does { Leads S.Store (λ s t. RepliesDone (λ answer. Invokes new answer s t) result) self.old.store self.new.store }
         ensures kept { self.new ≡ record self.old { store = self.new.store } }
+        ensures settled { IsDone result → LeadsLasting S.Store (λ s t. RepliesDone (λ answer. Invokes new answer s t) result) self.old.store self.new.store }
         ensures seed { new.seed < 2 ^ 64 }
         ensures crash { Endures S.Store (Adds (Accepted.Invoke new)) self.old.store self.new.store }
     {
@@ -79,6 +80,7 @@ impl<H: Handler + Drop, S: Alter + Drop> Scheduler<H, S> {
     fn begin(&mut self, invocation: ByteStr, handler: H, now: u64) -> Reply
         ensures does { Leads S.Store (λ s t. BeginDoes self.old.options invocation handler now s self.old.held.items result t self.new.held.items) self.old.store self.new.store }
         ensures options { self.new.options ≡ self.old.options }
+        ensures settled { HasBegun result → LeadsLasting S.Store (λ s t. BeginDoes self.old.options invocation handler now s self.old.held.items result t self.new.held.items) self.old.store self.new.store }
         ensures moment { now < 2 ^ 64 }
         ensures crash { Endures S.Store (λ s t. (begun : BegunAttempt) × Begins invocation now begun s t) self.old.store self.new.store }
     {
@@ -142,6 +144,8 @@ impl<H: Handler + Drop, S: Alter + Drop> Scheduler<H, S> {
     pub fn apply(&mut self, event: Event<H>) -> Reply
         ensures does { HasCleanDisk (state S.Store self.new.store.connection) → (old : Scheduled H) → IsScheduled S.Store old self.old → (new : Scheduled H) × IsScheduled S.Store new self.new × Applies H.next_call self.old.options event result old new }
         ensures options { self.new.options ≡ self.old.options }
+        // What an invocation or a begin that is answered done left lasts: whatever a crash leaves from then on, the tables keep it.
+        ensures settled { IsWritten event result → HasCleanDisk (state S.Store self.new.store.connection) → (old : Scheduled H) → IsScheduled S.Store old self.old → (new : Scheduled H) × IsScheduled S.Store new self.new × Applies H.next_call self.old.options event result old new × Outlasts new.standing.events (state S.Store self.new.store.connection) }
         ensures fits { FitsEvent event }
         ensures crash { Endures S.Store (AppliesWith H.next_call self.old.options event self.old.held.items) self.old.store self.new.store }
     {

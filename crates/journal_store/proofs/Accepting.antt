@@ -113,7 +113,7 @@ module _ {S : Type 0} (g : Ghosts S) (id : Text) (n : ℕ) (old new : Stored S) 
 module _ {S : Type 0} (g : Ghosts S) (id : Text) (n : ℕ) where
   -- there is no room for an answer
   pub next_unroomed : (before after : List FrameReply) → after ≡ before → (store : Stored S) → Leads g (TakesNext id n (Err OutOfMemory) before after) store store
-  next_unroomed before after same store clean s is = (s, is, (same, λ live. inl (record { memory = refl; stays = same_stays s })))
+  next_unroomed before after same store clean s is = (s, is, (same, λ live. inl (record { live = live; memory = refl; stays = same_stays s })))
 
   -- at first none was taken
   pub none_taken : (replies : List FrameReply) → replies ≡ [] → (store : Stored S) → Leads g (GoesOn id n replies) store store

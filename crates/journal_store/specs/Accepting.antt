@@ -1,12 +1,12 @@
 -- Bytes of an attempt that are taken in with the frames among them, frame by frame.
-use Rattle.std.specs.Prelude.{◌≡◌, ◌⊎◌, ℕ, Bool, true, false, not, List, [], ◌∷◌, ◌++◌, Option, Result, Ok, Err}
+use Rattle.std.specs.Prelude.{◌≡◌, ◌⊎◌, ℕ, Bool, true, false, not, List, [], ◌∷◌, ◌++◌, Option, Some, Result, Ok, Err}
 use Rattle.journal_model.specs.Notification.{Text}
 use Rattle.journal_model.specs.Attempt.{is_live}
 use Rattle.store_refusals.specs.declared.refusal.Refusal.{Refusal}
 use Rattle.store_steps.specs.declared.frame.FrameReply.{FrameReply}
 use Rattle.store_steps.specs.Taken.{does_end}
 use Rattle.store_calls.specs.Standing.{Standing}
-use Rattle.store_calls.specs.Frames.{HasNoRoom, RefusesFrame, TakesFrame, TakesNone}
+use Rattle.store_calls.specs.Frames.{Rests, TakesFrame, TakesNone}
 use Rattle.journal_store.specs.declared.accept.Accepted.{Accepted}
 
 -- what was taken, as it is told
@@ -24,4 +24,4 @@ abbrev pub TakesNext : Text → ℕ → Result Bool Refusal → List FrameReply 
 TakesNext id attempt (Ok true) before after old new = HasTaken true id attempt before after old new
 TakesNext id attempt (Ok false) before after old new = HasTaken false id attempt before after old new ⊎ ((after ≡ before) × TakesNone id attempt old new)
 TakesNext id attempt (Err why) before after old new =
-    (after ≡ before) × (is_live old.events id attempt ≡ true → HasNoRoom why old new ⊎ RefusesFrame id attempt why old new)
+    (after ≡ before) × (is_live old.events id attempt ≡ true → Rests id attempt (Some why) old new)

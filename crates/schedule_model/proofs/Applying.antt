@@ -10,22 +10,20 @@ use Rattle.schedule_model.specs.declared.event.Reply.TheVariants as reply
 use Rattle.schedule_model.specs.declared.event.Refusal.TheVariants as refusal
 use Rattle.schedule_model.specs.declared.held.HeldAttempt.{HeldAttempt}
 use Rattle.schedule_model.specs.First.{with_first, IsFirstAt}
-use Rattle.store_calls.specs.Standing.{Standing, Stays}
+use Rattle.store_calls.specs.Standing.{Standing}
+use Rattle.store_calls.proofs.Taking.{same_stays}
 use Rattle.schedule_model.specs.Following.{is_held, held_of}
 use Rattle.schedule_model.specs.Schedule.{IfHeld, with_attempt, Scheduled, Applies}
 use Rattle.schedule_model.specs.Laws.{NoneHeld, Reaches, SchedulesGrow}
 use Rattle.schedule_model.proofs.Firsts.{first_found, first_missing, first_at, with_first_at}
 use Rattle.schedule_model.proofs.Holding.{held_is}
 
-pub same_standing : (s : Standing) → Stays s s
-same_standing s = record { events = refl; outputs = λ id. refl }
-
 module _ {H : Type 0} where
   -- none is held
   pub not_held : (Change : HeldAttempt H → Standing → Reply → Standing → AttemptView H → Type 0) (id : Text) (n : ℕ) (s : Standing) (held : List (HeldAttempt H))
       → position (is_held id n) held ≡ None → IfHeld Change (held_of held id n) s held (reply.Refused refusal.AttemptNotHeld) s held
   not_held Change id n s held none =
-      subst (λ (o : Option (HeldAttempt H)). IfHeld Change o s held (reply.Refused refusal.AttemptNotHeld) s held) (sym (first_missing (is_held id n) held none)) (refl, same_standing s, refl)
+      subst (λ (o : Option (HeldAttempt H)). IfHeld Change o s held (reply.Refused refusal.AttemptNotHeld) s held) (sym (first_missing (is_held id n) held none)) (refl, same_stays s, refl)
 
   -- the attempt that was found
   pub record Found (id : Text) (n : ℕ) (held : List (HeldAttempt H)) (place : ℕ) (one : HeldAttempt H) : Type 0 where

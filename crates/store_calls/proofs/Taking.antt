@@ -1,5 +1,5 @@
 -- Frames are taken one after another.
-use Rattle.std.proofs.Common.{◌≡◌, ◌∙◌, refl, sym, ap, subst, ℕ, Bool, true, false, List, [], ◌∷◌, ◌++◌, None}
+use Rattle.std.proofs.Common.{◌≡◌, ◌⊎◌, ◌∙◌, refl, sym, ap, subst, ℕ, inl, inr, Bool, true, false, List, [], ◌∷◌, ◌++◌, Option, None}
 use Rattle.journal_model.specs.Notification.{Text}
 use Rattle.journal_model.specs.Event.{Event}
 use Rattle.journal_model.specs.Journal.{version_of}
@@ -55,6 +55,22 @@ goes_on id n reply s t one goes live =
 -- and none waits of it behind one that does
 pub none_behind : (id : Text) (n : ℕ) (reply : FrameReply) (s t : Standing) → TakesFrame id n reply s t → does_end reply ≡ true → t.outputs id ≡ None
 none_behind id n reply s t one ends = one.leaves.own ∙ ap (λ (b : Bool). rest_after b one.rest) ends
+
+-- where none waits, no further one is taken
+none_taken : (id : Text) (n : ℕ) (replies : List FrameReply) (s t : Standing) → s.outputs id ≡ None → TakesEach id n replies s t → t.outputs id ≡ None
+none_taken id n [] s t none it = it.outputs id ∙ none
+none_taken id n (reply ∷ replies) s t none it = let waits = it.1.next.waits in absurd cc
+
+-- so behind some frames the attempt is live still, or it is over
+pub live_or_over : (id : Text) (n : ℕ) (replies : List FrameReply) (s t : Standing) → is_live s.events id n ≡ true → TakesEach id n replies s t
+    → (is_live t.events id n ≡ true) ⊎ (t.outputs id ≡ None)
+live_or_over id n [] s t live it = inl (subst (λ (events : List Event). is_live events id n ≡ true) (sym it.events) live)
+live_or_over id n (reply ∷ replies) s t live it = by_end (does_end reply) refl (live_or_over id n replies it.0 t)
+  where
+    by_end : (b : Bool) → does_end reply ≡ b
+        → (is_live it.0.events id n ≡ true → TakesEach id n replies it.0 t → (is_live t.events id n ≡ true) ⊎ (t.outputs id ≡ None)) → (is_live t.events id n ≡ true) ⊎ (t.outputs id ≡ None)
+    by_end false goes further = further (goes_on id n reply s it.0 it.1 goes live) it.2
+    by_end true ends further = inr (none_taken id n replies it.0 t (none_behind id n reply s it.0 it.1 ends) it.2)
 
 -- bytes that are refused change nothing
 pub bytes_stay : (live : Bool) (id : Text) (n : ℕ) (why : Refusal) (s t : Standing) → RefusesBytes live id n why s t → Stays s t

@@ -93,15 +93,16 @@ pub record HasEnded (id : Text) (old new : Standing) : Type 0 where
   pub over : old.outputs id ≡ None
   pub stays : Stays old new
 
--- there is no room for one more answer: what waits first is not looked at
-pub record HasNoRoom (why : Refusal) (old new : Standing) : Type 0 where
+-- there is no room for one more answer of an attempt that goes on: what waits first is not looked at
+pub record HasNoRoom (id : Text) (attempt : ℕ) (why : Refusal) (old new : Standing) : Type 0 where
+  pub live : is_live old.events id attempt ≡ true
   pub memory : why ≡ OutOfMemory
   pub stays : Stays old new
 
 -- why no further frame is taken
 abbrev pub Rests : Text → (attempt : ℕ) → Option Refusal → Standing → Standing → Type 0
 Rests id attempt None old new = HasEnded id old new ⊎ TakesNone id attempt old new
-Rests id attempt (Some why) old new = HasNoRoom why old new ⊎ RefusesFrame id attempt why old new
+Rests id attempt (Some why) old new = HasNoRoom id attempt why old new ⊎ RefusesFrame id attempt why old new
 
 -- frames are taken until one ends the attempt, one is refused, or none waits whole
 pub record TakesFrames (id : Text) (attempt : ℕ) (replies : List FrameReply) (why : Option Refusal) (old new : Standing) : Type 0 where

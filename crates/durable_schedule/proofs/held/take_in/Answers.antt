@@ -1,16 +1,15 @@
-use Rattle.std.proofs.Common.{arith, List, ℕ, refl, sym, subst, ap, ap₂, ◌∙◌, length, min, take, Ok, Err}
-use Rattle.store_calls.specs.Standing.{Standing}
-use Rattle.store_calls.specs.Frames.{Accepts, AcceptsFirst}
-use Rattle.durable_schedule.specs.Scheduled.{MovesSome}
-use Rattle.journal_store.proofs.Enduring.{endures_so}
-use Rattle.durable_schedule.proofs.Moving.{moves_first}
+use Rattle.std.proofs.Common.{arith, List, ℕ, refl, subst, ap, ◌∙◌, length, min, take, Option, Ok, Err}
+use Rattle.store_refusals.specs.declared.refusal.Refusal.{Refusal}
+use Rattle.store_steps.specs.declared.frame.FrameReply.{FrameReply}
+use Rattle.store_calls.specs.Frames.{Accepts}
+use Rattle.durable_schedule.proofs.Moving.{moves_crashed}
 use Rattle.durable_schedule.proofs.held.take_in.Goals as goal
 
 pub returns-in-Ok-clause-does : goal.returns-in-Ok-clause-does
 returns-in-Ok-clause-does g c clean s is =
     let one = c.args.one.now in
     let it = c.in-Ok.ensures.does clean s is in
-    let told = (c.in-Ok.accepted.replies.items, c.in-Ok.accepted.refusal) in (
+    let told : List FrameReply × Option Refusal = (c.in-Ok.accepted.replies.items, c.in-Ok.accepted.refusal) in (
       it.0,
       it.1,
       (
@@ -24,10 +23,7 @@ returns-in-Ok-clause-does g c clean s is =
 
 pub returns-in-Ok-clause-crash : goal.returns-in-Ok-clause-crash
 returns-in-Ok-clause-crash g c =
-    let one = c.args.one.now in
-    let bytes = take c.min-bytes.result c.output-2.result.now in
-    endures_so g.S.Store (AcceptsFirst one.invocation one.number bytes) (MovesSome c.args.count one) c.args.store.now c.accept.new.self
-    (moves_first c.args.count one bytes (ap₂ (λ (n : ℕ) (all : List ℕ). take n all) (c.min-bytes.ensures ∙ ap (λ (all : List ℕ). min c.args.count (length all)) c.output.ensures) c.output-2.ensures)) c.accept.ensures.crash
+    moves_crashed g.S.Store c.args.count c.args.one.now c.min-bytes.result _ _ c.min-bytes.ensures c.output.ensures c.output-2.ensures c.args.store.now c.accept.new.self c.accept.ensures.crash
 
 pub returns-in-Err-clause-does : goal.returns-in-Err-clause-does
 returns-in-Err-clause-does g c clean s is =
@@ -36,7 +32,4 @@ returns-in-Err-clause-does g c clean s is =
 
 pub returns-in-Err-clause-crash : goal.returns-in-Err-clause-crash
 returns-in-Err-clause-crash g c =
-    let one = c.args.one.now in
-    let bytes = take c.min-bytes.result c.output-2.result.now in
-    endures_so g.S.Store (AcceptsFirst one.invocation one.number bytes) (MovesSome c.args.count one) c.args.store.now c.accept.new.self
-    (moves_first c.args.count one bytes (ap₂ (λ (n : ℕ) (all : List ℕ). take n all) (c.min-bytes.ensures ∙ ap (λ (all : List ℕ). min c.args.count (length all)) c.output.ensures) c.output-2.ensures)) c.accept.ensures.crash
+    moves_crashed g.S.Store c.args.count c.args.one.now c.min-bytes.result _ _ c.min-bytes.ensures c.output.ensures c.output-2.ensures c.args.store.now c.accept.new.self c.accept.ensures.crash

@@ -1,13 +1,14 @@
 use Rattle.std.proofs.Common.{refl, subst, sym}
 use Rattle.journal_model.specs.Event as model
 use Rattle.journal_store.specs.Stored.{Stored}
+use Rattle.schedule_model.specs.declared.event.Event.{Event}
 use Rattle.schedule_model.specs.declared.event.Event.TheVariants as event
 use Rattle.schedule_model.specs.declared.event.Reply.TheVariants as reply
 use Rattle.store_calls.specs.Standing.{Adds}
 use Rattle.journal_store.specs.Stands.{Endures}
 use Rattle.durable_schedule.specs.Scheduled.{AppliesWith}
 use Rattle.journal_store.proofs.Enduring.{BeginsSome, quiet_endures, same_endures}
-use Rattle.durable_schedule.proofs.Scheduling.{applied, applied_with, begins_with, stored}
+use Rattle.durable_schedule.proofs.Scheduling.{applied, applied_lasting, applied_with, begins_with, stored, unwritten}
 use Rattle.durable_schedule.proofs.scheduler.Scheduler.apply.Goals as goal
 
 pub returns-in-Invoke-clause-does : goal.returns-in-Invoke-clause-does
@@ -36,6 +37,29 @@ returns-in-Stop-clause-does g c =
     applied g.S.Store g.H.Handler.next_call c.args.self.now c.stop.new.self c.args.event (event.Stop c.in-Stop.invocation c.in-Stop.attempt) c.stop.result c.in-Stop.is
     (λ clean s is. let it = c.stop.ensures.does clean s is in (it.0, it.1, (it.2, stored g.S.Store c.args.self.now c.stop.new.self c.stop.ensures.kept)))
 
+pub returns-in-Invoke-clause-settled : goal.returns-in-Invoke-clause-settled
+returns-in-Invoke-clause-settled g c =
+    applied_lasting g.S.Store g.H.Handler.next_call c.args.self.now c.invoke.new.self c.args.event (event.Invoke c.in-Invoke.new) c.invoke.result c.in-Invoke.is
+    (λ written clean s is.
+    let it = c.invoke.ensures.settled written clean s is in
+    (it.0, it.1, ((it.2.0, stored g.S.Store c.args.self.now c.invoke.new.self c.invoke.ensures.kept), it.2.1)))
+
+pub returns-in-Begin-clause-settled : goal.returns-in-Begin-clause-settled
+returns-in-Begin-clause-settled g c =
+    applied_lasting g.S.Store g.H.Handler.next_call c.args.self.now c.begin.new.self c.args.event (event.Begin c.in-Begin.invocation c.in-Begin.handler c.in-Begin.now) c.begin.result c.in-Begin.is c.begin.ensures.settled
+
+pub returns-in-Feed-clause-settled : goal.returns-in-Feed-clause-settled
+returns-in-Feed-clause-settled g c = unwritten g.S.Store c.args.event (event.Feed c.in-Feed.invocation c.in-Feed.attempt c.in-Feed.count) c.feed.result c.in-Feed.is (λ written. written)
+
+pub returns-in-Turn-clause-settled : goal.returns-in-Turn-clause-settled
+returns-in-Turn-clause-settled g c = unwritten g.S.Store c.args.event (event.Turn c.in-Turn.invocation c.in-Turn.attempt) c.turn.result c.in-Turn.is (λ written. written)
+
+pub returns-in-Move-clause-settled : goal.returns-in-Move-clause-settled
+returns-in-Move-clause-settled g c = unwritten g.S.Store c.args.event (event.Move c.in-Move.invocation c.in-Move.attempt c.in-Move.count) c.transfer.result c.in-Move.is (λ written. written)
+
+pub returns-in-Stop-clause-settled : goal.returns-in-Stop-clause-settled
+returns-in-Stop-clause-settled g c = unwritten g.S.Store c.args.event (event.Stop c.in-Stop.invocation c.in-Stop.attempt) c.stop.result c.in-Stop.is (λ written. written)
+
 pub returns-in-Invoke-clause-crash : goal.returns-in-Invoke-clause-crash
 returns-in-Invoke-clause-crash g c =
     let old = c.args.self.now in
@@ -53,27 +77,20 @@ returns-in-Begin-clause-crash g c =
 pub returns-in-Feed-clause-crash : goal.returns-in-Feed-clause-crash
 returns-in-Feed-clause-crash g c =
     let old = c.args.self.now in
-    let one = event.Feed c.in-Feed.invocation c.in-Feed.attempt c.in-Feed.count in
-    applied_with g.S.Store g.H.Handler.next_call old.options c.args.event one old.held.items old.store c.feed.new.self.store c.in-Feed.is (AppliesWith g.H.Handler.next_call old.options one old.held.items) (λ s t it. it)
-    (quiet_endures g.S.Store (AppliesWith g.H.Handler.next_call old.options one old.held.items) old.store c.feed.new.self.store c.feed.ensures.crash)
+    quiet_endures g.S.Store (AppliesWith g.H.Handler.next_call old.options c.args.event old.held.items) old.store c.feed.new.self.store c.feed.ensures.crash
 
 pub returns-in-Turn-clause-crash : goal.returns-in-Turn-clause-crash
 returns-in-Turn-clause-crash g c =
     let old = c.args.self.now in
-    let one = event.Turn c.in-Turn.invocation c.in-Turn.attempt in
-    applied_with g.S.Store g.H.Handler.next_call old.options c.args.event one old.held.items old.store c.turn.new.self.store c.in-Turn.is (AppliesWith g.H.Handler.next_call old.options one old.held.items) (λ s t it. it)
-    (subst (λ (store : Stored g.row.S.Denot). Endures g.S.Store (AppliesWith g.H.Handler.next_call old.options one old.held.items) old.store store) (sym c.turn.ensures.store) (same_endures g.S.Store (AppliesWith g.H.Handler.next_call old.options one old.held.items) old.store))
+    let Relation = AppliesWith g.H.Handler.next_call old.options c.args.event old.held.items in
+    subst (λ (store : Stored g.row.S.Denot). Endures g.S.Store Relation old.store store) (sym c.turn.ensures.store) (same_endures g.S.Store Relation old.store)
 
 pub returns-in-Move-clause-crash : goal.returns-in-Move-clause-crash
 returns-in-Move-clause-crash g c =
     let old = c.args.self.now in
-    let one = event.Move c.in-Move.invocation c.in-Move.attempt c.in-Move.count in
-    applied_with g.S.Store g.H.Handler.next_call old.options c.args.event one old.held.items old.store c.transfer.new.self.store c.in-Move.is (AppliesWith g.H.Handler.next_call old.options one old.held.items) (λ s t it. it)
-    c.transfer.ensures.crash
+    subst (λ (one : Event g.row.H.Denot). Endures g.S.Store (AppliesWith g.H.Handler.next_call old.options one old.held.items) old.store c.transfer.new.self.store) (sym c.in-Move.is) c.transfer.ensures.crash
 
 pub returns-in-Stop-clause-crash : goal.returns-in-Stop-clause-crash
 returns-in-Stop-clause-crash g c =
     let old = c.args.self.now in
-    let one = event.Stop c.in-Stop.invocation c.in-Stop.attempt in
-    applied_with g.S.Store g.H.Handler.next_call old.options c.args.event one old.held.items old.store c.stop.new.self.store c.in-Stop.is (AppliesWith g.H.Handler.next_call old.options one old.held.items) (λ s t it. it)
-    (quiet_endures g.S.Store (AppliesWith g.H.Handler.next_call old.options one old.held.items) old.store c.stop.new.self.store c.stop.ensures.crash)
+    quiet_endures g.S.Store (AppliesWith g.H.Handler.next_call old.options c.args.event old.held.items) old.store c.stop.new.self.store c.stop.ensures.crash

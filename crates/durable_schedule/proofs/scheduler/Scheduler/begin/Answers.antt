@@ -1,6 +1,9 @@
-use Rattle.std.proofs.Common.{List, ℕ, refl, subst, inl, inr}
+use Rattle.std.proofs.Common.{List, ℕ, refl, sym, subst, inl, inr}
+use Rattle.sqlite.specs.Held.{state}
+use Rattle.journal_model.specs.Event as model
 use Rattle.invocation_vm.specs.View.{AttemptView}
 use Rattle.invocation_vm.specs.Attempt.{Feeds}
+use Rattle.journal_store.specs.Stands.{Outlasts}
 use Rattle.journal_store.proofs.Enduring.{begin_endures}
 use Rattle.durable_schedule.proofs.scheduler.Scheduler.begin.Goals as goal
 
@@ -29,6 +32,18 @@ returns-in-Ok-push-clause-does g c clean s is =
         },
       ),
     )
+
+pub returns-in-Ok-push-clause-settled : goal.returns-in-Ok-push-clause-settled
+returns-in-Ok-push-clause-settled g c written clean s is =
+    let it = returns-in-Ok-push-clause-does g c clean s is in
+    let lasts = c.in-Ok.ensures.settled clean s.events is.stands in
+    (it.0, it.1, (it.2, subst (λ (events : List model.Event). Outlasts events (state g.S.Store c.begin.new.self.connection)) (sym it.2.2.leaves.events) lasts))
+
+pub returns-in-Err-clause-settled : goal.returns-in-Err-clause-settled
+returns-in-Err-clause-settled g c written = absurd written
+
+pub returns-clause-settled : goal.returns-clause-settled
+returns-clause-settled g c written = absurd written
 
 pub returns-in-Ok-push-clause-crash : goal.returns-in-Ok-push-clause-crash
 returns-in-Ok-push-clause-crash g c = begin_endures g.S.Store c.args.invocation c.args.now c.args.self.now.store c.begin.new.self c.begin.ensures.crash

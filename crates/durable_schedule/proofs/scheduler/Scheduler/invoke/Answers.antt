@@ -1,3 +1,7 @@
+use Rattle.std.proofs.Common.{List, sym, subst}
+use Rattle.sqlite.specs.Held.{state}
+use Rattle.journal_model.specs.Event as model
+use Rattle.journal_store.specs.Stands.{Outlasts}
 use Rattle.journal_store.proofs.Enduring.{invoke_endures}
 use Rattle.durable_schedule.proofs.scheduler.Scheduler.invoke.Goals as goal
 
@@ -6,6 +10,15 @@ returns-in-Ok-clause-does g c = c.in-Ok.ensures.does
 
 pub returns-in-Err-clause-does : goal.returns-in-Err-clause-does
 returns-in-Err-clause-does g c = c.in-Err.ensures.does
+
+pub returns-in-Ok-clause-settled : goal.returns-in-Ok-clause-settled
+returns-in-Ok-clause-settled g c written clean s is =
+    let it = c.in-Ok.ensures.does clean s is in
+    let lasts = c.in-Ok.ensures.settled clean s.events is.stands in
+    (it.0, it.1, (it.2, subst (λ (events : List model.Event). Outlasts events (state g.S.Store c.invoke.new.self.connection)) (sym it.2.events) lasts))
+
+pub returns-in-Err-clause-settled : goal.returns-in-Err-clause-settled
+returns-in-Err-clause-settled g c written = absurd written
 
 pub returns-in-Ok-clause-crash : goal.returns-in-Ok-clause-crash
 returns-in-Ok-clause-crash g c = invoke_endures g.S.Store c.args.new c.args.self.now.store c.invoke.new.self c.invoke.ensures.crash

@@ -1,28 +1,19 @@
-use Rattle.std.proofs.Common.{◌≡◌, refl, List, sym, ap, ◌∙◌, Some, None}
-use Rattle.std.specs.List.{position}
+use Rattle.std.proofs.Common.{refl}
 use Rattle.schedule_model.specs.declared.event.Reply.TheVariants as reply
-use Rattle.schedule_model.specs.declared.held.HeldAttempt.{HeldAttempt}
-use Rattle.schedule_model.specs.Following.{is_held}
 use Rattle.schedule_model.specs.Schedule.{TurnsOne}
-use Rattle.schedule_model.proofs.Applying.{same_standing, not_held, found_at, changes_held}
+use Rattle.store_calls.proofs.Taking.{same_stays}
+use Rattle.durable_schedule.proofs.Holding.{misses, finds}
 use Rattle.durable_schedule.proofs.scheduler.Scheduler.turn.Goals as goal
 
 pub returns-in-None-clause-does : goal.returns-in-None-clause-does
-returns-in-None-clause-does g c clean s is =
-    let held = c.args.self.now.held.items in
-    let none : position (is_held c.args.invocation.now c.args.number) held ≡ None =
-    ap (λ (hs : List (HeldAttempt g.row.H.Denot)). position (is_held c.args.invocation.now c.args.number) hs) (sym c.deref.ensures.value) ∙ sym c.place_of.ensures ∙ c.in-None.is in
-    (s, is, not_held (TurnsOne g.H.Handler.next_call) c.args.invocation.now c.args.number s held none)
+returns-in-None-clause-does g c =
+    let old = c.args.self.now in
+    misses g.S.Store (TurnsOne g.H.Handler.next_call) c.args.invocation.now c.args.number old.held.items _ c.deref.ensures.value c.place_of.result c.place_of.ensures c.in-None.is old.store
 
 pub returns-in-Some-clause-does : goal.returns-in-Some-clause-does
-returns-in-Some-clause-does g c clean s is =
-    let held = c.args.self.now.held.items in
-    let some : position (is_held c.args.invocation.now c.args.number) held ≡ Some c.in-Some.place =
-    ap (λ (hs : List (HeldAttempt g.row.H.Denot)). position (is_held c.args.invocation.now c.args.number) hs) (sym c.deref.ensures.value) ∙ sym c.place_of.ensures ∙ c.in-Some.is in
+returns-in-Some-clause-does g c =
+    let old = c.args.self.now in
     let one = c.index_mut-one.result.now in
-    let found = found_at c.args.invocation.now c.args.number held c.in-Some.place one some c.index_mut-one.ensures.value in (
-      s,
-      is,
-      changes_held (TurnsOne g.H.Handler.next_call) c.args.invocation.now c.args.number held c.in-Some.place one (record one { attempt = c.turn.new.self }) s s (reply.Turned c.turn.result) found refl
-          (c.turn.ensures, same_standing s),
-    )
+    finds g.S.Store (TurnsOne g.H.Handler.next_call) c.args.invocation.now c.args.number old.held.items _ c.deref.ensures.value c.place_of.result c.place_of.ensures
+    c.in-Some.place one c.in-Some.is c.index_mut-one.ensures.value old.store old.store (record one { attempt = c.turn.new.self }) (reply.Turned c.turn.result) refl
+    (λ clean s is. (s, is, (c.turn.ensures, same_stays s)))
