@@ -12,9 +12,15 @@ mod progress;
 
 pub use attempt::Attempt;
 pub use failure::{AttemptFailure, CallRefusal};
-pub use journal_model::{ImplicitCancellationOption, SignalDelivery};
+pub use journal_model::{
+    Answer, AttachInvocationTarget, AwaitedFuture, CANCEL_NOTIFICATION_HANDLE, Call, Handler,
+    Header, ImplicitCancellationOption, Input, Moment, NonEmptyValue, NotificationHandle,
+    PayloadOptions, RunOptions, SignalDelivery, Target, TerminalFailure, UnresolvedFuture, Value,
+};
 pub use options::{
     AwaitingOnPolicy, JournalMismatchRetryBehavior, JournalReplay, NonDeterministicChecksOption,
     VMOptions,
 };
 pub use progress::Turn;
+pub use protocol_stream::Version;
+pub use sequence::Sequence;
