@@ -6,7 +6,7 @@ use Rattle.journal_model.specs.Event.{Event}
 use Rattle.journal_model.specs.Spelling.{input_payload}
 use Rattle.journal_model.specs.Journal.{invocation_begun, is_busy}
 use Rattle.journal_model.specs.Cause.{Cause, Tests, is_empty, is_too_long}
-use Rattle.protocol_stream.specs.Version.{is_unsupported}
+use Rattle.protocol_types.specs.Version.{is_unsupported}
 use Rattle.store_tables.specs.declared.row.Progress.{Progress}
 use Rattle.store_tables.specs.declared.row.InvocationRow.{InvocationRow}
 use Rattle.store_tables.specs.declared.row.EntryRow.{EntryRow}

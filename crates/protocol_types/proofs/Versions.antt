@@ -1,8 +1,8 @@
 -- Versions, there and back.
 use Rattle.std.proofs.Common.{refl}
-use Rattle.protocol_stream.specs.Version.{version_with, has_content_type}
-use Rattle.protocol_stream.specs.declared.version.Version.TheVariants.{V1, V2, V3, V4, V5, V6, V7, V8}
-use Rattle.protocol_stream.specs.Laws.{ContentTypesReadBack, VersionsReadBack}
+use Rattle.protocol_types.specs.Version.{version_with, has_content_type}
+use Rattle.protocol_types.specs.declared.version.Version.TheVariants.{V1, V2, V3, V4, V5, V6, V7, V8}
+use Rattle.protocol_types.specs.Laws.{ContentTypesReadBack, VersionsReadBack}
 
 pub content_types_read_back : ContentTypesReadBack
 unfolding version_with has_content_type

@@ -1,6 +1,6 @@
 // Versions of the protocol, and the content types that name them.
 ghost use Rattle.std.specs.Prelude.{◌≡◌, ◌≤◌, ◌↔◌, IsTrue, Some};
-ghost use Rattle.protocol_stream.specs.Version.{version_number, version_content_type, has_content_type, version_at, version_with, content_type_read, has_restate_prefix, is_unsupported, newest_version, oldest_version};
+ghost use Rattle.protocol_types.specs.Version.{version_number, version_content_type, has_content_type, version_at, version_with, content_type_read, has_restate_prefix, is_unsupported, newest_version, oldest_version};
 
 use bytes::ByteStr;
 use std::fmt;

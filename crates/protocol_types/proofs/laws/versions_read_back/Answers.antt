@@ -1,6 +1,6 @@
 -- Proved in `Versions`.
-use Rattle.protocol_stream.proofs.Versions.{content_types_read_back, versions_read_back}
-use Rattle.protocol_stream.proofs.laws.versions_read_back.Goals as goal
+use Rattle.protocol_types.proofs.Versions.{content_types_read_back, versions_read_back}
+use Rattle.protocol_types.proofs.laws.versions_read_back.Goals as goal
 
 pub returns-clause-content_type : goal.returns-clause-content_type
 returns-clause-content_type c = content_types_read_back
