@@ -1,11 +1,11 @@
 -- Laws of types of messages and versions.
-use Rattle.std.specs.Prelude.{◌≡◌, ◌≢◌, ◌↔◌, ℕ, bit_and, Some, Ok, Err}
+use Rattle.std.specs.Prelude.{◌≡◌, ◌≢◌, ◌↔◌, ℕ, false, bit_and, Some, Ok, Err}
 use Rattle.std.specs.List.{AllByRecursion}
 use Rattle.protocol_types.specs.declared.message_type.MessageType.{MessageType}
 use Rattle.protocol_types.specs.declared.message_type.MessageType.TheVariants.{CustomEntry}
 use Rattle.protocol_types.specs.declared.version.Version.{Version}
 use Rattle.protocol_types.specs.MessageType.{number_of, named_types, type_numbered, IsWireType}
-use Rattle.protocol_types.specs.Version.{version_number, version_content_type, version_at, content_type_read}
+use Rattle.protocol_types.specs.Version.{version_number, version_content_type, version_at, is_unsupported, content_type_read}
 
 abbrev pub NamesReadBack : Type 0
 NamesReadBack = AllByRecursion IsWireType named_types
@@ -28,3 +28,7 @@ ContentTypesReadBack = (version : Version) → content_type_read (version_conten
 
 abbrev pub VersionsReadBack : Type 0
 VersionsReadBack = (version : Version) → version_at (version_number version) ≡ Some version
+
+-- A number that is not unsupported is that of one version.
+abbrev pub SpokenVersionsHaveNumbers : Type 0
+SpokenVersionsHaveNumbers = (number : ℕ) → is_unsupported number ≡ false → (version : Version) × (version_at number ≡ Some version) × (version_number version ≡ number)

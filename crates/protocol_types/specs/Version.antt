@@ -42,6 +42,10 @@ newest_version = V8
 abbrev pub is_unsupported : ℕ → Bool
 is_unsupported number = nat_lt number (version_number oldest_version) || nat_lt (version_number newest_version) number
 
+-- the version with this number, if it is spoken
+abbrev pub version_spoken : ℕ → Option Version
+version_spoken number = if is_unsupported number then None else version_at number
+
 -- whether this is the content type of the version, to the letter
 unfoldable pub has_content_type : List ℕ → Version → Bool
 has_content_type text version = bytes_eq (version_content_type version) text

@@ -15,11 +15,10 @@ returns-clause-ok g c clean =
     let new : State = state g.S.Store c.run.new.tx.conn.now in
     let early : HasCleanDisk old = omega (arith, c.run.ensures.survives.clean) in
     on_ok c.run.result (c.run.ensures.ran clean) (λ ran.
-    let run : HasRun add_invocation_text (invocation_cells c.args.invocation.now) old new = rw (c.text.ensures.cell, c.text-2.ensures.cell, c.short.ensures.cell, c.long.ensures.cell, c.flag.ensures, c.text_or_null.ensures.cell, c.blob_or_null.ensures, c.short_or_null.ensures.cell, c.closing.ensures, c.blob_or_null-2.ensures, c.error_code.ensures.cell, c.error_behavior.ensures.cell, c.error_delay.ensures.cell, c.error_message.ensures.cell, c.short-2.ensures.cell, c.short-3.ensures.cell, c.long-2.ensures.cell, c.short-4.ensures.cell, c.short-5.ensures.cell) at ran in
+    let run : HasRun add_invocation_text (invocation_cells c.args.invocation.now) old new = rw (c.text.ensures.cell, c.text-2.ensures.cell, c.short.ensures.cell, c.number.ensures, c.long.ensures.cell, c.flag.ensures, c.text_or_null.ensures.cell, c.blob_or_null.ensures, c.short_or_null.ensures.cell, c.closing.ensures, c.blob_or_null-2.ensures, c.error_code.ensures.cell, c.error_behavior.ensures.cell, c.error_delay.ensures.cell, c.error_message.ensures.cell, c.short-2.ensures.cell, c.short-3.ensures.cell, c.long-2.ensures.cell, c.short-4.ensures.cell, c.short-5.ensures.cell) at ran in
     step_of (with_invocation c.args.invocation.now) add_invocation_text (invocation_cells c.args.invocation.now) old new run (invocation_added old new c.args.invocation.now (record {
       id = c.text.ensures.fits;
       object = c.text-2.ensures.fits;
-      version = c.short.ensures.fits;
       seed = c.long.ensures.fits;
       progress = record {
         open_object = c.text_or_null.ensures.fits;
