@@ -9,9 +9,9 @@ use Rattle.protocol_wire.specs.Check.{payload_fault}
 use Rattle.protocol_wire.specs.Decodes.{IsRead}
 use Rattle.protocol_wire.specs.declared.record.TheConstants.{LEVELS}
 use Rattle.protocol_table.specs.declared.table.RecordType.{RecordType}
-use Rattle.protocol_stream.specs.declared.message_type.MessageType.{MessageType}
+use Rattle.protocol_types.specs.declared.message_type.MessageType.{MessageType}
 use Rattle.protocol_stream.specs.declared.decoder.RawMessage.{RawMessage}
-use Rattle.protocol_stream.specs.MessageType.{number_of}
+use Rattle.protocol_types.specs.MessageType.{number_of}
 use Rattle.protocol_stream.specs.Header.{message_type}
 use Rattle.protocol_stream.specs.Item.{Item, item_at, unknown, message}
 use Rattle.protocol_stream.specs.Frame.{spelled, message_of, IsFrame}

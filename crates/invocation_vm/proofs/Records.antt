@@ -1,7 +1,7 @@
 -- A message that was taken, read as a record.
 use Rattle.std.proofs.Common.{◌≡◌, refl, ℕ, List, Some}
 use Rattle.protocol_table.specs.declared.table.RecordType.{RecordType}
-use Rattle.protocol_stream.specs.declared.message_type.MessageType.{MessageType}
+use Rattle.protocol_types.specs.declared.message_type.MessageType.{MessageType}
 use Rattle.protocol_stream.specs.declared.decoder.RawMessage.{RawMessage}
 use Rattle.protocol_stream.specs.Header.{message_type}
 use Rattle.protocol_stream.specs.Item.{item_at, message}

@@ -10,10 +10,10 @@ use Rattle.journal_model.specs.declared.handler.Input.{Input}
 use Rattle.journal_model.specs.declared.invocation.NewInvocation.{NewInvocation}
 use Rattle.journal_model.specs.State.{StateMap}
 use Rattle.journal_model.specs.Spelling.{frame_bytes}
-use Rattle.protocol_stream.specs.declared.message_type.MessageType.{MessageType}
+use Rattle.protocol_types.specs.declared.message_type.MessageType.{MessageType}
 use Rattle.protocol_stream.specs.Frame.{message_of, IsFrame}
 use Rattle.protocol_stream.specs.Records.{start_record}
-use Rattle.protocol_stream.proofs.Types.{names_read_back}
+use Rattle.protocol_types.proofs.Types.{names_read_back}
 use Rattle.invocation_vm.specs.declared.options.VMOptions.{VMOptions}
 use Rattle.invocation_vm.specs.declared.failure.AttemptFailure.{AttemptFailure}
 use Rattle.invocation_vm.specs.First.{first_payload, second_payload, FitsFrames, AreToRead, CannotRead}

@@ -7,7 +7,7 @@ use Rattle.journal_model.specs.Start.{start_payload_of}
 use Rattle.journal_model.specs.Run.{Invocation}
 use Rattle.journal_model.specs.Headline.{run_of}
 use Rattle.protocol_stream.specs.Records.{start_record}
-use Rattle.protocol_stream.specs.declared.message_type.MessageType.{MessageType}
+use Rattle.protocol_types.specs.declared.message_type.MessageType.{MessageType}
 use Rattle.protocol_wire.specs.Check.{payload_fault}
 use Rattle.protocol_wire.specs.declared.record.TheConstants.{LEVELS}
 use Rattle.protocol_table.specs.declared.table.RecordType.TheVariants as types

@@ -1,6 +1,6 @@
 //! The bytes that an attempt has to hand out.
 ghost use Rattle.std.specs.Prelude.{◌≡◌, ◌≤◌, ◌<◌, ◌^◌, [], length, take, drop, IfOk, IfErr, OnOk, OnErr};
-ghost use Rattle.protocol_stream.specs.MessageType.{number_of};
+ghost use Rattle.protocol_types.specs.MessageType.{number_of};
 ghost use Rattle.invocation_vm.specs.Frames.{WritesFrame, WriteFails};
 
 use crate::failure::AttemptFailure;

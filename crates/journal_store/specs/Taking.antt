@@ -5,7 +5,7 @@ use Rattle.sqlite.specs.State.{State}
 use Rattle.sql_tables.specs.Asking.{IsKept}
 use Rattle.journal_model.specs.Notification.{Bytes, Text}
 use Rattle.protocol_stream.specs.declared.decoder.RawMessage.{RawMessage}
-use Rattle.protocol_stream.specs.declared.message_type.UnknownMessageType.{UnknownMessageType}
+use Rattle.protocol_types.specs.declared.message_type.UnknownMessageType.{UnknownMessageType}
 use Rattle.protocol_stream.specs.Item.{unknown, message, item_at}
 use Rattle.store_frames.specs.Answer.{IsFrame}
 use Rattle.store_frames.specs.Meaning.{frame_of}

@@ -3,11 +3,11 @@ use Rattle.std.proofs.Common.{◌≡◌, ℕ, ◌<◌, ◌^◌, Bool, true, fals
 use Rattle.std.specs.Prelude.{if◌then◌else◌, IfSome}
 use Rattle.protocol_table.specs.declared.table.RecordType.{RecordType}
 use Rattle.protocol_table.specs.declared.table.RecordType.TheVariants as records
-use Rattle.protocol_stream.specs.declared.message_type.MessageType.{MessageType}
-use Rattle.protocol_stream.specs.declared.version.Version.{Version}
-use Rattle.protocol_stream.specs.MessageType.{allows_ack}
-use Rattle.protocol_stream.specs.Frame.{IsWireType, IsFrame}
-use Rattle.protocol_stream.proofs.Types.{named_is_wire}
+use Rattle.protocol_types.specs.declared.message_type.MessageType.{MessageType}
+use Rattle.protocol_types.specs.declared.version.Version.{Version}
+use Rattle.protocol_types.specs.MessageType.{allows_ack, IsWireType}
+use Rattle.protocol_stream.specs.Frame.{IsFrame}
+use Rattle.protocol_types.proofs.Types.{named_is_wire}
 use Rattle.protocol_messages.specs.RecordMessage.{type_of_record}
 use Rattle.protocol_messages.specs.Encoded.{payload_message}
 

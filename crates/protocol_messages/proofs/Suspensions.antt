@@ -11,10 +11,10 @@ use Rattle.protocol_records.specs.Suspension.{SuspensionFits}
 use Rattle.protocol_records.specs.SuspensionV6.{SuspensionV6Fits}
 use Rattle.protocol_records.specs.ReadBack.{suspension_reads}
 use Rattle.protocol_records.specs.ReadBack.{suspension_v6_reads}
-use Rattle.protocol_stream.specs.declared.message_type.MessageType.TheVariants as messages
-use Rattle.protocol_stream.specs.declared.version.Version.{Version}
+use Rattle.protocol_types.specs.declared.message_type.MessageType.TheVariants as messages
+use Rattle.protocol_types.specs.declared.version.Version.{Version}
 use Rattle.protocol_stream.proofs.Fronts.{item_at-spelled}
-use Rattle.protocol_stream.proofs.Types.{named_is_wire}
+use Rattle.protocol_types.proofs.Types.{named_is_wire}
 use Rattle.protocol_messages.specs.Leaves.{completions_of, signals_of, named_signals_of, lists_of, three_lists}
 use Rattle.protocol_messages.specs.Encoded.{is_before_7, record_message, suspension_parts_as, suspension_message}
 use Rattle.protocol_messages.specs.Laws.{ReadsSuspension, SuspensionsReadBack}

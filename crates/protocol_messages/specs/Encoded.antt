@@ -5,15 +5,15 @@ use Rattle.protocol_wire.specs.Parts.{Part, payload_of}
 use Rattle.protocol_records.specs.Suspension.{suspension_parts}
 use Rattle.protocol_records.specs.SuspensionV6.{suspension_v6_parts}
 use Rattle.protocol_records.specs.declared.suspension.SuspensionMessage.{SuspensionMessage}
-use Rattle.protocol_stream.specs.declared.message_type.MessageType.{MessageType}
-use Rattle.protocol_stream.specs.declared.message_type.MessageType.TheVariants as messages
+use Rattle.protocol_types.specs.declared.message_type.MessageType.{MessageType}
+use Rattle.protocol_types.specs.declared.message_type.MessageType.TheVariants as messages
 use Rattle.protocol_stream.specs.declared.decoder.RawMessage.{RawMessage}
 use Rattle.protocol_stream.specs.declared.encoder.EncodingError.{EncodingError}
 use Rattle.protocol_stream.specs.declared.encoder.EncodingError.TheVariants.{PayloadTooLong}
-use Rattle.protocol_stream.specs.declared.version.Version.{Version}
-use Rattle.protocol_stream.specs.declared.feature.Feature.TheVariants.{AwaitTree}
-use Rattle.protocol_stream.specs.Feature.{lacks_feature}
-use Rattle.protocol_stream.specs.Version.{version_number}
+use Rattle.protocol_types.specs.declared.version.Version.{Version}
+use Rattle.protocol_types.specs.declared.feature.Feature.TheVariants.{AwaitTree}
+use Rattle.protocol_types.specs.Feature.{lacks_feature}
+use Rattle.protocol_types.specs.Version.{version_number}
 use Rattle.protocol_stream.specs.Header.{header_of}
 use Rattle.protocol_stream.specs.Frame.{spelled}
 use Rattle.protocol_messages.specs.RecordMessage.{type_of_record}

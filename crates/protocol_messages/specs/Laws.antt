@@ -8,9 +8,9 @@ use Rattle.protocol_wire.specs.Parts.{Part, payload_of}
 use Rattle.protocol_records.specs.Suspension.{suspension_of, SuspensionFits}
 use Rattle.protocol_records.specs.SuspensionV6.{suspension_v6_of}
 use Rattle.protocol_records.specs.declared.suspension.SuspensionMessage.{SuspensionMessage}
-use Rattle.protocol_stream.specs.declared.message_type.MessageType.{MessageType}
+use Rattle.protocol_types.specs.declared.message_type.MessageType.{MessageType}
 use Rattle.protocol_stream.specs.declared.decoder.RawMessage.{RawMessage}
-use Rattle.protocol_stream.specs.declared.version.Version.{Version}
+use Rattle.protocol_types.specs.declared.version.Version.{Version}
 use Rattle.protocol_stream.specs.Item.{message, item_at}
 use Rattle.protocol_stream.specs.Frame.{spelled, IsFrame}
 use Rattle.protocol_messages.specs.RecordMessage.{type_of_record}

@@ -2,8 +2,8 @@
 use Rattle.std.specs.Prelude.{Option, Some, None}
 use Rattle.protocol_table.specs.declared.table.RecordType.{RecordType}
 use Rattle.protocol_table.specs.declared.table.RecordType.TheVariants as records
-use Rattle.protocol_stream.specs.declared.message_type.MessageType.{MessageType}
-use Rattle.protocol_stream.specs.declared.message_type.MessageType.TheVariants as messages
+use Rattle.protocol_types.specs.declared.message_type.MessageType.{MessageType}
+use Rattle.protocol_types.specs.declared.message_type.MessageType.TheVariants as messages
 
 -- Both records of a suspension have one type. What is a part of other records alone has none, nor has the record that all
 -- notifications but an ephemeral one share.

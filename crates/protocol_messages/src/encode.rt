@@ -1,7 +1,7 @@
 // Records as the frames of messages.
 ghost use Rattle.std.specs.Prelude.{◌≡◌};
 ghost use Rattle.protocol_stream.specs.declared.decoder.RawMessage.{RawMessage};
-ghost use Rattle.protocol_stream.specs.declared.version.Version.{Version as Versions};
+ghost use Rattle.protocol_types.specs.declared.version.Version.{Version as Versions};
 ghost use Rattle.protocol_messages.specs.Encoded.{is_before_7 as is_before, record_message, plain_message, EncodesTo};
 
 use crate::message::PlainMessage;

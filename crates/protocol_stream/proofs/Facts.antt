@@ -4,10 +4,10 @@ use Rattle.std.proofs.lemmas.Bool.{eqb-true, eq-eqb, cases_Bool}
 use Rattle.journal_model.specs.Request.{Request, CallRecord}
 use Rattle.journal_model.specs.Notification.{Text}
 use Rattle.journal_model.specs.Cause.{is_invocation_id, is_outcome}
-use Rattle.protocol_stream.specs.declared.message_type.MessageType.TheVariants as types
+use Rattle.protocol_types.specs.declared.message_type.MessageType.TheVariants as types
 use Rattle.protocol_stream.specs.declared.command_facts.CompletedBy.TheVariants as by
 use Rattle.journal_model.specs.Spelling.{request_type}
-use Rattle.protocol_stream.specs.MessageType.{number_of, named_type}
+use Rattle.protocol_types.specs.MessageType.{number_of, named_type}
 use Rattle.protocol_stream.specs.CommandFacts.{Completes, completion_by, type_of_request, RequestsTyped, RequestsHaveLines}
 
 pub requests_typed : RequestsTyped

@@ -2,11 +2,11 @@
 use Rattle.std.proofs.Common.{◌≡◌, ℕ, ◌^◌, ◌<◌, Bool, true, false, List, ◌++◌, length, Some, None, is_some, refl, sym, ap, ◌∙◌}
 use Rattle.std.specs.Prelude.{if◌then◌else◌}
 use Rattle.journal_model.specs.Spelling.{frame_bytes}
-use Rattle.protocol_stream.specs.declared.message_type.MessageType.{MessageType}
-use Rattle.protocol_stream.specs.MessageType.{number_of, allows_ack}
+use Rattle.protocol_types.specs.declared.message_type.MessageType.{MessageType}
+use Rattle.protocol_types.specs.MessageType.{number_of, allows_ack}
 use Rattle.protocol_stream.specs.Item.{message, item_at}
 use Rattle.protocol_stream.specs.Frame.{message_of, IsFrame}
-use Rattle.protocol_stream.proofs.Types.{is_named, named_is_wire}
+use Rattle.protocol_types.proofs.Types.{is_named, named_is_wire}
 use Rattle.protocol_stream.proofs.Fronts.{item_at-spelled}
 use Rattle.protocol_stream.proofs.Spellings.{spelled-frame_bytes}
 

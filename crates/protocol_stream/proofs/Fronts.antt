@@ -8,7 +8,7 @@ use Rattle.std.proofs.lemmas.List.{drop-take, drop-drop, length-drop, take-appen
 use Rattle.std.proofs.Math.Seq.{take-append_seam, drop-append_seam}
 use Rattle.protocol_wire.proofs.Steps.{Shrinks}
 use Rattle.protocol_wire.proofs.Extends.{Extends}
-use Rattle.protocol_stream.specs.declared.message_type.UnknownMessageType.{UnknownMessageType}
+use Rattle.protocol_types.specs.declared.message_type.UnknownMessageType.{UnknownMessageType}
 use Rattle.protocol_stream.specs.declared.header.MessageHeader.{MessageHeader}
 use Rattle.protocol_stream.specs.declared.decoder.RawMessage.{RawMessage}
 use Rattle.protocol_stream.specs.Header.{message_length, word_of, header_in}

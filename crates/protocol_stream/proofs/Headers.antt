@@ -1,11 +1,10 @@
 -- A header is read back from the number that it is written as.
 use Rattle.std.proofs.Common.{◌≡◌, ℕ, ◌+◌, ◌*◌, ◌/◌, ◌%◌, ◌^◌, ◌<◌, ◌≤◌, Bool, true, false, Option, Some, None, Ok, refl, sym, ap, arith, is_some, nat_eq}
 use Rattle.std.specs.Prelude.{if◌then◌else◌}
-use Rattle.protocol_stream.specs.declared.message_type.MessageType.{MessageType}
+use Rattle.protocol_types.specs.declared.message_type.MessageType.{MessageType}
 use Rattle.protocol_stream.specs.declared.header.MessageHeader.{MessageHeader}
-use Rattle.protocol_stream.specs.MessageType.{number_of, allows_ack}
+use Rattle.protocol_types.specs.MessageType.{number_of, allows_ack, IsWireType}
 use Rattle.protocol_stream.specs.Header.{message_type, message_length, requested_ack, header_of, ack_bit, word_of, header_in}
-use Rattle.protocol_stream.specs.Frame.{IsWireType}
 
 -- a type with a flag has it, and another has none
 abbrev HasFlag : MessageType → Option Bool → Type 0

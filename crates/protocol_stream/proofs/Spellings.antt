@@ -8,8 +8,8 @@ use Rattle.protocol_wire.specs.Spelling.{varint_spelling_within, varint_spelling
 use Rattle.protocol_wire.specs.Parts as parts
 use Rattle.protocol_wire.specs.Parts.{Part, part_spelling, payload_of}
 use Rattle.journal_model.specs.Spelling as model
-use Rattle.protocol_stream.specs.declared.message_type.MessageType.{MessageType}
-use Rattle.protocol_stream.specs.MessageType.{number_of, allows_ack}
+use Rattle.protocol_types.specs.declared.message_type.MessageType.{MessageType}
+use Rattle.protocol_types.specs.MessageType.{number_of, allows_ack}
 use Rattle.protocol_stream.specs.Header.{ack_bit}
 use Rattle.protocol_stream.specs.Frame.{spelled, message_of}
 

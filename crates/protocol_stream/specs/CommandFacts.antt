@@ -6,8 +6,8 @@ use Rattle.journal_model.specs.State.{StateMap, state_change}
 use Rattle.journal_model.specs.Spelling.{completion_type, request_type}
 use Rattle.journal_model.specs.Journal.{sleep_in}
 use Rattle.journal_model.specs.Cause.{is_failure, is_invocation_id, is_outcome, is_void, may_complete}
-use Rattle.protocol_stream.specs.declared.message_type.MessageType.{MessageType}
-use Rattle.protocol_stream.specs.declared.message_type.MessageType.TheVariants as types
+use Rattle.protocol_types.specs.declared.message_type.MessageType.{MessageType}
+use Rattle.protocol_types.specs.declared.message_type.MessageType.TheVariants as types
 use Rattle.protocol_stream.specs.declared.command_facts.CompletedBy.{CompletedBy}
 use Rattle.protocol_stream.specs.declared.command_facts.CompletedBy.TheVariants as by
 use Rattle.protocol_stream.specs.declared.command_facts.Completion.{Completion}
@@ -16,7 +16,7 @@ use Rattle.protocol_stream.specs.declared.command_facts.Completions.TheVariants 
 use Rattle.protocol_stream.specs.declared.command_facts.Kept.{Kept}
 use Rattle.protocol_stream.specs.declared.command_facts.Kept.TheVariants as kept
 use Rattle.protocol_stream.specs.declared.command_facts.CommandFacts.{CommandFacts}
-use Rattle.protocol_stream.specs.MessageType.{number_of, named_type}
+use Rattle.protocol_types.specs.MessageType.{number_of, named_type}
 
 -- whether a call from outside may bring this
 abbrev pub accepts : CompletedBy → NotificationResult → Bool

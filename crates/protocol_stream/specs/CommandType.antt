@@ -1,7 +1,7 @@
 -- The types of commands, their words, and the types of messages that they stand for.
 use Rattle.std.specs.Prelude.{ℕ, List, codes, Result, Ok, Err}
-use Rattle.protocol_stream.specs.declared.message_type.MessageType.{MessageType}
-use Rattle.protocol_stream.specs.declared.message_type.MessageType.TheVariants as messages
+use Rattle.protocol_types.specs.declared.message_type.MessageType.{MessageType}
+use Rattle.protocol_types.specs.declared.message_type.MessageType.TheVariants as messages
 use Rattle.protocol_stream.specs.declared.command_type.CommandType.{CommandType}
 use Rattle.protocol_stream.specs.declared.command_type.CommandType.TheVariants as commands
 

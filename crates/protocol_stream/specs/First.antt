@@ -1,6 +1,6 @@
 -- What stands first among bytes.
 use Rattle.std.specs.Prelude.{◌≡◌, ℕ, ◌+◌, ◌≤◌, List, length, drop, Some, None}
-use Rattle.protocol_stream.specs.declared.message_type.UnknownMessageType.{UnknownMessageType}
+use Rattle.protocol_types.specs.declared.message_type.UnknownMessageType.{UnknownMessageType}
 use Rattle.protocol_stream.specs.declared.first.FirstItem.{FirstItem}
 use Rattle.protocol_stream.specs.declared.first.FirstItem.TheVariants.{Partial, Unknown, Frame}
 use Rattle.protocol_stream.specs.Item.{item_at, unknown, message}

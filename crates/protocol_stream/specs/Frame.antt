@@ -1,10 +1,10 @@
 -- Messages as bytes, one after another.
-use Rattle.std.specs.Prelude.{◌≡◌, ℕ, ◌^◌, ◌<◌, false, List, ◌++◌, length, is_some, Ok}
+use Rattle.std.specs.Prelude.{◌≡◌, ℕ, ◌^◌, ◌<◌, false, List, ◌++◌, length, is_some}
 use Rattle.std.specs.List.{flat_map}
 use Rattle.std.specs.Int.{w64, to_be_bytes}
-use Rattle.protocol_stream.specs.declared.message_type.MessageType.{MessageType}
+use Rattle.protocol_types.specs.declared.message_type.MessageType.{MessageType}
 use Rattle.protocol_stream.specs.declared.decoder.RawMessage.{RawMessage}
-use Rattle.protocol_stream.specs.MessageType.{number_of, type_numbered, allows_ack}
+use Rattle.protocol_types.specs.MessageType.{allows_ack, IsWireType}
 use Rattle.protocol_stream.specs.Header.{message_type, message_length, requested_ack, header_of, word_of}
 
 -- the header, and then the payload
@@ -17,11 +17,6 @@ stream messages = flat_map spelled messages
 -- the message of this type and payload, which requests no acknowledgement
 abbrev pub message_of : MessageType → List ℕ → RawMessage
 message_of ty payload = record { header = header_of ty false (length payload); payload = payload }
-
--- a type whose number stands for it
-pub record IsWireType (ty : MessageType) : Type 0 where
-  pub number : number_of ty < 2 ^ 16
-  pub read : type_numbered (number_of ty) ≡ Ok ty
 
 -- a message that its spelling stands for
 pub record IsFrame (message : RawMessage) : Type 0 where

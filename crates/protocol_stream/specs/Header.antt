@@ -1,9 +1,9 @@
 -- Headers: what they say, and the number that their eight bytes spell.
 use Rattle.std.specs.Prelude.{ℕ, ◌+◌, ◌*◌, ◌/◌, ◌%◌, ◌^◌, ◌==◌, if◌then◌else◌, Bool, true, false, Option, Some, None, Result, Ok, Err}
-use Rattle.protocol_stream.specs.declared.message_type.MessageType.{MessageType}
-use Rattle.protocol_stream.specs.declared.message_type.UnknownMessageType.{UnknownMessageType}
+use Rattle.protocol_types.specs.declared.message_type.MessageType.{MessageType}
+use Rattle.protocol_types.specs.declared.message_type.UnknownMessageType.{UnknownMessageType}
 use Rattle.protocol_stream.specs.declared.header.MessageHeader.{MessageHeader}
-use Rattle.protocol_stream.specs.MessageType.{number_of, type_numbered, allows_ack}
+use Rattle.protocol_types.specs.MessageType.{number_of, type_numbered, allows_ack}
 
 -- the type of the message that follows, and how many bytes its payload has
 abbrev pub message_type : MessageHeader → MessageType

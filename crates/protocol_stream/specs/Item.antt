@@ -1,7 +1,7 @@
 -- The items of a stream of bytes.
 use Rattle.std.specs.Prelude.{ℕ, List, length, take, drop, nat_lt, if◌then◌else◌, Option, Some, None, Result, Ok, Err}
 use Rattle.std.specs.Int.{w64, from_be_bytes}
-use Rattle.protocol_stream.specs.declared.message_type.UnknownMessageType.{UnknownMessageType}
+use Rattle.protocol_types.specs.declared.message_type.UnknownMessageType.{UnknownMessageType}
 use Rattle.protocol_stream.specs.declared.header.MessageHeader.{MessageHeader}
 use Rattle.protocol_stream.specs.declared.decoder.RawMessage.{RawMessage}
 use Rattle.protocol_stream.specs.Header.{message_length, header_in}

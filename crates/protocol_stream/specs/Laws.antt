@@ -1,5 +1,5 @@
--- Laws of types, headers and streams.
-use Rattle.std.specs.Prelude.{◌≡◌, ◌≢◌, ◌↔◌, ℕ, ◌^◌, ◌<◌, Bool, length, List, [], ◌++◌, map, bit_and, Some, is_some, Ok, Err}
+-- Laws of types of commands, headers and streams.
+use Rattle.std.specs.Prelude.{◌≡◌, ◌≢◌, ℕ, ◌^◌, ◌<◌, Bool, length, List, [], ◌++◌, map, Some, is_some, Ok}
 use Rattle.std.specs.List.{AllByRecursion}
 use Rattle.protocol_wire.specs.Items.{items, left}
 use Rattle.protocol_wire.specs.Parts.{payload_of}
@@ -19,37 +19,18 @@ use Rattle.protocol_records.specs.InputCommand.{input_command_parts}
 use Rattle.protocol_records.specs.Start.{start_parts}
 use Rattle.protocol_records.specs.Future.{future_parts}
 use Rattle.protocol_records.specs.AwaitingOn.{awaiting_on_parts}
-use Rattle.protocol_stream.specs.declared.message_type.MessageType.{MessageType}
-use Rattle.protocol_stream.specs.declared.message_type.MessageType.TheVariants.{CustomEntry}
+use Rattle.protocol_types.specs.declared.message_type.MessageType.{MessageType}
 use Rattle.protocol_stream.specs.declared.header.MessageHeader.{MessageHeader}
 use Rattle.protocol_stream.specs.declared.decoder.RawMessage.{RawMessage}
 use Rattle.protocol_stream.specs.declared.command_type.CommandType.{CommandType}
 use Rattle.protocol_stream.specs.declared.command_type.CommandType.TheVariants.{SendSignal, CancelInvocation}
-use Rattle.protocol_stream.specs.declared.version.Version.{Version}
-use Rattle.protocol_stream.specs.MessageType.{number_of, named_types, type_numbered, allows_ack}
+use Rattle.protocol_types.specs.MessageType.{number_of, allows_ack, IsWireType}
 use Rattle.protocol_stream.specs.CommandType.{message_type_of, command_type_of}
-use Rattle.protocol_stream.specs.Version.{version_number, version_content_type, version_at, content_type_read}
 use Rattle.protocol_stream.specs.Header.{message_type, message_length, requested_ack, word_of, header_in}
 use Rattle.protocol_stream.specs.Item.{message, item_at}
 use Rattle.protocol_stream.specs.Decoder.{DecoderCall, Leads, taken_bytes, answered_items}
-use Rattle.protocol_stream.specs.Frame.{spelled, stream, message_of, IsWireType, IsFrame}
+use Rattle.protocol_stream.specs.Frame.{spelled, stream, message_of, IsFrame}
 use Rattle.protocol_stream.specs.Records.{failure_record, terminal_failure_told, sleep_record, output_record, input_record, start_record, future_record, awaiting_on_record}
-
-abbrev pub NamesReadBack : Type 0
-NamesReadBack = AllByRecursion IsWireType named_types
-
--- no named type has this number
-abbrev pub IsUnlisted : ℕ → Type 0
-IsUnlisted number = AllByRecursion (λ ty. number_of ty ≢ number) named_types
-
-abbrev pub CustomEntriesReadBack : Type 0
-CustomEntriesReadBack = (number : ℕ) → (type_numbered number ≡ Ok (CustomEntry number)) ↔ (IsUnlisted number × (bit_and number 0xFC00 ≢ 0))
-
-abbrev pub NumbersReadBack : Type 0
-NumbersReadBack = (number : ℕ) (ty : MessageType) → type_numbered number ≡ Ok ty → number_of ty ≡ number
-
-abbrev pub RestIsUnknown : Type 0
-RestIsUnknown = (number : ℕ) → (type_numbered number ≡ Err (record { 0 = number })) ↔ (IsUnlisted number × (bit_and number 0xFC00 ≡ 0))
 
 -- A command type is read back from the type of its message, but for the cancellation,
 abbrev pub CommandTypesReadBack : Type 0
@@ -58,12 +39,6 @@ CommandTypesReadBack = (command : CommandType) → command ≢ CancelInvocation 
 -- which is read back as the signal that it sends.
 abbrev pub CancellationsAreSignals : Type 0
 CancellationsAreSignals = command_type_of (message_type_of CancelInvocation) ≡ Ok SendSignal
-
-abbrev pub ContentTypesReadBack : Type 0
-ContentTypesReadBack = (version : Version) → content_type_read (version_content_type version) ≡ Ok version
-
-abbrev pub VersionsReadBack : Type 0
-VersionsReadBack = (version : Version) → version_at (version_number version) ≡ Some version
 
 abbrev pub HeadersReadBack : Type 0
 HeadersReadBack =

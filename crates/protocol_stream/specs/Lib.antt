@@ -1,14 +1,11 @@
 pub mod CommandFacts
 pub mod CommandType
 pub mod Decoder
-pub mod Feature
+pub mod FieldText
 pub mod First
 pub mod Frame
 pub mod Header
 pub mod Item
 pub mod Laws
-pub mod MessageType
 pub mod Records
 pub mod RequestHeaders
-pub mod TypeText
-pub mod Version

@@ -190,12 +190,12 @@ macro_rules! facts_in_table {
     };
 }
 
-impl MessageType {
+impl CommandFacts {
     /// What the command of this type asks for, what completes it and what is kept of it, if this is the type of a command
     /// with a name. A lazy and an eager read, which are one `CommandType`, differ in this.
-    pub fn command_facts(self) -> Option<CommandFacts>
-        ensures { result ≡ facts_of self }
+    pub fn of(ty: MessageType) -> Option<CommandFacts>
+        ensures { result ≡ facts_of ty }
     {
-        facts_in_table!(self)
+        facts_in_table!(ty)
     }
 }

@@ -50,7 +50,7 @@ pub enum NotificationField {
 }
 
 impl fmt::Display for NotificationField {
-    ghost use Rattle.protocol_stream.specs.TypeText.{field_text};
+    ghost use Rattle.protocol_stream.specs.FieldText.{field_text};
 
     ghost output = { λ field. Some (field_text field) };
 

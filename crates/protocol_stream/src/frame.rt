@@ -1,7 +1,7 @@
 // Frames: a payload behind the header that has its type and its length.
 ghost use Rattle.std.specs.Prelude.{◌≡◌, ◌+◌, ◌*◌, ◌%◌, ◌≤◌, ◌^◌, ◌++◌, ◌↔◌, Err, drop, length, IfOk, OnOk, OnErr};
 ghost use Rattle.journal_model.specs.Spelling.{frame_bytes};
-ghost use Rattle.protocol_stream.specs.MessageType.{number_of};
+ghost use Rattle.protocol_types.specs.MessageType.{number_of};
 
 use crate::{EncodingError, MessageType};
 use bytes::{Bytes, BytesMut};

@@ -1,17 +1,7 @@
-//! Laws of types, headers and streams. Each function does nothing: its contract is the law.
+//! Laws of types of commands, headers and streams. Each function does nothing: its contract is the law.
 
 ghost use Rattle.protocol_stream.specs.CommandFacts.{RequestsTyped, RequestsHaveLines};
-ghost use Rattle.protocol_stream.specs.Laws.{NamesReadBack, CustomEntriesReadBack, NumbersReadBack, RestIsUnknown, CommandTypesReadBack, CancellationsAreSignals, ContentTypesReadBack, VersionsReadBack, HeadersReadBack, FramesStandAlone, StreamsAreRead, StreamsCutAnywhere, DecodersAnswerItems, SleepsSpelled, OutputsSpelled, InputsSpelled, StartsSpelled, FuturesSpelled, AwaitingOnSpelled, FramesSpelled, TerminalFailuresReadBack};
-
-/// Each named type is read back from its number, and a custom entry exactly where its number is no named type's and
-/// has one of its six highest bits set. A number that is read as a type is that type's, and it is refused exactly
-/// where no named type has it and these six bits are zero.
-pub fn types_read_back()
-    ensures named { NamesReadBack }
-    ensures custom { CustomEntriesReadBack }
-    ensures number { NumbersReadBack }
-    ensures unknown { RestIsUnknown }
-{}
+ghost use Rattle.protocol_stream.specs.Laws.{CommandTypesReadBack, CancellationsAreSignals, HeadersReadBack, FramesStandAlone, StreamsAreRead, StreamsCutAnywhere, DecodersAnswerItems, SleepsSpelled, OutputsSpelled, InputsSpelled, StartsSpelled, FuturesSpelled, AwaitingOnSpelled, FramesSpelled, TerminalFailuresReadBack};
 
 /// Every type of a command but the cancellation is read back from the type of its message. The cancellation is read back
 /// as the signal that it sends.
@@ -25,12 +15,6 @@ pub fn command_types_read_back()
 pub fn commands_have_lines()
     ensures types { RequestsTyped }
     ensures lines { RequestsHaveLines }
-{}
-
-/// Each version is read back from its content type, and from its number.
-pub fn versions_read_back()
-    ensures content_type { ContentTypesReadBack }
-    ensures number { VersionsReadBack }
 {}
 
 /// A header whose flag fits its type is read back from the number that it is written as.

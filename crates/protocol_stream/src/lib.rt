@@ -6,14 +6,11 @@ mod command_type;
 mod conversion;
 mod decoder;
 mod encoder;
-mod feature;
 mod first;
 mod frame;
 mod header;
 pub mod laws;
-mod message_type;
 mod request_headers;
-mod version;
 
 pub use command_facts::{CommandFacts, CompletedBy, Completion, Completions, Kept};
 pub use command_type::CommandType;
@@ -23,10 +20,8 @@ pub use conversion::{
 };
 pub use decoder::{Decoder, DecodingError, NotificationField, RawMessage};
 pub use encoder::{EncodingError, write_message};
-pub use feature::Feature;
 pub use first::{FirstItem, first_item};
 pub use frame::{HEADER_LEN, frame_of, payload_of_frame, put_frame};
 pub use header::MessageHeader;
-pub use message_type::{MessageType, UnknownMessageType};
+pub use protocol_types::{ContentTypeError, Feature, MessageType, UnknownMessageType, Version};
 pub use request_headers::HeaderMap;
-pub use version::{ContentTypeError, Version};

@@ -32,8 +32,8 @@ use Rattle.journal_model.specs.Notification.{Text}
 use Rattle.journal_model.specs.Request.{Request}
 use Rattle.journal_model.specs.Event.{Frame}
 use Rattle.journal_model.specs.Spelling.{request_payload}
-use Rattle.protocol_stream.specs.declared.message_type.MessageType.{MessageType}
-use Rattle.protocol_stream.specs.declared.message_type.MessageType.TheVariants as types
+use Rattle.protocol_types.specs.declared.message_type.MessageType.{MessageType}
+use Rattle.protocol_types.specs.declared.message_type.MessageType.TheVariants as types
 use Rattle.protocol_stream.specs.Frame.{message_of}
 use Rattle.protocol_stream.specs.Records.{value_record, pair_record, pair_told, failure_record, result_record, output_record, sleep_record}
 use Rattle.protocol_stream.proofs.RecordSpellings.{sleeps_spelled, outputs_spelled}

@@ -5,7 +5,7 @@ use Rattle.std.specs.List.{AllByRecursion}
 use Rattle.std.proofs.lemmas.Bool.{ltb-false}
 use Rattle.std.proofs.lemmas.Bool.Decides.{Decides-eqb}
 use Rattle.protocol_stream.specs.declared.decoder.RawMessage.{RawMessage}
-use Rattle.protocol_stream.specs.MessageType.{number_of, type_numbered, allows_ack, named_type}
+use Rattle.protocol_types.specs.MessageType.{number_of, type_numbered, allows_ack, named_type}
 use Rattle.protocol_stream.specs.Frame as protocol
 use Rattle.protocol_stream.specs.Item.{Item, item_at, message}
 use Rattle.protocol_stream.proofs.Fronts.{item_at-spelled, item_at_extends}

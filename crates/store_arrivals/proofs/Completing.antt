@@ -9,10 +9,10 @@ use Rattle.journal_model.specs.Spelling.{completion_type}
 use Rattle.journal_model.specs.Journal.{Entry, is_awaited, open_request, request_asking}
 use Rattle.journal_model.specs.Attempt.{notification_type, type_of_completion}
 use Rattle.journal_model.specs.Cause.{Cause, Tests, those_that_hold, is_failure, is_invocation_id, is_outcome, is_void, refuses_kind}
-use Rattle.protocol_stream.specs.declared.message_type.MessageType.{MessageType}
-use Rattle.protocol_stream.specs.declared.message_type.MessageType.TheVariants as types
+use Rattle.protocol_types.specs.declared.message_type.MessageType.{MessageType}
+use Rattle.protocol_types.specs.declared.message_type.MessageType.TheVariants as types
 use Rattle.protocol_stream.specs.declared.command_facts.CompletedBy.TheVariants as by
-use Rattle.protocol_stream.specs.MessageType.{number_of}
+use Rattle.protocol_types.specs.MessageType.{number_of}
 use Rattle.protocol_stream.specs.CommandFacts.{completion_at, completion_by}
 use Rattle.protocol_stream.specs.declared.command_facts.Completions.TheVariants as asked
 use Rattle.store_refusals.specs.declared.refusal.Refusal.{Refusal}

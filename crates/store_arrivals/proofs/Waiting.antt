@@ -5,8 +5,8 @@ use Rattle.journal_model.specs.Notification.{Text}
 use Rattle.journal_model.specs.Request.{Request, completions_asked}
 use Rattle.journal_model.specs.Journal.{Entry, asks_for as is_asking, requests_in, request_asking, open_request, is_awaited}
 use Rattle.journal_laws.proofs.Leaving.{or-true}
-use Rattle.protocol_stream.specs.declared.message_type.MessageType.{MessageType}
-use Rattle.protocol_stream.specs.MessageType.{named_type}
+use Rattle.protocol_types.specs.declared.message_type.MessageType.{MessageType}
+use Rattle.protocol_types.specs.MessageType.{named_type}
 use Rattle.protocol_stream.specs.CommandFacts.{type_of_request}
 use Rattle.protocol_stream.proofs.Facts.{requests_typed}
 use Rattle.store_refusals.specs.declared.refusal.Refusal.{Refusal}

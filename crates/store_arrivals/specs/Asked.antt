@@ -7,7 +7,7 @@ use Rattle.journal_model.specs.Request.{Request, completions_asked}
 use Rattle.journal_model.specs.Event.{Event}
 use Rattle.journal_model.specs.Journal.{entries_of, open_request}
 use Rattle.journal_model.specs.Cause.{Cause, Tests, refuses_kind}
-use Rattle.protocol_stream.specs.declared.message_type.MessageType.{MessageType}
+use Rattle.protocol_types.specs.declared.message_type.MessageType.{MessageType}
 use Rattle.protocol_stream.specs.declared.command_facts.Completion.{Completion}
 use Rattle.protocol_stream.specs.CommandFacts.{accepts, completion_at, facts_of, type_of_request}
 use Rattle.store_tables.specs.Questions.{is_number}

@@ -2,7 +2,7 @@
 
 ghost use Rattle.std.specs.Prelude.{◌≡◌, ◌+◌, ◌<◌, ◌≤◌, ◌^◌, ◌∷◌, [], drop as without, length, IfOk};
 ghost use Rattle.journal_model.specs.Spelling.{frame_bytes, notification_payload};
-ghost use Rattle.protocol_stream.specs.MessageType.{number_of};
+ghost use Rattle.protocol_types.specs.MessageType.{number_of};
 ghost use Rattle.store_tables.specs.declared.row.Write.{Write as RowWrite};
 ghost use Rattle.store_model.specs.Kept.{answered_by};
 ghost use Rattle.store_model.specs.Steps.{grown};

@@ -5,7 +5,7 @@ ghost use Rattle.sqlite.specs.Held.{state};
 ghost use Rattle.sqlite.specs.State.{HasCleanDisk};
 ghost use Rattle.journal_model.specs.Event.{Event};
 ghost use Rattle.journal_model.specs.Journal.{entries_of, is_awaited, open_request, request_asking};
-ghost use Rattle.protocol_stream.specs.MessageType.{named_type};
+ghost use Rattle.protocol_types.specs.MessageType.{named_type};
 ghost use Rattle.store_tables.specs.Looks.{Looks};
 ghost use Rattle.store_refusals.specs.Prepared.{Tells};
 ghost use Rattle.store_invocations.specs.Rows.{IsStoreOf};
@@ -13,7 +13,7 @@ ghost use Rattle.store_arrivals.specs.Asked.{as_second, asked_by, completion_for
 
 use bytes::ByteStr;
 use journal_model::NotificationResult;
-use protocol_stream::{Completion, MessageType};
+use protocol_stream::{CommandFacts, Completion, MessageType};
 use sqlite::Alter;
 use std::alloc::Global;
 use store_refusals::Refusal;
@@ -140,7 +140,7 @@ impl AskedCompletion {
     fn completion(self) -> Option<Completion>
         ensures { result ≡ completion_for self }
     {
-        match self.ty.command_facts() {
+        match CommandFacts::of(self.ty) {
             Some(facts) => facts.completions.completion(self.is_second),
             None => None,
         }

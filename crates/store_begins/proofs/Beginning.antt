@@ -8,15 +8,18 @@ use Rattle.journal_model.specs.declared.invocation.StateMode.{StateMode}
 use Rattle.journal_model.specs.declared.invocation.StateMode.TheVariants as modes
 use Rattle.journal_model.specs.Event.{Event}
 use Rattle.journal_model.specs.Spelling.{plain_number, plain_bytes, repeated_bytes}
+use Rattle.journal_model.specs.Cause.{IsAccepted}
 use Rattle.journal_model.specs.Journal.{invocation_begun, version_of, object_of, object_state, entries_of}
 use Rattle.journal_model.specs.Attempt.{attempts_begun}
 use Rattle.journal_model.specs.Start.{attempts_since_entry, since_first as model_since_first, state_entry, state_fields, start_payload, start_payload_for, start_payload_of}
+use Rattle.protocol_types.specs.Version.{version_number}
 use Rattle.store_tables.specs.declared.row.InvocationRow.{InvocationRow}
 use Rattle.store_tables.specs.declared.row.Progress.{Progress}
 use Rattle.store_tables.specs.declared.row.Write.{Write}
 use Rattle.store_tables.specs.declared.row.Write.TheVariants.{SetProgress}
 use Rattle.store_model.specs.Progress.{first_of, number_or_zero, progress_of}
 use Rattle.store_model.specs.Kept.{is_shown_whole, invocation_row, state_row}
+use Rattle.store_model.proofs.Versions.{kept_number}
 use Rattle.store_model.specs.Writes.{invocation_writes, state_writes, writes_of}
 use Rattle.store_model.specs.Steps.{after_begin}
 use Rattle.store_model.proofs.Following.{follows}
@@ -84,8 +87,8 @@ module _ (events : List Event) (id : Text) (now : ℕ) (row : InvocationRow) (it
   pub attempts_is : row.progress.attempts ≡ attempts_begun events id
   attempts_is = ap (λ (p : Progress). p.attempts) progress_is
 
-  pub version_is : row.version ≡ version_of events id
-  version_is = ap (λ (r : InvocationRow). r.version) it.is ∙ sym (ap (λ (o : Option NewInvocation). unwrap_or (option_map (λ (new : NewInvocation). new.version) o) 0) it.begun)
+  pub version_is : IsAccepted events → version_number row.version ≡ version_of events id
+  version_is accepted = ap (λ (r : InvocationRow). version_number r.version) it.is ∙ kept_number events id it.new accepted it.begun
 
 -- ---- the writes
 

@@ -6,7 +6,8 @@ use Rattle.journal_model.specs.Event.{Event}
 use Rattle.journal_model.specs.Spelling.{frame_bytes}
 use Rattle.journal_model.specs.Attempt.{attempts_begun}
 use Rattle.journal_model.specs.Start.{start_payload}
-use Rattle.journal_model.specs.Cause.{Cause, those_that_hold, own_tests}
+use Rattle.journal_model.specs.Cause.{Cause, IsAccepted, those_that_hold, own_tests}
+use Rattle.protocol_types.specs.Version.{version_number}
 use Rattle.store_tables.specs.declared.row.InvocationRow.{InvocationRow}
 use Rattle.store_tables.specs.declared.row.Progress.{Progress}
 use Rattle.store_tables.specs.declared.row.Write.TheVariants.{SetProgress}
@@ -57,13 +58,13 @@ module _ (events : List Event) (id : Text) (now : ℕ) (row : InvocationRow) (it
         | inr below_it ↦ absurd (let below = leb-false (2 ^ 32 - 1) (attempts_begun events id) below_it in omega arith)
       ]
 
-  pub next_made : (made : PreparedAttempt) → made.writes.items ≡ SetProgress row.id (after_begin now row.progress) ∷ [] → made.number ≡ row.progress.attempts + 1 → made.version ≡ row.version
+  pub next_made : IsAccepted events → (made : PreparedAttempt) → made.writes.items ≡ SetProgress row.id (after_begin now row.progress) ∷ [] → made.number ≡ row.progress.attempts + 1 → made.version ≡ version_number row.version
       → AreHanded events row now made.frames → IsBegun events id now made
-  next_made made writes number version frames =
+  next_made accepted made writes number version frames =
       let same = attempts_is events id now row it in record {
         writes = writes ∙ begin_writes_are events id now row it;
         number = omega arith;
-        version = version ∙ version_is events id now row it;
+        version = version ∙ version_is events id now row it accepted;
         start = frames.0 ∙ ap (frame_bytes 0x0000) (start_payload_is events id now row it);
         journal = subst (λ (x : Text). AreFrames row_frame (journal_rows events x) made.frames.journal) (row_named events id now row it) frames.1;
       }

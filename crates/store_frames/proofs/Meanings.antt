@@ -22,7 +22,7 @@ use Rattle.protocol_calls.specs.Fields.{call_command_of}
 use Rattle.protocol_calls.specs.declared.call_command.CallCommandMessage.{CallCommandMessage}
 use Rattle.protocol_controls.specs.Error.{error_of}
 use Rattle.protocol_controls.specs.declared.error.ErrorMessage.{ErrorMessage}
-use Rattle.protocol_stream.specs.declared.message_type.MessageType.{MessageType}
+use Rattle.protocol_types.specs.declared.message_type.MessageType.{MessageType}
 use Rattle.protocol_stream.specs.declared.decoder.RawMessage.{RawMessage}
 use Rattle.protocol_stream.specs.Header.{message_type}
 use Rattle.protocol_stream.proofs.RecordSpellings.{sleeps_spelled}

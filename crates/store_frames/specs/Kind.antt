@@ -2,8 +2,8 @@
 use Rattle.std.specs.Prelude.{Option, Some, None}
 use Rattle.protocol_table.specs.declared.table.RecordType.{RecordType}
 use Rattle.protocol_table.specs.declared.table.RecordType.TheVariants as records
-use Rattle.protocol_stream.specs.declared.message_type.MessageType.{MessageType}
-use Rattle.protocol_stream.specs.declared.message_type.MessageType.TheVariants as types
+use Rattle.protocol_types.specs.declared.message_type.MessageType.{MessageType}
+use Rattle.protocol_types.specs.declared.message_type.MessageType.TheVariants as types
 use Rattle.store_frames.specs.declared.kind.FrameKind.{FrameKind}
 use Rattle.store_frames.specs.declared.kind.FrameKind.TheVariants as kinds
 

@@ -17,11 +17,11 @@ use Rattle.protocol_records.specs.SuspensionV6.{suspension_v6_of}
 use Rattle.protocol_calls.specs.Fields.{call_command_of}
 use Rattle.protocol_controls.specs.Error.{error_of}
 use Rattle.protocol_controls.specs.declared.error.ErrorMessage.{ErrorMessage}
-use Rattle.protocol_stream.specs.declared.message_type.MessageType.{MessageType}
+use Rattle.protocol_types.specs.declared.message_type.MessageType.{MessageType}
 use Rattle.protocol_stream.specs.declared.decoder.RawMessage.{RawMessage}
 use Rattle.protocol_stream.specs.Header.{message_type}
-use Rattle.protocol_stream.specs.declared.feature.Feature.TheVariants.{AwaitTree}
-use Rattle.protocol_stream.specs.Feature.{lacks_feature}
+use Rattle.protocol_types.specs.declared.feature.Feature.TheVariants.{AwaitTree}
+use Rattle.protocol_types.specs.Feature.{lacks_feature}
 use Rattle.store_frames.specs.declared.kind.FrameKind.{FrameKind}
 use Rattle.store_frames.specs.declared.kind.FrameKind.TheVariants as kinds
 use Rattle.store_frames.specs.Kind.{kind_of, record_of}

@@ -13,8 +13,8 @@ use Rattle.protocol_records.specs.declared.suspension.SuspensionMessage.{Suspens
 use Rattle.protocol_records.specs.declared.suspension_v6.SuspensionMessageV6.{SuspensionMessageV6}
 use Rattle.protocol_calls.specs.declared.call_command.CallCommandMessage.{CallCommandMessage}
 use Rattle.protocol_stream.specs.Records.{header_told, pair_told}
-use Rattle.protocol_stream.specs.declared.feature.Feature.TheVariants.{ErrorBehavior}
-use Rattle.protocol_stream.specs.Feature.{lacks_feature}
+use Rattle.protocol_types.specs.declared.feature.Feature.TheVariants.{ErrorBehavior}
+use Rattle.protocol_types.specs.Feature.{lacks_feature}
 use Rattle.protocol_trees.specs.Future.{ids_in, future_tree}
 
 -- ---- commands

@@ -24,10 +24,10 @@ use Rattle.protocol_calls.specs.Fields.{call_command_of, call_command_parts}
 use Rattle.protocol_calls.specs.declared.call_command.CallCommandMessage.{CallCommandMessage}
 use Rattle.protocol_controls.specs.Error.{error_of}
 use Rattle.protocol_controls.specs.declared.error.ErrorMessage.{ErrorMessage}
-use Rattle.protocol_stream.specs.declared.message_type.MessageType.{MessageType}
-use Rattle.protocol_stream.specs.declared.message_type.MessageType.TheVariants as types
-use Rattle.protocol_stream.specs.declared.feature.Feature.TheVariants as features
-use Rattle.protocol_stream.specs.Feature.{lacks_feature}
+use Rattle.protocol_types.specs.declared.message_type.MessageType.{MessageType}
+use Rattle.protocol_types.specs.declared.message_type.MessageType.TheVariants as types
+use Rattle.protocol_types.specs.declared.feature.Feature.TheVariants as features
+use Rattle.protocol_types.specs.Feature.{lacks_feature}
 use Rattle.store_frames.specs.Kind.{record_of}
 use Rattle.store_frames.specs.declared.kind.FrameKind.{FrameKind}
 use Rattle.store_frames.specs.declared.kind.FrameKind.TheVariants as kinds

@@ -2,8 +2,8 @@
 ghost use Rattle.std.specs.Prelude.{◌≡◌, IfOk};
 ghost use Rattle.protocol_wire.specs.Check.{payload_fault};
 ghost use Rattle.protocol_wire.specs.declared.record.TheConstants.{LEVELS as the_levels};
-ghost use Rattle.protocol_stream.specs.declared.feature.Feature.TheVariants.{AwaitTree};
-ghost use Rattle.protocol_stream.specs.Feature.{lacks_feature};
+ghost use Rattle.protocol_types.specs.declared.feature.Feature.TheVariants.{AwaitTree};
+ghost use Rattle.protocol_types.specs.Feature.{lacks_feature};
 ghost use Rattle.store_frames.specs.Answer.{IsFrame};
 ghost use Rattle.store_frames.specs.Kind.{kind_of as the_kind_of, record_of as the_record_of};
 ghost use Rattle.store_frames.specs.Meaning.{frame_of};

@@ -11,12 +11,15 @@ use Rattle.journal_model.specs.Attempt.{begins_attempt, attempts_begun, suspensi
 use Rattle.journal_model.specs.Start.{is_some_entry, moment_begun, begun_since_entry, attempts_since_entry}
 use Rattle.journal_model.specs.Cause.{causes_of, IsAccepted, is_empty, last_completion, those_that_hold}
 use Rattle.journal_laws.proofs.ObjectState.{begin_when_new, begun_before, no_entries, none_of, open_when_accepted}
+use Rattle.protocol_types.specs.declared.version.Version.{Version}
+use Rattle.protocol_types.specs.Version.{version_number}
 use Rattle.store_tables.specs.declared.row.InvocationRow.{InvocationRow}
 use Rattle.store_tables.specs.declared.row.Write.{Write}
 use Rattle.store_tables.specs.declared.row.Write.TheVariants.{AddInvocation, AddEntry}
 use Rattle.store_model.specs.Places.{handed_in, handed_of}
 use Rattle.store_model.specs.Progress.{first_of, number_or_zero, payload_of_suspension, way_closed, error_in, last_output, progress_of}
-use Rattle.store_model.specs.Kept.{input_row, invocation_row, is_shown_whole}
+use Rattle.store_model.specs.Kept.{input_row, invocation_row, is_shown_whole, version_kept}
+use Rattle.store_model.proofs.Versions.{kept_of}
 use Rattle.store_model.specs.Writes.{begin_writes, state_writes, writes_of}
 use Rattle.store_model.proofs.Lists.{filter_nothing}
 use Rattle.store_model.proofs.Same.{both_same}
@@ -148,11 +151,11 @@ module _ (events : List Event) (new : NewInvocation) (accepted : IsAccepted even
     entries = 1 + length (no_entries_after i);
   }
 
-  pub first_row_is : invocation_row (Event.Invoke new ∷ events) new ≡ first_row new
+  pub first_row_is : invocation_row (Event.Invoke new ∷ events) new ≡ first_row (version_kept new.version) new
   first_row_is = λ i. record {
     id = new.id;
     object = new.object;
-    version = new.version;
+    version = version_kept new.version;
     seed = new.seed;
     is_whole = is_shown_whole new.state;
     progress = progress_is i;
@@ -162,7 +165,7 @@ module _ (events : List Event) (new : NewInvocation) (accepted : IsAccepted even
   no_state None = refl
   no_state (Some object) = refl
 
-  pub writes_are : writes_of events (Event.Invoke new) ≡ first_writes new
+  pub writes_are : writes_of events (Event.Invoke new) ≡ first_writes (version_kept new.version) new
   writes_are =
       ap (λ (writes : List Write). begin_writes events (Event.Invoke new) ++ writes) (no_state (object_of events (Event.Invoke new)))
       ∙ ap (λ (row : InvocationRow). AddInvocation row ∷ AddEntry (input_row new) ∷ []) first_row_is
@@ -170,12 +173,13 @@ module _ (events : List Event) (new : NewInvocation) (accepted : IsAccepted even
 -- ---- the whole call
 
 pub prepared_by : (events : List Event) (new : NewInvocation) → IsAccepted events → those_that_hold (object_tests events new) ≡ [] → those_that_hold (id_tests events new) ≡ []
-    → {A : Type 0} (items : A → List Write) (r : Result A Refusal) → Decides (input_tests new) (λ writes. items writes ≡ first_writes new) r
+    → (version : Version) → version_number version ≡ new.version
+    → {A : Type 0} (items : A → List Write) (r : Result A Refusal) → Decides (input_tests new) (λ writes. items writes ≡ first_writes version new) r
     → Prepares events (Event.Invoke new) (λ writes. items writes ≡ writes_of events (Event.Invoke new)) r
-prepared_by events new accepted free fresh items (Ok writes) made =
+prepared_by events new accepted free fresh version told items (Ok writes) made =
     let taken = none_of_both (object_tests events new) (id_tests events new ++ input_tests new) free (none_of_both (id_tests events new) (input_tests new) fresh made.0) in
-    (taken, made.1 ∙ sym (writes_are events new accepted taken))
-prepared_by events new accepted free fresh items (Err why) refused =
+    (taken, made.1 ∙ ap (λ (v : Version). first_writes v new) (sym (kept_of version) ∙ ap version_kept told) ∙ sym (writes_are events new accepted taken))
+prepared_by events new accepted free fresh version told items (Err why) refused =
     refused_later (object_tests events new) (id_tests events new ++ input_tests new) why free (refused_later (id_tests events new) (input_tests new) why fresh refused)
 
 empty_is : {A : Type 0} (xs : List A) → (length xs == 0) ≡ is_empty xs

@@ -6,7 +6,8 @@ use Rattle.journal_model.specs.Event.{Event}
 use Rattle.journal_model.specs.Spelling.{input_payload}
 use Rattle.journal_model.specs.Journal.{invocation_begun, is_busy}
 use Rattle.journal_model.specs.Cause.{Cause, Tests, is_empty, is_too_long}
-use Rattle.protocol_stream.specs.Version.{is_unsupported}
+use Rattle.protocol_types.specs.declared.version.Version.{Version}
+use Rattle.protocol_types.specs.Version.{is_unsupported}
 use Rattle.store_tables.specs.declared.row.Progress.{Progress}
 use Rattle.store_tables.specs.declared.row.InvocationRow.{InvocationRow}
 use Rattle.store_tables.specs.declared.row.EntryRow.{EntryRow}
@@ -30,11 +31,11 @@ first_progress new = record {
   entries = 1;
 }
 
-abbrev pub first_row : NewInvocation → InvocationRow
-first_row new = record {
+abbrev pub first_row : Version → NewInvocation → InvocationRow
+first_row version new = record {
   id = new.id;
   object = new.object;
-  version = new.version;
+  version = version;
   seed = new.seed;
   is_whole = is_shown_whole new.state;
   progress = first_progress new;
@@ -53,8 +54,9 @@ entry_of_input new payload = record {
   moment = 0;
 }
 
-abbrev pub first_writes : NewInvocation → List Write
-first_writes new = AddInvocation (first_row new) ∷ AddEntry (input_row new) ∷ []
+-- the version is that of the number that came
+abbrev pub first_writes : Version → NewInvocation → List Write
+first_writes version new = AddInvocation (first_row version new) ∷ AddEntry (input_row new) ∷ []
 
 -- an invocation has an id, and is one of an object
 abbrev pub is_nameless : NewInvocation → Bool

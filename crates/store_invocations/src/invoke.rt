@@ -5,6 +5,7 @@ ghost use Rattle.sqlite.specs.Held.{state};
 ghost use Rattle.sqlite.specs.State.{HasCleanDisk};
 ghost use Rattle.journal_model.specs.Event.{Event};
 ghost use Rattle.journal_model.specs.Journal.{is_busy};
+ghost use Rattle.protocol_types.specs.Version.{version_number};
 ghost use Rattle.store_tables.specs.Looks.{Looks};
 ghost use Rattle.store_tables.specs.declared.row.Write.{Write as RowWrite};
 ghost use Rattle.store_model.specs.Writes.{writes_of};
@@ -55,8 +56,8 @@ fn take_object<S: Alter>(tables: &mut StoreTables<S>, new: &NewInvocation) -> Re
 }
 
 /// The id of a new invocation was not used, and its version is supported.
-fn take_id<S: Alter>(tables: &mut StoreTables<S>, new: &NewInvocation) -> Result<(), Refusal>
-    ensures decided { HasCleanDisk (state S.Store tables.new) → (events : List Event) → IsStoreOf events (state S.Store tables.old) → Decides (id_tests events new.now) (λ _. Unit {0}) result }
+fn take_id<S: Alter>(tables: &mut StoreTables<S>, new: &NewInvocation) -> Result<Version, Refusal>
+    ensures decided { HasCleanDisk (state S.Store tables.new) → (events : List Event) → IsStoreOf events (state S.Store tables.old) → Decides (id_tests events new.now) (λ version. version_number version ≡ new.now.version) result }
     ensures looks { Looks S.Store tables.old tables.new }
 {
     let row = row_of(tables, &new.id)?;
@@ -65,10 +66,10 @@ fn take_id<S: Alter>(tables: &mut StoreTables<S>, new: &NewInvocation) -> Result
     if used {
         return Err(Refusal::IdUsed);
     }
-    if Version::is_unsupported(new.version) {
-        return Err(Refusal::UnsupportedVersion);
+    match Version::spoken(new.version) {
+        Some(version) => Ok(version),
+        None => Err(Refusal::UnsupportedVersion),
     }
-    Ok(())
 }
 
 fn progress_at_first(new: &NewInvocation) -> Result<Progress, AllocError>
@@ -89,13 +90,13 @@ fn progress_at_first(new: &NewInvocation) -> Result<Progress, AllocError>
     })
 }
 
-fn row_at_first(new: &NewInvocation) -> Result<InvocationRow, AllocError>
-    ensures { IfOk result (λ row. row ≡ first_row new.now) }
+fn row_at_first(new: &NewInvocation, version: Version) -> Result<InvocationRow, AllocError>
+    ensures { IfOk result (λ row. row ≡ first_row version new.now) }
 {
     Ok(InvocationRow {
         id: new.id.clone()?,
         object: new.object.clone()?,
-        version: new.version,
+        version,
         seed: new.seed,
         is_whole: new.state == StateMode::Whole,
         progress: progress_at_first(new)?,
@@ -126,11 +127,16 @@ fn two_writes(alloc: Global, row: InvocationRow, entry: EntryRow) -> Result<Vec<
     Ok(writes)
 }
 
-fn writes_with(alloc: Global, new: &NewInvocation, payload: Bytes) -> Result<Vec<Write>, AllocError>
-    ensures { IfOk result (λ writes. writes.items ≡ RowWrite.AddInvocation (first_row new.now) ∷ RowWrite.AddEntry (entry_of_input new.now payload) ∷ []) }
+fn writes_with(
+    alloc: Global,
+    new: &NewInvocation,
+    version: Version,
+    payload: Bytes,
+) -> Result<Vec<Write>, AllocError>
+    ensures { IfOk result (λ writes. writes.items ≡ RowWrite.AddInvocation (first_row version new.now) ∷ RowWrite.AddEntry (entry_of_input new.now payload) ∷ []) }
 {
     let entry = input_entry(new, payload)?;
-    let row = row_at_first(new);
+    let row = row_at_first(new, version);
     match row {
         Ok(row) => two_writes(alloc, row, entry),
         Err(refused) => {
@@ -140,11 +146,15 @@ fn writes_with(alloc: Global, new: &NewInvocation, payload: Bytes) -> Result<Vec
     }
 }
 
-fn writes_at_first(alloc: Global, new: &NewInvocation) -> Result<Vec<Write>, Refusal>
-    ensures { Decides (input_tests new.now) (λ writes. writes.items ≡ first_writes new.now) result }
+fn writes_at_first(
+    alloc: Global,
+    new: &NewInvocation,
+    version: Version,
+) -> Result<Vec<Write>, Refusal>
+    ensures { Decides (input_tests new.now) (λ writes. writes.items ≡ first_writes version new.now) result }
 {
     let payload = payload_of_input(alloc, new)?;
-    let writes = writes_with(alloc, new, payload)?;
+    let writes = writes_with(alloc, new, version, payload)?;
     Ok(writes)
 }
 
@@ -158,6 +168,6 @@ pub fn prepare_invoke<S: Alter>(
     ensures looks { Looks S.Store tables.old tables.new }
 {
     take_object(tables, new)?;
-    take_id(tables, new)?;
-    writes_at_first(tables.alloc(), new)
+    let version = take_id(tables, new)?;
+    writes_at_first(tables.alloc(), new, version)
 }

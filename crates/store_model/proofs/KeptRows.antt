@@ -6,10 +6,12 @@ use Rattle.journal_model.specs.Request.{Request}
 use Rattle.journal_model.specs.declared.invocation.NewInvocation.{NewInvocation}
 use Rattle.journal_model.specs.declared.invocation.StateMode.{StateMode}
 use Rattle.journal_model.specs.Event.{ForAny, Frame, Event}
+use Rattle.protocol_types.specs.declared.version.Version.TheVariants.{V5}
 use Rattle.store_tables.specs.declared.row.Progress.{Progress}
 use Rattle.store_tables.specs.declared.row.EntryRow.{EntryRow}
 use Rattle.store_tables.specs.declared.row.Closing.TheVariants.{Ended}
 use Rattle.store_tables.specs.declared.row.Write.TheVariants.{AddInvocation, SetProgress, AddEntry, PutState}
+use Rattle.store_model.specs.Kept.{version_kept}
 use Rattle.store_model.specs.Writes.{writes_of}
 
 abbrev nap : NewInvocation
@@ -68,8 +70,9 @@ abbrev sets_state : List Event
 sets_state = Event.Take (codes "nap") 2 (Frame.Command (Request.SetState (codes "k") (9 ∷ []) [])) ∷ Event.Begin (codes "nap") 6000 ∷ woken
 
 at_invoke : writes_of [] (Event.Invoke nap)
-    ≡ AddInvocation (record { id = codes "nap"; object = codes "bed"; version = 5; seed = 7; is_whole = true; progress = start })
+    ≡ AddInvocation (record { id = codes "nap"; object = codes "bed"; version = V5; seed = 7; is_whole = true; progress = start })
     ∷ AddEntry (row 0 0x0400 (0x72 ∷ 4 ∷ 0x0a ∷ 2 ∷ 1 ∷ 2 ∷ [])) ∷ []
+unfolding version_kept
 at_invoke = refl
 
 at_begin : writes_of invoked (Event.Begin (codes "nap") 1000)

@@ -7,3 +7,4 @@ pub mod States
 pub mod Keeping
 pub mod KeptRows
 pub mod Following
+pub mod Versions

@@ -1,5 +1,5 @@
 -- Which records are kept of the accepted events.
-use Rattle.std.specs.Prelude.{◌≡◌, ℕ, ◌+◌, Bool, true, false, List, [], ◌∷◌, ◌++◌, map, filter, Option, Some, None, IsPermutation}
+use Rattle.std.specs.Prelude.{◌≡◌, ℕ, ◌+◌, Bool, true, false, List, [], ◌∷◌, ◌++◌, map, filter, Option, Some, None, unwrap_or, IsPermutation}
 use Rattle.journal_model.specs.Notification.{Bytes, Text}
 use Rattle.journal_model.specs.declared.notification.NotificationId.{NotificationId}
 use Rattle.journal_model.specs.declared.notification.NotificationId.TheVariants.{CompletionId}
@@ -10,6 +10,8 @@ use Rattle.journal_model.specs.Event.{Event}
 use Rattle.journal_model.specs.Spelling.{request_type, request_payload, notification_payload, input_payload}
 use Rattle.journal_model.specs.Journal.{Entry, Recorded, Arrived, invocation_begun, entries_of, object_state, sleep_in}
 use Rattle.journal_model.specs.Attempt.{notification_type}
+use Rattle.protocol_types.specs.declared.version.Version.{Version}
+use Rattle.protocol_types.specs.Version.{oldest_version, version_at}
 use Rattle.store_tables.specs.Records.{Records, is_of_object}
 use Rattle.store_tables.specs.declared.row.InvocationRow.{InvocationRow}
 use Rattle.store_tables.specs.declared.row.EntryRow.{EntryRow}
@@ -90,11 +92,15 @@ abbrev pub is_shown_whole : StateMode → Bool
 is_shown_whole StateMode.Whole = true
 is_shown_whole StateMode.None = false
 
+-- the version that an invocation speaks, by its number: one of another number is not accepted
+unfoldable pub version_kept : ℕ → Version
+version_kept number = unwrap_or (version_at number) oldest_version
+
 abbrev pub invocation_row : List Event → NewInvocation → InvocationRow
 invocation_row events new = record {
   id = new.id;
   object = new.object;
-  version = new.version;
+  version = version_kept new.version;
   seed = new.seed;
   is_whole = is_shown_whole new.state;
   progress = progress_of events new.id;

@@ -11,6 +11,7 @@ use Rattle.journal_model.specs.Event.{Frame, Event}
 use Rattle.journal_model.specs.Journal.{invoked_by, invocation_begun, version_of, is_open}
 use Rattle.journal_model.specs.Cause.{causes_of, those_that_hold}
 use Rattle.journal_laws.proofs.ObjectState.{find-passes}
+use Rattle.protocol_types.specs.Version.{version_number}
 use Rattle.store_frames.specs.declared.frame.AttemptFrame.{AttemptFrame}
 use Rattle.store_frames.specs.Answer.{IsFrame}
 use Rattle.store_tables.specs.Questions.{IsFound, IsAmbiguous, has_id}
@@ -18,6 +19,7 @@ use Rattle.store_tables.specs.declared.row.InvocationRow.{InvocationRow}
 use Rattle.store_tables.specs.declared.row.Progress.{Progress}
 use Rattle.store_model.specs.Progress.{progress_of}
 use Rattle.store_model.specs.Kept.{invocation_row}
+use Rattle.store_model.proofs.Versions.{begun_number}
 use Rattle.store_lookups.proofs.Only.{only_found, only_one}
 use Rattle.store_lookups.proofs.Finding.{all_found}
 use Rattle.store_refusals.specs.declared.refusal.Refusal.{Refusal}
@@ -100,7 +102,7 @@ module _ (events : List Event) (s : State) (keeps : Keeps events s) (id : Text) 
   why_as attempt read result p progress same_progress err = subst (λ (p : Progress). IfErr result (IsWhy p attempt read)) same_progress err
 
   pub taken_by_row : (row : InvocationRow) → IsFound (λ r. r.invocations) (has_id id) s.now.trees (Some row) → (attempt : LiveFacts) (read : AttemptFrame) (result : Result PreparedFrame Refusal)
-      → IfOk result (IsMade id row.version row.progress attempt read) → IfErr result (IsWhy row.progress attempt read) → Takes events id attempt read result
+      → IfOk result (IsMade id (version_number row.version) row.progress attempt read) → IfErr result (IsWhy row.progress attempt read) → Takes events id attempt read result
   taken_by_row row found attempt read result ok err number frame live stateless h = by_begun (invocation_begun events id) refl
     where
       by_begun : (o : Option NewInvocation) → invocation_begun events id ≡ o → Prepares events (Event.Take id number frame) (IsTaken events id number frame) result
@@ -109,9 +111,9 @@ module _ (events : List Event) (s : State) (keeps : Keeps events s) (id : Text) 
           let is_row : row ≡ invocation_row events new = same_row row new (row_found (Some row) found ∙ ap (option_map (invocation_row events)) e) in
           let named : new.id ≡ id = (bytes_eq-Decides new.id id).0 (find-passes (λ other. bytes_eq other.id id) (filter_map invoked_by events) new e) in
           let progress_is : row.progress ≡ progress_of events id = ap (λ (r : InvocationRow). r.progress) is_row ∙ ap (progress_of events) named in
-          let version_is : row.version ≡ new.version = ap (λ (r : InvocationRow). r.version) is_row in
+          let version_is : version_number row.version ≡ new.version = ap (λ (r : InvocationRow). version_number r.version) is_row ∙ begun_number events id new keeps.accepted e in
           prepared events id number new e (opened_live number attempt live) attempt live frame read stateless h result
-          (made_as attempt read result row.version new.version row.progress (progress_of events id) version_is progress_is ok)
+          (made_as attempt read result (version_number row.version) new.version row.progress (progress_of events id) version_is progress_is ok)
           (why_as attempt read result row.progress (progress_of events id) progress_is err)
 
   pub never_missing : IsFound (λ r. r.invocations) (has_id id) s.now.trees None → (attempt : LiveFacts) (read : AttemptFrame) (result : Result PreparedFrame Refusal) → Takes events id attempt read result

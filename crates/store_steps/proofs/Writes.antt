@@ -27,7 +27,7 @@ use Rattle.store_model.specs.Steps.{grown, payload_or, after_command, after_fram
 use Rattle.store_model.proofs.Following.{follows}
 use Rattle.store_steps.specs.Stateless.{is_of_state, LeavesState}
 use Rattle.store_steps.specs.Taken.{IsReply}
-use Rattle.protocol_stream.specs.MessageType.{number_of}
+use Rattle.protocol_types.specs.MessageType.{number_of}
 use Rattle.protocol_stream.specs.CommandFacts.{facts_of, type_of_request}
 use Rattle.protocol_stream.proofs.Facts.{request_number}
 use Rattle.store_steps.specs.Told.{puts_out, value_put_out, command_row, tests_of_told, reply_to_told, after_recorded, number_of_behavior, does_fail, after_suspension, after_error, after_end, error_told, writes_of_told}

@@ -4,9 +4,9 @@ use Rattle.journal_model.specs.Notification.{Bytes, Text}
 use Rattle.journal_model.specs.Cause.{BrokenPayload, NestedTooDeep, FrameNotAccepted, BadCompletion, InputNotClosed, NumbersUsedUp, PayloadTooLong, Tests, do_ascend, greatest, is_too_long}
 use Rattle.protocol_stream.specs.declared.command_facts.CommandFacts.{CommandFacts}
 use Rattle.protocol_stream.specs.CommandFacts.{facts_of, is_answer}
-use Rattle.protocol_stream.specs.declared.feature.Feature.TheVariants as features
-use Rattle.protocol_stream.specs.Feature.{has_feature}
-use Rattle.protocol_stream.specs.MessageType.{number_of}
+use Rattle.protocol_types.specs.declared.feature.Feature.TheVariants as features
+use Rattle.protocol_types.specs.Feature.{has_feature}
+use Rattle.protocol_types.specs.MessageType.{number_of}
 use Rattle.store_frames.specs.declared.frame.RecordedCommand.{RecordedCommand}
 use Rattle.store_frames.specs.declared.frame.ErrorBehavior.{ErrorBehavior}
 use Rattle.store_frames.specs.declared.frame.ErrorBehavior.TheVariants as behaviors

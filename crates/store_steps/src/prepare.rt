@@ -2,6 +2,7 @@
 ghost use Rattle.std.specs.Prelude.{◌≡◌, List, IfErr, IfOk};
 ghost use Rattle.sqlite.specs.Held.{state};
 ghost use Rattle.sqlite.specs.State.{HasCleanDisk};
+ghost use Rattle.protocol_types.specs.Version.{version_number};
 ghost use Rattle.store_tables.specs.Looks.{Looks};
 ghost use Rattle.journal_model.specs.Event.{Event};
 ghost use Rattle.store_invocations.specs.Rows.{IsStoreOf};
@@ -50,10 +51,11 @@ fn decide_by_row(
     attempt: LiveFacts,
     frame: AttemptFrame,
 ) -> Result<PreparedFrame, Refusal>
-    ensures ok { IfOk result (IsMade id.now row.version row.progress attempt frame) }
+    ensures ok { IfOk result (IsMade id.now (version_number row.version) row.progress attempt frame) }
     ensures err { IfErr result (IsWhy row.progress attempt frame) }
 {
-    decide(alloc, id, row.version, row.progress, attempt, frame)
+    let version = row.version.number();
+    decide(alloc, id, version, row.progress, attempt, frame)
 }
 
 /// Decides on a frame that the live attempt of the invocation has written, and makes ready what is written of it. The row of the

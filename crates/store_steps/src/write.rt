@@ -8,7 +8,7 @@ ghost use Rattle.store_steps.specs.Told.{HasRoom, after_end, after_error, after_
 
 use crate::frame::FrameReply;
 use bytes::{ByteStr, Bytes};
-use protocol_stream::Feature;
+use protocol_stream::{CommandFacts, Feature};
 use std::alloc::{AllocError, Global};
 use store_frames::{AttemptFrame, ErrorBehavior, RecordedCommand};
 use store_tables::{Closing, EntryRow, LastError, Progress, Write};
@@ -46,7 +46,7 @@ fn greatest_of(last: u32, first: Option<u32>, second: Option<u32>) -> u32
 fn puts_out(command: &RecordedCommand) -> bool
     ensures { result ≡ puts_value_out (facts_of command.now.kind) }
 {
-    match command.kind.command_facts() {
+    match CommandFacts::of(command.kind) {
         Some(facts) => facts.kept.is_answer(),
         None => false,
     }

@@ -1,9 +1,12 @@
 -- The record that has these cells.
-use Rattle.std.proofs.Common.{◌≡◌, ◌==◌, if◌then◌else◌, ℕ, pos, Bool, true, false, List, Option, None, Some, refl, ap, codes, arith}
+use Rattle.std.proofs.Common.{◌≡◌, ◌==◌, if◌then◌else◌, ℕ, pos, Bool, true, false, List, Option, None, Some, refl, ap, codes, arith, ◌∙◌, unwrap_or}
 use Rattle.std.specs.Prelude.{IfSome, nat_abs}
 use Rattle.std.specs.Int.{w64, cast_unsigned}
 use Rattle.std.specs.Ordering.{int_eq}
 use Rattle.std.proofs.lemmas.Int.{of_z-to_z}
+use Rattle.protocol_types.specs.declared.version.Version.{Version}
+use Rattle.protocol_types.specs.Version.{oldest_version, version_at, version_number}
+use Rattle.protocol_types.proofs.Versions.{versions_read_back}
 use Rattle.sqlite.specs.declared.types.Value.{Value}
 use Rattle.sqlite.specs.declared.types.Value.TheVariants.{Null, Int, Real, Text, Blob}
 use Rattle.sqlite.specs.Values.{or_null}
@@ -109,11 +112,18 @@ unfolding flag_in
 flag_back true = refl
 flag_back false = refl
 
+version_in : Value → Version
+version_in v = unwrap_or (version_at (short_in v)) oldest_version
+
+version_back : (version : Version) → version_in (short_cell (version_number version)) ≡ version
+unfolding version_in
+version_back version = ap (λ (o : Option Version). unwrap_or o oldest_version) (ap version_at (short_back (version_number version)) ∙ versions_read_back version)
+
 pub invocation_back : Row → InvocationRow
 invocation_back row = record {
   id = bytes (column row 0);
   object = bytes (column row 1);
-  version = short_in (column row 2);
+  version = version_in (column row 2);
   seed = long_in (column row 3);
   is_whole = flag_in (column row 4);
   progress = record {
@@ -148,7 +158,7 @@ invocation_back_is i fits =
       long_back i.progress.first_moment fits.progress.first_moment,
       short_back i.progress.last_completion,
       short_back i.progress.entries,
-    ) (ap (λ (v : ℕ). record i { version = v }) (short_back i.version))
+    ) (ap (λ (v : Version). record i { version = v }) (version_back i.version))
 
 -- ---- the mark
 

@@ -1,6 +1,9 @@
 -- The columns of a row, one by one.
 use Rattle.std.proofs.Common.{◌≡◌, ℕ, List, [], ◌∷◌, length, Option, None, Some, refl, arith}
 use Rattle.std.specs.Prelude.{IfSome, IsUtf8}
+use Rattle.protocol_types.specs.Version.{version_number}
+use Rattle.protocol_types.specs.declared.version.Version.{Version}
+use Rattle.protocol_types.specs.declared.version.Version.TheVariants.{V1}
 use Rattle.sqlite.specs.declared.types.Value.TheVariants.{Text}
 use Rattle.sqlite.specs.Values.{or_null}
 use Rattle.sqlite_value.specs.Order.{Row, column}
@@ -15,6 +18,12 @@ eight row len = listed_as row 8 len
 
 pub nineteen : (row : Row) → length row ≡ 19 → row ≡ column row 0 ∷ column row 1 ∷ column row 2 ∷ column row 3 ∷ column row 4 ∷ progress_columns row
 nineteen row len = listed_as row 19 len
+
+-- ---- the version
+
+pub version_fits : (version : Version) → IsShort (version_number version)
+version_fits V1 = omega arith
+version_fits _ = omega arith
 
 -- ---- what has the same cell
 

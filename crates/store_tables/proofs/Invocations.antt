@@ -4,6 +4,7 @@ use Rattle.std.specs.Prelude.{IfSome, IsUtf8}
 use Rattle.std.specs.List.{AllByRecursion}
 use Rattle.std.specs.Int.{w64, cast_signed}
 use Rattle.std.proofs.lemmas.List.{map-append}
+use Rattle.protocol_types.specs.Version.{version_number}
 use Rattle.sqlite_keyed.proofs.ListLemmas.{map-map, map_same, all-append}
 use Rattle.sqlite.specs.declared.types.Value.TheVariants.{Null, Text}
 use Rattle.sqlite.specs.Values.{or_null}
@@ -67,7 +68,7 @@ cast_message = cast_or_null Words (λ (e : LastError). Text e.message) refl (λ 
 casts : (i : InvocationRow) → cast_all invocation_columns (invocation_cells i) ≡ invocation_cells i
 casts i =
     rw (
-      cast_int (pos i.version),
+      cast_int (pos (version_number i.version)),
       cast_int (cast_signed w64 i.seed),
       cast_int (if i.is_whole then pos 1 else pos 0),
       cast_texts i.progress.open_object,
@@ -149,7 +150,7 @@ set_fits : (id : List ℕ) (p : Progress) → FitsProgress p → (is : List Invo
 set_fits id p fits [] all = tt
 set_fits id p fits (i ∷ is) all = (
   elim (bytes_eq i.id id) as (λ b. FitsInvocation (if b then record i { progress = p } else i)) [
-    | true ↦ record { id = all.0.id; object = all.0.object; version = all.0.version; seed = all.0.seed; progress = fits }
+    | true ↦ record { id = all.0.id; object = all.0.object; seed = all.0.seed; progress = fits }
     | false ↦ all.0
   ],
   set_fits id p fits is all.1,

@@ -7,6 +7,7 @@ use Rattle.sqlite.specs.declared.types.Value.TheVariants.{Text, Blob}
 use Rattle.sqlite.specs.Values.{or_null}
 use Rattle.sqlite_value.specs.Order.{Row, column}
 use Rattle.sqlite_trees.specs.Tree.{Trees}
+use Rattle.protocol_types.specs.Version.{version_number}
 use Rattle.sql_tables.specs.Cells.{IsLong, IsShort, flag_cell, long_cell, short_cell}
 use Rattle.sql_tables.specs.Content.{HasRows}
 pub use Rattle.store_tables.specs.declared.row.Closing.{Closing}
@@ -50,7 +51,6 @@ pub record FitsProgress (p : Progress) : Type 0 where
 pub record FitsInvocation (i : InvocationRow) : Type 0 where
   pub id : IsUtf8 i.id
   pub object : IsUtf8 i.object
-  pub version : IsShort i.version
   pub seed : IsLong i.seed
   pub progress : FitsProgress i.progress
 
@@ -84,7 +84,7 @@ progress_cells p =
     ∷ short_cell p.attempts ∷ short_cell p.attempts_since_entry ∷ long_cell p.first_moment ∷ short_cell p.last_completion ∷ short_cell p.entries ∷ []
 
 abbrev pub invocation_cells : InvocationRow → Row
-invocation_cells i = Text i.id ∷ Text i.object ∷ short_cell i.version ∷ long_cell i.seed ∷ flag_cell i.is_whole ∷ progress_cells i.progress
+invocation_cells i = Text i.id ∷ Text i.object ∷ short_cell (version_number i.version) ∷ long_cell i.seed ∷ flag_cell i.is_whole ∷ progress_cells i.progress
 
 abbrev pub entry_cells : EntryRow → Row
 entry_cells e =

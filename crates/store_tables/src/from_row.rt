@@ -3,10 +3,13 @@
 ghost use Rattle.std.specs.Prelude.{◌≡◌, ◌≢◌, IfErr, IfOk};
 ghost use Rattle.sqlite_value.specs.Order.{column};
 ghost use Rattle.sqlite.specs.Values.{or_null};
+ghost use Rattle.protocol_types.specs.Version.{version_number};
+ghost use Rattle.sql_tables.specs.Cells.{short_cell};
 ghost use Rattle.store_tables.specs.Parts.{AreCounts, IsErrorAt, IsProgressAt};
 ghost use Rattle.store_tables.specs.Records.{FitsEntry, FitsInvocation, FitsState, FitsMark, InvocationRow as Invocation, EntryRow as Entry, Mark as Own, StateRow as State, cells_of_mark, closing_cell, entry_cells, invocation_cells, state_cells};
 
 use crate::row::{Closing, EntryRow, InvocationRow, LastError, Mark, Progress, StateRow};
+use protocol_types::Version;
 use sql_tables::read::{
     ReadError, blob_at, blob_or_none_at, flag_at, long_at, long_or_none_at, short_at,
     short_or_none_at, text_at, text_or_none_at,
@@ -185,6 +188,17 @@ fn progress_from(alloc: Global, row: &Row) -> Result<Progress, ReadError>
     })
 }
 
+fn version_from(row: &Row) -> Result<Version, ReadError>
+    ensures ok { IfOk result (λ v. short_cell (version_number v) ≡ column row.now 2) }
+    ensures foreign { IfErr result (λ e. e ≡ ReadError.Foreign → (x : Invocation) → FitsInvocation x → invocation_cells x ≢ row.now) }
+{
+    let number = short_at(row, 2)?;
+    match Version::with_number(number) {
+        Some(version) => Ok(version),
+        None => Err(ReadError::Foreign),
+    }
+}
+
 fn invocation_from(alloc: Global, row: &Row) -> Result<InvocationRow, ReadError>
     ensures ok { IfOk result (λ i. (invocation_cells i ≡ row.now) × FitsInvocation i) }
     ensures foreign { IfErr result (λ e. e ≡ ReadError.Foreign → (x : Invocation) → FitsInvocation x → invocation_cells x ≢ row.now) }
@@ -192,7 +206,7 @@ fn invocation_from(alloc: Global, row: &Row) -> Result<InvocationRow, ReadError>
     if row.column_count() != 19 {
         return Err(ReadError::Foreign);
     }
-    let version = short_at(row, 2)?;
+    let version = version_from(row)?;
     let seed = long_at(row, 3)?;
     let is_whole = flag_at(row, 4)?;
     let id = text_at(alloc, row, 0)?;

@@ -1,6 +1,7 @@
 //! What is recorded of invocations, as values.
 
 use bytes::{ByteStr, Bytes};
+use protocol_types::Version;
 
 /// How an invocation was closed.
 #[derive(Clone, Copy, Debug, PartialEq, Eq)]
@@ -52,7 +53,7 @@ pub struct InvocationRow {
     pub id: ByteStr,
     pub object: ByteStr,
     /// The version of the protocol that its attempts speak.
-    pub version: u32,
+    pub version: Version,
     pub seed: u64,
     /// Whether an attempt is handed the object's whole state at its start, or none of it.
     pub is_whole: bool,

@@ -86,7 +86,7 @@ fn add_invocation<S: Alter>(
         &[
             text(&invocation.id),
             text(&invocation.object),
-            short(invocation.version),
+            short(invocation.version.number()),
             long(invocation.seed),
             flag(invocation.is_whole),
             text_or_null(&progress.open_object),

@@ -1,7 +1,7 @@
 use Rattle.std.proofs.Common.{sym, refl}
 use Rattle.std.proofs.lemmas.Result.{err_from_is_err_and}
 use Rattle.protocol_table.specs.declared.table.RecordType.TheVariants as types
-use Rattle.protocol_stream.specs.declared.message_type.MessageType.{MessageType}
+use Rattle.protocol_types.specs.declared.message_type.MessageType.{MessageType}
 use Rattle.invocation_vm.proofs.Records.{message_fails, payload_fails}
 use Rattle.invocation_vm.proofs.preflight.next_input.Goals as goal
 

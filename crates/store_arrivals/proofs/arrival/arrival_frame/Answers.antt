@@ -1,7 +1,7 @@
 use Rattle.std.proofs.Common.{◌≡◌, ◌∙◌, subst}
 use Rattle.journal_model.specs.Notification.{Bytes}
 use Rattle.journal_model.specs.Spelling.{frame_bytes, notification_payload}
-use Rattle.protocol_stream.specs.MessageType.{number_of}
+use Rattle.protocol_types.specs.MessageType.{number_of}
 use Rattle.store_invocations.proofs.Refusing.{refused_memory}
 use Rattle.store_invocations.specs.Rows.{Decides, payload_tests}
 use Rattle.store_arrivals.proofs.arrival.arrival_frame.Goals as goal

@@ -1,5 +1,5 @@
 use Rattle.journal_model.specs.Spelling.{notification_payload}
-use Rattle.protocol_stream.specs.MessageType.{number_of}
+use Rattle.protocol_types.specs.MessageType.{number_of}
 use Rattle.store_invocations.proofs.Refusing.{refused_memory}
 use Rattle.store_invocations.specs.Rows.{payload_tests}
 use Rattle.store_arrivals.specs.Arrivals.{IsArrival}

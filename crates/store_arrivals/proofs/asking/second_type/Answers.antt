@@ -3,7 +3,7 @@ use Rattle.sqlite.specs.Held.{state}
 use Rattle.sqlite.specs.State.{State, HasCleanDisk}
 use Rattle.std.proofs.Common.{option_and_then}
 use Rattle.journal_model.specs.Journal.{entries_of, request_asking}
-use Rattle.protocol_stream.specs.MessageType.{named_type}
+use Rattle.protocol_types.specs.MessageType.{named_type}
 use Rattle.store_tables.specs.declared.row.EntryRow.{EntryRow}
 use Rattle.store_tables.specs.Questions.{asks_second_for}
 use Rattle.store_lookups.specs.Lookups.{asked_at, second_row}

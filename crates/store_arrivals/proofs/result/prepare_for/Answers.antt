@@ -1,6 +1,6 @@
 use Rattle.journal_model.specs.Event.{Event}
 use Rattle.journal_model.specs.Cause.{adding_tests}
-use Rattle.protocol_stream.specs.MessageType.{number_of}
+use Rattle.protocol_types.specs.MessageType.{number_of}
 use Rattle.store_invocations.proofs.Refusing.{refused_more}
 use Rattle.store_arrivals.specs.Asked.{completion_tests}
 use Rattle.store_arrivals.proofs.Written.{all_ready}

@@ -3,7 +3,7 @@ use Rattle.journal_model.specs.declared.notification.NotificationId.TheVariants.
 use Rattle.journal_model.specs.Journal.{entries_of, open_request}
 use Rattle.journal_model.specs.Attempt.{notification_type}
 use Rattle.journal_model.specs.Cause.{those_that_hold}
-use Rattle.protocol_stream.specs.MessageType.{number_of}
+use Rattle.protocol_types.specs.MessageType.{number_of}
 use Rattle.store_refusals.specs.Refused.{IsRefused}
 use Rattle.store_invocations.specs.Rows.{Decides}
 use Rattle.store_invocations.proofs.Reading.{decided_err}

@@ -21,18 +21,18 @@ returns-in_err-take_object-clause-prepared g c clean events store =
     subst (IsRefused (those_that_hold tests)) (sym gives)
     (refused_more (object_tests events new) (id_tests events new ++ input_tests new) _ (c.in_err-take_object.ensures.decided clean events store)))
 
-pub returns-in_err-take_id-clause-prepared : goal.returns-in_err-take_id-clause-prepared
-returns-in_err-take_id-clause-prepared g c clean events store =
+pub returns-in_err-version-clause-prepared : goal.returns-in_err-version-clause-prepared
+returns-in_err-version-clause-prepared g c clean events store =
     let old : State = state g.S.Store c.args.tables.now in
     let mid : State = state g.S.Store c.take_object.new.tables in
     let early : HasCleanDisk mid = omega (arith, c.take_id.ensures.looks.crash.clean) in
     let new = c.args.new.now in
     let tests = tests_of events (Event.Invoke new) in
     let stands = store_kept events old mid c.take_object.ensures.looks.crash c.take_object.ensures.looks.kept store in
-    decided_err tests (λ writes. writes.items ≡ writes_of events (Event.Invoke new)) c.from_residual-in_err-take_id.result c.from_residual-in_err-take_id.ensures.1 (λ why gives.
+    decided_err tests (λ writes. writes.items ≡ writes_of events (Event.Invoke new)) c.from_residual-in_err-version.result c.from_residual-in_err-version.ensures.1 (λ why gives.
     subst (IsRefused (those_that_hold tests)) (sym gives)
     (refused_later (object_tests events new) (id_tests events new ++ input_tests new) _ (c.in_ok-take_object.ensures.decided early events store).0
-    (refused_more (id_tests events new) (input_tests new) _ (c.in_err-take_id.ensures.decided clean events stands))))
+    (refused_more (id_tests events new) (input_tests new) _ (c.in_err-version.ensures.decided clean events stands))))
 
 pub returns-clause-prepared : goal.returns-clause-prepared
 returns-clause-prepared g c clean events store =
@@ -41,4 +41,4 @@ returns-clause-prepared g c clean events store =
     let early : HasCleanDisk mid = omega (arith, c.take_id.ensures.looks.crash.clean) in
     let stands = store_kept events old mid c.take_object.ensures.looks.crash c.take_object.ensures.looks.kept store in
     prepared_by events c.args.new.now store.accepted (c.in_ok-take_object.ensures.decided early events store).0
-    (c.in_ok-take_id.ensures.decided clean events stands).0 (λ writes. writes.items) c.writes_at_first.result c.writes_at_first.ensures
+    (c.in_ok-version.ensures.decided clean events stands).0 c.in_ok-version.version (c.in_ok-version.ensures.decided clean events stands).1 (λ writes. writes.items) c.writes_at_first.result c.writes_at_first.ensures

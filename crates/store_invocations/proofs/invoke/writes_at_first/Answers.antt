@@ -11,14 +11,14 @@ use Rattle.store_invocations.proofs.invoke.writes_at_first.Goals as goal
 pub returns : goal.returns
 returns c =
     let new = c.args.new.now in
-    (c.in_ok-payload.ensures.0, c.in_ok-writes.ensures ∙ ap (λ (payload : Bytes). AddInvocation (first_row new) ∷ AddEntry (entry_of_input new payload) ∷ []) c.in_ok-payload.ensures.1)
+    (c.in_ok-payload.ensures.0, c.in_ok-writes.ensures ∙ ap (λ (payload : Bytes). AddInvocation (first_row c.args.version new) ∷ AddEntry (entry_of_input new payload) ∷ []) c.in_ok-payload.ensures.1)
 
 pub returns-in_err-payload : goal.returns-in_err-payload
 returns-in_err-payload c =
-    decided_err (input_tests c.args.new.now) (λ writes. writes.items ≡ first_writes c.args.new.now) c.from_residual.result c.from_residual.ensures.1 (λ why gives.
+    decided_err (input_tests c.args.new.now) (λ writes. writes.items ≡ first_writes c.args.version c.args.new.now) c.from_residual.result c.from_residual.ensures.1 (λ why gives.
     subst (IsRefused (those_that_hold (input_tests c.args.new.now))) (sym gives) c.in_err-payload.ensures)
 
 pub returns-in_err-writes : goal.returns-in_err-writes
 returns-in_err-writes c =
-    refused_memory (input_tests c.args.new.now) (λ writes. writes.items ≡ first_writes c.args.new.now)
+    refused_memory (input_tests c.args.new.now) (λ writes. writes.items ≡ first_writes c.args.version c.args.new.now)
     c.from_residual-in_err-writes.result c.from_residual-in_err-writes.ensures.1

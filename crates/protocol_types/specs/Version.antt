@@ -1,9 +1,9 @@
 -- Versions of the protocol, and the content types that name them.
 use Rattle.std.specs.Prelude.{ℕ, ◌==◌, nat_lt, ◌||◌, if◌then◌else◌, Bool, List, [], ◌∷◌, codes, find, bytes_eq, length, take, Option, Some, None, Result, Ok, Err}
-use Rattle.protocol_stream.specs.declared.version.Version.{Version}
-use Rattle.protocol_stream.specs.declared.version.Version.TheVariants.{V1, V2, V3, V4, V5, V6, V7, V8}
-use Rattle.protocol_stream.specs.declared.version.ContentTypeError.{ContentTypeError}
-use Rattle.protocol_stream.specs.declared.version.ContentTypeError.TheVariants.{RestateContentType, OtherContentType}
+use Rattle.protocol_types.specs.declared.version.Version.{Version}
+use Rattle.protocol_types.specs.declared.version.Version.TheVariants.{V1, V2, V3, V4, V5, V6, V7, V8}
+use Rattle.protocol_types.specs.declared.version.ContentTypeError.{ContentTypeError}
+use Rattle.protocol_types.specs.declared.version.ContentTypeError.TheVariants.{RestateContentType, OtherContentType}
 
 abbrev pub version_number : Version → ℕ
 version_number V1 = 1
@@ -41,6 +41,10 @@ newest_version = V8
 
 abbrev pub is_unsupported : ℕ → Bool
 is_unsupported number = nat_lt number (version_number oldest_version) || nat_lt (version_number newest_version) number
+
+-- the version with this number, if it is spoken
+abbrev pub version_spoken : ℕ → Option Version
+version_spoken number = if is_unsupported number then None else version_at number
 
 -- whether this is the content type of the version, to the letter
 unfoldable pub has_content_type : List ℕ → Version → Bool

@@ -1,10 +1,10 @@
 -- What versions of the protocol brought.
 use Rattle.std.specs.Prelude.{ℕ, nat_le, nat_lt, Bool}
-use Rattle.protocol_stream.specs.declared.version.Version.{Version}
-use Rattle.protocol_stream.specs.declared.version.Version.TheVariants.{V6, V7}
-use Rattle.protocol_stream.specs.declared.feature.Feature.{Feature}
-use Rattle.protocol_stream.specs.declared.feature.Feature.TheVariants.{RandomSeed, FailureMetadata, AwaitTree, ErrorBehavior, Acknowledgement, Scope}
-use Rattle.protocol_stream.specs.Version.{version_number}
+use Rattle.protocol_types.specs.declared.version.Version.{Version}
+use Rattle.protocol_types.specs.declared.version.Version.TheVariants.{V6, V7}
+use Rattle.protocol_types.specs.declared.feature.Feature.{Feature}
+use Rattle.protocol_types.specs.declared.feature.Feature.TheVariants.{RandomSeed, FailureMetadata, AwaitTree, ErrorBehavior, Acknowledgement, Scope}
+use Rattle.protocol_types.specs.Version.{version_number}
 
 abbrev pub first_version : Feature → Version
 first_version RandomSeed = V6

@@ -1,8 +1,8 @@
 // The types of messages, and their numbers on the wire.
 ghost use Rattle.std.specs.Prelude.{◌≡◌, Some};
 ghost use Rattle.std.specs.Fmt.{WritesOnOk};
-ghost use Rattle.protocol_stream.specs.TypeText.{type_name, number_text, type_text};
-ghost use Rattle.protocol_stream.specs.MessageType.{number_of, named_type, type_numbered, is_command, is_notification, allows_ack};
+ghost use Rattle.protocol_types.specs.TypeText.{type_name, number_text, type_text};
+ghost use Rattle.protocol_types.specs.MessageType.{number_of, named_type, type_numbered, is_command, is_notification, allows_ack};
 
 use std::fmt;
 use thiserror::Error;

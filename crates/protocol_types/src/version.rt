@@ -1,6 +1,6 @@
 // Versions of the protocol, and the content types that name them.
 ghost use Rattle.std.specs.Prelude.{◌≡◌, ◌≤◌, ◌↔◌, IsTrue, Some};
-ghost use Rattle.protocol_stream.specs.Version.{version_number, version_content_type, has_content_type, version_at, version_with, content_type_read, has_restate_prefix, is_unsupported, newest_version, oldest_version};
+ghost use Rattle.protocol_types.specs.Version.{version_number, version_content_type, has_content_type, version_at, version_with, content_type_read, has_restate_prefix, is_unsupported, version_spoken, newest_version, oldest_version};
 
 use bytes::ByteStr;
 use std::fmt;
@@ -98,12 +98,23 @@ impl Version {
         self >= other
     }
 
-    /// Whether the version with this number is none that is spoken.
-    pub fn is_unsupported(number: u32) -> bool
+    // Whether the version with this number is none that is spoken.
+    fn is_unsupported(number: u32) -> bool
         ensures { result ≡ is_unsupported number }
     {
         number < Version::minimum_supported_version().number()
             || Version::maximum_supported_version().number() < number
+    }
+
+    /// The version with this number, if it is spoken.
+    pub fn spoken(number: u32) -> Option<Version>
+        ensures { result ≡ version_spoken number }
+    {
+        if Version::is_unsupported(number) {
+            None
+        } else {
+            Version::with_number(number)
+        }
     }
 
     /// The earliest version that is spoken.

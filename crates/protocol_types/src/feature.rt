@@ -1,6 +1,6 @@
 // What versions of the protocol brought.
 ghost use Rattle.std.specs.Prelude.{◌≡◌};
-ghost use Rattle.protocol_stream.specs.Feature.{first_version, has_feature, lacks_feature};
+ghost use Rattle.protocol_types.specs.Feature.{first_version, has_feature, lacks_feature};
 
 use crate::Version;
 

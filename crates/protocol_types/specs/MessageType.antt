@@ -1,8 +1,8 @@
 -- The types of messages and their numbers.
-use Rattle.std.specs.Prelude.{ℕ, ◌==◌, bit_and, if◌then◌else◌, Bool, true, false, List, [], ◌∷◌, Option, Some, None, Result, Ok, Err, find}
-use Rattle.protocol_stream.specs.declared.message_type.MessageType.{MessageType}
-use Rattle.protocol_stream.specs.declared.message_type.MessageType.TheVariants.{Start, Suspension, Error, End, AwaitingOn, ProposeRunCompletion, ProposeRunCompletionAck, GetStateEphemeralCommand, GetStateEphemeralNotification, InputCommand, OutputCommand, GetLazyStateCommand, SetStateCommand, ClearStateCommand, ClearAllStateCommand, GetLazyStateKeysCommand, GetEagerStateCommand, GetEagerStateKeysCommand, GetPromiseCommand, PeekPromiseCommand, CompletePromiseCommand, SleepCommand, CallCommand, OneWayCallCommand, SendSignalCommand, RunCommand, AttachInvocationCommand, GetInvocationOutputCommand, CompleteAwakeableCommand, GetLazyStateCompletionNotification, GetLazyStateKeysCompletionNotification, GetPromiseCompletionNotification, PeekPromiseCompletionNotification, CompletePromiseCompletionNotification, SleepCompletionNotification, CallCompletionNotification, CallInvocationIdCompletionNotification, RunCompletionNotification, AttachInvocationCompletionNotification, GetInvocationOutputCompletionNotification, SignalNotification, CustomEntry}
-use Rattle.protocol_stream.specs.declared.message_type.UnknownMessageType.{UnknownMessageType}
+use Rattle.std.specs.Prelude.{◌≡◌, ℕ, ◌^◌, ◌<◌, ◌==◌, bit_and, if◌then◌else◌, Bool, true, false, List, [], ◌∷◌, Option, Some, None, Result, Ok, Err, find}
+use Rattle.protocol_types.specs.declared.message_type.MessageType.{MessageType}
+use Rattle.protocol_types.specs.declared.message_type.MessageType.TheVariants.{Start, Suspension, Error, End, AwaitingOn, ProposeRunCompletion, ProposeRunCompletionAck, GetStateEphemeralCommand, GetStateEphemeralNotification, InputCommand, OutputCommand, GetLazyStateCommand, SetStateCommand, ClearStateCommand, ClearAllStateCommand, GetLazyStateKeysCommand, GetEagerStateCommand, GetEagerStateKeysCommand, GetPromiseCommand, PeekPromiseCommand, CompletePromiseCommand, SleepCommand, CallCommand, OneWayCallCommand, SendSignalCommand, RunCommand, AttachInvocationCommand, GetInvocationOutputCommand, CompleteAwakeableCommand, GetLazyStateCompletionNotification, GetLazyStateKeysCompletionNotification, GetPromiseCompletionNotification, PeekPromiseCompletionNotification, CompletePromiseCompletionNotification, SleepCompletionNotification, CallCompletionNotification, CallInvocationIdCompletionNotification, RunCompletionNotification, AttachInvocationCompletionNotification, GetInvocationOutputCompletionNotification, SignalNotification, CustomEntry}
+use Rattle.protocol_types.specs.declared.message_type.UnknownMessageType.{UnknownMessageType}
 
 -- the number of a type on the wire
 abbrev pub number_of : MessageType → ℕ
@@ -81,6 +81,11 @@ is_command ty = bit_and (number_of ty) 0xFC00 == 0x0400
 
 abbrev pub is_notification : MessageType → Bool
 is_notification ty = if bit_and (number_of ty) 0x8000 == 0 then false else true
+
+-- a type whose number stands for it
+pub record IsWireType (ty : MessageType) : Type 0 where
+  pub number : number_of ty < 2 ^ 16
+  pub read : type_numbered (number_of ty) ≡ Ok ty
 
 -- a proposal alone can request an acknowledgement
 abbrev pub allows_ack : MessageType → Bool

@@ -1,6 +1,6 @@
 -- Proved in `Types`.
-use Rattle.protocol_stream.proofs.Types.{names_read_back, custom_entries_read_back, numbers_read_back, rest_is_unknown}
-use Rattle.protocol_stream.proofs.laws.types_read_back.Goals as goal
+use Rattle.protocol_types.proofs.Types.{names_read_back, custom_entries_read_back, numbers_read_back, rest_is_unknown}
+use Rattle.protocol_types.proofs.laws.types_read_back.Goals as goal
 
 pub returns-clause-named : goal.returns-clause-named
 returns-clause-named c = names_read_back

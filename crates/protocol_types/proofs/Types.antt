@@ -3,12 +3,11 @@ use Rattle.std.proofs.Common.{◌≡◌, ◌≢◌, ℕ, Bool, true, false, cond
 use Rattle.std.specs.Prelude.{find}
 use Rattle.std.specs.List.{AllByRecursion}
 use Rattle.std.proofs.lemmas.Bool.{eqb-true, eqb-false}
-use Rattle.protocol_stream.specs.declared.message_type.MessageType.{MessageType}
-use Rattle.protocol_stream.specs.declared.message_type.MessageType.TheVariants.{CustomEntry}
-use Rattle.protocol_stream.specs.declared.message_type.UnknownMessageType.{UnknownMessageType}
-use Rattle.protocol_stream.specs.MessageType.{number_of, named_types, named_type, named_or_custom, type_numbered}
-use Rattle.protocol_stream.specs.Frame.{IsWireType}
-use Rattle.protocol_stream.specs.Laws.{IsUnlisted, NamesReadBack, CustomEntriesReadBack, NumbersReadBack, RestIsUnknown}
+use Rattle.protocol_types.specs.declared.message_type.MessageType.{MessageType}
+use Rattle.protocol_types.specs.declared.message_type.MessageType.TheVariants.{CustomEntry}
+use Rattle.protocol_types.specs.declared.message_type.UnknownMessageType.{UnknownMessageType}
+use Rattle.protocol_types.specs.MessageType.{number_of, named_types, named_type, named_or_custom, type_numbered, IsWireType}
+use Rattle.protocol_types.specs.Laws.{IsUnlisted, NamesReadBack, CustomEntriesReadBack, NumbersReadBack, RestIsUnknown}
 
 -- whether a type is no custom entry
 abbrev pub is_named : MessageType → Bool

@@ -1,0 +1,5 @@
+pub mod Feature
+pub mod Laws
+pub mod MessageType
+pub mod TypeText
+pub mod Version
