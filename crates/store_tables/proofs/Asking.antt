@@ -24,7 +24,7 @@ use Rattle.sql_tables.proofs.Reading.{listed, records_read, rows_shown}
 use Rattle.store_tables.specs.Asks.{Asks, AsksInOrder}
 use Rattle.store_tables.specs.Tables.{store_schema, entry_columns, invocation_columns, meta_columns, state_columns}
 use Rattle.store_tables.specs.Statements.{entries_text, entry_by_answered_text, entry_by_completion_text, entry_by_second_completion_text, invocation_by_id_text, marks_text, open_invocation_text, states_text}
-use Rattle.store_tables.specs.Records.{EntryRow, FitsEntry, FitsInvocation, FitsMark, FitsState, Holds, IsMarked, InvocationRow, Mark, Records, StateRow, cells_of_mark, entry_cells, invocation_cells, mark_cells, state_cells, the_mark}
+use Rattle.store_tables.specs.Records.{EntryRow, FitsEntry, FitsInvocation, FitsMark, FitsState, Holds, IsMarked, Records, cells_of_mark, entry_cells, invocation_cells, mark_cells, state_cells, the_mark}
 use Rattle.store_tables.specs.Questions.{answers, asks_for, asks_second_for, has_id, is_number, is_of_object, is_open_of, is_text}
 use Rattle.store_tables.proofs.Back.{entry_back, entry_back_is, invocation_back, invocation_back_is, mark_back, mark_back_is, mark_fits, state_back, state_back_is}
 use Rattle.store_tables.proofs.Matching.{cells_match, column_there, columns_from, columns_shown, match_cells, one_test, tests_of, two_tests}

@@ -1,5 +1,5 @@
 -- From rows to the records that were asked for.
-use Rattle.std.proofs.Common.{◌≡◌, ◌≤◌, ℕ, Bool, List, [], ◌∷◌, map, filter, length, Option, None, Some, sym, ap, ◌∙◌, arith}
+use Rattle.std.proofs.Common.{◌≡◌, ◌≤◌, ℕ, Bool, List, [], ◌∷◌, map, filter, length, Option, None, Some, Result, Ok, Err, IfErr, IfOk, IsTrue, sym, ap, ◌∙◌, arith}
 use Rattle.std.specs.Prelude.{IfSome}
 use Rattle.std.specs.List.{AllByRecursion}
 use Rattle.std.specs.List.Sorted.{IsPermutation}
@@ -10,6 +10,8 @@ use Rattle.sqlite_trees.proofs.ListLemmas.{all-permutation}
 use Rattle.sqlite_value.specs.Order.{Row}
 use Rattle.sqlite.specs.State.{State}
 use Rattle.sql_tables.specs.Asking.{IsAnswer, IsOther}
+use Rattle.sql_tables.specs.declared.read.ReadError.{ReadError}
+use Rattle.sql_tables.specs.declared.read.ReadError.TheVariants.{Foreign}
 use Rattle.sql_tables.proofs.Reading.{all_back, found_as, no_more, only_one, same_records}
 use Rattle.store_tables.specs.Asks.{Asks, AsksInOrder, DoRise}
 use Rattle.store_tables.specs.Records.{Records, Holds}
@@ -49,3 +51,16 @@ module _ {X : Type 0} (cells : X → Row) (Fits : X → Type 0) (records : Recor
 
   pub all_other : IsOther sql params s (λ rows. (xs : List X) × AllByRecursion Fits xs × (map cells xs ≡ rows)) → (r : Records) → Holds s.now.trees r → (zs : List X) → IsPermutation (filter test (records r)) zs → DoRise cells at zs → ⊥
   all_other other r h zs same rising = other.2 (zs, fit_arranged r h zs same, sym (it.ordered has other.0 other.1 r h zs same rising))
+
+-- ---- what the answer to a question tells
+
+module _ {X : Type 0} (cells : X → Row) (Fits : X → Type 0) (sql : List ℕ) (params : Row) (s : State) (store : IsTrue s.is_open → s.now.schema ≡ store_schema) where
+  pub tells_one : (o : Result (Option X) ReadError) → IfOk o (λ x. IsTrue s.is_open × IsAnswer sql params s (map cells (option_to_list x)) × IfSome x Fits)
+      → IfOk o (λ x. (records : Records → List X) (test : X → Bool) → Asks cells Fits records test sql params s → IsFound records test s.now.trees x)
+  tells_one (Ok x) it = λ records test asks. one_found cells Fits records test sql params s (store it.0) asks x it.1 it.2
+  tells_one (Err e) it = tt
+
+  pub tells_ambiguous : {A : Type 0} (o : Result A ReadError) → IfErr o (λ e. e ≡ Foreign → IsTrue s.is_open × IsOther sql params s (λ rows. (x : Option X) × IfSome x Fits × (map cells (option_to_list x) ≡ rows)))
+      → IfErr o (λ e. e ≡ Foreign → (records : Records → List X) (test : X → Bool) → Asks cells Fits records test sql params s → IsAmbiguous records test s.now.trees)
+  tells_ambiguous (Ok x) it = tt
+  tells_ambiguous (Err e) it = λ is records test asks. one_ambiguous cells Fits records test sql params s (store (it is).0) asks (it is).1

@@ -1,5 +1,5 @@
 -- Changes of the records, by one statement and one after another.
-use Rattle.std.proofs.Common.{◌≡◌, ◌≢◌, ◌/◌, ◌++◌, ℕ, List, [], ◌∷◌, map, length, slice_get, Some, refl, sym, subst, Result, OnOk, IsTrue, arith}
+use Rattle.std.proofs.Common.{◌≡◌, ◌/◌, ◌++◌, ℕ, List, [], ◌∷◌, map, length, slice_get, Some, refl, sym, subst, Result, OnOk, arith}
 use Rattle.std.specs.List.{AllByRecursion}
 use Rattle.sqlite.specs.declared.types.Value.TheVariants.{Null}
 use Rattle.sqlite_value.specs.Order.{Row}

@@ -1,5 +1,5 @@
 -- What the statements over the state of objects do to the records.
-use Rattle.std.proofs.Common.{◌≡◌, ℕ, Bool, not, ◌&&◌, List, [], ◌∷◌, ◌++◌, map, filter, refl, sym, ap, subst, ◌∙◌, bytes_eq, codes}
+use Rattle.std.proofs.Common.{◌≡◌, ℕ, Bool, not, List, [], ◌∷◌, ◌++◌, map, filter, refl, sym, ap, subst, ◌∙◌, codes}
 use Rattle.std.proofs.lemmas.List.{map-append}
 use Rattle.sqlite_keyed.proofs.ListLemmas.{filter-map, filter_same, all-append, all-filter}
 use Rattle.sqlite.specs.declared.types.Value.TheVariants.{Null, Text, Blob}
@@ -15,7 +15,7 @@ use Rattle.sql_tables.specs.Asking.{HasRun}
 use Rattle.sql_tables.specs.Columns.{plain_orders}
 use Rattle.sql_tables.specs.Content.{HasRows}
 use Rattle.sql_tables.specs.Statements.{rows_of, program_of}
-use Rattle.sql_tables.proofs.Cells.{both_true, same_text, same_blob}
+use Rattle.sql_tables.proofs.Cells.{same_text, same_blob}
 use Rattle.sql_tables.proofs.Tables.{delete_changes}
 use Rattle.store_tables.specs.Tables.{store_schema, state_columns, state_keys}
 use Rattle.store_tables.specs.Statements.{add_state_text, drop_state_text, drop_states_text}

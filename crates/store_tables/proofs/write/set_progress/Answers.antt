@@ -1,4 +1,4 @@
-use Rattle.std.proofs.Common.{◌∷◌, []}
+use Rattle.std.proofs.Common.{◌∷◌}
 use Rattle.sqlite.specs.declared.types.Value.TheVariants.{Text}
 use Rattle.sqlite.specs.Held.{state}
 use Rattle.sql_tables.specs.Asking.{HasRun}
