@@ -70,7 +70,7 @@ fn read_journal<S: Alter>(
 }
 
 /// All frames that an attempt is handed which is begun at this moment.
-fn store_frames<S: Alter>(
+fn attempt_frames<S: Alter>(
     tables: &mut StoreTables<S>,
     row: &InvocationRow,
     now: u64,
@@ -97,7 +97,7 @@ pub(crate) fn prepare_next<S: Alter>(
         return Err(Refusal::NumbersUsedUp);
     };
     let version = row.version;
-    let read = store_frames(tables, &row, now);
+    let read = attempt_frames(tables, &row, now);
     let made = begun_writes(tables.alloc(), row, now);
     let frames = read?;
     let writes = made?;

@@ -7,7 +7,7 @@ use Rattle.store_invocations.proofs.Standing.{store_kept}
 use Rattle.store_begins.specs.Begun.{AreHanded, shown_states}
 use Rattle.store_invocations.specs.Rows.{payload_tests}
 use Rattle.store_begins.specs.Start.{start_of}
-use Rattle.store_begins.proofs.prepare.store_frames.Goals as goal
+use Rattle.store_begins.proofs.prepare.attempt_frames.Goals as goal
 
 pub returns-clause-decided : goal.returns-clause-decided
 returns-clause-decided g c clean events store =
