@@ -1,11 +1,11 @@
 -- What waits of what attempts wrote.
-use Rattle.std.proofs.Common.{◌≡◌, ℕ, refl, ap, subst, ◌∙◌, inl, inr, [], Option, Some, None, option_map, Result, Ok, Err, bytes_eq, OnOk, OnErr}
+use Rattle.std.proofs.Common.{◌≡◌, ℕ, refl, ap, subst, ◌∙◌, inl, inr, Option, Some, None, option_map, Result, Ok, Err, bytes_eq, OnOk, OnErr}
 use Rattle.std.proofs.lemmas.Slice.Eq.{bytes_eq-Decides}
 use Rattle.journal_model.specs.Notification.{Bytes, Text}
 use Rattle.store_refusals.specs.declared.refusal.Refusal.{Refusal}
 use Rattle.store_live.specs.declared.attempt.LiveAttempt.{LiveAttempt}
 use Rattle.store_live.specs.Attempts.{ByInvocation, attempt_of, IsNow, Changes, after_hand_out, after_put, after_close}
-use Rattle.journal_store.specs.Stands.{output_of, KeepsOutputs, WaitsNow, WaitsAfter, IsAsBefore, AreAsBefore}
+use Rattle.journal_store.specs.Stands.{output_of, KeepsOutputs, WaitsNow, IsAsBefore, AreAsBefore}
 use Rattle.journal_store.proofs.Standing.{true_or_false}
 
 abbrev output_in : LiveAttempt → Bytes
@@ -56,9 +56,3 @@ now_waits id attempt old new now = record { own = ap (option_map output_in) now.
 
 pub stopped_waits : (id : Text) (old new : ByInvocation) → IsNow id None old new → WaitsNow id None old new
 stopped_waits id old new now = now_waits id None old new now
-
-pub begun_waits : {A : Type 0} (P : Type 0) (id : Text) (attempt : LiveAttempt) (old new : ByInvocation) (result : Result A Refusal) → attempt.output ≡ []
-    → OnOk result (IsNow id (Some attempt) old new) → OnErr result (P × (new ≡ old)) → WaitsAfter id (Some []) result old new
-begun_waits P id attempt old new (Ok done) none put undone =
-    subst (λ (bytes : Bytes). WaitsNow id (Some bytes) old new) none (now_waits id (Some attempt) old new put)
-begun_waits P id attempt old new (Err why) none put undone = same_waits old new undone.1

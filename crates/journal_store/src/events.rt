@@ -8,7 +8,7 @@ ghost use Rattle.store_tables.specs.Looks.{Lasts};
 ghost use Rattle.store_tables.specs.Records.{applied_all};
 ghost use Rattle.store_tables.specs.Steps.{Lands, Turns};
 ghost use Rattle.store_refusals.specs.Refused.{is_circumstance};
-ghost use Rattle.store_live.specs.Attempts.{Changes, IsNow, after_put};
+ghost use Rattle.store_live.specs.Attempts.{Changes, after_put};
 ghost use Rattle.store_calls.specs.Calls.{BeginsAttempt, Completes, Invokes};
 ghost use Rattle.journal_store.specs.Attempts.{IsToldAs, TakesIn, fresh};
 ghost use Rattle.journal_store.specs.Stands.{AreAsBefore, Commits, KeepsOutputs, Leads, Outlasts, Stands, WaitsAfter};
@@ -114,40 +114,8 @@ fn room_for(live: &mut LiveAttempts, id: &ByteStr) -> Result<ByteStr, AllocError
     id.clone()
 }
 
-/// Writes what was made ready of a begin, and takes the attempt in, for which room is made before.
-fn begin_fresh<S: Alter>(
-    tables: &mut StoreTables<S>,
-    live: &mut LiveAttempts,
-    id: &ByteStr,
-    writes: &[Write],
-    attempt: LiveAttempt,
-) -> Result<(), Refusal>
-    ensures written { HasCleanDisk (state S.Store tables.new) → OnOk result (IsTrue (state S.Store tables.old).is_open × Turns (applied_all writes.now) (state S.Store tables.old).now.trees (state S.Store tables.new).now.trees) }
-    ensures put { OnOk result (IsNow id.now (Some attempt) live.old.attempts live.new.attempts) }
-    ensures why { IfErr result (λ why. IsTrue (is_circumstance why)) }
-    ensures undone { OnErr result (IsKept (state S.Store tables.old) (state S.Store tables.new) × (live.new.attempts ≡ live.old.attempts)) }
-    ensures settled { HasCleanDisk (state S.Store tables.new) → OnOk result (Lasts (state S.Store tables.new)) }
-    ensures crash { Survives (state S.Store tables.old) (state S.Store tables.new) (Lands writes.now (state S.Store tables.old)) }
-{
-    let Ok(own) = room_for(live, id) else {
-        drop(attempt);
-        return Err(Refusal::OutOfMemory);
-    };
-    match commit_all(tables, writes) {
-        Ok(()) => {
-            live.put_begun(own, attempt);
-            Ok(())
-        }
-        Err(cause) => {
-            drop(own);
-            drop(attempt);
-            Err(Refusal::StatementRefused(cause))
-        }
-    }
-}
-
-/// Makes the attempt that is begun, and begins it.
-fn begin_made<S: Alter>(
+/// Makes the attempt that is begun, and room for it; then writes what was made ready of the begin, and takes the attempt in.
+fn take_in<S: Alter>(
     tables: &mut StoreTables<S>,
     live: &mut LiveAttempts,
     id: &ByteStr,
@@ -164,9 +132,23 @@ fn begin_made<S: Alter>(
     ensures settled { HasCleanDisk (state S.Store tables.new) → OnOk result (Lasts (state S.Store tables.new)) }
     ensures crash { Survives (state S.Store tables.old) (state S.Store tables.new) (Lands writes.now (state S.Store tables.old)) }
 {
-    match fresh_attempt(tables.alloc(), number, version, journal) {
-        Ok(attempt) => begin_fresh(tables, live, id, writes, attempt),
-        Err(_) => Err(Refusal::OutOfMemory),
+    let Ok(attempt) = fresh_attempt(tables.alloc(), number, version, journal) else {
+        return Err(Refusal::OutOfMemory);
+    };
+    let Ok(own) = room_for(live, id) else {
+        drop(attempt);
+        return Err(Refusal::OutOfMemory);
+    };
+    match commit_all(tables, writes) {
+        Ok(()) => {
+            live.put_begun(own, attempt);
+            Ok(())
+        }
+        Err(cause) => {
+            drop(own);
+            drop(attempt);
+            Err(Refusal::StatementRefused(cause))
+        }
     }
 }
 
@@ -193,7 +175,7 @@ fn begin_prepared<S: Alter>(
         frames,
     } = made;
     let AttemptFrames { start, journal } = frames;
-    let done = begin_made(
+    let done = take_in(
         tables,
         live,
         id,
