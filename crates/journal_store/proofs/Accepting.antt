@@ -1,5 +1,5 @@
 -- Frames are taken one after another.
-use Rattle.std.proofs.Common.{◌≡◌, refl, sym, ap, subst, ◌∙◌, ℕ, inl, inr, arith, Bool, true, false, true≢false, not, List, [], ◌∷◌, ◌++◌, Option, Some, None, Ok, Err}
+use Rattle.std.proofs.Common.{◌≡◌, ◌≢◌, refl, sym, subst, ◌∙◌, ℕ, inl, inr, arith, Bool, true, false, true≢false, not, List, [], ◌∷◌, ◌++◌, Option, Some, None, Ok, Err}
 use Rattle.sqlite_trees.specs.declared.store.Store.{Ghosts}
 use Rattle.sqlite.specs.Held.{state}
 use Rattle.sqlite.specs.State.{HasCleanDisk}
@@ -11,13 +11,13 @@ use Rattle.store_refusals.specs.declared.refusal.Refusal.TheVariants.{OutOfMemor
 use Rattle.store_steps.specs.declared.frame.FrameReply.{FrameReply}
 use Rattle.store_steps.specs.Taken.{does_end}
 use Rattle.store_calls.specs.Standing.{Standing}
-use Rattle.store_calls.specs.Calls.{Feeds}
-use Rattle.store_calls.specs.Frames.{Accepts, AcceptsFirst, Rests, Steps, TakesEach, TakesFirst, TakesFrame, TakesFrames, TakesOne}
+use Rattle.store_calls.specs.Calls.{Feeds, PutsBehind}
+use Rattle.store_calls.specs.Frames.{Accepts, AcceptsFirst, Steps, TakesEach, TakesFirst, TakesFrames, TakesOne}
 use Rattle.store_calls.proofs.Taking.{goes_on, none_behind, same_stays, takes_first, takes_more}
 use Rattle.journal_store.specs.declared.accept.Accepted.{Accepted}
 use Rattle.journal_store.specs.Stored.{Stored}
-use Rattle.journal_store.specs.Stands.{Leads, Endures, IsQuiet}
-use Rattle.journal_store.specs.Accepting.{HasTaken, TakesNext}
+use Rattle.journal_store.specs.Stands.{Leads, Endures, IsQuiet, Settles}
+use Rattle.journal_store.specs.Accepting.{HasTaken, OutlastsFrames, SettlesFrames, SettlesNext, TakesNext}
 use Rattle.journal_store.proofs.Enduring.{endures_on, quiet_endures}
 
 -- these frames were taken of an attempt, and it is live still
@@ -91,6 +91,37 @@ module _ {S : Type 0} (g : Ghosts S) (id : Text) (n : ℕ) (first old new : Stor
         },
       )
 
+  -- ---- what lasts
+
+  abbrev IsSettled : List FrameReply → Stored S → Type 0
+  IsSettled all store = all ≢ [] → Settles g (TakesEach id n all) first store
+
+  pub settled_on : (goes_on : Bool) → IsSettled replies old → SettlesNext g id n (Ok goes_on) replies after old new → IsSettled after new
+  settled_on goes_on before next some = elim next [
+    | inl it ↦ λ clean s is.
+        let m = so_far (before_clean clean) s is in
+        let t = it.2 clean m.0 m.1 in
+        (t.0, t.1, subst (λ (all : List FrameReply). TakesEach id n all s t.0) (sym it.1) (takes_more id n replies it.0 s m.0 t.0 m.2.taken t.2), t.3)
+    | inr it ↦
+        subst (λ (all : List FrameReply). Settles g (TakesEach id n all) first new) (sym it.0)
+        (subst (λ (store : Stored S). Settles g (TakesEach id n replies) first store) (sym it.1) (before (λ none. some (it.0 ∙ none))))
+  ]
+
+  pub rests_settled : IsSettled replies old → SettlesNext g id n (Ok false) replies after old new → SettlesFrames g (λ s m. m ≡ s) id n after None first new
+  rests_settled before next some clean s is = let t = settled_on false before next some clean s is in (s, refl, (t.0, t.2, t.3))
+
+  pub refused_settled : (why : Refusal) → IsSettled replies old → SettlesNext g id n (Err why) replies after old new → SettlesFrames g (λ s m. m ≡ s) id n after (Some why) first new
+  refused_settled why before same some clean s is =
+      let m = before (λ none. some (same ∙ none)) (before_clean clean) s is in (
+        s,
+        refl,
+        (
+          m.0,
+          subst (λ (all : List FrameReply). TakesEach id n all s m.0) (sym same) m.2,
+          λ trees may. elim (lives.crash clean trees may) [ inl earlier ↦ inl (m.3 trees earlier) | inr keeps ↦ inr (keeps m.0 m.1) ],
+        ),
+      )
+
 module _ {S : Type 0} (g : Ghosts S) (id : Text) (n : ℕ) (old new : Stored S) (before after : List FrameReply) where
   -- a step that took a frame
   pub next_taken : (reply : FrameReply) (ends : Bool) → does_end reply ≡ ends → after ≡ before ++ reply ∷ [] → Leads g (Steps id n (Ok (Some reply))) old new
@@ -128,6 +159,17 @@ module _ {S : Type 0} (g : Ghosts S) (id : Text) (n : ℕ) (bytes : Bytes) (old 
       let m = feeds (early clean) s is in
       let t = takes clean m.0 m.1 in
       (t.0, t.1, (m.0, m.2, t.2 (subst (λ (events : List Event). is_live events id n ≡ true) (sym m.2.events) m.2.live)))
+
+  -- what was answered lasts
+  pub accept_settled : (replies : List FrameReply) (why : Option Refusal) → (HasCleanDisk (state g new.connection) → HasCleanDisk (state g fed.connection))
+      → SettlesFrames g (λ s m. m ≡ s) id n replies why fed new → SettlesFrames g (PutsBehind id n bytes) id n replies why old new
+  accept_settled replies why early settled some clean s is =
+      let m = feeds (early clean) s is in
+      let t = settled some clean m.0 m.1 in (
+        m.0,
+        m.2,
+        subst (λ (k : Standing). (u : Standing) × TakesEach id n replies k u × OutlastsFrames id n why u (state g new.connection)) t.1 t.2,
+      )
 
   -- where a crash comes
   pub accept_endures : IsQuiet g old fed → Endures g (TakesFirst id n) fed new → Endures g (AcceptsFirst id n bytes) old new

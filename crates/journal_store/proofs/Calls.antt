@@ -1,5 +1,5 @@
 -- The calls on an attempt, by what the store stands for.
-use Rattle.std.proofs.Common.{◌≡◌, refl, sym, ap, subst, ◌∙◌, ℕ, true, false, List, [], ◌∷◌, ◌++◌, Option, Some, None, option_map, inl, inr, Result, Ok, Err, IsErrAnd, bytes_eq}
+use Rattle.std.proofs.Common.{◌≡◌, refl, sym, ap, subst, ◌∙◌, ℕ, true, false, List, Option, Some, None, option_map, inl, inr, Result, Ok, Err, IsErrAnd, bytes_eq}
 use Rattle.std.proofs.lemmas.Slice.Eq.{bytes_eq-Decides}
 use Rattle.sqlite_trees.specs.declared.store.Store.{Ghosts}
 use Rattle.sqlite.specs.Held.{Held, state}
@@ -18,9 +18,9 @@ use Rattle.store_live.specs.Attempts.{Attempts, ByInvocation, attempt_of, IsNow,
 use Rattle.store_live_laws.specs.Agrees.{Agrees, has_number, cause_of_stale, CausesOfStale}
 use Rattle.store_live_laws.proofs.Tests.{live_told, stale_told}
 use Rattle.store_calls.specs.Standing.{Standing, Stays, Refuses}
-use Rattle.store_calls.specs.Calls.{HandsOut, ClosesInput, PutsBehind, RefusesBytes, Feeds, Stops}
+use Rattle.store_calls.specs.Calls.{HandsOut, ClosesInput, Feeds, Stops}
 use Rattle.store_calls.specs.Frames.{Steps}
-use Rattle.journal_store.specs.Stored.{Stored, stored}
+use Rattle.journal_store.specs.Stored.{stored}
 use Rattle.journal_store.specs.Stands.{Stands, IsStanding, Leads}
 use Rattle.journal_store.specs.Attempts.{IsStale, has_closed, has_rest}
 use Rattle.journal_store.proofs.Standing.{stands_asked, true_or_false}

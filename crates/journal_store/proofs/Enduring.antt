@@ -1,5 +1,5 @@
 -- What crashes leave of calls one after another.
-use Rattle.std.proofs.Common.{refl, sym, subst, ℕ, ◌+◌, List, [], Some, inl, arith}
+use Rattle.std.proofs.Common.{refl, sym, subst, ℕ, ◌+◌, List, inl, arith}
 use Rattle.sqlite_trees.specs.declared.store.Store.{Ghosts}
 use Rattle.sqlite.specs.Held.{state}
 use Rattle.sqlite.specs.State.{HasCleanDisk, Survives}

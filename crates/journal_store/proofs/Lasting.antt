@@ -1,5 +1,5 @@
 -- What is committed lasts, and what is refused leaves the tables.
-use Rattle.std.proofs.Common.{◌≡◌, ◌∷◌, ◌∙◌, sym, subst, List, Result, Ok, Err, OnOk, OnErr}
+use Rattle.std.proofs.Common.{◌∙◌, sym, subst, List, Result, Ok, Err, OnErr}
 use Rattle.std.proofs.lemmas.Result.{on_err_weaker}
 use Rattle.sqlite_trees.specs.Tree.{Trees}
 use Rattle.sqlite.specs.State.{State, HasCleanDisk}
@@ -7,7 +7,6 @@ use Rattle.journal_model.specs.Event.{Event}
 use Rattle.sql_tables.specs.Asking.{IsKept}
 use Rattle.store_tables.specs.Records.{Holds}
 use Rattle.store_tables.specs.Looks.{Lasts}
-use Rattle.store_refusals.specs.declared.refusal.Refusal.{Refusal}
 use Rattle.store_live.specs.Attempts.{ByInvocation}
 use Rattle.journal_store.specs.Stands.{Outlasts, Stands}
 

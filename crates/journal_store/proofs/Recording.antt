@@ -1,5 +1,5 @@
 -- An invocation is recorded, or an event is refused.
-use Rattle.std.proofs.Common.{◌≡◌, refl, List, [], ◌∷◌, inr, Result, Ok, Err, IfErr, OnOk, OnErr, IsTrue, arith}
+use Rattle.std.proofs.Common.{◌≡◌, refl, List, [], inr, Result, Ok, Err, IfErr, OnOk, OnErr, IsTrue, arith}
 use Rattle.sqlite_trees.specs.declared.store.Store.{Ghosts}
 use Rattle.sqlite_trees.specs.Tree.{Trees}
 use Rattle.sqlite.specs.Held.{Held, state}

@@ -17,7 +17,8 @@ use Rattle.store_frames.specs.declared.frame.AttemptFrame.{AttemptFrame}
 use Rattle.store_frames.specs.Answer.{IsFrame}
 use Rattle.store_frames.specs.Meaning.{frame_of}
 use Rattle.store_tables.specs.declared.row.Write.{Write}
-use Rattle.store_tables.specs.Looks.{Looks}
+use Rattle.store_tables.specs.Looks.{Lasts, Looks}
+use Rattle.store_tables.specs.Records.{Holds, applied_all}
 use Rattle.store_tables.specs.Steps.{Lands}
 use Rattle.store_model.specs.Writes.{writes_of}
 use Rattle.store_refusals.specs.declared.refusal.Refusal.{Refusal}
@@ -44,7 +45,8 @@ use Rattle.store_calls.proofs.Live.{told_end}
 use Rattle.store_calls.proofs.Taking.{same_stays}
 use Rattle.journal_store.specs.Stored.{Stored, stored}
 use Rattle.journal_store.specs.Stands.{Stands, IsStanding, Leads, Keeps, KeepsAll, Endures, WaitsNow}
-use Rattle.journal_store.specs.Taking.{HasMessage, HasMessageOf, HasWritten, IsEndedBy, IsFirstOf, IsSeen, LandsSome, passed}
+use Rattle.journal_store.specs.Taking.{HasMessage, HasMessageOf, HasSettled, HasWritten, IsEndedBy, IsFirstOf, IsSeen, LandsSome, SettlesStep, passed}
+use Rattle.journal_store.proofs.Lasting.{outlasts_now}
 use Rattle.journal_store.proofs.Standing.{landed, store_still, stands_after, unwritten, written}
 use Rattle.journal_store.proofs.Quiet.{live_here, stands_stopped, this_one}
 use Rattle.journal_store.proofs.Waiting.{now_waits, same_waits, stopped_waits}
@@ -183,6 +185,10 @@ module _ {S : Type 0} (g : Ghosts S) (a mid b : Held S) (before after : Attempts
   abbrev left_of : Bytes
   left_of = drop it.len attempt.output
 
+  -- a step that takes this frame, or is refused
+  abbrev pub StepsBy : Result (Option FrameReply) Refusal → Standing → Standing → Type 0
+  StepsBy result s t = Steps id n result s t × OnOk result (t.events ≡ event ∷ s.events)
+
   -- what the events say of its attempt
   pub live_of : (events : List Event) → Stands events (state g a) before.attempts → IsLive events id n it.facts
   live_of events stands =
@@ -205,7 +211,7 @@ module _ {S : Type 0} (g : Ghosts S) (a mid b : Held S) (before after : Attempts
       → IfOk result (λ reply. reply ≡ Some made.reply) → (HasCleanDisk (state g b) → OnOk result (HasWritten made.writes.items (state g mid) (state g b)))
       → OnOk result (IsNow id (passed (does_end made.reply) it.len (attempt_of before.attempts id)) before.attempts after.attempts)
       → IfErr result (λ why. IsTrue (is_circumstance why)) → OnErr result (Asked (state g mid) (state g b) × (after.attempts ≡ before.attempts))
-      → Leads g (Steps id n result) (stored a before) (stored b after)
+      → Leads g (StepsBy result) (stored a before) (stored b after)
   seen_taken made (Ok None) Q looks lives stateless prepared replied wrote now why undone clean s is = cc
   seen_taken made (Ok (Some reply)) Q looks lives stateless prepared told wrote now why undone clean s is =
       let replied : reply ≡ made.reply = cc in
@@ -226,19 +232,55 @@ module _ {S : Type 0} (g : Ghosts S) (a mid b : Held S) (before after : Attempts
       let to = leaves g s (stored a before) (stored b after) is event id (rest_after (does_end reply) left_of) then waits in (
         to.0,
         to.1,
-        record {
-          frame = frame;
-          rest = left_of;
-          next = next_item g (stored a before) (stored b after) s is id n attempt (message seen.message_is) left_of found seen.first;
-          replied = is_reply;
-          leaves = to.2;
-        },
+        (
+          record {
+            frame = frame;
+            rest = left_of;
+            next = next_item g (stored a before) (stored b after) s is id n attempt (message seen.message_is) left_of found seen.first;
+            replied = is_reply;
+            leaves = to.2;
+          },
+          to.2.events,
+        ),
       )
   seen_taken made (Err why) Q looks lives stateless prepared replied wrote now circumstance undone clean s is =
       let store = store_still s.events (state g a) (state g mid) (λ _. ⊥) looks.crash looks.kept is.stands.kept in
       let it = item_refused g (stored a before) (stored b after) s is id n attempt (message seen.message_is) left_of found seen.first why here (inr circumstance)
       (store_still s.events (state g mid) (state g b) Q lives undone.0 store) false (not_in_frame why circumstance) undone.1 in
-      (it.0, it.1, inr it.2)
+      (it.0, it.1, (inr it.2, tt))
+
+  pub steps_so : (result : Result (Option FrameReply) Refusal) → Leads g (StepsBy result) (stored a before) (stored b after) → Leads g (Steps id n result) (stored a before) (stored b after)
+  steps_so result leads clean s is = let t = leads clean s is in (t.0, t.1, t.2.0)
+
+  -- what was answered lasts
+  pub seen_settled : (made : PreparedFrame) (result : Result (Option FrameReply) Refusal) (Q : Trees → Type 0) → Looks g a mid → Survives (state g mid) (state g b) Q
+      → (IsTrue (state g a).is_open → Lasts (state g a)) → (HasCleanDisk (state g mid) → IsTrue (state g a).is_open)
+      → (HasCleanDisk (state g mid) → (events : List Event) → Stands events (state g a) before.attempts
+      → (causes_of events event ≡ []) × IsTaken events id n (frame_of attempt.version seen.message_is) made)
+      → IfOk result (λ reply. reply ≡ Some made.reply) → (HasCleanDisk (state g b) → OnOk result (HasSettled g made.writes.items mid b))
+      → Leads g (StepsBy result) (stored a before) (stored b after) → SettlesStep g id n result (stored a before) (stored b after)
+  seen_settled made (Ok None) Q looks lives idle asked prepared replied lasts leads = cc
+  seen_settled made (Err why) Q looks lives idle asked prepared replied lasts leads = tt
+  seen_settled made (Ok (Some reply)) Q looks lives idle asked prepared replied lasts leads =
+      λ clean s is.
+      let t = leads clean s is in
+      let early : HasCleanDisk (state g mid) = omega (arith, lives.clean, clean) in
+      let first : HasCleanDisk (state g a) = omega (arith, looks.crash.clean, early) in
+      let ready = prepared early s.events is.stands in (
+        t.0,
+        t.1,
+        t.2.0,
+        elim (lasts clean) [
+          | inl none ↦ λ trees may.
+              let before_it : (state g a).may_leave trees =
+              elim (looks.crash.crash early trees (subst (λ (held : Held S). (state g held).may_leave trees) none.1 may)) [ inl earlier ↦ earlier | inr never ↦ absurd never ] in
+              let same : trees ≡ (state g a).now.trees = (idle (asked early)).left trees before_it in
+              subst (λ (events : List Event). KeepsAll events trees) (sym t.2.1)
+              (landed s.events event (state g a) made.writes.items trees is.stands.kept first ready.0 ready.1.writes (asked early)
+              (λ records held. subst (λ (writes : List Write). Holds trees (applied_all writes records)) (sym none.0) (subst (λ (db : Trees). Holds db records) (sym same) held)))
+          | inr all ↦ outlasts_now t.0.events (state g b) after.attempts clean t.1.stands all
+        ],
+      )
 
   -- where a crash comes
   pub seen_lands : (made : PreparedFrame) → Looks g a mid → Survives (state g mid) (state g b) (LandsSome made.writes.items (state g mid))

@@ -1,5 +1,5 @@
 -- What is seen of a live attempt in memory, and how one is begun.
-use Rattle.std.specs.Prelude.{◌≡◌, ◌⊎◌, ℕ, ◌<◌, ◌^◌, length, not, ◌==◌, Bool, true, false, List, [], ◌∷◌, Option, Some, None, IsTrue}
+use Rattle.std.specs.Prelude.{◌≡◌, ◌⊎◌, ℕ, ◌<◌, ◌^◌, length, not, ◌==◌, Bool, false, List, [], Option, Some, None, IsTrue}
 use Rattle.journal_model.specs.Notification.{Bytes, Text}
 use Rattle.journal_model.specs.Event.{Event}
 use Rattle.store_refusals.specs.declared.refusal.Refusal.{Refusal}

@@ -91,7 +91,8 @@ module _ {S : Type 0} (g : Ghosts S) where
   abbrev pub IsQuiet : Stored S → Stored S → Type 0
   IsQuiet old new = Survives (state g old.connection) (state g new.connection) (λ _. ⊥)
 
-  -- What is answered once its commit has landed lasts: whatever a crash leaves from now on, the tables keep this event too.
-  abbrev pub Settles : Event → Stored S → Stored S → Type 0
-  Settles event old new = HasCleanDisk (state g new.connection) → (events : List Event) → Stands events (state g old.connection) old.live.attempts
-      → Outlasts (event ∷ events) (state g new.connection)
+  -- What is done lasts: whatever the store stood for, it stands for something in this relation to it then, and whatever a crash
+  -- leaves from now on, the tables keep the events of that.
+  abbrev pub Settles : (Standing → Standing → Type 0) → Stored S → Stored S → Type 0
+  Settles Relation old new =
+      HasCleanDisk (state g new.connection) → (s : Standing) → IsStanding s old → (t : Standing) × IsStanding t new × Relation s t × Outlasts t.events (state g new.connection)

@@ -1,6 +1,8 @@
 -- How a frame is taken: what is seen of it first, what is written, and what is left of its attempt.
 use Rattle.std.specs.Prelude.{◌≡◌, ◌⊎◌, ℕ, ◌≤◌, length, drop, Bool, true, false, List, [], Option, Some, None, option_map, Result, Ok, Err, IsTrue}
+use Rattle.sqlite_trees.specs.declared.store.Store.{Ghosts}
 use Rattle.sqlite_trees.specs.Tree.{Trees}
+use Rattle.sqlite.specs.Held.{Held, state}
 use Rattle.sqlite.specs.State.{State}
 use Rattle.sql_tables.specs.Asking.{IsKept}
 use Rattle.journal_model.specs.Notification.{Bytes, Text}
@@ -10,12 +12,16 @@ use Rattle.protocol_stream.specs.Item.{unknown, message, item_at}
 use Rattle.store_frames.specs.Answer.{IsFrame}
 use Rattle.store_frames.specs.Meaning.{frame_of}
 use Rattle.store_tables.specs.declared.row.Write.{Write}
+use Rattle.store_tables.specs.Looks.{Lasts}
 use Rattle.store_tables.specs.Records.{applied_all}
 use Rattle.store_tables.specs.Steps.{Turns}
 use Rattle.store_refusals.specs.declared.refusal.Refusal.{Refusal}
 use Rattle.store_steps.specs.declared.frame.FrameReply.{FrameReply}
 use Rattle.store_live.specs.declared.attempt.LiveAttempt.{LiveAttempt}
 use Rattle.store_live.specs.Attempts.{ByInvocation, IsNow, after_take}
+use Rattle.store_calls.specs.Frames.{TakesFrame}
+use Rattle.journal_store.specs.Stored.{Stored}
+use Rattle.journal_store.specs.Stands.{Settles}
 use Rattle.journal_store.specs.declared.step.SeenFrame.{SeenFrame}
 use Rattle.journal_store.specs.declared.step.FirstSeen.{FirstSeen}
 use Rattle.journal_store.specs.declared.step.FirstSeen.TheVariants as seen
@@ -59,6 +65,10 @@ IsSeenOf (Some attempt) it = IsSeen attempt it
 abbrev pub HasWritten : List Write → State → State → Type 0
 HasWritten writes old new = ((writes ≡ []) × IsKept old new) ⊎ (IsTrue old.is_open × Turns (applied_all writes) old.now.trees new.now.trees)
 
+-- nothing was to be written, and nothing was done; or what was written lasts
+abbrev pub HasSettled : {S : Type 0} → Ghosts S → List Write → Held S → Held S → Type 0
+HasSettled g writes old new = ((writes ≡ []) × (new ≡ old)) ⊎ Lasts (state g new)
+
 -- where a crash comes
 abbrev pub LandsSome : List Write → State → Trees → Type 0
 LandsSome writes old trees = IsTrue old.is_open × Turns (applied_all writes) old.now.trees trees
@@ -74,3 +84,11 @@ passed false len found = option_map (after_take len) found
 abbrev pub IsEndedBy : Bool → Text → ByInvocation → ByInvocation → Type 0
 IsEndedBy true id old new = IsNow id None old new
 IsEndedBy false id old new = new ≡ old
+
+-- ---- what lasts
+
+-- a frame that was taken and answered lasts; where none waits whole, nothing was done
+abbrev pub SettlesStep : {S : Type 0} → Ghosts S → Text → (attempt : ℕ) → Result (Option FrameReply) Refusal → Stored S → Stored S → Type 0
+SettlesStep g id attempt (Ok None) old new = new ≡ old
+SettlesStep g id attempt (Ok (Some reply)) old new = Settles g (TakesFrame id attempt reply) old new
+SettlesStep g id attempt (Err why) old new = Unit {0}

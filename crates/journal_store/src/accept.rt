@@ -6,8 +6,9 @@ ghost use Rattle.sql_tables.specs.Asking.{IsKept};
 ghost use Rattle.store_refusals.specs.declared.refusal.Refusal.TheVariants.{OutOfMemory};
 ghost use Rattle.store_live.specs.Attempts.{attempt_of};
 ghost use Rattle.store_live_laws.specs.Agrees.{has_number};
+ghost use Rattle.store_calls.specs.Calls.{PutsBehind};
 ghost use Rattle.store_calls.specs.Frames.{Accepts, AcceptsFirst, TakesFirst, TakesFrames, TakesOne};
-ghost use Rattle.journal_store.specs.Accepting.{TakesNext, told};
+ghost use Rattle.journal_store.specs.Accepting.{SettlesFrames, SettlesNext, TakesNext, told};
 ghost use Rattle.journal_store.specs.Stands.{Endures, Leads};
 
 use crate::store::Store;
@@ -34,6 +35,7 @@ fn take_next<S: Alter + Drop>(
 ) -> Result<bool, Refusal>
     ensures len { IfOk result (λ goes_on. goes_on ≡ true → vec_len replies.new ≡ vec_len replies.old + 1) }
     ensures does { Leads S.Store (TakesNext id.now attempt result replies.old.items replies.new.items) store.old store.new }
+    ensures settled { SettlesNext S.Store id.now attempt result replies.old.items replies.new.items store.old store.new }
     ensures crash { Endures S.Store (TakesOne id.now attempt) store.old store.new }
 {
     if replies.reserve(1).is_err() {
@@ -52,6 +54,7 @@ fn take_next<S: Alter + Drop>(
 /// Takes the frames of a live attempt: up to one that ends it, or one that is refused, or until none waits whole.
 fn take_all<S: Alter + Drop>(store: &mut Store<S>, id: &ByteStr, attempt: u32) -> Accepted
     ensures does { Leads S.Store (λ s t. is_live s.events id.now attempt ≡ true → TakesFrames id.now attempt result.replies.items result.refusal s t) store.old store.new }
+    ensures settled { SettlesFrames S.Store (λ s m. m ≡ s) id.now attempt result.replies.items result.refusal store.old store.new }
     ensures crash { Endures S.Store (TakesFirst id.now attempt) store.old store.new }
 {
     let mut replies = Vec::new(store.alloc());
@@ -80,6 +83,7 @@ impl<S: Alter + Drop> Store<S> {
     pub fn accept(&mut self, id: &ByteStr, attempt: u32, bytes: &[u8]) -> Result<Accepted, Refusal>
         ensures does { Leads S.Store (Accepts id.now attempt bytes.now (told result)) self.old self.new }
         ensures live { has_number attempt (attempt_of self.old.live.attempts id.now) ≡ true → IfErr result (λ why. why ≡ OutOfMemory) }
+        ensures settled { IfOk result (λ accepted. SettlesFrames S.Store (PutsBehind id.now attempt bytes.now) id.now attempt accepted.replies.items accepted.refusal self.old self.new) }
         ensures kept { OnErr result (IsKept (state S.Store self.old.connection) (state S.Store self.new.connection)) }
         ensures crash { Endures S.Store (AcceptsFirst id.now attempt bytes.now) self.old self.new }
     {

@@ -11,7 +11,7 @@ ghost use Rattle.store_live_laws.specs.Agrees.{has_number};
 ghost use Rattle.store_calls.specs.Frames.{Steps, TakesOne};
 ghost use Rattle.journal_store.specs.Stands.{Endures, Leads};
 ghost use Rattle.journal_store.specs.Stored.{stored};
-ghost use Rattle.journal_store.specs.Taking.{HasMessage, HasMessageOf, HasWritten, IsEndedBy, IsFirstOf, IsFirstSeen, IsSeenOf, LandsSome, passed};
+ghost use Rattle.journal_store.specs.Taking.{HasMessage, HasMessageOf, HasSettled, HasWritten, IsEndedBy, IsFirstOf, IsFirstSeen, IsSeenOf, LandsSome, SettlesStep, passed};
 
 use crate::attempt::{is_live, stale_refusal};
 use crate::store::Store;
@@ -81,6 +81,7 @@ fn first_of(alloc: Global, live: &LiveAttempts, id: &ByteStr) -> Result<FirstSee
 fn commit_some<S: Alter>(tables: &mut StoreTables<S>, writes: &[Write]) -> Result<(), Error>
     ensures written { HasCleanDisk (state S.Store tables.new) → OnOk result (HasWritten writes.now (state S.Store tables.old) (state S.Store tables.new)) }
     ensures undone { OnErr result (IsKept (state S.Store tables.old) (state S.Store tables.new)) }
+    ensures settled { HasCleanDisk (state S.Store tables.new) → OnOk result (HasSettled S.Store writes.now tables.old tables.new) }
     ensures crash { Survives (state S.Store tables.old) (state S.Store tables.new) (LandsSome writes.now (state S.Store tables.old)) }
 {
     if writes.is_empty() {
@@ -115,6 +116,7 @@ fn take_prepared<S: Alter>(
     ensures left { OnOk result (IsNow id.now (passed (does_end made.reply) len (attempt_of live.old.attempts id.now)) live.old.attempts live.new.attempts) }
     ensures why { IfErr result (λ why. IsTrue (is_circumstance why)) }
     ensures undone { OnErr result (IsKept (state S.Store tables.old) (state S.Store tables.new) × (live.new.attempts ≡ live.old.attempts)) }
+    ensures settled { HasCleanDisk (state S.Store tables.new) → OnOk result (HasSettled S.Store made.writes.items tables.old tables.new) }
     ensures crash { Survives (state S.Store tables.old) (state S.Store tables.new) (LandsSome made.writes.items (state S.Store tables.old)) }
 {
     let reply = made.reply;
@@ -150,10 +152,13 @@ fn take_seen<S: Alter>(
     requires live { has_number attempt (attempt_of live.old.attempts id.now) ≡ true }
     requires seen { IsSeenOf (attempt_of live.old.attempts id.now) seen }
     ensures does { Leads S.Store (Steps id.now attempt result) (stored tables.old live.old) (stored tables.new live.new) }
+    ensures settled { SettlesStep S.Store id.now attempt result (stored tables.old live.old) (stored tables.new live.new) }
     ensures kept { OnErr result (IsKept (state S.Store tables.old) (state S.Store tables.new)) }
     ensures crash { Endures S.Store (TakesOne id.now attempt) (stored tables.old live.old) (stored tables.new live.new) }
 {
     let SeenFrame { frame, len, facts } = seen;
+    // It does nothing: its contract says that a frame of which nothing is written lasts too.
+    let _settled = tables.is_settled();
     match prepare_frame(tables, id, facts, frame) {
         Ok(made) => take_prepared(tables, live, id, len, made),
         Err(why) => {
@@ -168,6 +173,7 @@ impl<S: Alter + Drop> Store<S> {
     /// is refused for a cause of its own ends the attempt; refused for want of memory or of numbers it waits, and is taken again.
     pub fn step(&mut self, id: &ByteStr, attempt: u32) -> Result<Option<FrameReply>, Refusal>
         ensures does { Leads S.Store (Steps id.now attempt result) self.old self.new }
+        ensures settled { SettlesStep S.Store id.now attempt result self.old self.new }
         ensures kept { OnErr result (IsKept (state S.Store self.old.connection) (state S.Store self.new.connection)) }
         ensures crash { Endures S.Store (TakesOne id.now attempt) self.old self.new }
     {

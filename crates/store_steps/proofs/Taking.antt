@@ -1,6 +1,6 @@
 -- What is decided by the row of an invocation is what the events say.
 use Rattle.std.proofs.Common.{◌≡◌, refl, sym, ap, subst, subst₂, ◌∙◌, inl, inr, ℕ, Bool, true, false, List, filter_map, Option, Some, None, is_some, option_map, unwrap_or, bytes_eq, Result, Ok, Err}
-use Rattle.std.specs.Prelude.{IfOk, IfErr}
+use Rattle.std.specs.Prelude.{IfOk, IfErr, OnOk}
 use Rattle.std.proofs.lemmas.Slice.Eq.{bytes_eq-Decides}
 use Rattle.sqlite.specs.State.{State}
 use Rattle.sql_tables.specs.declared.read.ReadError.{ReadError}
@@ -123,6 +123,11 @@ module _ (events : List Event) (s : State) (keeps : Keeps events s) (id : Text) 
           let no : false ≡ true = sym (ap (λ (o : Option NewInvocation). is_some o) e) ∙ begun in
           cc
       by_begun (Some new) e = let no : None ≡ Some (invocation_row events new) = row_found None found ∙ ap (option_map (invocation_row events)) e in cc
+
+-- what was asked holds also where it is answered
+pub was_asked : {A E P : Type 0} (result : Result A E) → P → OnOk result P
+was_asked (Ok answer) it = it
+was_asked (Err why) it = tt
 
 -- a row that could not be read, and is no foreign one
 pub read_failed : (events : List Event) (id : Text) (error : ReadError) → (error ≡ reading.Foreign → ⊥) → (attempt : LiveFacts) (read : AttemptFrame)

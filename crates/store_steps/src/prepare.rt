@@ -1,5 +1,5 @@
 // Taking a frame of a live attempt: what is asked of the database, and what is decided by it.
-ghost use Rattle.std.specs.Prelude.{◌≡◌, List, IfErr, IfOk};
+ghost use Rattle.std.specs.Prelude.{◌≡◌, List, IfErr, IfOk, IsTrue, OnOk};
 ghost use Rattle.sqlite.specs.Held.{state};
 ghost use Rattle.sqlite.specs.State.{HasCleanDisk};
 ghost use Rattle.store_tables.specs.Looks.{Looks};
@@ -65,6 +65,7 @@ pub fn prepare_frame<S: Alter>(
     frame: AttemptFrame,
 ) -> Result<PreparedFrame, Refusal>
     ensures prepared { HasCleanDisk (state S.Store tables.new) → (events : List Event) → IsStoreOf events (state S.Store tables.old) → Takes events id.now attempt frame result }
+    ensures asked { HasCleanDisk (state S.Store tables.new) → OnOk result (IsTrue (state S.Store tables.old).is_open) }
     ensures looks { Looks S.Store tables.old tables.new }
 {
     match invocation_by_id(tables, id) {

@@ -24,6 +24,10 @@ looks_on g a b c one two = record {
 abbrev pub IsSettling : {S : Type 0} → Ghosts S → Type 0
 IsSettling {S} g = (store : S) (trees : Trees) → IsTrue (g.view store).is_open → g.recovers store trees → trees ≡ (g.view store).committed
 
+-- so it is with a connection that is idle
+pub idle_lasts : {S : Type 0} (g : Ghosts S) → IsSettling g → (h : Held S) → (IsTrue (state g h).is_open → (state g h).now ≡ (state g h).committed) → IsTrue (state g h).is_open → Lasts (state g h)
+idle_lasts g law h idle is_open = record { is_open = is_open; left = λ trees may. law h.store trees is_open may ∙ ap (λ db. db.trees) (sym (idle is_open)) }
+
 pub lasts : {S E : Type 0} (g : Ghosts S) → IsSettling g → (old : State) (new : Held S) (result : Result (Unit {0}) E)
     → (HasCleanDisk (state g new) → OnOk result (IsTrue old.in_transaction × Shows old (state g new) old.now old.now false × KeepsCounts old (state g new) × ((state g new).marks ≡ [])))
     → HasCleanDisk (state g new) → OnOk result (Lasts (state g new))

@@ -1,7 +1,8 @@
 //! A store's tables, as one value.
 
-ghost use Rattle.std.specs.Prelude.{◌≡◌, false};
+ghost use Rattle.std.specs.Prelude.{◌≡◌, false, true, IsTrue};
 ghost use Rattle.sqlite.specs.Held.{state};
+ghost use Rattle.store_tables.specs.Looks.{Lasts};
 ghost use Rattle.store_tables.specs.Steps.{IsStore};
 
 use sqlite::{Alter, Connection};
@@ -33,6 +34,14 @@ impl<S: Alter> StoreTables<S> {
     /// By this allocator what is read is made.
     pub fn alloc(&self) -> Global {
         self.alloc
+    }
+
+    /// Whether no transaction is under way, as it always is: as long as the connection is open, a crash leaves the tables alone.
+    pub fn is_settled(&self) -> bool
+        ensures value { result ≡ true }
+        ensures settled { IsTrue (state S.Store self.now).is_open → Lasts (state S.Store self.now) }
+    {
+        self.connection.is_autocommit()
     }
 }
 

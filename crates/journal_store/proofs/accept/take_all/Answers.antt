@@ -1,14 +1,15 @@
 use Rattle.std.proofs.Common.{◌≡◌, subst, rules, true, false, Ok, Bool}
 use Rattle.store_calls.specs.Frames.{TakesFirst}
 use Rattle.journal_store.specs.Stands.{Leads}
-use Rattle.journal_store.specs.Accepting.{TakesNext}
+use Rattle.journal_store.specs.Accepting.{SettlesNext, TakesNext}
 use Rattle.journal_store.proofs.Enduring.{same_endures}
-use Rattle.journal_store.proofs.Accepting.{first_endures, goes_further, none_taken, refused_so, rests_so}
+use Rattle.journal_store.proofs.Accepting.{first_endures, goes_further, none_taken, refused_settled, refused_so, rests_settled, rests_so, settled_on}
 use Rattle.journal_store.proofs.accept.take_all.Goals as goal
 
 pub loop-replies-init : goal.loop-replies-init
 loop-replies-init g c = record {
   taken = none_taken g.S.Store c.args.id.now c.args.attempt _ (search rules) c.args.store.now;
+  settled = λ some. absurd (some (search rules));
   crash = same_endures g.S.Store (TakesFirst c.args.id.now c.args.attempt) c.args.store.now;
 }
 
@@ -22,6 +23,8 @@ loop-replies-preserved g c =
     record {
       taken = goes_further g.S.Store c.args.id.now c.args.attempt c.args.store.now old new before after c.loop-replies.invariant.taken c.take_next.ensures.crash
           (subst (λ (b : Bool). Leads g.S.Store (TakesNext c.args.id.now c.args.attempt (Ok b) before after) old new) more c.in-Ok-true.ensures.does);
+      settled = settled_on g.S.Store c.args.id.now c.args.attempt c.args.store.now old new before after c.loop-replies.invariant.taken c.take_next.ensures.crash true c.loop-replies.invariant.settled
+          (subst (λ (b : Bool). SettlesNext g.S.Store c.args.id.now c.args.attempt (Ok b) before after old new) more c.in-Ok-true.ensures.settled);
       crash = first_endures g.S.Store c.args.id.now c.args.attempt c.args.store.now old new before after c.loop-replies.invariant.taken c.take_next.ensures.crash c.loop-replies.invariant.crash;
     }
 
@@ -49,3 +52,18 @@ pub returns-in-Err-clause-crash : goal.returns-in-Err-clause-crash
 returns-in-Err-clause-crash g c =
     first_endures g.S.Store c.args.id.now c.args.attempt c.args.store.now c.loop-replies.store c.take_next.new.store c.loop-replies.replies.items c.take_next.new.replies.items
     c.loop-replies.invariant.taken c.take_next.ensures.crash c.loop-replies.invariant.crash
+
+pub returns-in-Ok-false-clause-settled : goal.returns-in-Ok-false-clause-settled
+returns-in-Ok-false-clause-settled g c =
+    let old = c.loop-replies.store in
+    let new = c.take_next.new.store in
+    let before = c.loop-replies.replies.items in
+    let after = c.take_next.new.replies.items in
+    let more : c.in-Ok-false.field-0 ≡ false = search rules in
+    rests_settled g.S.Store c.args.id.now c.args.attempt c.args.store.now old new before after c.loop-replies.invariant.taken c.take_next.ensures.crash c.loop-replies.invariant.settled
+    (subst (λ (b : Bool). SettlesNext g.S.Store c.args.id.now c.args.attempt (Ok b) before after old new) more c.in-Ok-false.ensures.settled)
+
+pub returns-in-Err-clause-settled : goal.returns-in-Err-clause-settled
+returns-in-Err-clause-settled g c =
+    refused_settled g.S.Store c.args.id.now c.args.attempt c.args.store.now c.loop-replies.store c.take_next.new.store c.loop-replies.replies.items c.take_next.new.replies.items
+    c.loop-replies.invariant.taken c.take_next.ensures.crash c.in-Err.why c.loop-replies.invariant.settled c.in-Err.ensures.settled

@@ -1,7 +1,8 @@
-use Rattle.std.proofs.Common.{sym, ap, subst, ◌∙◌, List, [], ◌∷◌, ◌++◌, Option, Ok}
+use Rattle.std.proofs.Common.{inl, inr, sym, ap, subst, ◌∙◌, List, [], ◌∷◌, ◌++◌, Option, Ok}
 use Rattle.store_steps.specs.declared.frame.FrameReply.{FrameReply}
 use Rattle.store_calls.specs.Frames.{Steps}
 use Rattle.journal_store.specs.Stands.{Leads}
+use Rattle.journal_store.specs.Taking.{SettlesStep}
 use Rattle.journal_store.proofs.Accepting.{next_none, next_refused, next_taken, next_unroomed}
 use Rattle.journal_store.proofs.accept.take_next.Goals as goal
 
@@ -28,3 +29,26 @@ returns-in-Ok-None-clause-does g c =
 pub returns-in-Err-clause-does : goal.returns-in-Err-clause-does
 returns-in-Err-clause-does g c =
     next_refused g.S.Store c.args.id.now c.args.attempt c.args.store.now c.step.new.self c.args.replies.now.items c.reserve.new.self.items c.in-Err.why c.reserve.ensures.items c.in-Err.ensures.does
+
+pub returns-then-is_err-clause-settled : goal.returns-then-is_err-clause-settled
+returns-then-is_err-clause-settled g c = c.reserve.ensures.items
+
+pub returns-in-Ok-Some-clause-settled : goal.returns-in-Ok-Some-clause-settled
+returns-in-Ok-Some-clause-settled g c =
+    let old = c.args.store.now in
+    let new = c.step.new.self in
+    let reply = c.in-Ok-Some.reply in
+    inl (
+      reply,
+      c.push_reserved.ensures.items ∙ ap (λ (all : List FrameReply). all ++ reply ∷ []) c.reserve.ensures.items,
+      subst (λ (o : Option FrameReply). SettlesStep g.S.Store c.args.id.now c.args.attempt (Ok o) old new) c.in-Ok-Some.field-0-is c.in-Ok-Some.ensures.settled,
+    )
+
+pub returns-in-Ok-None-clause-settled : goal.returns-in-Ok-None-clause-settled
+returns-in-Ok-None-clause-settled g c =
+    let old = c.args.store.now in
+    let new = c.step.new.self in
+    inr (c.reserve.ensures.items, subst (λ (o : Option FrameReply). SettlesStep g.S.Store c.args.id.now c.args.attempt (Ok o) old new) c.in-Ok-None.field-0-is c.in-Ok-None.ensures.settled)
+
+pub returns-in-Err-clause-settled : goal.returns-in-Err-clause-settled
+returns-in-Err-clause-settled g c = c.reserve.ensures.items

@@ -9,7 +9,7 @@ use Rattle.store_refusals.specs.Prepared.{Keeps}
 use Rattle.store_refusals.specs.declared.refusal.Refusal.{Refusal}
 use Rattle.store_refusals.specs.declared.refusal.Refusal.TheVariants.{UnknownInvocation}
 use Rattle.store_steps.specs.Taken.{Takes}
-use Rattle.store_steps.proofs.Taking.{taken_by_row, never_missing, never_foreign, read_failed}
+use Rattle.store_steps.proofs.Taking.{taken_by_row, never_missing, never_foreign, read_failed, was_asked}
 use Rattle.store_steps.proofs.prepare.prepare_frame.Goals as goal
 
 pub returns-in-Ok-Some-clause-prepared : goal.returns-in-Ok-Some-clause-prepared
@@ -38,3 +38,6 @@ returns-in-Err-clause-prepared g c clean events store =
     (read_failed events c.args.id.now c.in-Err.error
     (λ is. never_foreign events old (store.keeps early (c.in-Err.ensures.open clean is)) c.args.id.now (c.in-Err.ensures.foreign clean is))
     c.args.attempt c.args.frame)
+
+pub returns-in-Ok-Some-clause-asked : goal.returns-in-Ok-Some-clause-asked
+returns-in-Ok-Some-clause-asked g c clean = was_asked c.decide_by_row.result (c.in-Ok-Some.ensures.open clean)

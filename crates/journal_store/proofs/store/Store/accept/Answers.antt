@@ -1,5 +1,5 @@
 use Rattle.std.proofs.Common.{arith}
-use Rattle.journal_store.proofs.Accepting.{accepts, accept_endures}
+use Rattle.journal_store.proofs.Accepting.{accepts, accept_endures, accept_settled}
 use Rattle.journal_store.proofs.store.Store.accept.Goals as goal
 
 pub returns-in-Ok-clause-does : goal.returns-in-Ok-clause-does
@@ -10,3 +10,8 @@ returns-in-Ok-clause-does g c =
 pub returns-in-Ok-clause-crash : goal.returns-in-Ok-clause-crash
 returns-in-Ok-clause-crash g c =
     accept_endures g.S.Store c.args.id.now c.args.attempt c.args.bytes.now c.args.self.now c.feed.new.self c.take_all.new.store c.in-Ok.ensures.does c.feed.ensures.crash c.take_all.ensures.crash
+
+pub returns-in-Ok-clause-settled : goal.returns-in-Ok-clause-settled
+returns-in-Ok-clause-settled g c =
+    accept_settled g.S.Store c.args.id.now c.args.attempt c.args.bytes.now c.args.self.now c.feed.new.self c.take_all.new.store c.in-Ok.ensures.does
+    c.take_all.result.replies.items c.take_all.result.refusal (λ clean. omega (arith, c.take_all.ensures.crash.clean, clean)) c.take_all.ensures.settled

@@ -32,3 +32,9 @@ returns-then-not-is_live-clause-does g c =
 
 pub returns-in-Ok-Frame-clause-does : goal.returns-in-Ok-Frame-clause-does
 returns-in-Ok-Frame-clause-does g c = rw (← c.self.view_is) c.take_seen.ensures.does
+
+pub returns-in-Ok-Frame-clause-settled : goal.returns-in-Ok-Frame-clause-settled
+returns-in-Ok-Frame-clause-settled g c = rw (← c.self.view_is) c.take_seen.ensures.settled
+
+pub returns-in-Ok-Partial-clause-settled : goal.returns-in-Ok-Partial-clause-settled
+returns-in-Ok-Partial-clause-settled g c = rw (← c.self.view_is) refl
