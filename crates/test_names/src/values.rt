@@ -1,0 +1,16 @@
+//! What handlers see, and conversions between that and the records.
+use bytes::Bytes;
+pub use journal_protocol::{
+    Header, NonEmptyValue, Notification, NotificationId, NotificationResult, PayloadOptions,
+    TerminalFailure, Value, is_failure, to_awakeable_result, to_failure, to_failure_record,
+    to_header, to_header_record, to_non_empty_value, to_output_result, to_promise_completion,
+    to_proposed_result, to_signal_result, to_taken_failure, to_terminal_failure, to_value,
+};
+
+/// What values are made of.
+pub fn name_values() {
+    let _ = <Value as From<Bytes>>::from;
+    let _ = <Value as From<NonEmptyValue>>::from;
+    let _ = PayloadOptions::stable_serialization;
+    let _ = PayloadOptions::unstable_serialization;
+}
