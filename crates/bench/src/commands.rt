@@ -3,19 +3,16 @@ use crate::samples::place_of;
 use crate::timing::{Clocked, time_messages};
 use anyhow::{Result, bail};
 use bytes::Bytes;
-use protocol_calls::{
-    AttachInvocationCommandMessage, CallCommandMessage, CompleteAwakeableCommandMessage,
-    GetInvocationOutputCommandMessage, OneWayCallCommandMessage, SendSignalCommandMessage,
+use journal_protocol::messages::{
+    AttachInvocationCommandMessage, CallCommandMessage, ClearAllStateCommandMessage,
+    ClearStateCommandMessage, CompleteAwakeableCommandMessage, CompletePromiseCommandMessage,
+    GetEagerStateCommandMessage, GetEagerStateKeysCommandMessage,
+    GetInvocationOutputCommandMessage, GetLazyStateCommandMessage, GetLazyStateKeysCommandMessage,
+    GetPromiseCommandMessage, InputCommandMessage, OneWayCallCommandMessage, OutputCommandMessage,
+    PeekPromiseCommandMessage, RunCommandMessage, SendSignalCommandMessage, SetStateCommandMessage,
+    SleepCommandMessage,
 };
-use protocol_commands::{
-    ClearAllStateCommandMessage, ClearStateCommandMessage, CompletePromiseCommandMessage,
-    GetEagerStateCommandMessage, GetEagerStateKeysCommandMessage, GetLazyStateCommandMessage,
-    GetLazyStateKeysCommandMessage, GetPromiseCommandMessage, PeekPromiseCommandMessage,
-    RunCommandMessage, SetStateCommandMessage,
-};
-use protocol_messages::{Encoder, PlainMessage, RawMessageExt, RestateMessage};
-use protocol_records::{InputCommandMessage, OutputCommandMessage, SleepCommandMessage};
-use protocol_stream::{RawMessage, Version};
+use journal_protocol::{Encoder, PlainMessage, RawMessage, RawMessageExt, RestateMessage, Version};
 use std::alloc::Global;
 use std::time::CpuClock;
 

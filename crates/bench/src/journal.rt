@@ -3,7 +3,7 @@ use crate::commands::rewrite_command;
 use crate::samples::{COMMANDS, place_of, sample_at};
 use anyhow::Result;
 use bytes::Bytes;
-use protocol_stream::{Decoder, RawMessage};
+use journal_protocol::{Decoder, RawMessage};
 use std::alloc::Global;
 
 /// How many bytes of a journal come at a time.

@@ -3,7 +3,7 @@ use crate::commands::{rewrite_command, time_command};
 use crate::journal::{make_journal, messages_by_command};
 use crate::whole::{Whole, time_whole};
 use anyhow::Result;
-use protocol_stream::RawMessage;
+use journal_protocol::RawMessage;
 use std::alloc::Global;
 use std::fmt;
 use std::time::{CpuClock, Duration};

@@ -1,7 +1,7 @@
 // A message of each command.
 use anyhow::{Result, bail};
 use bytes::Bytes;
-use protocol_stream::{MessageHeader, MessageType, RawMessage};
+use journal_protocol::{MessageHeader, MessageType, RawMessage};
 
 /// How many commands there are.
 pub const COMMANDS: usize = 20;

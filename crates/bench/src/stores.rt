@@ -1,12 +1,10 @@
 // Calls of a store, each with the refusal as an error.
 use anyhow::{Result, bail};
 use bytes::{ByteStr, Bytes};
-use journal_model::{NewInvocation, NotificationResult, StateMode};
-use journal_store::Store;
-use sequence::Sequence;
+use journal_protocol::Sequence;
+use journal_store::{NewInvocation, NotificationResult, Refusal, StateMode, Store};
 use sqlite::{Connection, MemStore};
 use std::alloc::Global;
-use store_refusals::Refusal;
 
 pub type Memory = Store<MemStore>;
 

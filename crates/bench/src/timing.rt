@@ -1,8 +1,7 @@
 // What messages of one type take, apart from their framing.
 use crate::commands::read_as;
 use anyhow::Result;
-use protocol_messages::{Encoder, PlainMessage, RawMessageExt, RestateMessage};
-use protocol_stream::{RawMessage, Version};
+use journal_protocol::{Encoder, PlainMessage, RawMessage, RawMessageExt, RestateMessage, Version};
 use std::alloc::Global;
 use std::time::{CpuClock, Duration};
 

@@ -2,7 +2,7 @@
 use crate::commands::{read_command, rewrite_command};
 use crate::journal::{PIECE, take_messages};
 use anyhow::Result;
-use protocol_stream::{Decoder, RawMessage};
+use journal_protocol::{Decoder, RawMessage};
 use std::alloc::Global;
 use std::time::{CpuClock, Duration};
 

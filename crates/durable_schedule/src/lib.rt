@@ -4,4 +4,7 @@
 mod held;
 mod scheduler;
 
+pub use schedule_model::{
+    Event, HeldAttempt, Refusal, Reply, attempts_are_held, schedules_follow_runs, schedules_grow,
+};
 pub use scheduler::{NoRoom, Scheduler, run_schedule};

@@ -2,9 +2,8 @@
 #![tactic(auto)]
 
 use anyhow::Result;
-use protocol_messages::RawMessageExt;
-use protocol_records::SleepCommandMessage;
-use protocol_stream::{Decoder, MessageType};
+use journal_protocol::messages::SleepCommandMessage;
+use journal_protocol::{Decoder, MessageType, RawMessageExt};
 use std::alloc::Global;
 use std::{env, fs};
 

@@ -8,12 +8,19 @@ mod accept;
 mod attempt;
 mod events;
 mod open;
+pub mod parts;
 mod read;
 mod step;
 mod store;
 
 pub use accept::Accepted;
+pub use journal_model::{
+    Failure, Header, NewInvocation, NonEmptyValue, NotificationResult, StateMode, TerminalFailure,
+};
 pub use open::NotOpened;
 pub use store::Store;
 pub use store_calls::BegunAttempt;
+pub use store_reads::RecordedFrame;
+pub use store_refusals::Refusal;
 pub use store_steps::FrameReply;
+pub use store_tables::LastError;

@@ -1,8 +1,9 @@
 //! The calls and the output of a handler behind answers that words stand for. Nothing is promised here, so that a test stays
 //! short to prove.
 use bytes::{ByteStr, Bytes};
-use journal_model::{Answer, Call, Handler, Input, NonEmptyValue, NotificationHandle, Value};
-use sequence::Sequence;
+use invocation_vm::{
+    Answer, Call, Handler, Input, NonEmptyValue, NotificationHandle, Sequence, Value,
+};
 use std::alloc::{AllocError, Global};
 
 fn input(alloc: Global) -> Input {

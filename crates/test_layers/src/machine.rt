@@ -1,10 +1,9 @@
 //! Attempts of the first path, through the public calls.
 use built_in_handlers::handlers::{Ask, Nap};
 use invocation_vm::{
-    Attempt, AttemptFailure, AwaitingOnPolicy, CallRefusal, ImplicitCancellationOption, Turn,
-    VMOptions,
+    Attempt, AttemptFailure, AwaitingOnPolicy, CallRefusal, Handler, ImplicitCancellationOption,
+    Turn, VMOptions,
 };
-use journal_model::Handler;
 use std::alloc::Global;
 
 /// The start of an invocation `i1` of the object `o`, with seed 1 and its whole state, and its empty input.

@@ -1,5 +1,5 @@
 //! An owned list.
-use sequence::Sequence;
+use invocation_vm::Sequence;
 use std::alloc::{AllocError, Global};
 use std::test::Fail;
 

@@ -1,6 +1,6 @@
 //! Values that code and contracts share.
 use bytes::ByteStr;
-use journal_model::{
+use invocation_vm::{
     Answer, AwaitedFuture, CANCEL_NOTIFICATION_HANDLE, Moment, NotificationHandle, PayloadOptions,
     UnresolvedFuture,
 };

@@ -5,5 +5,7 @@
 pub mod errors;
 pub mod machine;
 pub mod records;
+pub mod schedule;
+pub mod store;
 pub mod stream;
 pub mod values;

@@ -1,9 +1,9 @@
 //! Rows of trees: `tree PAYLOAD SUCCEEDED FAILED` with the completions that have succeeded and those that have failed, between
 //! commas. Of the signals, `go` has succeeded. Told is whether the tree is awake, and what it comes to.
 use crate::operands::{bytes, number, text};
-use protocol_records::Future;
-use protocol_trees::{AwaitState, NotificationIdRef, await_state, is_awake};
-use protocol_wire::decode;
+use journal_protocol::messages::Future;
+use journal_protocol::wire::decode;
+use journal_protocol::{AwaitState, NotificationIdRef, await_state, is_awake};
 use std::alloc::Global;
 
 /// What a leaf has come to.

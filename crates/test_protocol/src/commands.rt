@@ -7,11 +7,12 @@
 use crate::every_command::about_command;
 use crate::every_record::type_named;
 use crate::operands::bytes;
-use protocol_differences::{CommandMessageHeaderDiff, CommandMismatchError};
-use protocol_errors::to_error;
-use protocol_headers::{CommandMessageHeaderEq, NamedCommandMessage};
-use protocol_records::{Failure, Header, Value};
-use protocol_wire::{Record, RecordType, decode};
+use journal_protocol::messages::{Failure, Header, Value};
+use journal_protocol::wire::{Record, RecordType, decode};
+use journal_protocol::{
+    CommandMessageHeaderDiff, CommandMessageHeaderEq, CommandMismatchError, NamedCommandMessage,
+    to_error,
+};
 use std::alloc::Global;
 use std::fmt;
 

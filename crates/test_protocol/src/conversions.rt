@@ -6,12 +6,14 @@
 //! - `headers PAYLOAD`: the input with the records of the headers that its headers are.
 use crate::operands::bytes;
 use crate::records::record_told;
-use protocol_records::{Failure, InputCommandMessage, OutputCommandMessage, OutputCommandResult};
-use protocol_stream::{
+use journal_protocol::messages::{
+    Failure, InputCommandMessage, OutputCommandMessage, OutputCommandResult,
+};
+use journal_protocol::wire::{Record, decode};
+use journal_protocol::{
     to_failure, to_failure_record, to_header_records, to_headers, to_non_empty_value,
     to_output_result, to_terminal_failure,
 };
-use protocol_wire::{Record, decode};
 use std::alloc::Global;
 
 fn record<R: Record>(alloc: Global, payload: &str) -> Option<R> {

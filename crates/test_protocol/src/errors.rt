@@ -10,10 +10,10 @@
 //! - `request_header NAME`: the header with this name, of a request that has two.
 use crate::operands::{message_type, number, text, told, version};
 use bytes::ByteStr;
-use protocol_errors::{
-    EMPTY_SCOPE, Error, FixedError, InvocationErrorCode, MISSING_CONTENT_TYPE, SUSPENDED, codes,
+use journal_protocol::{
+    CommandType, ContentTypeError, EMPTY_SCOPE, Error, FixedError, HeaderMap, InvocationErrorCode,
+    MISSING_CONTENT_TYPE, MessageType, SUSPENDED, Version, codes,
 };
-use protocol_stream::{CommandType, ContentTypeError, HeaderMap, MessageType, Version};
 use std::alloc::Global;
 
 const CODES: [(&str, InvocationErrorCode); 9] = [

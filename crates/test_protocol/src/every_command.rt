@@ -1,17 +1,15 @@
 //! Each command of the table with the record that it is.
 use crate::commands::{Question, about};
-use protocol_calls::{
-    AttachInvocationCommandMessage, CallCommandMessage, CompleteAwakeableCommandMessage,
-    GetInvocationOutputCommandMessage, OneWayCallCommandMessage, SendSignalCommandMessage,
+use journal_protocol::messages::{
+    AttachInvocationCommandMessage, CallCommandMessage, ClearAllStateCommandMessage,
+    ClearStateCommandMessage, CompleteAwakeableCommandMessage, CompletePromiseCommandMessage,
+    GetEagerStateCommandMessage, GetEagerStateKeysCommandMessage,
+    GetInvocationOutputCommandMessage, GetLazyStateCommandMessage, GetLazyStateKeysCommandMessage,
+    GetPromiseCommandMessage, InputCommandMessage, OneWayCallCommandMessage, OutputCommandMessage,
+    PeekPromiseCommandMessage, RunCommandMessage, SendSignalCommandMessage, SetStateCommandMessage,
+    SleepCommandMessage,
 };
-use protocol_commands::{
-    ClearAllStateCommandMessage, ClearStateCommandMessage, CompletePromiseCommandMessage,
-    GetEagerStateCommandMessage, GetEagerStateKeysCommandMessage, GetLazyStateCommandMessage,
-    GetLazyStateKeysCommandMessage, GetPromiseCommandMessage, PeekPromiseCommandMessage,
-    RunCommandMessage, SetStateCommandMessage,
-};
-use protocol_records::{InputCommandMessage, OutputCommandMessage, SleepCommandMessage};
-use protocol_wire::RecordType;
+use journal_protocol::wire::RecordType;
 use std::alloc::Global;
 
 /// Answers the question about the commands of this type that two payloads are.

@@ -1,26 +1,19 @@
 //! Each record type of the table with the record that it is.
 use crate::records::about;
-use protocol_calls::{
-    AttachInvocationCommandMessage, CallCommandMessage, CompleteAwakeableCommandMessage,
-    GetInvocationOutputCommandMessage, IdempotentRequestTarget, OneWayCallCommandMessage,
-    SendSignalCommandMessage, WorkflowTarget,
+use journal_protocol::messages::{
+    AttachInvocationCommandMessage, AwaitingOnMessage, CallCommandMessage,
+    ClearAllStateCommandMessage, ClearStateCommandMessage, CompleteAwakeableCommandMessage,
+    CompletePromiseCommandMessage, EndMessage, ErrorMessage, Failure, FailureMetadata, Future,
+    GetEagerStateCommandMessage, GetEagerStateKeysCommandMessage,
+    GetInvocationOutputCommandMessage, GetLazyStateCommandMessage, GetLazyStateKeysCommandMessage,
+    GetPromiseCommandMessage, GetStateEphemeralCommandMessage,
+    GetStateEphemeralNotificationMessage, Header, IdempotentRequestTarget, InputCommandMessage,
+    NotificationMessage, OneWayCallCommandMessage, OutputCommandMessage, PeekPromiseCommandMessage,
+    ProposeRunCompletionAckMessage, ProposeRunCompletionMessage, RunCommandMessage,
+    SendSignalCommandMessage, SetStateCommandMessage, SleepCommandMessage, StartMessage,
+    StateEntry, StateKeys, SuspensionMessage, SuspensionMessageV6, Value, Void, WorkflowTarget,
 };
-use protocol_commands::{
-    ClearAllStateCommandMessage, ClearStateCommandMessage, CompletePromiseCommandMessage,
-    GetEagerStateCommandMessage, GetEagerStateKeysCommandMessage, GetLazyStateCommandMessage,
-    GetLazyStateKeysCommandMessage, GetPromiseCommandMessage, PeekPromiseCommandMessage,
-    RunCommandMessage, SetStateCommandMessage,
-};
-use protocol_controls::{
-    ErrorMessage, GetStateEphemeralCommandMessage, GetStateEphemeralNotificationMessage,
-    NotificationMessage, ProposeRunCompletionAckMessage, ProposeRunCompletionMessage,
-};
-use protocol_records::{
-    AwaitingOnMessage, EndMessage, Failure, FailureMetadata, Future, Header, InputCommandMessage,
-    OutputCommandMessage, SleepCommandMessage, StartMessage, StateEntry, StateKeys,
-    SuspensionMessage, SuspensionMessageV6, Value, Void,
-};
-use protocol_wire::RecordType;
+use journal_protocol::wire::RecordType;
 use std::alloc::Global;
 
 /// Every record type.

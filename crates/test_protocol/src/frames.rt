@@ -3,7 +3,7 @@
 //! for, and its moment.
 use crate::operands::{Hex, bytes, message_type, number};
 use bytes::Bytes;
-use protocol_stream::{MessageHeader, MessageType, RawMessage};
+use journal_protocol::{MessageHeader, MessageType, RawMessage};
 use std::alloc::Global;
 use store_frames::{AttemptFrame, RecordedCommand, read_frame};
 

@@ -8,15 +8,15 @@
 use crate::operands::{Hex, bytes, message_type, version};
 use crate::records::refusal_told;
 use bytes::Bytes;
-use journal_model::{Notification, NotificationId, NotificationResult};
-use protocol_commands::{RunCommandMessage, SetStateCommandMessage};
-use protocol_controls::{NotificationMessage, ProposeRunCompletionMessage};
-use protocol_messages::{
-    Encoder, RawMessageExt, RestateEncodableMessage, RestateMessage, encode_record, is_failure,
+use journal_protocol::messages::{
+    NotificationMessage, ProposeRunCompletionMessage, RunCommandMessage, SetStateCommandMessage,
+    SleepCommandMessage, SuspensionMessage, SuspensionMessageV6,
 };
-use protocol_records::{SleepCommandMessage, SuspensionMessage, SuspensionMessageV6};
-use protocol_stream::{Decoder, EncodingError, RawMessage};
-use protocol_wire::decode;
+use journal_protocol::wire::decode;
+use journal_protocol::{
+    Decoder, Encoder, EncodingError, Notification, NotificationId, NotificationResult, RawMessage,
+    RawMessageExt, RestateEncodableMessage, RestateMessage, encode_record, is_failure,
+};
 use std::alloc::Global;
 
 /// The message at the front of these bytes.

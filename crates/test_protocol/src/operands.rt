@@ -1,5 +1,5 @@
 //! Operands of rows, and how bytes and flags are printed. `-` alone is no bytes and the empty text.
-use protocol_stream::{MessageType, Version};
+use journal_protocol::{MessageType, Version};
 use std::alloc::Global;
 use std::fmt;
 

@@ -5,7 +5,7 @@
 //! - `every PAYLOAD`: of how many types it is a record without a field, and for how many it is refused.
 use crate::every_record::{about_type, type_named, types};
 use crate::operands::{Hex, bytes};
-use protocol_wire::{DecodeError, Record, RecordType, decode, encode, encoded_len, merge};
+use journal_protocol::wire::{DecodeError, Record, RecordType, decode, encode, encoded_len, merge};
 use std::alloc::Global;
 
 /// Tells a record: how long its canonical payload is said to be, and that payload.

@@ -8,7 +8,7 @@
 //! - `pieces BYTES ..`: what stands at the front of the stream when each piece came, and how many bytes are left.
 use crate::operands::{Hex, bytes, flag, message_type, number};
 use bytes::BytesMut;
-use protocol_stream::{
+use journal_protocol::{
     Decoder, DecodingError, EncodingError, MessageHeader, MessageType, RawMessage, write_message,
 };
 use std::alloc::Global;

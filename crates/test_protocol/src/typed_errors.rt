@@ -11,14 +11,13 @@
 //! - `last`, `next NUMBER`: which command an error is about, and whether it is the last one.
 use crate::operands::{message_type, number, told, version};
 use bytes::ByteStr;
-use protocol_differences::CommandRelationship;
-use protocol_errors::{
-    AwaitedId, BadProposeRunCompletionAck, ClosedError, CommandMetadata, CommandTypeMismatchError,
-    EphemeralStateGetWithClosedInput, Error, NotificationMetadata, OutOfBoundsDuration,
-    UnavailableEntryError, UncompletedDoProgressDuringReplay, UnexpectedStateError,
+use journal_protocol::{
+    AwaitedId, BadProposeRunCompletionAck, ClosedError, CommandMetadata, CommandRelationship,
+    CommandType, CommandTypeMismatchError, EphemeralStateGetWithClosedInput, Error,
+    NotificationMetadata, OutOfBoundsDuration, UnavailableEntryError,
+    UncompletedDoProgressDuringReplay, UnexpectedStateError,
     UnsupportedFeatureForNegotiatedVersion, WithInvocationErrorCode, to_error,
 };
-use protocol_stream::CommandType;
 use std::alloc::Global;
 use std::fmt;
 

@@ -1,11 +1,9 @@
 //! What calls answer, each printed as the end of a line.
 use crate::fault::Fault;
-use journal_model::NonEmptyValue;
-use journal_store::{Accepted, BegunAttempt, FrameReply};
+use journal_store::{
+    Accepted, BegunAttempt, FrameReply, LastError, NonEmptyValue, RecordedFrame, Refusal,
+};
 use script_lines::text::Hex;
-use store_reads::RecordedFrame;
-use store_refusals::Refusal;
-use store_tables::LastError;
 
 /// A refusal by its name, and why a statement was refused.
 pub fn print_refusal<R: Print>(rt: &R, why: Refusal) -> Result<(), Fault> {

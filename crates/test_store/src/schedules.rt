@@ -4,11 +4,9 @@ use crate::database::open_memory;
 use crate::fault::Fault;
 use built_in_handlers::handlers::Nap;
 use bytes::{ByteStr, Bytes};
-use durable_schedule::{Scheduler, run_schedule};
-use invocation_vm::VMOptions;
-use journal_model::{NewInvocation, StateMode};
-use schedule_model::{Event, Reply};
-use sequence::Sequence;
+use durable_schedule::{Event, Reply, Scheduler, run_schedule};
+use invocation_vm::{Sequence, VMOptions};
+use journal_store::{NewInvocation, StateMode};
 use sqlite::MemStore;
 use std::alloc::{AllocError, Global};
 
