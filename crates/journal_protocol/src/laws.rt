@@ -5,3 +5,4 @@ pub use protocol_laws as records;
 pub use protocol_messages::{conversion_laws as conversions, laws as messages};
 pub use protocol_spellings::laws as spellings;
 pub use protocol_stream::laws as stream;
+pub use protocol_types::laws as types;
