@@ -277,7 +277,7 @@ module _ {S : Type 0} (g : Ghosts S) (a mid b : Held S) (before after : Attempts
               elim (looks.crash.crash early trees (subst (λ (held : Held S). (state g held).may_leave trees) none.1 may)) [ inl earlier ↦ earlier | inr never ↦ absurd never ] in
               let same : trees ≡ (state g a).now.trees = (idle (asked early)).left trees before_it in
               subst (λ (events : List Event). KeepsAll events trees) (sym t.2.1)
-              (landed s.events event (state g a) made.writes.items trees is.stands.kept first ready.0 ready.1.writes (asked early)
+              (landed s.events event (state g a) made.writes.items trees is.stands.kept (attempt.version, seen.message_is, refl) first ready.0 ready.1.writes (asked early)
               (λ records held. subst (λ (writes : List Write). Holds trees (applied_all writes records)) (sym none.0) (subst (λ (db : Trees). Holds db records) (sym same) held)))
           | inr all ↦ outlasts_now t.0.events (state g b) after.attempts clean t.1.stands all
         ],
