@@ -1,8 +1,8 @@
 //! A file of calls of a store, each line a call, ` -> ` and what it answers. The answer is not read: each call is printed with what
 //! it answered, so that a file is printed as it stands where all is as it says.
 use crate::answers::{
-    print_accepted, print_answer, print_begun, print_bytes, print_done, print_failure,
-    print_entries, print_openness, print_place, print_refusal, print_step,
+    print_accepted, print_answer, print_begun, print_bytes, print_done, print_entries,
+    print_failure, print_openness, print_place, print_refusal, print_step,
 };
 use crate::database::{Database, empty};
 use crate::fault::Fault;
