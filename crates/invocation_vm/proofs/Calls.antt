@@ -21,6 +21,7 @@ use Rattle.journal_model.specs.Waiting.{still_awaited, only_leaves}
 use Rattle.journal_model.specs.Run.{Invocation, answered_step}
 use Rattle.journal_model.proofs.Continuing.{after_call-answers, after_call-ends, after_call-waits}
 use Rattle.journal_model.proofs.FirstCalls.{FirstSteps, first_id, first-none, first-sleep, first-output, await_outcome-single, still_awaited-single}
+use Rattle.protocol_types.specs.declared.message_type.MessageType.{MessageType}
 use Rattle.invocation_vm.specs.declared.options.VMOptions.{VMOptions}
 use Rattle.invocation_vm.specs.declared.failure.AttemptFailure.{AttemptFailure}
 use Rattle.invocation_vm.specs.declared.failure.CallRefusal.{CallRefusal}
@@ -186,7 +187,7 @@ await_waits invocation steps version options tree handle old output v o t e told
       waits = after_call-waits invocation steps [] (Call.Await (Single handle)) (Single handle) (awaited_ids invocation.options steps (Single handle)) refl refl
           (await_outcome-single invocation.options steps t.first.unknown handle);
       fits = subst (AllByRecursion FitsFrame) same told.fits;
-      state = ap (λ (bytes : List ℕ). record old { output = bytes }) (told.bytes ∙ ap (λ (payloads : List (List ℕ)). old.output ++ flat_map (frame_bytes 4) payloads) same);
+      state = ap (λ (bytes : List ℕ). record old { output = bytes }) (told.bytes ∙ ap (λ (payloads : List (List ℕ)). old.output ++ flat_map (frame_bytes MessageType.AwaitingOn) payloads) same);
     })
   where
     same : awaiting_payloads version options.awaiting_on_policy (tree_awaited options.implicit_cancellation (id_awaited old.completions handle))
@@ -197,7 +198,7 @@ await_waits invocation steps version options tree handle old output v o t e told
 
 -- ---- the end
 
-pub end_ends : (invocation : Invocation) (steps : List Step) (old : Progress) → EndsBy invocation [] steps Call.End old (record old { output = old.output ++ frame_bytes 3 [] })
+pub end_ends : (invocation : Invocation) (steps : List Step) (old : Progress) → EndsBy invocation [] steps Call.End old (record old { output = old.output ++ frame_bytes MessageType.End [] })
 end_ends invocation steps old = record { ends = after_call-ends invocation steps [] Call.End refl refl; state = refl }
 
 -- what an await waits for is numbered, so that it fits a frame

@@ -24,8 +24,10 @@ use Rattle.journal_model.specs.declared.invocation.NewInvocation.{NewInvocation}
 use Rattle.journal_model.specs.State.{StateMap}
 use Rattle.protocol_stream.specs.Records.{header_record, header_told, is_partial, state_shown, input_record, start_record}
 use Rattle.protocol_stream.proofs.RecordSpellings.{starts_spelled, inputs_spelled}
+use Rattle.protocol_types.specs.Feature.{lacks_feature}
+use Rattle.protocol_types.specs.declared.feature.Feature.TheVariants.{RandomSeed, Scope}
 use Rattle.invocation_vm.specs.declared.options.VMOptions.{VMOptions}
-use Rattle.invocation_vm.specs.Preflight.{input_given, from_version_7}
+use Rattle.invocation_vm.specs.Preflight.{input_given, where_scoped}
 use Rattle.invocation_vm.proofs.Sizes.{number_holds, bool_holds, bytes_hold, optional_holds, repeated_hold, fields_are, small_as}
 use Rattle.invocation_vm.specs.First.{first_payload, second_payload, FitsFrames, given_by}
 
@@ -151,8 +153,8 @@ headers_taken : (headers : List Header) → map header_told (map header_record h
 headers_taken [] = refl
 headers_taken (header ∷ headers) = ap (λ (more : List Header). header ∷ more) (headers_taken headers)
 
-absent : (version : ℕ) → from_version_7 version None ≡ None
-absent version = go (nat_lt version 7)
+absent : (version : ℕ) → where_scoped version None ≡ None
+absent version = go (lacks_feature version Scope)
   where
     go : (b : Bool) → ◌≡◌ {A = Option (List ℕ)} (if b then None else None) None
     go true = refl
@@ -163,7 +165,7 @@ pub input_is : (options : VMOptions) (new : NewInvocation) (state : StateMap) (v
 input_is options new state version known retry_count duration e = λ i. record {
   invocation_id = new.id;
   key = new.object;
-  random_seed = ap (λ (n : ℕ). if nat_lt n 6 then options.fallback_random_seed else new.seed) e i;
+  random_seed = ap (λ (n : ℕ). if lacks_feature n RandomSeed then options.fallback_random_seed else new.seed) e i;
   headers = headers_taken new.headers i;
   input = new.input;
   scope = absent version i;

@@ -33,7 +33,7 @@ input_frame payload fits = record { ty = names_read_back.1.1.1.1.1.1.1.1.1.0; fl
 
 module _ (new : NewInvocation) (state : StateMap) (known retry_count duration : ℕ) (left more : List ℕ) (fits : FitsFrames new state known retry_count duration) where
   abbrev second : List ℕ
-  second = frame_bytes 0x0400 (second_payload new) ++ more
+  second = frame_bytes MessageType.InputCommand (second_payload new) ++ more
 
   -- ---- the start
 
@@ -52,7 +52,7 @@ module _ (new : NewInvocation) (state : StateMap) (known retry_count duration : 
       → HasStart new state known retry_count duration left more (Ok None) rest
   start_lacks came rest h reads =
       let read = start_first came rest (Ok None) h reads in
-      (ap (λ (s : List ℕ). s ++ left) read.0 ∙ h, longer (frame_bytes 0x0400 (second_payload new)) more (length left) read.1)
+      (ap (λ (s : List ℕ). s ++ left) read.0 ∙ h, longer (frame_bytes MessageType.InputCommand (second_payload new)) more (length left) read.1)
 
   pub start_fails : (failure : AttemptFailure) (came rest : List ℕ) → AreToRead new state known retry_count duration left more None came
       → ReadsRecord MessageType.Start types.Start start_of came (Err failure) rest → CannotRead new state known retry_count duration failure

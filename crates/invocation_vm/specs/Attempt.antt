@@ -11,6 +11,7 @@ use Rattle.journal_model.specs.Spelling.{request_payload, request_frame, frame_b
 use Rattle.journal_model.specs.History.{answers_of}
 use Rattle.journal_model.specs.Waiting.{still_awaited}
 use Rattle.journal_model.specs.Run.{Handler, Invocation, GoesOn, Waits, Ended, IsBeginning, run, run_requests}
+use Rattle.protocol_types.specs.declared.message_type.MessageType.{MessageType}
 use Rattle.invocation_vm.specs.declared.failure.AttemptFailure.{AttemptFailure}
 use Rattle.invocation_vm.specs.declared.progress.Turn.{Turn}
 use Rattle.invocation_vm.specs.View.{AttemptView, progress_of}
@@ -112,13 +113,13 @@ module _ {H : Type 0} (function : H → Handler) (next : Handler) where
       pub payloads : List (List ℕ)
       pub told : payloads ≡ awaiting_payloads given.version before.options.awaiting_on_policy (still_awaited given.options (run next given arrivals calls).steps arrivals tree)
       pub fits : AllByRecursion FitsFrame payloads
-      pub output : after.output ≡ before.output ++ flat_map (frame_bytes 4) payloads
+      pub output : after.output ≡ before.output ++ flat_map (frame_bytes MessageType.AwaitingOn) payloads
 
     -- the run ends
     pub record EndsAtCall (before after : AttemptView H) : Type 0 where
       pub over : after.over ≡ Some Turn.Ended
       pub ended : (run next given arrivals (suc calls)).ending ≡ Ended
-      pub output : after.output ≡ before.output ++ frame_bytes 3 []
+      pub output : after.output ≡ before.output ++ frame_bytes MessageType.End []
 
     -- why the run's next call is not carried out
     abbrev pub HasCauseNext : AttemptFailure → Type 0

@@ -36,9 +36,9 @@ pub record FitsFrames (new : NewInvocation) (state : StateMap) (known retry_coun
 -- what came and what is to come is the start frame, the input's, and more; once the start was read, the input's and more
 abbrev pub AreToRead : NewInvocation → StateMap → (known retry_count duration : ℕ) → (left more : List ℕ) → Option StartMessage → List ℕ → Type 0
 AreToRead new state known retry_count duration left more None came =
-    came ++ left ≡ frame_bytes 0 (first_payload new state known retry_count duration) ++ (frame_bytes 0x0400 (second_payload new) ++ more)
+    came ++ left ≡ frame_bytes MessageType.Start (first_payload new state known retry_count duration) ++ (frame_bytes MessageType.InputCommand (second_payload new) ++ more)
 AreToRead new state known retry_count duration left more (Some start) came =
-    (start ≡ start_record new state known retry_count duration) × (known ≡ 1) × (came ++ left ≡ frame_bytes 0x0400 (second_payload new) ++ more)
+    (start ≡ start_record new state known retry_count duration) × (known ≡ 1) × (came ++ left ≡ frame_bytes MessageType.InputCommand (second_payload new) ++ more)
 
 -- what an attempt with these options begins with
 abbrev pub given_by : VMOptions → NewInvocation → StateMap → Invocation

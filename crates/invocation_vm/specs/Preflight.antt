@@ -14,6 +14,8 @@ use Rattle.protocol_table.specs.declared.table.RecordType.{RecordType}
 use Rattle.protocol_records.specs.declared.value.Value.{Value}
 use Rattle.protocol_records.specs.declared.start.StartMessage.{StartMessage}
 use Rattle.protocol_records.specs.declared.input_command.InputCommandMessage.{InputCommandMessage}
+use Rattle.protocol_types.specs.Feature.{lacks_feature}
+use Rattle.protocol_types.specs.declared.feature.Feature.TheVariants.{RandomSeed, Scope}
 use Rattle.invocation_vm.specs.declared.failure.AttemptFailure.{AttemptFailure}
 
 -- a message stands at the front, and is taken
@@ -70,13 +72,13 @@ abbrev pub content_of : Option Value → List ℕ
 content_of None = []
 content_of (Some value) = value.content
 
--- before version 7 there is no scope, limit key or idempotency key
-abbrev pub from_version_7 : ℕ → Option (List ℕ) → Option (List ℕ)
-from_version_7 version text = if nat_lt version 7 then None else text
+-- before the version that brings scopes there is no scope, limit key or idempotency key
+abbrev pub where_scoped : ℕ → Option (List ℕ) → Option (List ℕ)
+where_scoped version text = if lacks_feature version Scope then None else text
 
--- before version 6 the seed is that of the options
+-- before the version that brings one the seed is that of the options
 abbrev pub random_seed : ℕ → ℕ → ℕ → ℕ
-random_seed version fallback seed = if nat_lt version 6 then fallback else seed
+random_seed version fallback seed = if lacks_feature version RandomSeed then fallback else seed
 
 -- what a handler is given
 abbrev pub input_given : ℕ → ℕ → StartMessage → InputCommandMessage → Input
@@ -86,7 +88,7 @@ input_given version fallback_random_seed start command = record {
   random_seed = random_seed version fallback_random_seed start.random_seed;
   headers = map header_told command.headers;
   input = content_of command.value;
-  scope = from_version_7 version start.scope;
-  limit_key = from_version_7 version start.limit_key;
-  idempotency_key = from_version_7 version start.idempotency_key;
+  scope = where_scoped version start.scope;
+  limit_key = where_scoped version start.limit_key;
+  idempotency_key = where_scoped version start.idempotency_key;
 }

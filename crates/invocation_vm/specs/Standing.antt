@@ -12,6 +12,7 @@ use Rattle.journal_model.specs.History.{Step, answers_of, place_of, next_complet
 use Rattle.journal_model.specs.Delivery.{known_results}
 use Rattle.journal_model.specs.Waiting.{still_awaited}
 use Rattle.journal_model.specs.Run.{Invocation, GoesOn, Waits, Ended, after_call, requests_to}
+use Rattle.protocol_types.specs.declared.message_type.MessageType.{MessageType}
 use Rattle.invocation_vm.specs.declared.options.AwaitingOnPolicy.{AwaitingOnPolicy}
 use Rattle.invocation_vm.specs.declared.failure.AttemptFailure.{AttemptFailure}
 use Rattle.invocation_vm.specs.declared.progress.Progress.{Progress}
@@ -64,13 +65,13 @@ pub record WaitsBy (invocation : Invocation) (arrivals : List Arrival) (policy :
   pub waits : after_call invocation steps arrivals call ≡ record { steps = steps; ending = Waits tree }
   pub fits : AllByRecursion FitsFrame (awaiting_payloads invocation.version policy (still_awaited invocation.options steps arrivals tree))
   pub state : new ≡ record old {
-    output = old.output ++ flat_map (frame_bytes 4) (awaiting_payloads invocation.version policy (still_awaited invocation.options steps arrivals tree));
+    output = old.output ++ flat_map (frame_bytes MessageType.AwaitingOn) (awaiting_payloads invocation.version policy (still_awaited invocation.options steps arrivals tree));
   }
 
 -- the run has ended, and the end was written
 pub record EndsBy (invocation : Invocation) (arrivals : List Arrival) (steps : List Step) (call : Call) (old new : Progress) : Type 0 where
   pub ends : after_call invocation steps arrivals call ≡ record { steps = steps; ending = Ended }
-  pub state : new ≡ record old { output = old.output ++ frame_bytes 3 [] }
+  pub state : new ≡ record old { output = old.output ++ frame_bytes MessageType.End [] }
 
 -- what a call that was carried out makes of the run and of the progress
 abbrev pub CarriesOut : Invocation → List Arrival → AwaitingOnPolicy → List Step → Call → Progress → Progress → Turn → Type 0

@@ -29,7 +29,7 @@ pub(crate) fn write_sleep(
     result_completion_id: u32,
     name: ByteStr,
 ) -> Result<(), AttemptFailure>
-    ensures ok { OnOk result (WritesFrame 0x040c (request_payload (Request.Sleep wake_up_time result_completion_id name)) output.old output.new) }
+    ensures ok { OnOk result (WritesFrame MessageType.SleepCommand (request_payload (Request.Sleep wake_up_time result_completion_id name)) output.old output.new) }
     ensures err { OnErr result (output.new ≡ output.old) }
     ensures cause { IfErr result (WriteFails (request_payload (Request.Sleep wake_up_time result_completion_id name))) }
 {
@@ -49,7 +49,7 @@ pub(crate) fn write_output(
     output: &mut Output,
     value: NonEmptyValue,
 ) -> Result<(), AttemptFailure>
-    ensures ok { OnOk result (WritesFrame 0x0401 (request_payload (Request.Output value [])) output.old output.new) }
+    ensures ok { OnOk result (WritesFrame MessageType.OutputCommand (request_payload (Request.Output value [])) output.old output.new) }
     ensures err { OnErr result (output.new ≡ output.old) }
     ensures cause { IfErr result (WriteFails (request_payload (Request.Output value []))) }
 {
@@ -151,7 +151,7 @@ pub(crate) fn write_awaiting_on(
     cancellation: ImplicitCancellationOption,
     id: &Option<NotificationId>,
 ) -> Result<(), AttemptFailure>
-    ensures ok { OnOk result (WritesFrame 4 (suspension_payload (tree_awaited cancellation id.now)) output.old output.new) }
+    ensures ok { OnOk result (WritesFrame MessageType.AwaitingOn (suspension_payload (tree_awaited cancellation id.now)) output.old output.new) }
     ensures err { OnErr result (output.new ≡ output.old) }
     ensures cause { IfErr result (WriteFails (suspension_payload (tree_awaited cancellation id.now))) }
 {
@@ -162,7 +162,7 @@ pub(crate) fn write_awaiting_on(
 
 /// Writes that the invocation has ended.
 pub(crate) fn write_end(output: &mut Output) -> Result<(), AttemptFailure>
-    ensures ok { OnOk result (output.new ≡ output.old ++ frame_bytes 3 []) }
+    ensures ok { OnOk result (output.new ≡ output.old ++ frame_bytes MessageType.End []) }
     ensures err { OnErr result (output.new ≡ output.old) }
     ensures cause { IfErr result (λ failure. failure ≡ AttemptFailure.OutOfMemory) }
 {

@@ -61,7 +61,7 @@ impl Output {
     /// Writes a frame: all of it or nothing.
     pub(crate) fn write(&mut self, ty: MessageType, payload: &[u8]) -> Result<(), AttemptFailure>
         requires { number_of ty < 2 ^ 16 }
-        ensures ok { OnOk result (WritesFrame (number_of ty) payload.now self.old self.new) }
+        ensures ok { OnOk result (WritesFrame ty payload.now self.old self.new) }
         ensures err { OnErr result (self.new ≡ self.old) }
         ensures cause { IfErr result (WriteFails payload.now) }
     {

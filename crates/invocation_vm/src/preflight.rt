@@ -7,7 +7,7 @@ ghost use Rattle.protocol_table.specs.declared.table.RecordType.TheVariants.{Sta
 ghost use Rattle.protocol_records.specs.Start.{start_of};
 ghost use Rattle.protocol_records.specs.InputCommand.{input_command_of};
 ghost use Rattle.invocation_vm.specs.First.{FitsFrames, AreToRead};
-ghost use Rattle.invocation_vm.specs.Preflight.{TakesNext, ReadsPayload, ReadsRecord, StartFails, content_of, random_seed, from_version_7, input_given};
+ghost use Rattle.invocation_vm.specs.Preflight.{TakesNext, ReadsPayload, ReadsRecord, StartFails, content_of, random_seed, where_scoped, input_given};
 ghost use Rattle.invocation_vm.specs.Reads.{HasStart, HasInput};
 
 use crate::failure::AttemptFailure;
@@ -16,15 +16,10 @@ use bytes::{ByteStr, Bytes};
 use journal_model::{Header, Input};
 use protocol_records::{InputCommandMessage, StartMessage, Value};
 use protocol_stream::{Decoder, DecodingError, MessageType, RawMessage, to_headers};
+use protocol_types::Feature;
 use protocol_wire::{DecodeError, Record, decode};
 use sequence::Sequence;
 use std::alloc::{AllocError, Global};
-
-/// The first version of the protocol whose start has a seed.
-const RANDOM_SEED_VERSION: u32 = 6;
-
-/// The first version of the protocol whose start has a scope, a limit key and an idempotency key.
-const SCOPE_VERSION: u32 = 7;
 
 // Takes the next message; `None` where it has not come whole.
 fn next_message(decoder: &mut Decoder) -> Result<Option<RawMessage>, AttemptFailure>
@@ -145,10 +140,10 @@ fn content_of(value: Option<Value>) -> Bytes
     }
 }
 
-fn from_version_7(version: u32, text: &Option<ByteStr>) -> Result<Option<ByteStr>, AllocError>
-    ensures { IfOk result (λ taken. taken ≡ from_version_7 version text.now) }
+fn where_scoped(version: u32, text: &Option<ByteStr>) -> Result<Option<ByteStr>, AllocError>
+    ensures { IfOk result (λ taken. taken ≡ where_scoped version text.now) }
 {
-    if version < SCOPE_VERSION {
+    if Feature::Scope.is_later_than(version) {
         return Ok(None);
     }
     match text {
@@ -160,7 +155,7 @@ fn from_version_7(version: u32, text: &Option<ByteStr>) -> Result<Option<ByteStr
 fn random_seed(version: u32, fallback: u64, seed: u64) -> u64
     ensures { result ≡ random_seed version fallback seed }
 {
-    if version < RANDOM_SEED_VERSION {
+    if Feature::RandomSeed.is_later_than(version) {
         return fallback;
     }
     seed
@@ -191,21 +186,21 @@ fn names(start: &StartMessage) -> Result<(ByteStr, ByteStr), AllocError>
     Ok((id, start.key.clone()?))
 }
 
-// The scope, the limit key and the idempotency key, which are there from version 7 on.
+// The scope, the limit key and the idempotency key, which the version that brought scopes has, and all later ones.
 fn keys(
     version: u32,
     start: &StartMessage,
 ) -> Result<(Option<ByteStr>, Option<ByteStr>, Option<ByteStr>), AllocError>
-    ensures { IfOk result (λ keys. (keys.0 ≡ from_version_7 version start.now.scope)
-        × (keys.1 ≡ from_version_7 version start.now.limit_key)
-        × (keys.2 ≡ from_version_7 version start.now.idempotency_key)) }
+    ensures { IfOk result (λ keys. (keys.0 ≡ where_scoped version start.now.scope)
+        × (keys.1 ≡ where_scoped version start.now.limit_key)
+        × (keys.2 ≡ where_scoped version start.now.idempotency_key)) }
 {
-    let scope = from_version_7(version, &start.scope)?;
-    let limit_key = from_version_7(version, &start.limit_key)?;
+    let scope = where_scoped(version, &start.scope)?;
+    let limit_key = where_scoped(version, &start.limit_key)?;
     Ok((
         scope,
         limit_key,
-        from_version_7(version, &start.idempotency_key)?,
+        where_scoped(version, &start.idempotency_key)?,
     ))
 }
 

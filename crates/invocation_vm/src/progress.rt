@@ -19,6 +19,7 @@ use journal_model::{
     Answer, AwaitedFuture, Call, Moment, NonEmptyValue, NotificationHandle, NotificationId,
     UnresolvedFuture,
 };
+use protocol_types::Feature;
 use sequence::Sequence;
 use std::alloc::{AllocError, Global};
 
@@ -72,7 +73,8 @@ fn refusal_of_value(version: u32, value: &NonEmptyValue) -> Option<CallRefusal>
     ensures { option_map refusal_meant result ≡ first_refusal (value_tests version value.now) }
 {
     match value {
-        NonEmptyValue::Failure(failure) if version < 6 && !failure.metadata.is_empty() => {
+        NonEmptyValue::Failure(failure)
+            if Feature::FailureMetadata.is_later_than(version) && !failure.metadata.is_empty() => {
             Some(CallRefusal::UnsupportedFailureMetadata)
         }
         _ => None,
@@ -151,7 +153,9 @@ fn wait(
     ensures err { OnErr result (output.new ≡ output.old) }
     ensures cause { IfErr result (WriteFails (suspension_payload (tree_awaited options.now.implicit_cancellation id.now))) }
 {
-    if version < 7 || options.awaiting_on_policy == AwaitingOnPolicy::DontSend {
+    if Feature::AwaitTree.is_later_than(version)
+        || options.awaiting_on_policy == AwaitingOnPolicy::DontSend
+    {
         return Ok(());
     }
     write_awaiting_on(alloc, output, options.implicit_cancellation, id)

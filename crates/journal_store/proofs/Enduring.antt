@@ -11,6 +11,7 @@ use Rattle.journal_model.specs.Event.{Event}
 use Rattle.journal_model.specs.Journal.{version_of}
 use Rattle.journal_model.specs.Attempt.{attempts_begun}
 use Rattle.journal_model.specs.Start.{start_payload}
+use Rattle.protocol_types.specs.declared.message_type.MessageType.{MessageType}
 use Rattle.store_calls.specs.declared.begun.BegunAttempt.{BegunAttempt}
 use Rattle.store_calls.specs.Standing.{Standing, Adds}
 use Rattle.store_calls.specs.Calls.{Begins}
@@ -78,7 +79,7 @@ module _ {S : Type 0} (g : Ghosts S) where
       let to = begun s id now it.0 in (
         to.0,
         (
-          record { number = 1 + attempts_begun s.events id; version = version_of s.events id; start = frame_bytes 0x0000 (start_payload s.events id now) },
+          record { number = 1 + attempts_begun s.events id; version = version_of s.events id; start = frame_bytes MessageType.Start (start_payload s.events id now) },
           record { number = refl; version = refl; start = refl; leaves = to.1 },
         ),
         subst (λ (events : List Event). KeepsAll events db) (sym to.1.events) it.1,

@@ -11,6 +11,7 @@ use Rattle.journal_model.specs.Journal.{version_of, entries_of}
 use Rattle.journal_model.specs.Attempt.{attempts_begun, live_attempt}
 use Rattle.journal_model.specs.Start.{start_payload}
 use Rattle.journal_model.specs.Cause.{causes_of}
+use Rattle.protocol_types.specs.declared.message_type.MessageType.{MessageType}
 use Rattle.store_tables.specs.Looks.{Lasts}
 use Rattle.store_refusals.specs.declared.refusal.Refusal.{Refusal}
 use Rattle.store_refusals.specs.Refused.{IsRefused}
@@ -34,7 +35,7 @@ Does events event IsAnswer (Err why) database attempts = IsRefused (causes_of ev
 pub record IsBegunAttempt (events : List Event) (id : Text) (now : ℕ) (begun : BegunAttempt) : Type 0 where
   pub number : begun.number ≡ 1 + attempts_begun events id
   pub version : begun.version ≡ version_of events id
-  pub start : begun.start ≡ frame_bytes 0x0000 (start_payload events id now)
+  pub start : begun.start ≡ frame_bytes MessageType.Start (start_payload events id now)
 
 live_alike : (events : List Event) (id : Text) (o : Option LiveAttempt) → Agrees events id o
     → is_some (option_map (λ (attempt : LiveAttempt). attempt.output) o) ≡ is_some (live_attempt events id)

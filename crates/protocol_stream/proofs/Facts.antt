@@ -6,18 +6,13 @@ use Rattle.journal_model.specs.Notification.{Text}
 use Rattle.journal_model.specs.Cause.{is_invocation_id, is_outcome}
 use Rattle.protocol_types.specs.declared.message_type.MessageType.TheVariants as types
 use Rattle.protocol_stream.specs.declared.command_facts.CompletedBy.TheVariants as by
-use Rattle.journal_model.specs.Spelling.{request_type}
-use Rattle.protocol_types.specs.MessageType.{number_of, named_type}
-use Rattle.protocol_stream.specs.CommandFacts.{Completes, completion_by, type_of_request, RequestsTyped, RequestsHaveLines}
+use Rattle.protocol_types.specs.MessageType.{named_type}
+use Rattle.protocol_stream.specs.CommandFacts.{Completes, completion_by, RequestsTyped, RequestsHaveLines}
 
 pub requests_typed : RequestsTyped
 unfolding named_type
 requests_typed (Request.Output value name) = refl
 requests_typed _ = refl
-
-pub request_number : (request : Request) → number_of (type_of_request request) ≡ request_type request
-request_number (Request.Output value name) = refl
-request_number _ = refl
 
 -- ---- of a call, by whether the id is its first
 
@@ -26,7 +21,7 @@ module _ (call : CallRecord) (m k : ℕ) (name : Text) where
   first_of_call =
       let same : (m == m) ≡ true = eq-eqb m m refl in
       record {
-        ty = sym (ap (λ (b : Bool). if b then 0x800e else 0x800d) same);
+        ty = sym (ap (λ (b : Bool). if b then types.CallInvocationIdCompletionNotification else types.CallCompletionNotification) same);
         given = λ brought. sym (ap (λ (b : Bool). if b then is_invocation_id brought else is_outcome brought) same);
       }
 
@@ -37,7 +32,7 @@ module _ (call : CallRecord) (m k : ℕ) (name : Text) where
   second_of_call other =
       let not_first : (k == m) ≡ false = other_id k other in
       record {
-        ty = sym (ap (λ (b : Bool). if b then 0x800e else 0x800d) not_first);
+        ty = sym (ap (λ (b : Bool). if b then types.CallInvocationIdCompletionNotification else types.CallCompletionNotification) not_first);
         given = λ brought. sym (ap (λ (b : Bool). if b then is_invocation_id brought else is_outcome brought) not_first);
       }
 

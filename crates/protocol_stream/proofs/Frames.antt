@@ -19,7 +19,7 @@ pub frame_of : (ty : MessageType) (payload : List ℕ) → is_named ty ≡ true 
 frame_of ty payload named fits = record { ty = named_is_wire ty named; flag = flag_fits (allows_ack ty); len = refl; fits = fits }
 
 -- It is the item at the front of its bytes as the definitions spell them.
-pub item_at-frame_bytes : (ty : MessageType) (payload rest : List ℕ) → is_named ty ≡ true → length payload < 2 ^ 32 → item_at (frame_bytes (number_of ty) payload ++ rest) ≡ Some (message (message_of ty payload), rest)
+pub item_at-frame_bytes : (ty : MessageType) (payload rest : List ℕ) → is_named ty ≡ true → length payload < 2 ^ 32 → item_at (frame_bytes ty payload ++ rest) ≡ Some (message (message_of ty payload), rest)
 item_at-frame_bytes ty payload rest named fits =
     let is = frame_of ty payload named fits in
     ap (λ (s : List ℕ). item_at (s ++ rest)) (sym (spelled-frame_bytes ty payload is.ty.number fits)) ∙ item_at-spelled (message_of ty payload) rest is

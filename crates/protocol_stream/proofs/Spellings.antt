@@ -129,7 +129,7 @@ header_is number len p =
     ap (to_be_bytes w64) same ∙ header_spelling number (len % 2 ^ 32) p (omega arith) ∙ low_length number len
 
 -- A message that requests no acknowledgement is spelled as a frame of its type's number.
-pub spelled-frame_bytes : (ty : MessageType) (payload : List ℕ) → number_of ty < 2 ^ 16 → length payload < 2 ^ 32 → spelled (message_of ty payload) ≡ model.frame_bytes (number_of ty) payload
+pub spelled-frame_bytes : (ty : MessageType) (payload : List ℕ) → number_of ty < 2 ^ 16 → length payload < 2 ^ 32 → spelled (message_of ty payload) ≡ model.frame_bytes ty payload
 unfolding spelled
 spelled-frame_bytes ty payload p q =
     ap (λ (flag : ℕ). to_be_bytes w64 (number_of ty * 2 ^ 48 + flag + length payload) ++ payload) (flag_clear (allows_ack ty))

@@ -72,34 +72,13 @@ facts_of _ = None
 
 -- ---- these are what the definitions of durable execution say of a request
 
--- the type of the message that a request is recorded as
-abbrev pub type_of_request : Request → MessageType
-type_of_request (Request.Output value name) = types.OutputCommand
-type_of_request (Request.GetLazyState key n name) = types.GetLazyStateCommand
-type_of_request (Request.GetEagerState key value name) = types.GetEagerStateCommand
-type_of_request (Request.GetLazyStateKeys n name) = types.GetLazyStateKeysCommand
-type_of_request (Request.GetEagerStateKeys keys name) = types.GetEagerStateKeysCommand
-type_of_request (Request.SetState key value name) = types.SetStateCommand
-type_of_request (Request.ClearState key name) = types.ClearStateCommand
-type_of_request (Request.ClearAllState name) = types.ClearAllStateCommand
-type_of_request (Request.GetPromise key n name) = types.GetPromiseCommand
-type_of_request (Request.PeekPromise key n name) = types.PeekPromiseCommand
-type_of_request (Request.CompletePromise key value n name) = types.CompletePromiseCommand
-type_of_request (Request.Sleep time n name) = types.SleepCommand
-type_of_request (Request.CallService call m n name) = types.CallCommand
-type_of_request (Request.OneWayCall call time n name) = types.OneWayCallCommand
-type_of_request (Request.SendSignal target key value name) = types.SendSignalCommand
-type_of_request (Request.Run n name) = types.RunCommand
-type_of_request (Request.AttachInvocation target n name) = types.AttachInvocationCommand
-type_of_request (Request.GetInvocationOutput target n name) = types.GetInvocationOutputCommand
-type_of_request (Request.CompleteAwakeable id value name) = types.CompleteAwakeableCommand
-
+-- a request is recorded as a message of a named type
 abbrev pub RequestsTyped : Type 0
-RequestsTyped = (request : Request) → named_type (request_type request) ≡ Some (type_of_request request)
+RequestsTyped = (request : Request) → named_type (number_of (request_type request)) ≡ Some (request_type request)
 
 -- an id comes by the notification of this type, and may be given what the request may be
 pub record Completes (one : Completion) (request : Request) (n : ℕ) : Type 0 where
-  pub ty : number_of one.notification ≡ completion_type request n
+  pub ty : one.notification ≡ completion_type request n
   pub given : (brought : NotificationResult) → accepts one.completed_by brought ≡ may_complete request n brought
 
 -- these are the completions of the ids
@@ -132,4 +111,4 @@ HasLine None request = ⊥
 HasLine (Some facts) request = HasFacts facts request
 
 abbrev pub RequestsHaveLines : Type 0
-RequestsHaveLines = (request : Request) → HasLine (facts_of (type_of_request request)) request
+RequestsHaveLines = (request : Request) → HasLine (facts_of (request_type request)) request

@@ -81,7 +81,7 @@ abbrev pub AwaitingOnSpelled : Type 0
 AwaitingOnSpelled = (tree : AwaitTree NotificationId) (executing : Bool) → payload_of (awaiting_on_parts (awaiting_on_record tree executing)) ≡ awaiting_on_payload tree executing
 
 abbrev pub FramesSpelled : Type 0
-FramesSpelled = (ty : MessageType) (payload : List ℕ) → number_of ty < 2 ^ 16 → length payload < 2 ^ 32 → spelled (message_of ty payload) ≡ frame_bytes (number_of ty) payload
+FramesSpelled = (ty : MessageType) (payload : List ℕ) → number_of ty < 2 ^ 16 → length payload < 2 ^ 32 → spelled (message_of ty payload) ≡ frame_bytes ty payload
 
 abbrev pub TerminalFailuresReadBack : Type 0
 TerminalFailuresReadBack = (failure : TerminalFailure) → failure.code < 2 ^ 16 → terminal_failure_told (failure_record failure) ≡ failure

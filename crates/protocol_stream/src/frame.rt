@@ -18,15 +18,15 @@ fn header_word(number: u16, len: usize) -> u64
     ty + len as u64 % 0x1_0000_0000
 }
 
-/// Puts the frame of a payload at the end, by the number of its type, and tells how long it is. Of a longer payload the header
-/// has the lowest thirty-two bits of the length.
+/// Puts the frame of a payload as a message of this type, which requests no acknowledgement, at the end, and tells how long it
+/// is. Of a longer payload the header has the lowest thirty-two bits of the length.
 #[tactic(auto, using(crate::proofs::Spellings::header_is))]
-pub fn put_frame(out: &mut BytesMut, number: u16, payload: &[u8]) -> Result<usize, AllocError>
-    ensures ok { OnOk result (out.new.items ≡ out.old.items ++ frame_bytes number payload.now) }
-    ensures len { IfOk result (λ len. len ≡ length (frame_bytes number payload.now)) }
+pub fn put_frame(out: &mut BytesMut, ty: MessageType, payload: &[u8]) -> Result<usize, AllocError>
+    ensures ok { OnOk result (out.new.items ≡ out.old.items ++ frame_bytes ty payload.now) }
+    ensures len { IfOk result (λ len. len ≡ length (frame_bytes ty payload.now)) }
     ensures err { OnErr result (out.new.items ≡ out.old.items) }
 {
-    let header = header_word(number, payload.len());
+    let header = header_word(u16::from(ty), payload.len());
     let len = HEADER_LEN + payload.len();
     out.reserve(len)?;
     out.extend_reserved(&header.to_be_bytes());
@@ -36,14 +36,14 @@ pub fn put_frame(out: &mut BytesMut, number: u16, payload: &[u8]) -> Result<usiz
 
 /// The frame of a payload as a message of this type, which requests no acknowledgement.
 pub fn frame_of(alloc: Global, ty: MessageType, payload: &[u8]) -> Result<Bytes, EncodingError>
-    ensures ok { IfOk result (λ frame. frame ≡ frame_bytes (number_of ty) payload.now) }
+    ensures ok { IfOk result (λ frame. frame ≡ frame_bytes ty payload.now) }
     ensures too_long { (result ≡ Err EncodingError.PayloadTooLong) ↔ (2 ^ 32 ≤ length payload.now) }
 {
     if payload.len() > u32::MAX as usize {
         return Err(EncodingError::PayloadTooLong);
     }
     let mut out = BytesMut::new(alloc);
-    put_frame(&mut out, u16::from(ty), payload)?;
+    put_frame(&mut out, ty, payload)?;
     match out.freeze() {
         Ok(frame) => Ok(frame),
         Err(_) => Err(EncodingError::OutOfMemory),

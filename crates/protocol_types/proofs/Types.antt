@@ -78,7 +78,7 @@ named_type_unlisted : (number : ℕ) → IsUnlisted number → named_type number
 unfolding named_type
 named_type_unlisted number h = with_none number named_types h
 
-named_type_some : (number : ℕ) (found : MessageType) → named_type number ≡ Some found → (number_of found ≡ number) × (is_named found ≡ true)
+pub named_type_some : (number : ℕ) (found : MessageType) → named_type number ≡ Some found → (number_of found ≡ number) × (is_named found ≡ true)
 unfolding named_type
 named_type_some number found e = found_with number named_types found refl e
 

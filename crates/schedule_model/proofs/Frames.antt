@@ -4,6 +4,7 @@ use Rattle.std.specs.List.{AllByRecursion, flat_map}
 use Rattle.std.proofs.lemmas.Grind.{flat_map-append}
 use Rattle.journal_model.specs.Request.{Request}
 use Rattle.journal_model.specs.Spelling.{frame_bytes, request_frame, request_payload}
+use Rattle.protocol_types.specs.declared.message_type.MessageType.{MessageType}
 use Rattle.invocation_vm.specs.Standing.{IsFirstRequest}
 use Rattle.invocation_vm.specs.Frames.{FitsFrame}
 use Rattle.schedule_model.specs.Flight.{Sent, Asks, Tells, Ends, spelled, stream, FitsSent, request_of, requests_in}
@@ -43,11 +44,11 @@ pub none_asked : (payloads : List (List ℕ)) → requests_in (map Tells payload
 none_asked [] = refl
 none_asked (payload ∷ payloads) = none_asked payloads
 
-pub told_written : (payloads : List (List ℕ)) → stream (map Tells payloads) ≡ flat_map (frame_bytes 0x0004) payloads
+pub told_written : (payloads : List (List ℕ)) → stream (map Tells payloads) ≡ flat_map (frame_bytes MessageType.AwaitingOn) payloads
 unfolding spelled
 told_written [] = refl
-told_written (payload ∷ payloads) = ap (λ (s : List ℕ). frame_bytes 0x0004 payload ++ s) (told_written payloads)
+told_written (payload ∷ payloads) = ap (λ (s : List ℕ). frame_bytes MessageType.AwaitingOn payload ++ s) (told_written payloads)
 
-pub end_written : stream (Ends ∷ []) ≡ frame_bytes 0x0003 []
+pub end_written : stream (Ends ∷ []) ≡ frame_bytes MessageType.End []
 unfolding spelled
 end_written = refl

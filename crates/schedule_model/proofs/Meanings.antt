@@ -42,7 +42,7 @@ use Rattle.store_frames.specs.Requests.{request_of_sleep, request_of_output, val
 use Rattle.invocation_vm.specs.Progress.{HasShortCode}
 use Rattle.invocation_vm.specs.Frames.{FitsFrame}
 use Rattle.invocation_vm.proofs.Sizes.{SizeHolds, number_holds, bytes_hold, optional_holds, repeated_hold, fields_are, small_as}
-use Rattle.schedule_model.specs.Flight.{Sent, Asks, Tells, Ends, FitsSent, sent_payload}
+use Rattle.schedule_model.specs.Flight.{Sent, Asks, Tells, Ends, FitsSent, sent_type, sent_payload}
 
 -- a frame with whose payload something is wrong
 abbrev pub IsFaulty : Frame → Type 0
@@ -164,13 +164,7 @@ unless None frame wanted e = inl e
 unless (Some BadPayload) frame wanted e = inr tt
 unless (Some TooDeep) frame wanted e = inr tt
 
-abbrev pub sent_message_type : Sent → MessageType
-sent_message_type (Asks (Request.Sleep time completion name)) = types.SleepCommand
-sent_message_type (Asks _) = types.OutputCommand
-sent_message_type (Tells payload) = types.AwaitingOn
-sent_message_type Ends = types.End
-
-pub means : (version : ℕ) (sent : Sent) → FitsSent sent → Means sent (frame_of version (message_of (sent_message_type sent) (sent_payload sent)))
+pub means : (version : ℕ) (sent : Sent) → FitsSent sent → Means sent (frame_of version (message_of (sent_type sent) (sent_payload sent)))
 means version (Asks (Request.Sleep time completion name)) fits =
     let payload : List ℕ = request_payload (Request.Sleep time completion name) in
     unless (payload_fault LEVELS records.SleepCommand payload) (Frame.Command (request_of_sleep (sleep_command_of LEVELS (fields payload)))) (Frame.Command (Request.Sleep time completion name))

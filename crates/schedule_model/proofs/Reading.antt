@@ -11,6 +11,7 @@ use Rattle.journal_model.specs.Start.{start_payload_of, start_payload_for, start
 use Rattle.journal_model.specs.Journal.{invocation_begun, entries_of, recorded_requests, recorded_arrivals, object_state}
 use Rattle.journal_model.specs.Attempt.{entry_piece, journal_pieces, input_bytes}
 use Rattle.journal_model.specs.Cause.{causes_of, IsAccepted}
+use Rattle.protocol_types.specs.declared.message_type.MessageType.{MessageType}
 use Rattle.invocation_vm.specs.declared.options.VMOptions.{VMOptions}
 use Rattle.invocation_vm.specs.View.{AttemptView, fresh}
 use Rattle.invocation_vm.specs.Attempt.{Feeds}
@@ -63,6 +64,6 @@ module _ {H : Type 0} (function : H → Handler) (next : Handler) (options : VMO
               start = subst (λ (s : List ℕ). length s < 2 ^ 32) payload (start_fits events id now causes);
               input = input_fits events old.accepted id one there;
             })
-            (ap (λ (s : List ℕ). s ++ input) (b.start ∙ ap (λ (s : List ℕ). frame_bytes 0 s) payload));
+            (ap (λ (s : List ℕ). s ++ input) (b.start ∙ ap (λ (s : List ℕ). frame_bytes MessageType.Start s) payload));
         nothing = refl;
       }

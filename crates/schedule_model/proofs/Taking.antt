@@ -5,7 +5,7 @@ use Rattle.std.specs.List.{AllByRecursion}
 use Rattle.std.proofs.lemmas.Bool.{ltb-false}
 use Rattle.std.proofs.lemmas.Bool.Decides.{Decides-eqb}
 use Rattle.protocol_stream.specs.declared.decoder.RawMessage.{RawMessage}
-use Rattle.protocol_types.specs.MessageType.{number_of, type_numbered, allows_ack, named_type}
+use Rattle.protocol_types.specs.MessageType.{IsWireType, allows_ack, named_type}
 use Rattle.protocol_stream.specs.Frame as protocol
 use Rattle.protocol_stream.specs.Item.{Item, item_at, message}
 use Rattle.protocol_stream.proofs.Fronts.{item_at-spelled, item_at_extends}
@@ -28,39 +28,36 @@ use Rattle.schedule_model.specs.Flight.{Sent, Asks, Tells, Ends, FitsSent, spell
 use Rattle.schedule_model.specs.Following.{Seen, SeenAttempt, held_of, FollowsSeen}
 use Rattle.schedule_model.proofs.Following.{recorded as go_on}
 use Rattle.schedule_model.proofs.Holding.{some_is, some_none}
-use Rattle.schedule_model.proofs.Meanings.{IsFaulty, Means, means, sent_message_type}
+use Rattle.schedule_model.proofs.Meanings.{IsFaulty, Means, means}
 
 -- ---- frames on the stream
 
 -- what is written is a frame of a type that has no flag
 pub record IsSpelled (sent : Sent) : Type 0 where
-  pub number : number_of (sent_message_type sent) ≡ sent_type sent
-  pub read : type_numbered (sent_type sent) ≡ Ok (sent_message_type sent)
-  pub no_flag : allows_ack (sent_message_type sent) ≡ false
-  pub small : sent_type sent < 2 ^ 16
+  pub ty : IsWireType (sent_type sent)
+  pub no_flag : allows_ack (sent_type sent) ≡ false
   pub fits : length (sent_payload sent) < 2 ^ 32
 
 is_spelled : (sent : Sent) → FitsSent sent → IsSpelled sent
 unfolding named_type
-is_spelled (Asks (Request.Sleep time n name)) fits = record { number = refl; read = refl; no_flag = refl; small = omega arith; fits = fits.1 }
-is_spelled (Asks (Request.Output value name)) fits = record { number = refl; read = refl; no_flag = refl; small = omega arith; fits = fits.1 }
+is_spelled (Asks (Request.Sleep time n name)) fits = record { ty = record { number = omega arith; read = refl }; no_flag = refl; fits = fits.1 }
+is_spelled (Asks (Request.Output value name)) fits = record { ty = record { number = omega arith; read = refl }; no_flag = refl; fits = fits.1 }
 is_spelled (Asks _) fits = absurd fits.0
-is_spelled (Tells payload) fits = record { number = refl; read = refl; no_flag = refl; small = omega arith; fits = fits }
-is_spelled Ends fits = record { number = refl; read = refl; no_flag = refl; small = omega arith; fits = omega arith }
+is_spelled (Tells payload) fits = record { ty = record { number = omega arith; read = refl }; no_flag = refl; fits = fits }
+is_spelled Ends fits = record { ty = record { number = omega arith; read = refl }; no_flag = refl; fits = omega arith }
 
 abbrev message_sent : Sent → RawMessage
-message_sent sent = protocol.message_of (sent_message_type sent) (sent_payload sent)
+message_sent sent = protocol.message_of (sent_type sent) (sent_payload sent)
 
 -- it is spelled as the protocol spells its message
 protocol_spelled : (sent : Sent) → IsSpelled sent → spelled sent ≡ protocol.spelled (message_sent sent)
 unfolding spelled
 protocol_spelled sent is =
-    ap (λ (n : ℕ). frame_bytes n (sent_payload sent)) (sym is.number)
-    ∙ sym (spelled-frame_bytes (sent_message_type sent) (sent_payload sent) (omega (arith, is.number, is.small)) is.fits)
+    sym (spelled-frame_bytes (sent_type sent) (sent_payload sent) is.ty.number is.fits)
 
 is_protocol_frame : (sent : Sent) → IsSpelled sent → protocol.IsFrame (message_sent sent)
 is_protocol_frame sent is = record {
-  ty = record { number = omega (arith, is.number, is.small); read = ap type_numbered is.number ∙ is.read };
+  ty = is.ty;
   flag = rw is.no_flag refl;
   len = refl;
   fits = is.fits;

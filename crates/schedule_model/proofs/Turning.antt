@@ -5,6 +5,7 @@ use Rattle.journal_model.specs.Run.{Handler, run_requests}
 use Rattle.journal_model.specs.Request.{Request}
 use Rattle.journal_model.specs.State.{StateMap}
 use Rattle.journal_model.specs.Spelling.{request_frame, frame_bytes}
+use Rattle.protocol_types.specs.declared.message_type.MessageType.{MessageType}
 use Rattle.invocation_vm.specs.declared.options.VMOptions.{VMOptions}
 use Rattle.invocation_vm.specs.View.{AttemptView}
 use Rattle.invocation_vm.specs.declared.progress.Turn.{Turn}
@@ -83,12 +84,12 @@ module _ {H : Type 0} (function : H → Handler) (next : Handler) (options : VMO
     requests = ap (λ (s : List Request). (seen.requests ++ s) ++ f.lost) (requests_append f.coming (map Tells a.payloads) ∙ ap (λ (s : List Request). requests_in f.coming ++ s) (none_asked a.payloads) ∙ append-nil (requests_in f.coming)) ∙ f.requests;
     flies = record {
       chosen = chosen ∙ f.flies.chosen;
-      bytes = written_more live.output old.output new.output (flat_map (frame_bytes 0x0004) a.payloads) f.coming (map Tells a.payloads) f.flies.bytes a.output (told_written a.payloads);
+      bytes = written_more live.output old.output new.output (flat_map (frame_bytes MessageType.AwaitingOn) a.payloads) f.coming (map Tells a.payloads) f.flies.bytes a.output (told_written a.payloads);
       stands = λ on. inr (record { stands = a.stands; whole = h.whole });
     };
   }
 
-  ended : (old new : AttemptView H) (t : Turn) → new.options ≡ old.options → new.over ≡ Some t → new.output ≡ old.output ++ frame_bytes 0x0003 [] → F old → F new
+  ended : (old new : AttemptView H) (t : Turn) → new.options ≡ old.options → new.over ≡ Some t → new.output ≡ old.output ++ frame_bytes MessageType.End [] → F old → F new
   ended old new t chosen over output f = record {
     calls = f.calls;
     coming = f.coming ++ Ends ∷ [];
@@ -97,7 +98,7 @@ module _ {H : Type 0} (function : H → Handler) (next : Handler) (options : VMO
     requests = ap (λ (s : List Request). (seen.requests ++ s) ++ f.lost) (requests_append f.coming (Ends ∷ []) ∙ append-nil (requests_in f.coming)) ∙ f.requests;
     flies = record {
       chosen = chosen ∙ f.flies.chosen;
-      bytes = written_more live.output old.output new.output (frame_bytes 0x0003 []) f.coming (Ends ∷ []) f.flies.bytes output end_written;
+      bytes = written_more live.output old.output new.output (frame_bytes MessageType.End []) f.coming (Ends ∷ []) f.flies.bytes output end_written;
       stands = λ on. some_none (sym over ∙ on);
     };
   }

@@ -4,6 +4,7 @@ use Rattle.std.specs.List.{flat_map}
 use Rattle.journal_model.specs.Notification.{Bytes}
 use Rattle.journal_model.specs.Request.{Request}
 use Rattle.journal_model.specs.Spelling.{frame_bytes, request_type, request_payload}
+use Rattle.protocol_types.specs.declared.message_type.MessageType.{MessageType}
 use Rattle.invocation_vm.specs.Standing.{IsFirstRequest}
 use Rattle.invocation_vm.specs.Frames.{FitsFrame}
 
@@ -13,10 +14,10 @@ pub data Sent : Type 0 where
   Tells : Bytes → Sent
   Ends : Sent
 
-abbrev pub sent_type : Sent → ℕ
+abbrev pub sent_type : Sent → MessageType
 sent_type (Asks request) = request_type request
-sent_type (Tells payload) = 0x0004
-sent_type Ends = 0x0003
+sent_type (Tells payload) = MessageType.AwaitingOn
+sent_type Ends = MessageType.End
 
 abbrev pub sent_payload : Sent → Bytes
 sent_payload (Asks request) = request_payload request

@@ -12,7 +12,6 @@ use Rattle.journal_model.specs.Cause.{Cause, Tests, those_that_hold, is_failure,
 use Rattle.protocol_types.specs.declared.message_type.MessageType.{MessageType}
 use Rattle.protocol_types.specs.declared.message_type.MessageType.TheVariants as types
 use Rattle.protocol_stream.specs.declared.command_facts.CompletedBy.TheVariants as by
-use Rattle.protocol_types.specs.MessageType.{number_of}
 use Rattle.protocol_stream.specs.CommandFacts.{completion_at, completion_by}
 use Rattle.protocol_stream.specs.declared.command_facts.Completions.TheVariants as asked
 use Rattle.store_refusals.specs.declared.refusal.Refusal.{Refusal}
@@ -31,27 +30,27 @@ abbrev tests_if : Option Request → ℕ → NotificationResult → Tests
 tests_if o n brought = (not (is_some o), Cause.CompletionNotOpen) ∷ (refuses_kind o n brought, Cause.WrongKind) ∷ []
 
 -- a completion of this type, where it may be given what is brought
-abbrev IsTyped : (may : Bool) → ℕ → Result MessageType Refusal → Type 0
-IsTyped may number r = Decides ((not true, Cause.CompletionNotOpen) ∷ (not may, Cause.WrongKind) ∷ []) (λ ty. number_of ty ≡ number) r
+abbrev IsTyped : (may : Bool) → MessageType → Result MessageType Refusal → Type 0
+IsTyped may given r = Decides ((not true, Cause.CompletionNotOpen) ∷ (not may, Cause.WrongKind) ∷ []) (λ ty. ty ≡ given) r
 
-by_accept : (may : Bool) (ty : MessageType) → IsTyped may (number_of ty) (if may then Ok ty else Err WrongKind)
+by_accept : (may : Bool) (ty : MessageType) → IsTyped may ty (if may then Ok ty else Err WrongKind)
 by_accept true ty = (refl, refl)
 by_accept false ty = inl refl
 
 -- of a call, by whether the id is its first
 by_first : (first : Bool) (brought : NotificationResult)
-    → IsTyped (if first then is_invocation_id brought else is_outcome brought) (if first then 0x800e else 0x800d)
+    → IsTyped (if first then is_invocation_id brought else is_outcome brought) (if first then types.CallInvocationIdCompletionNotification else types.CallCompletionNotification)
     (type_for (completion_at (not first) (asked.Two (completion_by types.CallInvocationIdCompletionNotification by.InvocationId) (completion_by types.CallCompletionNotification by.Outcome))) brought)
 by_first true brought = by_accept (is_invocation_id brought) types.CallInvocationIdCompletionNotification
 by_first false brought = by_accept (is_outcome brought) types.CallCompletionNotification
 
 request_given : (request : Request) (n : ℕ) (brought : NotificationResult)
-    → Decides (tests_if (Some request) n brought) (λ ty. number_of ty ≡ completion_type request n) (type_for (completion_for (asked_by n request)) brought)
+    → Decides (tests_if (Some request) n brought) (λ ty. ty ≡ completion_type request n) (type_for (completion_for (asked_by n request)) brought)
 request_given (Request.GetPromise key k name) n brought = by_accept (is_outcome brought) types.GetPromiseCompletionNotification
 request_given (Request.PeekPromise key k name) n brought = by_accept (is_void brought || is_outcome brought) types.PeekPromiseCompletionNotification
 request_given (Request.CompletePromise key value k name) n brought = by_accept (is_void brought || is_failure brought) types.CompletePromiseCompletionNotification
 request_given (Request.CallService call m k name) n brought =
-    subst (λ (b : Bool). IsTyped (if b then is_invocation_id brought else is_outcome brought) (if b then 0x800e else 0x800d)
+    subst (λ (b : Bool). IsTyped (if b then is_invocation_id brought else is_outcome brought) (if b then types.CallInvocationIdCompletionNotification else types.CallCompletionNotification)
     (type_for (completion_for (asked_by n (Request.CallService call m k name))) brought))
     (sym (same_either_way m n)) (by_first (m == n) brought)
 request_given (Request.OneWayCall call time k name) n brought = by_accept (is_invocation_id brought) types.CallInvocationIdCompletionNotification
@@ -74,17 +73,17 @@ asking_of_open entries n request e = by_test (is_awaited entries n) e
     by_test false e = cc
 
 pub given : (entries : List Entry) (n : ℕ) (brought : NotificationResult) (asked : AskedCompletion) → Some asked ≡ option_map (asked_by n) (open_request entries n)
-    → Decides (tests_if (open_request entries n) n brought) (λ ty. number_of ty ≡ notification_type entries (CompletionId n)) (type_for (completion_for asked) brought)
+    → Decides (tests_if (open_request entries n) n brought) (λ ty. ty ≡ notification_type entries (CompletionId n)) (type_for (completion_for asked) brought)
 given entries n brought asked e = by_request (open_request entries n) refl e
   where
     by_request : (o : Option Request) → open_request entries n ≡ o → Some asked ≡ option_map (asked_by n) o
-        → Decides (tests_if o n brought) (λ ty. number_of ty ≡ notification_type entries (CompletionId n)) (type_for (completion_for asked) brought)
+        → Decides (tests_if o n brought) (λ ty. ty ≡ notification_type entries (CompletionId n)) (type_for (completion_for asked) brought)
     by_request None is e = cc
     by_request (Some request) is e =
         let same : asked ≡ asked_by n request = cc in
-        let number : completion_type request n ≡ notification_type entries (CompletionId n) =
+        let same_type : completion_type request n ≡ notification_type entries (CompletionId n) =
         ap (λ (o : Option Request). type_of_completion o n) (sym (asking_of_open entries n request is)) in
-        subst (λ (a : AskedCompletion). Decides (tests_if (Some request) n brought) (λ ty. number_of ty ≡ notification_type entries (CompletionId n)) (type_for (completion_for a) brought))
+        subst (λ (a : AskedCompletion). Decides (tests_if (Some request) n brought) (λ ty. ty ≡ notification_type entries (CompletionId n)) (type_for (completion_for a) brought))
         (sym same)
-        (subst (λ (k : ℕ). Decides (tests_if (Some request) n brought) (λ ty. number_of ty ≡ k) (type_for (completion_for (asked_by n request)) brought))
-        number (request_given request n brought))
+        (subst (λ (k : MessageType). Decides (tests_if (Some request) n brought) (λ ty. ty ≡ k) (type_for (completion_for (asked_by n request)) brought))
+        same_type (request_given request n brought))

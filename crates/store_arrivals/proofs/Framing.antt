@@ -3,8 +3,9 @@ use Rattle.std.proofs.Common.{arith, ℕ, ◌-◌, ◌^◌, ◌<◌, ◌≤◌, 
 use Rattle.std.proofs.lemmas.Bool.{cases_Bool, lt-ltb, ltb-true}
 use Rattle.journal_model.specs.Notification.{Bytes}
 use Rattle.journal_model.specs.Spelling.{frame_bytes}
+use Rattle.protocol_types.specs.declared.message_type.MessageType.{MessageType}
 
-pub long_enough : (kind : ℕ) (payload frame : Bytes) → frame ≡ frame_bytes kind payload → 8 ≤ length frame
+pub long_enough : (kind : MessageType) (payload frame : Bytes) → frame ≡ frame_bytes kind payload → 8 ≤ length frame
 long_enough kind payload frame e = subst (λ (f : Bytes). 8 ≤ length f) (sym e) at_least
   where
     at_least : 8 ≤ length (frame_bytes kind payload)

@@ -7,8 +7,7 @@ use Rattle.journal_model.specs.Journal.{Entry, asks_for as is_asking, requests_i
 use Rattle.journal_laws.proofs.Leaving.{or-true}
 use Rattle.protocol_types.specs.declared.message_type.MessageType.{MessageType}
 use Rattle.protocol_types.specs.MessageType.{named_type}
-use Rattle.protocol_stream.specs.CommandFacts.{type_of_request}
-use Rattle.protocol_stream.proofs.Facts.{requests_typed}
+use Rattle.journal_model.specs.Spelling.{request_type}
 use Rattle.store_refusals.specs.declared.refusal.Refusal.{Refusal}
 use Rattle.store_refusals.specs.Prepared.{Tells}
 use Rattle.store_tables.specs.declared.row.EntryRow.{EntryRow}
@@ -22,18 +21,18 @@ use Rattle.store_arrivals.specs.Asked.{as_second, is_first, is_second, first_typ
 -- ---- the types of the rows
 
 type_if : (id : Text) (b : Bool) (asked : ℕ × Request)
-    → option_and_then (λ (e : EntryRow). named_type e.kind) (row_if id b asked) ≡ (if b then Some (type_of_request asked.1) else None)
-type_if id true asked = requests_typed asked.1
+    → option_map (λ (e : EntryRow). e.kind) (row_if id b asked) ≡ (if b then Some (request_type asked.1) else None)
+type_if id true asked = refl
 type_if id false asked = refl
 
 pub type_first : (id : Text) (n : ℕ) (asked : Option (ℕ × Request))
-    → option_and_then (λ (e : EntryRow). named_type e.kind) (option_and_then (first_row id n) asked)
+    → option_map (λ (e : EntryRow). e.kind) (option_and_then (first_row id n) asked)
     ≡ option_and_then (first_type n) (option_map (λ (a : ℕ × Request). a.1) asked)
 type_first id n None = refl
 type_first id n (Some asked) = type_if id (is_first n asked.1) asked
 
 pub type_second : (id : Text) (n : ℕ) (asked : Option (ℕ × Request))
-    → option_and_then (λ (e : EntryRow). named_type e.kind) (option_and_then (second_row id n) asked)
+    → option_map (λ (e : EntryRow). e.kind) (option_and_then (second_row id n) asked)
     ≡ option_and_then (second_type n) (option_map (λ (a : ℕ × Request). a.1) asked)
 type_second id n None = refl
 type_second id n (Some asked) = type_if id (is_second n asked.1) asked
@@ -69,20 +68,20 @@ pub first_asked : (n : ℕ) (o : Option Request) (ty : MessageType) → Some ty 
 first_asked n None ty e = cc
 first_asked n (Some request) ty e = by_test (is_first n request) refl e
   where
-    by_test : (b : Bool) → is_first n request ≡ b → Some ty ≡ (if b then Some (type_of_request request) else None)
+    by_test : (b : Bool) → is_first n request ≡ b → Some ty ≡ (if b then Some (request_type request) else None)
         → ◌≡◌ {A = Option AskedCompletion} (Some (record { ty = ty; is_second = false })) (Some (asked_by n request))
-    by_test true t e = let same : ty ≡ type_of_request request = cc in λ i. Some (record { ty = same i; is_second = not (sym t i) })
+    by_test true t e = let same : ty ≡ request_type request = cc in λ i. Some (record { ty = same i; is_second = not (sym t i) })
     by_test false t e = cc
 
 pub second_asked : (n : ℕ) (entries : List Entry) → None ≡ option_and_then (first_type n) (request_asking entries n)
     → option_map as_second (option_and_then (second_type n) (request_asking entries n)) ≡ option_map (asked_by n) (request_asking entries n)
 second_asked n entries none = by_request (request_asking entries n) refl none
   where
-    by_tests : (request : Request) (a b : Bool) → is_first n request ≡ a → is_second n request ≡ b → None ≡ (if a then Some (type_of_request request) else None)
+    by_tests : (request : Request) (a b : Bool) → is_first n request ≡ a → is_second n request ≡ b → None ≡ (if a then Some (request_type request) else None)
         → (is_first n request ≡ true) ⊎ (is_second n request ≡ true)
-        → option_map as_second (if b then Some (type_of_request request) else None) ≡ Some (asked_by n request)
+        → option_map as_second (if b then Some (request_type request) else None) ≡ Some (asked_by n request)
     by_tests request true b first second none e = cc
-    by_tests request false true first second none e = λ i. Some (record { ty = type_of_request request; is_second = not (sym first i) })
+    by_tests request false true first second none e = λ i. Some (record { ty = request_type request; is_second = not (sym first i) })
     by_tests request false false first second none (inl e) = absurd (true≢false (sym e ∙ first))
     by_tests request false false first second none (inr e) = absurd (true≢false (sym e ∙ second))
 

@@ -25,13 +25,14 @@ use Rattle.store_invocations.proofs.Refusing.{none_of_both, refused_later}
 use Rattle.store_arrivals.specs.Asked.{completion_tests}
 use Rattle.store_arrivals.specs.declared.arrival.PreparedArrival.{PreparedArrival}
 use Rattle.store_arrivals.specs.Arrivals.{IsWritten, IsArrival, IsMadeReady, arrival_tests, entry_of_arrival}
+use Rattle.protocol_types.specs.declared.message_type.MessageType.{MessageType}
 
 -- ---- a payload cut off its frame
 
-pub payload_cut : (kind : ℕ) (payload : Bytes) → drop 8 (frame_bytes kind payload) ≡ payload
+pub payload_cut : (kind : MessageType) (payload : Bytes) → drop 8 (frame_bytes kind payload) ≡ payload
 payload_cut kind payload = refl
 
-pub arrival_made : (row : InvocationRow) (kind : ℕ) (arrival : Arrival) (frame : Bytes) (made : PreparedArrival)
+pub arrival_made : (row : InvocationRow) (kind : MessageType) (arrival : Arrival) (frame : Bytes) (made : PreparedArrival)
     → frame ≡ frame_bytes kind (notification_payload arrival) → IsWritten row kind (answered_by arrival.id) frame made → IsArrival row kind arrival made
 arrival_made row kind arrival frame made is w = record {
   writes = w.writes ∙ ap (λ (f : Bytes). AddEntry (entry_of_arrival row kind (answered_by arrival.id) (drop 8 f)) ∷ SetProgress row.id (grown 1 row.progress) ∷ []) is;
@@ -75,7 +76,7 @@ writes_are events id n brought =
     ap (λ (writes : List Write). (invocation_writes events event id ++ []) ++ writes) (no_state (object_of events event))
     ∙ ap (λ (p : Progress). entry ∷ SetProgress id p ∷ []) (follows events event id refl refl)
 
-pub made_ready : (events : List Event) (id : Text) (n : ℕ) (brought : NotificationResult) (row : InvocationRow) (kind : ℕ) (made : PreparedArrival)
+pub made_ready : (events : List Event) (id : Text) (n : ℕ) (brought : NotificationResult) (row : InvocationRow) (kind : MessageType) (made : PreparedArrival)
     → IsRowOf events id row → kind ≡ notification_type (entries_of events id) (CompletionId n) → IsArrival row kind (completion n brought) made
     → IsMadeReady events (Event.Complete id n brought) id (completion n brought) made
 made_ready events id n brought row kind made of typed is =
@@ -95,12 +96,12 @@ made_ready events id n brought row kind made of typed is =
           }) ∷ SetProgress (named i) (grown 1 (far i)) ∷ [])
           ∙ sym (writes_are events id n brought);
       place = is.place ∙ ap (λ (p : Progress). p.entries) far;
-      frame = is.frame ∙ ap (λ (k : ℕ). frame_bytes k (notification_payload (completion n brought))) typed;
+      frame = is.frame ∙ ap (λ (k : MessageType). frame_bytes k (notification_payload (completion n brought))) typed;
     }
 
 -- ---- the whole call, of an open invocation
 
-pub all_ready : (events : List Event) (id : Text) (n : ℕ) (brought : NotificationResult) (row : InvocationRow) (kind : ℕ)
+pub all_ready : (events : List Event) (id : Text) (n : ℕ) (brought : NotificationResult) (row : InvocationRow) (kind : MessageType)
     → IsRowOf events id row → those_that_hold (completion_tests events id n brought) ≡ [] → kind ≡ notification_type (entries_of events id) (CompletionId n)
     → (r : Result PreparedArrival Refusal) → Decides (arrival_tests row (completion n brought)) (IsArrival row kind (completion n brought)) r
     → Decides (own_tests events (Event.Complete id n brought)) (IsMadeReady events (Event.Complete id n brought) id (completion n brought)) r

@@ -6,6 +6,7 @@ use Rattle.journal_model.specs.Spelling.{frame_bytes, notification_payload}
 use Rattle.journal_model.specs.Journal.{entries_of}
 use Rattle.journal_model.specs.Attempt.{notification_type}
 use Rattle.journal_model.specs.Cause.{Cause, Tests}
+use Rattle.protocol_types.specs.declared.message_type.MessageType.{MessageType}
 use Rattle.protocol_controls.specs.declared.notification.NotificationMessage.{NotificationMessage}
 use Rattle.protocol_spellings.specs.Records.{id_record, result_record}
 use Rattle.store_tables.specs.declared.row.InvocationRow.{InvocationRow}
@@ -22,7 +23,7 @@ abbrev pub message_of_arrival : Arrival → NotificationMessage
 message_of_arrival arrival = record { id = Some (id_record arrival.id); result = Some (result_record arrival.result) }
 
 -- its entry, behind those of the invocation that has this row
-abbrev pub entry_of_arrival : InvocationRow → ℕ → Option ℕ → Bytes → EntryRow
+abbrev pub entry_of_arrival : InvocationRow → MessageType → Option ℕ → Bytes → EntryRow
 entry_of_arrival row kind answered payload = record {
   invocation = row.id;
   place = row.progress.entries;
@@ -39,13 +40,13 @@ abbrev pub arrival_tests : InvocationRow → Arrival → Tests
 arrival_tests row arrival = (nat_lt (2 ^ 32 - 2) row.progress.entries, Cause.NumbersUsedUp) ∷ payload_tests (notification_payload arrival)
 
 -- made ready by its frame, whose payload stands behind a header of eight bytes
-pub record IsWritten (row : InvocationRow) (kind : ℕ) (answered : Option ℕ) (bytes : Bytes) (made : PreparedArrival) : Type 0 where
+pub record IsWritten (row : InvocationRow) (kind : MessageType) (answered : Option ℕ) (bytes : Bytes) (made : PreparedArrival) : Type 0 where
   pub writes : made.writes.items ≡ AddEntry (entry_of_arrival row kind answered (drop 8 bytes)) ∷ SetProgress row.id (grown 1 row.progress) ∷ []
   pub place : made.place ≡ row.progress.entries
   pub frame : made.frame ≡ bytes
 
 -- made ready of the invocation that has this row
-pub record IsArrival (row : InvocationRow) (kind : ℕ) (arrival : Arrival) (made : PreparedArrival) : Type 0 where
+pub record IsArrival (row : InvocationRow) (kind : MessageType) (arrival : Arrival) (made : PreparedArrival) : Type 0 where
   pub writes : made.writes.items ≡ AddEntry (entry_of_arrival row kind (answered_by arrival.id) (notification_payload arrival)) ∷ SetProgress row.id (grown 1 row.progress) ∷ []
   pub place : made.place ≡ row.progress.entries
   pub frame : made.frame ≡ frame_bytes kind (notification_payload arrival)

@@ -1,6 +1,7 @@
 -- A request as one that asks for a completion, and what it may be given from outside: by the line of its command, and by whether the
 -- completion is its second.
 use Rattle.std.specs.Prelude.{Result, Ok, Err, ℕ, Bool, true, not, if◌then◌else◌, List, [], ◌∷◌, Option, Some, None, is_some, option_and_then}
+use Rattle.journal_model.specs.Spelling.{request_type}
 use Rattle.journal_model.specs.Notification.{Text}
 use Rattle.journal_model.specs.declared.notification.NotificationResult.{NotificationResult}
 use Rattle.journal_model.specs.Request.{Request, completions_asked}
@@ -9,7 +10,7 @@ use Rattle.journal_model.specs.Journal.{entries_of, open_request}
 use Rattle.journal_model.specs.Cause.{Cause, Tests, refuses_kind}
 use Rattle.protocol_types.specs.declared.message_type.MessageType.{MessageType}
 use Rattle.protocol_stream.specs.declared.command_facts.Completion.{Completion}
-use Rattle.protocol_stream.specs.CommandFacts.{accepts, completion_at, facts_of, type_of_request}
+use Rattle.protocol_stream.specs.CommandFacts.{accepts, completion_at, facts_of}
 use Rattle.store_tables.specs.Questions.{is_number}
 use Rattle.store_model.specs.Progress.{first_of, second_of}
 use Rattle.store_refusals.specs.declared.refusal.Refusal.{Refusal}
@@ -24,13 +25,13 @@ abbrev pub is_second : ℕ → Request → Bool
 is_second n request = is_number n (second_of (completions_asked request))
 
 abbrev pub first_type : ℕ → Request → Option MessageType
-first_type n request = if is_first n request then Some (type_of_request request) else None
+first_type n request = if is_first n request then Some (request_type request) else None
 
 abbrev pub second_type : ℕ → Request → Option MessageType
-second_type n request = if is_second n request then Some (type_of_request request) else None
+second_type n request = if is_second n request then Some (request_type request) else None
 
 abbrev pub asked_by : ℕ → Request → AskedCompletion
-asked_by n request = record { ty = type_of_request request; is_second = not (is_first n request) }
+asked_by n request = record { ty = request_type request; is_second = not (is_first n request) }
 
 abbrev pub as_second : MessageType → AskedCompletion
 as_second ty = record { ty = ty; is_second = true }

@@ -39,7 +39,7 @@ fn answered_id(id: &NotificationId) -> Option<u32>
 
 /// The frame of an arrival.
 fn arrival_frame(alloc: Global, ty: MessageType, arrival: Notification) -> Result<Bytes, Refusal>
-    ensures { Decides (payload_tests (notification_payload arrival)) (λ frame. frame ≡ frame_bytes (number_of ty) (notification_payload arrival)) result }
+    ensures { Decides (payload_tests (notification_payload arrival)) (λ frame. frame ≡ frame_bytes ty (notification_payload arrival)) result }
 {
     let payload = payload_of(alloc, arrival)?;
     payload_frame(alloc, ty, payload.as_slice())
@@ -53,13 +53,13 @@ fn entry_of(
     frame: &Bytes,
 ) -> Result<EntryRow, AllocError>
     requires { 8 ≤ length frame.now }
-    ensures { IfOk result (λ entry. entry ≡ entry_of_arrival row.now (number_of ty) answered (without 8 frame.now)) }
+    ensures { IfOk result (λ entry. entry ≡ entry_of_arrival row.now ty answered (without 8 frame.now)) }
 {
     let payload = payload_of_frame(frame)?;
     Ok(EntryRow {
         invocation: row.id.clone()?,
         place: row.progress.entries,
-        kind: u32::from(u16::from(ty)),
+        kind: ty,
         payload,
         completion: None,
         second_completion: None,
@@ -119,7 +119,7 @@ fn arrival_with(
 ) -> Result<PreparedArrival, AllocError>
     requires room { row.progress.entries + 1 < 2 ^ 32 }
     requires framed { 8 ≤ length frame }
-    ensures written { IfOk result (IsWritten row (number_of ty) answered frame) }
+    ensures written { IfOk result (IsWritten row ty answered frame) }
     ensures place { IfOk result (λ made. made.place + 1 < 2 ^ 32) }
 {
     let place = row.progress.entries;
@@ -144,7 +144,7 @@ fn arrival_in(
     arrival: Notification,
 ) -> Result<PreparedArrival, Refusal>
     requires { row.progress.entries + 1 < 2 ^ 32 }
-    ensures decided { Decides (payload_tests (notification_payload arrival)) (IsArrival row (number_of ty) arrival) result }
+    ensures decided { Decides (payload_tests (notification_payload arrival)) (IsArrival row ty arrival) result }
     ensures place { IfOk result (λ made. made.place + 1 < 2 ^ 32) }
 {
     let answered = answered_id(&arrival.id);
@@ -168,7 +168,7 @@ pub fn prepare_arrival(
     ty: MessageType,
     arrival: Notification,
 ) -> Result<PreparedArrival, Refusal>
-    ensures decided { Decides (arrival_tests row arrival) (IsArrival row (number_of ty) arrival) result }
+    ensures decided { Decides (arrival_tests row arrival) (IsArrival row ty arrival) result }
     ensures place { IfOk result (λ made. made.place + 1 < 2 ^ 32) }
 {
     let has_room = row.progress.entries < u32::MAX;

@@ -32,12 +32,9 @@ pub(crate) struct AskedCompletion {
 
 /// The type of the frame of a row that was found.
 fn type_of(found: &Option<EntryRow>) -> Option<MessageType>
-    ensures { result ≡ option_and_then (λ row. named_type row.kind) found.now }
+    ensures { result ≡ option_map (λ row. row.kind) found.now }
 {
-    match found {
-        Some(row) => MessageType::with_number(row.kind),
-        None => None,
-    }
+    found.as_ref().map(|row| row.kind)
 }
 
 fn asked_second(ty: Option<MessageType>) -> Option<AskedCompletion>

@@ -34,7 +34,7 @@ fn type_of_result<S: Alter>(
     brought: &NotificationResult,
 ) -> Result<MessageType, Refusal>
     ensures decided { HasCleanDisk (state S.Store tables.new) → (events : List Event) → IsStoreOf events (state S.Store tables.old)
-        → Decides (completion_tests events id.now completion brought.now) (λ ty. number_of ty ≡ notification_type (entries_of events id.now) (ModelId completion)) result }
+        → Decides (completion_tests events id.now completion brought.now) (λ ty. ty ≡ notification_type (entries_of events id.now) (ModelId completion)) result }
     ensures looks { Looks S.Store tables.old tables.new }
 {
     let open = open_request_of(tables, id, completion)?;

@@ -7,6 +7,7 @@ use Rattle.journal_model.specs.Spelling.{frame_bytes}
 use Rattle.journal_model.specs.Attempt.{attempts_begun}
 use Rattle.journal_model.specs.Start.{start_payload}
 use Rattle.journal_model.specs.Cause.{Cause, IsAccepted, those_that_hold, own_tests}
+use Rattle.protocol_types.specs.declared.message_type.MessageType.{MessageType}
 use Rattle.protocol_types.specs.Version.{version_number}
 use Rattle.store_tables.specs.declared.row.InvocationRow.{InvocationRow}
 use Rattle.store_tables.specs.declared.row.Progress.{Progress}
@@ -65,6 +66,6 @@ module _ (events : List Event) (id : Text) (now : ℕ) (row : InvocationRow) (it
         writes = writes ∙ begin_writes_are events id now row it;
         number = omega arith;
         version = version ∙ version_is events id now row it accepted;
-        start = frames.0 ∙ ap (frame_bytes 0x0000) (start_payload_is events id now row it);
-        journal = subst (λ (x : Text). AreFrames row_frame (journal_rows events x) made.frames.journal) (row_named events id now row it) frames.1;
+        start = frames.0 ∙ ap (frame_bytes MessageType.Start) (start_payload_is events id now row it);
+        journal = subst (λ (x : Text). AreFrames (journal_rows events x) made.frames.journal) (row_named events id now row it) frames.1;
       }

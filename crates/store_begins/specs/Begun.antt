@@ -6,6 +6,7 @@ use Rattle.journal_model.specs.Event.{Event}
 use Rattle.journal_model.specs.Journal.{version_of, object_state}
 use Rattle.journal_model.specs.Attempt.{attempts_begun}
 use Rattle.journal_model.specs.Start.{start_payload}
+use Rattle.protocol_types.specs.declared.message_type.MessageType.{MessageType}
 use Rattle.store_tables.specs.declared.row.InvocationRow.{InvocationRow}
 use Rattle.store_tables.specs.declared.row.StateRow.{StateRow}
 use Rattle.store_model.specs.Kept.{journal_rows, state_row}
@@ -21,8 +22,8 @@ pub record IsBegun (events : List Event) (id : Text) (now : ℕ) (made : Prepare
   pub writes : made.writes.items ≡ writes_of events (Event.Begin id now)
   pub number : made.number ≡ 1 + attempts_begun events id
   pub version : made.version ≡ version_of events id
-  pub start : made.frames.start ≡ frame_bytes 0x0000 (start_payload events id now)
-  pub journal : AreFrames row_frame (journal_rows events id) made.frames.journal
+  pub start : made.frames.start ≡ frame_bytes MessageType.Start (start_payload events id now)
+  pub journal : AreFrames (journal_rows events id) made.frames.journal
 
 -- the state that an attempt of this row's invocation is shown: all of its object's, or none
 abbrev pub shown_states : List Event → InvocationRow → List StateRow
@@ -31,4 +32,4 @@ shown_states events row = if row.is_whole then map (state_row row.object) (objec
 -- the frames that an attempt of this row's invocation is handed, which is begun at this moment
 abbrev pub AreHanded : List Event → InvocationRow → ℕ → AttemptFrames → Type 0
 AreHanded events row now frames =
-    (frames.start ≡ frame_bytes 0x0000 (start_of row (shown_states events row) now)) × AreFrames row_frame (journal_rows events row.id) frames.journal
+    (frames.start ≡ frame_bytes MessageType.Start (start_of row (shown_states events row) now)) × AreFrames (journal_rows events row.id) frames.journal

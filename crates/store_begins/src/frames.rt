@@ -1,6 +1,6 @@
 // Frames of what is recorded.
-ghost use Rattle.std.specs.Prelude.{◌≡◌, ◌%◌, ◌^◌, IfOk};
-ghost use Rattle.store_begins.specs.Frames.{AreFrames, framed};
+ghost use Rattle.std.specs.Prelude.{◌≡◌, IfOk};
+ghost use Rattle.store_begins.specs.Frames.{AreFrames};
 
 use bytes::BytesMut;
 use protocol_stream::put_frame;
@@ -15,21 +15,14 @@ pub struct JournalFrames {
     pub lengths: Vec<usize>,
 }
 
-/// The number of a type: the lowest sixteen bits of what a row has.
-fn short_kind(kind: u32) -> u16
-    ensures { result ≡ kind % 2 ^ 16 }
-{
-    (kind % 0x1_0000) as u16
-}
-
 /// The frames of the rows of a journal.
 pub(crate) fn journal_frames(alloc: Global, rows: &[EntryRow]) -> Result<JournalFrames, AllocError>
-    ensures { IfOk result (AreFrames framed rows.now) }
+    ensures { IfOk result (AreFrames rows.now) }
 {
     let mut bytes = BytesMut::new(alloc);
     let mut lengths = Vec::new(alloc);
     for row in rows {
-        let len = put_frame(&mut bytes, short_kind(row.kind), row.payload.as_slice())?;
+        let len = put_frame(&mut bytes, row.kind, row.payload.as_slice())?;
         lengths.push(len)?;
     }
     Ok(JournalFrames { bytes, lengths })

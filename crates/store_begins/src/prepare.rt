@@ -45,7 +45,7 @@ fn begun_start<S: Alter>(
     row: &InvocationRow,
     now: u64,
 ) -> Result<Bytes, Refusal>
-    ensures decided { HasCleanDisk (state S.Store tables.new) → (events : List Event) → IsStoreOf events (state S.Store tables.old) → Decides (payload_tests (start_of row.now (shown_states events row.now) now)) (λ start. start ≡ frame_bytes 0x0000 (start_of row.now (shown_states events row.now) now)) result }
+    ensures decided { HasCleanDisk (state S.Store tables.new) → (events : List Event) → IsStoreOf events (state S.Store tables.old) → Decides (payload_tests (start_of row.now (shown_states events row.now) now)) (λ start. start ≡ frame_bytes MessageType.Start (start_of row.now (shown_states events row.now) now)) result }
     ensures looks { Looks S.Store tables.old tables.new }
 {
     let states = shown_states(tables, row)?;
@@ -59,7 +59,7 @@ fn read_journal<S: Alter>(
     tables: &mut StoreTables<S>,
     id: &ByteStr,
 ) -> Result<JournalFrames, Refusal>
-    ensures told { HasCleanDisk (state S.Store tables.new) → (events : List Event) → IsStoreOf events (state S.Store tables.old) → Tells (AreFrames row_frame (journal_rows events id.now)) result }
+    ensures told { HasCleanDisk (state S.Store tables.new) → (events : List Event) → IsStoreOf events (state S.Store tables.old) → Tells (AreFrames (journal_rows events id.now)) result }
     ensures looks { Looks S.Store tables.old tables.new }
 {
     let rows = journal(tables, id)?;

@@ -95,7 +95,7 @@ pub(crate) fn start_frame(
     states: &[StateRow],
     now: u64,
 ) -> Result<Bytes, Refusal>
-    ensures { Decides (payload_tests (start_of row.now states.now now)) (λ start. start ≡ frame_bytes 0x0000 (start_of row.now states.now now)) result }
+    ensures { Decides (payload_tests (start_of row.now states.now now)) (λ start. start ≡ frame_bytes MessageType.Start (start_of row.now states.now now)) result }
 {
     let payload = start_payload(alloc, row, states, now)?;
     payload_frame(alloc, MessageType::Start, payload.as_slice())

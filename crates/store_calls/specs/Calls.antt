@@ -9,6 +9,7 @@ use Rattle.journal_model.specs.Journal.{version_of, entries_of}
 use Rattle.journal_model.specs.Attempt.{attempts_begun, is_live, input_left}
 use Rattle.journal_model.specs.Start.{start_payload}
 use Rattle.journal_model.specs.Cause.{causes_of}
+use Rattle.protocol_types.specs.declared.message_type.MessageType.{MessageType}
 use Rattle.store_refusals.specs.declared.refusal.Refusal.{Refusal}
 use Rattle.store_refusals.specs.declared.refusal.Refusal.TheVariants.{OutOfMemory}
 use Rattle.store_refusals.specs.Refused.{IsRefused}
@@ -28,7 +29,7 @@ Completes id completion brought (Err why) old new = Refuses (Event.Complete id c
 pub record Begins (id : Text) (now : ℕ) (begun : BegunAttempt) (old new : Standing) : Type 0 where
   pub number : begun.number ≡ 1 + attempts_begun old.events id
   pub version : begun.version ≡ version_of old.events id
-  pub start : begun.start ≡ frame_bytes 0x0000 (start_payload old.events id now)
+  pub start : begun.start ≡ frame_bytes MessageType.Start (start_payload old.events id now)
   pub leaves : Leaves (Event.Begin id now) id (Some []) old new
 
 abbrev pub BeginsAttempt : Text → (now : ℕ) → Result BegunAttempt Refusal → Standing → Standing → Type 0

@@ -1,10 +1,9 @@
 -- How what is kept of a message says which frame it is.
 use Rattle.std.specs.Prelude.{◌≡◌, ℕ, List, [], ◌∷◌, ◌++◌, Option, Some, None}
 use Rattle.journal_model.specs.Request.{Request, completions_asked}
-use Rattle.journal_model.specs.Spelling.{packed_numbers, repeated_bytes, suspension_payload, request_payload}
+use Rattle.journal_model.specs.Spelling.{packed_numbers, repeated_bytes, suspension_payload, request_payload, request_type}
 use Rattle.journal_model.specs.Event.{Behavior, Retry, Pause, Fail, Suspension, ForTree, ForAny, Frame}
 use Rattle.protocol_records.specs.declared.suspension_v6.SuspensionMessageV6.{SuspensionMessageV6}
-use Rattle.protocol_stream.specs.CommandFacts.{type_of_request}
 use Rattle.store_frames.specs.Requests.{suspension_of_lists}
 use Rattle.store_frames.specs.declared.frame.RecordedCommand.{RecordedCommand}
 use Rattle.store_frames.specs.declared.frame.ErrorBehavior.{ErrorBehavior}
@@ -29,7 +28,7 @@ moment_of _ = 0
 
 -- what is kept of a command is what is recorded of this request
 pub record IsCommand (request : Request) (command : RecordedCommand) : Type 0 where
-  pub kind : command.kind ≡ type_of_request request
+  pub kind : command.kind ≡ request_type request
   pub payload : command.payload ≡ request_payload request
   pub completion : command.completion ≡ first_asked (completions_asked request)
   pub second_completion : command.second_completion ≡ second_asked (completions_asked request)

@@ -8,6 +8,7 @@ use Rattle.journal_model.specs.Journal.{invocation_begun, is_busy}
 use Rattle.journal_model.specs.Cause.{Cause, Tests, is_empty, is_too_long}
 use Rattle.protocol_types.specs.declared.version.Version.{Version}
 use Rattle.protocol_types.specs.Version.{is_unsupported}
+use Rattle.protocol_types.specs.declared.message_type.MessageType.TheVariants.{InputCommand}
 use Rattle.store_tables.specs.declared.row.Progress.{Progress}
 use Rattle.store_tables.specs.declared.row.InvocationRow.{InvocationRow}
 use Rattle.store_tables.specs.declared.row.EntryRow.{EntryRow}
@@ -46,7 +47,7 @@ abbrev pub entry_of_input : NewInvocation → Bytes → EntryRow
 entry_of_input new payload = record {
   invocation = new.id;
   place = 0;
-  kind = 0x0400;
+  kind = InputCommand;
   payload = payload;
   completion = None;
   second_completion = None;

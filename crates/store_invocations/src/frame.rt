@@ -12,7 +12,7 @@ use store_refusals::Refusal;
 
 /// The frame of a payload as a message of this type, if the payload's length fits 32 bits.
 pub fn payload_frame(alloc: Global, ty: MessageType, payload: &[u8]) -> Result<Bytes, Refusal>
-    ensures { Decides (payload_tests payload.now) (λ frame. frame ≡ frame_bytes (number_of ty) payload.now) result }
+    ensures { Decides (payload_tests payload.now) (λ frame. frame ≡ frame_bytes ty payload.now) result }
 {
     let frame = frame_of(alloc, ty, payload)?;
     Ok(frame)

@@ -109,7 +109,7 @@ fn input_entry(new: &NewInvocation, payload: Bytes) -> Result<EntryRow, AllocErr
     Ok(EntryRow {
         invocation: new.id.clone()?,
         place: 0,
-        kind: u32::from(u16::from(MessageType::InputCommand)),
+        kind: MessageType::InputCommand,
         payload,
         completion: None,
         second_completion: None,

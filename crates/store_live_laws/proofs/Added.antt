@@ -7,6 +7,7 @@ use Rattle.journal_model.specs.Journal.{Entry, Recorded, Arrived, is_of, begins,
 use Rattle.journal_model.specs.Attempt.{Piece, begins_attempt, ends_live, closes_input, notification_type, arrival_piece, later_pieces, acknowledged, input_bytes, bytes_asked}
 use Rattle.journal_model.specs.Cause.{causes_of, IsAccepted}
 use Rattle.journal_laws.proofs.ObjectState.{begun_before}
+use Rattle.protocol_types.specs.declared.message_type.MessageType.{MessageType}
 use Rattle.store_tables.specs.declared.row.EntryRow.{EntryRow}
 use Rattle.store_model.specs.Places.{places_of_arrivals}
 use Rattle.store_lookups.specs.Lookups.{row_frame}
@@ -45,7 +46,7 @@ bytes_of_arrivals id before place [] all h e = refl
 bytes_of_arrivals id before place (Recorded request ∷ entries) all h e =
     bytes_of_arrivals id (before ++ Recorded request ∷ []) (place + 1) entries all h.1 (append_assoc before (Recorded request ∷ []) entries ∙ e)
 bytes_of_arrivals id before place (Arrived arrival ∷ entries) all h e =
-    ap₂ (λ (kind : ℕ) (rest : List ℕ). frame_bytes kind (notification_payload arrival) ++ rest)
+    ap₂ (λ (kind : MessageType) (rest : List ℕ). frame_bytes kind (notification_payload arrival) ++ rest)
     (kind_stays before (Arrived arrival ∷ entries) arrival.id h.0 ∙ ap (λ (some : List Entry). notification_type some arrival.id) e)
     (bytes_of_arrivals id (before ++ Arrived arrival ∷ []) (place + 1) entries all h.1 (append_assoc before (Arrived arrival ∷ []) entries ∙ e))
 
@@ -55,7 +56,7 @@ pieces_of_arrivals id before place [] all h e = refl
 pieces_of_arrivals id before place (Recorded request ∷ entries) all h e =
     pieces_of_arrivals id (before ++ Recorded request ∷ []) (place + 1) entries all h.1 (append_assoc before (Recorded request ∷ []) entries ∙ e)
 pieces_of_arrivals id before place (Arrived arrival ∷ entries) all h e =
-    ap₂ (λ (kind : ℕ) (rest : List PieceLeft). record { behind = place + 1; len = length (frame_bytes kind (notification_payload arrival)) } ∷ rest)
+    ap₂ (λ (kind : MessageType) (rest : List PieceLeft). record { behind = place + 1; len = length (frame_bytes kind (notification_payload arrival)) } ∷ rest)
     (kind_stays before (Arrived arrival ∷ entries) arrival.id h.0 ∙ ap (λ (some : List Entry). notification_type some arrival.id) e)
     (pieces_of_arrivals id (before ++ Arrived arrival ∷ []) (place + 1) entries all h.1 (append_assoc before (Arrived arrival ∷ []) entries ∙ e))
 

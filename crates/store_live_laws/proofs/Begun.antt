@@ -8,6 +8,7 @@ use Rattle.journal_model.specs.Journal.{Entry, Recorded, Arrived, invocation_beg
 use Rattle.journal_model.specs.Attempt.{attempts_begun, live_attempt, is_input_closed, entry_piece, notification_type, journal_pieces, input_pieces, input_bytes, bytes_handed}
 use Rattle.journal_model.specs.Cause.{IsAccepted}
 use Rattle.journal_laws.proofs.ObjectState.{begin_when_new, begun_before}
+use Rattle.protocol_types.specs.declared.message_type.MessageType.{MessageType}
 use Rattle.store_model.specs.Places.{places_of, journal_places, input_places}
 use Rattle.store_model.specs.Kept.{rows_from, rows_of_journal, journal_rows}
 use Rattle.store_lookups.proofs.Framing.{AreAskedBefore, all_asked_before, kind_stays, frames_found}
@@ -33,7 +34,7 @@ pieces_of_rows id before place (Recorded request ∷ entries) all h e =
     ap (λ (rest : List PieceLeft). record { behind = place + 1; len = length (request_frame request) } ∷ rest)
     (pieces_of_rows id (before ++ Recorded request ∷ []) (place + 1) entries all h.1 (append_assoc before (Recorded request ∷ []) entries ∙ e))
 pieces_of_rows id before place (Arrived arrival ∷ entries) all h e =
-    ap₂ (λ (kind : ℕ) (rest : List PieceLeft). record { behind = place + 1; len = length (frame_bytes kind (notification_payload arrival)) } ∷ rest)
+    ap₂ (λ (kind : MessageType) (rest : List PieceLeft). record { behind = place + 1; len = length (frame_bytes kind (notification_payload arrival)) } ∷ rest)
     (sym (kind_stays before (Arrived arrival ∷ entries) arrival.id h.0 ∙ ap (λ (some : List Entry). notification_type some arrival.id) e))
     (pieces_of_rows id (before ++ Arrived arrival ∷ []) (place + 1) entries all h.1 (append_assoc before (Arrived arrival ∷ []) entries ∙ e))
 

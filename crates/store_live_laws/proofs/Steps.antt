@@ -14,6 +14,9 @@ use Rattle.journal_model.specs.Journal.{Entry, Recorded, Arrived, completion, id
 use Rattle.journal_model.specs.Attempt.{Piece, begins_attempt, ends_live, live_attempt, closes_input, is_input_closed, notification_type, later_pieces, acknowledged, event_pieces, input_bytes, input_pieces, bytes_asked, handed_after, bytes_handed}
 use Rattle.journal_model.specs.Cause.{causes_of, IsAccepted}
 use Rattle.journal_laws.proofs.ObjectState.{begun_before}
+use Rattle.protocol_types.specs.declared.message_type.MessageType.{MessageType}
+use Rattle.protocol_types.specs.Feature.{has_feature}
+use Rattle.protocol_types.specs.declared.feature.Feature.TheVariants.{Acknowledgement}
 use Rattle.store_model.specs.Places.{places_of_arrivals, input_places}
 use Rattle.store_model.proofs.Same.{both_same, same_begun, foreign_adds}
 use Rattle.store_live.specs.declared.input.PieceLeft.{PieceLeft}
@@ -70,7 +73,7 @@ foreign_asks (Event.HandOut other attempt most) id e = rw e refl
 foreign_asks _ id e = refl
 
 foreign_plain : (version : ℕ) (event : Event) (id : Text) → is_of id event ≡ false → acknowledged version id event ≡ None
-foreign_plain version (Event.Take other attempt (Frame.RunOutcome n value true)) id e = by_test (nat_le 7 version)
+foreign_plain version (Event.Take other attempt (Frame.RunOutcome n value true)) id e = by_test (has_feature version Acknowledgement)
   where
     by_test : (b : Bool) → (if b && bytes_eq other id then Some n else None) ≡ None
     by_test true = rw e refl
@@ -161,7 +164,7 @@ is_acknowledged events id number n value (Some attempt) late kept =
     let start = starting_state events id in
     let entries = entries_of events id in
     let place : ℕ = 1 + length entries in
-    let frame : List ℕ = frame_bytes 0x0006 (acknowledgement_payload n) in
+    let frame : List ℕ = frame_bytes MessageType.ProposeRunCompletionAck (acknowledgement_payload n) in
     let piece : Piece = record { is_arrival = true; bytes = frame } in
     let more : entries_added start events id event entries ≡ Arrived (completion n (result_of_value value)) ∷ [] =
     mine_added start events event id entries (Arrived (completion n (result_of_value value)) ∷ []) (itself id) refl in

@@ -3,6 +3,7 @@ use Rattle.std.proofs.Common.{ℕ, ◌+◌, ◌-◌, ◌<◌, arith, nat_le, ◌
 use Rattle.journal_model.specs.Notification.{Bytes}
 use Rattle.journal_model.specs.Spelling.{frame_bytes}
 use Rattle.journal_model.specs.Attempt.{Piece, input_bytes}
+use Rattle.protocol_types.specs.declared.message_type.MessageType.{MessageType}
 use Rattle.store_tables.specs.declared.row.EntryRow.{EntryRow}
 use Rattle.store_model.specs.Places.{place_behind}
 use Rattle.store_live.specs.declared.input.PieceLeft.{PieceLeft}
@@ -34,7 +35,7 @@ place_counted behind (piece ∷ pieces) (place ∷ places) count =
     ap (λ (n : ℕ). if nat_le (length piece.bytes) count then n else behind) (place_counted (place + 1) pieces places (count - length piece.bytes))
 
 -- a frame has its header at least
-pub frame_full : (kind : ℕ) (payload : Bytes) → 0 < length (frame_bytes kind payload)
+pub frame_full : (kind : MessageType) (payload : Bytes) → 0 < length (frame_bytes kind payload)
 frame_full kind payload = omega arith
 
 pub rows_full : (rows : List EntryRow) → AreFrames (map row_piece rows)

@@ -11,6 +11,9 @@ use Rattle.journal_model.specs.Event.{Frame, Event}
 use Rattle.journal_model.specs.Journal.{Entry, Recorded, Arrived, starting_state, entries_added, is_of, is_tick, id_of_signal, completion, version_of, invocation_begun, is_open, entries_of, ends_attempt}
 use Rattle.journal_model.specs.Attempt.{Piece, attempts_begun, live_attempt, is_live, is_input_closed, input_pieces, bytes_handed, input_left, notification_type, acknowledged}
 use Rattle.journal_model.specs.Cause.{Cause, UnknownInvocation, InvocationClosed, AttemptNotLive, InputRemains, InputAlreadyClosed, is_empty, those_that_hold, causes_of, IsAccepted}
+use Rattle.protocol_types.specs.declared.message_type.MessageType.{MessageType}
+use Rattle.protocol_types.specs.Feature.{has_feature}
+use Rattle.protocol_types.specs.declared.feature.Feature.TheVariants.{Acknowledgement}
 use Rattle.store_tables.specs.declared.row.EntryRow.{EntryRow}
 use Rattle.store_model.specs.Places.{input_places, handed_place}
 use Rattle.store_model.specs.Kept.{entry_row, journal_rows}
@@ -117,10 +120,10 @@ AgreesArrived = (events : List Event) (event : Event) (id : Text) (arrival : Arr
     → Agrees (event ∷ events) id (option_map (after_put (1 + length (entries_of events id)) (frame_bytes (notification_type (entries_of events id) arrival.id) (notification_payload arrival))) attempt)
 
 abbrev pub AgreesAcknowledged : Type 0
-AgreesAcknowledged = (events : List Event) (id : Text) (number n : ℕ) (value : NonEmptyValue) (attempt : Option LiveAttempt) → nat_le 7 (version_of events id) ≡ true
+AgreesAcknowledged = (events : List Event) (id : Text) (number n : ℕ) (value : NonEmptyValue) (attempt : Option LiveAttempt) → has_feature (version_of events id) Acknowledgement ≡ true
     → Agrees events id attempt
     → Agrees (Event.Take id number (Frame.RunOutcome n value true) ∷ events) id
-    (option_map (after_put (1 + length (entries_of events id)) (frame_bytes 0x0006 (acknowledgement_payload n))) attempt)
+    (option_map (after_put (1 + length (entries_of events id)) (frame_bytes MessageType.ProposeRunCompletionAck (acknowledgement_payload n))) attempt)
 
 abbrev pub AgreesHandedOut : Type 0
 AgreesHandedOut = (events : List Event) (id : Text) (number most : ℕ) (attempt : Option LiveAttempt)

@@ -12,6 +12,7 @@ use Rattle.journal_model.specs.Journal.{Entry, Recorded, Arrived, invocation_beg
 use Rattle.journal_model.specs.Attempt.{notification_type}
 use Rattle.protocol_types.specs.declared.version.Version.{Version}
 use Rattle.protocol_types.specs.Version.{oldest_version, version_at}
+use Rattle.protocol_types.specs.declared.message_type.MessageType.TheVariants.{InputCommand}
 use Rattle.store_tables.specs.Records.{Records, is_of_object}
 use Rattle.store_tables.specs.declared.row.InvocationRow.{InvocationRow}
 use Rattle.store_tables.specs.declared.row.EntryRow.{EntryRow}
@@ -61,7 +62,7 @@ abbrev pub input_row : NewInvocation → EntryRow
 input_row new = record {
   invocation = new.id;
   place = 0;
-  kind = 0x0400;
+  kind = InputCommand;
   payload = input_payload new.headers new.input;
   completion = None;
   second_completion = None;

@@ -15,6 +15,9 @@ use Rattle.journal_model.specs.Cause.{Cause, IsAccepted, those_that_hold}
 use Rattle.journal_laws.proofs.ObjectState.{no_entries}
 use Rattle.sql_tables.specs.declared.read.ReadError.{ReadError}
 use Rattle.sql_tables.specs.declared.read.ReadError.TheVariants.{Refused, Foreign, OutOfMemory}
+use Rattle.protocol_types.specs.declared.message_type.MessageType.{MessageType}
+use Rattle.protocol_types.specs.declared.message_type.MessageType.TheVariants.{CallInvocationIdCompletionNotification, CallCompletionNotification}
+use Rattle.protocol_types.specs.MessageType.{is_command}
 use Rattle.store_tables.specs.declared.row.EntryRow.{EntryRow}
 use Rattle.store_tables.specs.Questions.{IsJournal, IsNoJournal}
 use Rattle.store_model.specs.Kept.{entry_row, journal_rows, rows_from, rows_of_journal}
@@ -25,7 +28,7 @@ use Rattle.store_refusals.specs.Refused.{IsRefused, is_circumstance, reading_ref
 use Rattle.store_refusals.specs.Prepared.{Keeps}
 use Rattle.store_invocations.specs.Rows.{known_tests}
 use Rattle.store_reads.specs.declared.recorded.RecordedEntry.{RecordedEntry}
-use Rattle.store_reads.specs.Told.{entries_told, entry_read, is_entry, is_request, kind_by, told_from}
+use Rattle.store_reads.specs.Told.{entries_told, entry_read, is_entry, kind_by, told_from}
 
 -- ---- what is read
 
@@ -42,22 +45,22 @@ asked_journal events id s Foreign is_open none keeps =
 
 -- ---- the kinds
 
-request_is : (request : Request) → is_request (request_type request) ≡ true
+request_is : (request : Request) → is_command (request_type request) ≡ true
 request_is (Request.Output value name) = refl
 request_is _ = refl
 
-of_a_call : {A : Type 0} (read : ℕ → A) (x : A) → read 0x800e ≡ x → read 0x800d ≡ x → (b : Bool) → read (if b then 0x800e else 0x800d) ≡ x
-of_a_call read x first second true = first
-of_a_call read x first second false = second
+of_a_call : (b : Bool) → is_command (if b then CallInvocationIdCompletionNotification else CallCompletionNotification) ≡ false
+of_a_call true = refl
+of_a_call false = refl
 
-completion_is_no_request : (request : Request) (n : ℕ) → is_request (completion_type request n) ≡ false
-completion_is_no_request (Request.CallService call m k name) n = of_a_call is_request false refl refl (n == m)
+completion_is_no_request : (request : Request) (n : ℕ) → is_command (completion_type request n) ≡ false
+completion_is_no_request (Request.CallService call m k name) n = of_a_call (n == m)
 completion_is_no_request _ n = refl
 
-arrival_is_no_request : (entries : List Entry) (id : NotificationId) → is_request (notification_type entries id) ≡ false
+arrival_is_no_request : (entries : List Entry) (id : NotificationId) → is_command (notification_type entries id) ≡ false
 arrival_is_no_request entries (CompletionId n) = by_request (request_asking entries n)
   where
-    by_request : (o : Option Request) → is_request (type_of_completion o n) ≡ false
+    by_request : (o : Option Request) → is_command (type_of_completion o n) ≡ false
     by_request None = refl
     by_request (Some request) = completion_is_no_request request n
 arrival_is_no_request entries (SignalId n) = refl
@@ -65,7 +68,7 @@ arrival_is_no_request entries (SignalName name) = refl
 
 -- ---- the rows
 
-abbrev entry_with : ℕ → Bool → ℕ → Bytes → RecordedEntry
+abbrev entry_with : ℕ → Bool → MessageType → Bytes → RecordedEntry
 entry_with place b ty payload = record { place = place; kind = kind_by b; ty = ty; payload = payload }
 
 read_if : EntryRow → List EntryRow → Bool → List RecordedEntry
@@ -86,7 +89,7 @@ read_from id before place (Recorded request ∷ entries) all later h e =
 read_from id before place (Arrived arrival ∷ entries) all later h e =
     ap (read_if (entry_row id before place (Arrived arrival)) (filter is_entry (rows_from id (before ++ Arrived arrival ∷ []) (place + 1) entries))) (ap not later)
     ∙ ap (λ (b : Bool). entry_with place b (notification_type before arrival.id) (notification_payload arrival) ∷ map entry_read (filter is_entry (rows_from id (before ++ Arrived arrival ∷ []) (place + 1) entries))) (arrival_is_no_request before arrival.id)
-    ∙ ap₂ (λ (ty : ℕ) (more : List RecordedEntry). entry_with place false ty (notification_payload arrival) ∷ more)
+    ∙ ap₂ (λ (ty : MessageType) (more : List RecordedEntry). entry_with place false ty (notification_payload arrival) ∷ more)
     (kind_stays before (Arrived arrival ∷ entries) arrival.id h.0 ∙ ap (λ (some : List Entry). notification_type some arrival.id) e)
     (read_from id (before ++ Arrived arrival ∷ []) (place + 1) entries all (behind_first place (place + 1 == 0) refl) h.1 (append_assoc before (Arrived arrival ∷ []) entries ∙ e))
 

@@ -1,20 +1,17 @@
 -- What is told of the journal of an invocation.
-use Rattle.std.specs.Prelude.{ℕ, ◌+◌, ◌==◌, nat_lt, Bool, true, false, not, ◌&&◌, List, [], ◌∷◌}
+use Rattle.std.specs.Prelude.{ℕ, ◌+◌, ◌==◌, Bool, true, false, not, List, [], ◌∷◌}
 use Rattle.journal_model.specs.Notification.{Text}
 use Rattle.journal_model.specs.Spelling.{request_type, request_payload, notification_payload}
 use Rattle.journal_model.specs.Event.{Event}
 use Rattle.journal_model.specs.Journal.{Entry, Recorded, Arrived, entries_of}
 use Rattle.journal_model.specs.Attempt.{notification_type}
+use Rattle.protocol_types.specs.MessageType.{is_command}
 use Rattle.store_tables.specs.declared.row.EntryRow.{EntryRow}
 use Rattle.store_reads.specs.declared.recorded.EntryKind.{EntryKind}
 use Rattle.store_reads.specs.declared.recorded.EntryKind.TheVariants as kinds
 use Rattle.store_reads.specs.declared.recorded.RecordedEntry.{RecordedEntry}
 
 -- ---- of a row
-
--- the numbers of the types of requests
-abbrev pub is_request : ℕ → Bool
-is_request ty = nat_lt 0x0400 ty && nat_lt ty 0x8000
 
 abbrev pub kind_by : Bool → EntryKind
 kind_by true = kinds.Request
@@ -25,7 +22,7 @@ abbrev pub is_entry : EntryRow → Bool
 is_entry row = not (row.place == 0)
 
 abbrev pub entry_read : EntryRow → RecordedEntry
-entry_read row = record { place = row.place; kind = kind_by (is_request row.kind); ty = row.kind; payload = row.payload }
+entry_read row = record { place = row.place; kind = kind_by (is_command row.kind); ty = row.kind; payload = row.payload }
 
 -- ---- of the events
 

@@ -4,21 +4,18 @@ ghost use Rattle.std.specs.Prelude.{◌≡◌, List, filter, map, IfOk};
 ghost use Rattle.sqlite.specs.Held.{state};
 ghost use Rattle.sqlite.specs.State.{HasCleanDisk};
 ghost use Rattle.journal_model.specs.Event.{Event};
+ghost use Rattle.protocol_types.specs.MessageType.{is_command};
 ghost use Rattle.store_tables.specs.Looks.{Looks};
 ghost use Rattle.store_model.specs.Kept.{journal_rows};
 ghost use Rattle.store_invocations.specs.Rows.{Decides, IsStoreOf, known_tests};
-ghost use Rattle.store_reads.specs.Told.{entries_told, entry_read, is_entry, is_request, kind_by};
+ghost use Rattle.store_reads.specs.Told.{entries_told, entry_read, is_entry, kind_by};
 
 use bytes::{ByteStr, Bytes};
+use protocol_types::MessageType;
 use sqlite::Alter;
 use std::alloc::{AllocError, Global};
 use store_refusals::Refusal;
 use store_tables::{EntryRow, StoreTables, journal};
-
-// The number of the type of an input, below those of requests; and the first one that is a notification's.
-const INPUT_TYPE: u32 = 0x0400;
-
-const FIRST_NOTIFICATION: u32 = 0x8000;
 
 /// What is recorded at a place.
 #[derive(Clone, Copy, Debug)]
@@ -35,15 +32,15 @@ pub struct RecordedEntry {
     /// From 1 on: the input has place 0.
     pub place: u32,
     pub kind: EntryKind,
-    /// The number of the frame's type. That of an arrival is the type by which its request is completed.
-    pub ty: u32,
+    /// The type of the frame. That of an arrival is the type by which its request is completed.
+    pub ty: MessageType,
     pub payload: Bytes,
 }
 
-fn kind_of(ty: u32) -> EntryKind
-    ensures { result ≡ kind_by (is_request ty) }
+fn kind_of(ty: MessageType) -> EntryKind
+    ensures { result ≡ kind_by (is_command ty) }
 {
-    if INPUT_TYPE < ty && ty < FIRST_NOTIFICATION {
+    if ty.is_command() {
         EntryKind::Request
     } else {
         EntryKind::Arrival

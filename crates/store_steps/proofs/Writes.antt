@@ -28,8 +28,7 @@ use Rattle.store_model.proofs.Following.{follows}
 use Rattle.store_steps.specs.Stateless.{is_of_state, LeavesState}
 use Rattle.store_steps.specs.Taken.{IsReply}
 use Rattle.protocol_types.specs.MessageType.{number_of}
-use Rattle.protocol_stream.specs.CommandFacts.{facts_of, type_of_request}
-use Rattle.protocol_stream.proofs.Facts.{request_number}
+use Rattle.protocol_stream.specs.CommandFacts.{facts_of}
 use Rattle.store_steps.specs.Told.{puts_out, value_put_out, command_row, tests_of_told, reply_to_told, after_recorded, number_of_behavior, does_fail, after_suspension, after_error, after_end, error_told, writes_of_told}
 use Rattle.store_steps.proofs.Stateless.{no_answer, none_at_once, no_writes, nothing_written}
 use Rattle.store_steps.proofs.Tests.{asked_same}
@@ -62,8 +61,8 @@ row_same id before place request command h = λ i. record {
   moment = moment i;
 }
   where
-    kind : request_type request ≡ number_of command.kind
-    kind = sym (request_number request) ∙ ap number_of (sym h.kind)
+    kind : request_type request ≡ command.kind
+    kind = sym h.kind
 
     first : first_of (completions_asked request) ≡ command.completion
     first = first_same (completions_asked request) ∙ sym h.completion
@@ -74,7 +73,7 @@ row_same id before place request command h = λ i. record {
     moment : moment_of (sleep_in request) ≡ command.moment
     moment = moment_same request ∙ sym h.moment
 
-output_same : (request : Request) → output_payload request ≡ (if puts_out (facts_of (type_of_request request)) then Some (request_payload request) else None)
+output_same : (request : Request) → output_payload request ≡ (if puts_out (facts_of (request_type request)) then Some (request_payload request) else None)
 output_same (Request.Output value name) = refl
 output_same _ = refl
 

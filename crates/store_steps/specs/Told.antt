@@ -45,7 +45,7 @@ abbrev pub command_row : Text → ℕ → RecordedCommand → EntryRow
 command_row id place command = record {
   invocation = id;
   place = place;
-  kind = number_of command.kind;
+  kind = command.kind;
   payload = command.payload;
   completion = command.completion;
   second_completion = command.second_completion;

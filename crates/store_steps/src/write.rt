@@ -86,7 +86,7 @@ fn entry_of(id: ByteStr, place: u32, command: RecordedCommand) -> EntryRow
     EntryRow {
         invocation: id,
         place,
-        kind: u32::from(u16::from(command.kind)),
+        kind: command.kind,
         payload: command.payload,
         completion: command.completion,
         second_completion: command.second_completion,

@@ -1,9 +1,12 @@
 -- The record that has these cells.
-use Rattle.std.proofs.Common.{◌≡◌, ◌==◌, if◌then◌else◌, ℕ, pos, Bool, true, false, List, Option, None, Some, refl, ap, codes, arith, ◌∙◌, unwrap_or}
+use Rattle.std.proofs.Common.{◌≡◌, ◌<◌, ◌^◌, ◌==◌, if◌then◌else◌, ℕ, pos, Bool, true, false, List, Option, None, Some, refl, ap, codes, arith, ◌∙◌, unwrap_or}
 use Rattle.std.specs.Prelude.{IfSome, nat_abs}
 use Rattle.std.specs.Int.{w64, cast_unsigned}
 use Rattle.std.specs.Ordering.{int_eq}
 use Rattle.std.proofs.lemmas.Int.{of_z-to_z}
+use Rattle.protocol_types.specs.declared.message_type.MessageType.{MessageType}
+use Rattle.protocol_types.specs.declared.message_type.MessageType.TheVariants.{Start}
+use Rattle.protocol_types.specs.MessageType.{number_of}
 use Rattle.protocol_types.specs.declared.version.Version.{Version}
 use Rattle.protocol_types.specs.Version.{oldest_version, version_at, version_number}
 use Rattle.protocol_types.proofs.Versions.{versions_read_back}
@@ -13,6 +16,8 @@ use Rattle.sqlite.specs.Values.{or_null}
 use Rattle.sqlite_value.specs.Order.{Row, column, bytes}
 use Rattle.sqlite_rules.specs.Edit.{id_in}
 use Rattle.sql_tables.specs.Cells.{IsLong, flag_cell, long_cell, short_cell}
+use Rattle.store_tables.specs.Kinds.{kept_kind, kind_kept}
+use Rattle.store_tables.proofs.KeptKinds.{kind_back}
 use Rattle.store_tables.specs.Records.{Closing, EntryRow, FitsEntry, FitsInvocation, FitsError, FitsMark, FitsState, InvocationRow, LastError, Mark, StateRow, cells_of_mark, closing_cell, delay_of, entry_cells, invocation_cells, state_cells, the_mark}
 use Rattle.store_tables.specs.declared.row.Closing.TheVariants.{Ended, Failed}
 
@@ -69,11 +74,18 @@ state_back_is s fits = refl
 
 -- ---- entries
 
+kind_in : Value → MessageType
+kind_in v = unwrap_or (kind_kept (short_in v)) Start
+
+kind_in_back : (kind : MessageType) → number_of kind < 2 ^ 16 → kind_in (short_cell (kept_kind kind)) ≡ kind
+unfolding kind_in
+kind_in_back kind small = ap (λ (o : Option MessageType). unwrap_or o Start) (ap kind_kept (short_back (kept_kind kind)) ∙ kind_back kind small)
+
 pub entry_back : Row → EntryRow
 entry_back row = record {
   invocation = bytes (column row 0);
   place = short_in (column row 1);
-  kind = short_in (column row 2);
+  kind = kind_in (column row 2);
   payload = bytes (column row 3);
   completion = there short_in (column row 4);
   second_completion = there short_in (column row 5);
@@ -83,7 +95,7 @@ entry_back row = record {
 
 pub entry_back_is : (e : EntryRow) → FitsEntry e → entry_back (entry_cells e) ≡ e
 unfolding entry_back
-entry_back_is e fits = rw (short_back e.place, short_back e.kind, shorts_back e.completion, shorts_back e.second_completion, shorts_back e.answered, long_back e.moment fits.moment) refl
+entry_back_is e fits = rw (short_back e.place, kind_in_back e.kind fits.kind, shorts_back e.completion, shorts_back e.second_completion, shorts_back e.answered, long_back e.moment fits.moment) refl
 
 -- ---- invocations
 

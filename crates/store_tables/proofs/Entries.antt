@@ -18,6 +18,7 @@ use Rattle.sql_tables.proofs.Cells.{cast_or_null}
 use Rattle.sql_tables.proofs.Writes.{cast_null, cast_int}
 use Rattle.store_tables.specs.Tables.{store_schema, entry_columns, entry_keys}
 use Rattle.store_tables.specs.Statements.{add_entry_text}
+use Rattle.store_tables.specs.Kinds.{kept_kind}
 use Rattle.store_tables.specs.Records.{EntryRow, FitsEntry, entry_cells, with_entry}
 use Rattle.store_tables.proofs.Moves.{IsInsert, Moves, entries_turned, inserted}
 
@@ -32,7 +33,7 @@ cast_shorts : (o : Option ℕ) → cast Integer (or_null short_cell o) ≡ or_nu
 cast_shorts = cast_or_null Integer short_cell cast_null (λ n. cast_int (pos n))
 
 casts : (e : EntryRow) → cast_all entry_columns (entry_cells e) ≡ entry_cells e
-casts e = rw (cast_int (pos e.place), cast_int (pos e.kind), cast_shorts e.completion, cast_shorts e.second_completion, cast_shorts e.answered, cast_int (cast_signed w64 e.moment)) refl
+casts e = rw (cast_int (pos e.place), cast_int (pos (kept_kind e.kind)), cast_shorts e.completion, cast_shorts e.second_completion, cast_shorts e.answered, cast_int (cast_signed w64 e.moment)) refl
 
 pub entry_added : (e : EntryRow) → FitsEntry e → (old new : State) → old.now.schema ≡ store_schema → HasRun add_entry_text (entry_cells e) old new → Moves (with_entry e) old new
 entry_added e fits old new has run =

@@ -6,6 +6,7 @@ pub mod Columns
 pub mod Entries
 pub mod Found
 pub mod Invocations
+pub mod KeptKinds
 pub mod Making
 pub mod Matching
 pub mod Moves

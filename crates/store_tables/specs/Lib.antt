@@ -1,5 +1,6 @@
 pub mod Asks
 pub mod Indexes
+pub mod Kinds
 pub mod Parts
 pub mod Questions
 pub mod Records

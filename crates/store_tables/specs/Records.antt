@@ -1,5 +1,5 @@
 -- What the store keeps, with no word of SQL, and the rows that it is kept in.
-use Rattle.std.specs.Prelude.{ℕ, List, [], ◌∷◌, ◌++◌, map, filter, not, ◌&&◌, Bool, bytes_eq, codes, Option, None, Some, IfSome, IsUtf8, if◌then◌else◌}
+use Rattle.std.specs.Prelude.{ℕ, ◌<◌, ◌^◌, List, [], ◌∷◌, ◌++◌, map, filter, not, ◌&&◌, Bool, bytes_eq, codes, Option, None, Some, IfSome, IsUtf8, if◌then◌else◌}
 use Rattle.std.specs.List.{AllByRecursion}
 use Rattle.std.specs.List.Sorted.{IsPermutation}
 use Rattle.sqlite.specs.declared.types.Value.{Value}
@@ -7,9 +7,11 @@ use Rattle.sqlite.specs.declared.types.Value.TheVariants.{Text, Blob}
 use Rattle.sqlite.specs.Values.{or_null}
 use Rattle.sqlite_value.specs.Order.{Row, column}
 use Rattle.sqlite_trees.specs.Tree.{Trees}
+use Rattle.protocol_types.specs.MessageType.{number_of}
 use Rattle.protocol_types.specs.Version.{version_number}
 use Rattle.sql_tables.specs.Cells.{IsLong, IsShort, flag_cell, long_cell, short_cell}
 use Rattle.sql_tables.specs.Content.{HasRows}
+use Rattle.store_tables.specs.Kinds.{kept_kind}
 pub use Rattle.store_tables.specs.declared.row.Closing.{Closing}
 pub use Rattle.store_tables.specs.declared.row.LastError.{LastError}
 pub use Rattle.store_tables.specs.declared.row.Progress.{Progress}
@@ -57,7 +59,7 @@ pub record FitsInvocation (i : InvocationRow) : Type 0 where
 pub record FitsEntry (e : EntryRow) : Type 0 where
   pub invocation : IsUtf8 e.invocation
   pub place : IsShort e.place
-  pub kind : IsShort e.kind
+  pub kind : number_of e.kind < 2 ^ 16
   pub completion : IfSome e.completion IsShort
   pub second_completion : IfSome e.second_completion IsShort
   pub answered : IfSome e.answered IsShort
@@ -88,7 +90,7 @@ invocation_cells i = Text i.id ∷ Text i.object ∷ short_cell (version_number 
 
 abbrev pub entry_cells : EntryRow → Row
 entry_cells e =
-    Text e.invocation ∷ short_cell e.place ∷ short_cell e.kind ∷ Blob e.payload
+    Text e.invocation ∷ short_cell e.place ∷ short_cell (kept_kind e.kind) ∷ Blob e.payload
     ∷ or_null short_cell e.completion ∷ or_null short_cell e.second_completion ∷ or_null short_cell e.answered ∷ long_cell e.moment ∷ []
 
 abbrev pub state_cells : StateRow → Row

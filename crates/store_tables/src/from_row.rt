@@ -1,15 +1,18 @@
 //! Records, read from their rows.
 
-ghost use Rattle.std.specs.Prelude.{◌≡◌, ◌≢◌, IfErr, IfOk};
+ghost use Rattle.std.specs.Prelude.{◌≡◌, ◌≢◌, ◌<◌, ◌^◌, IfErr, IfOk};
 ghost use Rattle.sqlite_value.specs.Order.{column};
 ghost use Rattle.sqlite.specs.Values.{or_null};
+ghost use Rattle.protocol_types.specs.MessageType.{number_of};
 ghost use Rattle.protocol_types.specs.Version.{version_number};
 ghost use Rattle.sql_tables.specs.Cells.{short_cell};
+ghost use Rattle.store_tables.specs.Kinds.{kept_kind};
 ghost use Rattle.store_tables.specs.Parts.{AreCounts, IsErrorAt, IsProgressAt};
 ghost use Rattle.store_tables.specs.Records.{FitsEntry, FitsInvocation, FitsState, FitsMark, InvocationRow as Invocation, EntryRow as Entry, Mark as Own, StateRow as State, cells_of_mark, closing_cell, entry_cells, invocation_cells, state_cells};
 
+use crate::kind::kind_kept;
 use crate::row::{Closing, EntryRow, InvocationRow, LastError, Mark, Progress, StateRow};
-use protocol_types::Version;
+use protocol_types::{MessageType, Version};
 use sql_tables::read::{
     ReadError, blob_at, blob_or_none_at, flag_at, long_at, long_or_none_at, short_at,
     short_or_none_at, text_at, text_or_none_at,
@@ -68,6 +71,17 @@ impl Stored for StateRow {
     }
 }
 
+fn kind_from(row: &Row) -> Result<MessageType, ReadError>
+    ensures ok { IfOk result (λ kind. (short_cell (kept_kind kind) ≡ column row.now 2) × (number_of kind < 2 ^ 16)) }
+    ensures foreign { IfErr result (λ e. e ≡ ReadError.Foreign → (x : Entry) → FitsEntry x → entry_cells x ≢ row.now) }
+{
+    let number = short_at(row, 2)?;
+    match kind_kept(number) {
+        Some(kind) => Ok(kind),
+        None => Err(ReadError::Foreign),
+    }
+}
+
 fn entry_from(alloc: Global, row: &Row) -> Result<EntryRow, ReadError>
     ensures ok { IfOk result (λ e. (entry_cells e ≡ row.now) × FitsEntry e) }
     ensures foreign { IfErr result (λ e. e ≡ ReadError.Foreign → (x : Entry) → FitsEntry x → entry_cells x ≢ row.now) }
@@ -76,7 +90,7 @@ fn entry_from(alloc: Global, row: &Row) -> Result<EntryRow, ReadError>
         return Err(ReadError::Foreign);
     }
     let place = short_at(row, 1)?;
-    let kind = short_at(row, 2)?;
+    let kind = kind_from(row)?;
     let completion = short_or_none_at(row, 4)?;
     let second_completion = short_or_none_at(row, 5)?;
     let answered = short_or_none_at(row, 6)?;

@@ -3,6 +3,7 @@
 #![tactic(auto)]
 
 mod from_row;
+mod kind;
 mod layout;
 mod opening;
 mod order;

@@ -1,7 +1,7 @@
 //! What is recorded of invocations, as values.
 
 use bytes::{ByteStr, Bytes};
-use protocol_types::Version;
+use protocol_types::{MessageType, Version};
 
 /// How an invocation was closed.
 #[derive(Clone, Copy, Debug, PartialEq, Eq)]
@@ -65,8 +65,8 @@ pub struct InvocationRow {
 pub struct EntryRow {
     pub invocation: ByteStr,
     pub place: u32,
-    /// The number of its frame's type.
-    pub kind: u32,
+    /// The type of its frame.
+    pub kind: MessageType,
     pub payload: Bytes,
     /// The completion ids that a request asks for.
     pub completion: Option<u32>,

@@ -11,6 +11,7 @@ ghost use Rattle.store_tables.specs.Looks.{Lasts, Makes};
 ghost use Rattle.store_tables.specs.Records.{applied, closing_cell, delay_of, with_entry, with_invocation, with_progress, with_state, without_state, without_states};
 ghost use Rattle.store_tables.specs.Steps.{Alters, IsStore};
 
+use crate::kind::kept_kind;
 use crate::row::{Closing, EntryRow, InvocationRow, LastError, Progress, StateRow, Write};
 use crate::tables::StoreTables;
 use bytes::{ByteStr, Bytes};
@@ -150,7 +151,7 @@ fn add_entry<S: Alter>(tx: &mut Transaction<'_, S>, entry: &EntryRow) -> Result<
         &[
             text(&entry.invocation),
             short(entry.place),
-            short(entry.kind),
+            short(kept_kind(entry.kind)),
             blob(&entry.payload),
             short_or_null(entry.completion),
             short_or_null(entry.second_completion),

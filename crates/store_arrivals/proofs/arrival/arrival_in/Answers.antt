@@ -13,13 +13,13 @@ arrival_with-requires-clause-framed c = long_enough _ (notification_payload c.ar
 pub returns-in_ok-made-in-Ok-clause-decided : goal.returns-in_ok-made-in-Ok-clause-decided
 returns-in_ok-made-in-Ok-clause-decided c = (
   c.in-Ok.ensures.0,
-  arrival_made c.args.row (number_of c.args.ty) c.args.arrival c.in-Ok.frame c.in_ok-made-in-Ok.made c.in-Ok.ensures.1
+  arrival_made c.args.row c.args.ty c.args.arrival c.in-Ok.frame c.in_ok-made-in-Ok.made c.in-Ok.ensures.1
       (rw c.answered_id-answered.ensures at c.in_ok-made-in-Ok.ensures.written),
 )
 
 pub returns-in_err-made-in-Ok-clause-decided : goal.returns-in_err-made-in-Ok-clause-decided
 returns-in_err-made-in-Ok-clause-decided c =
-    refused_memory (payload_tests (notification_payload c.args.arrival)) (IsArrival c.args.row (number_of c.args.ty) c.args.arrival)
+    refused_memory (payload_tests (notification_payload c.args.arrival)) (IsArrival c.args.row c.args.ty c.args.arrival)
     c.from_residual.result c.from_residual.ensures.1
 
 pub returns-in-Err-clause-decided : goal.returns-in-Err-clause-decided

@@ -9,7 +9,7 @@ use Rattle.store_arrivals.proofs.result.prepare_for.Goals as goal
 pub returns-in-Ok-clause-decided : goal.returns-in-Ok-clause-decided
 returns-in-Ok-clause-decided g c clean events store of =
     let told = c.in-Ok.ensures.decided clean events store in
-    all_ready events c.args.id.now c.args.completion c.args.brought c.args.row (number_of c.in-Ok.ty) of told.0 told.1 c.prepare_arrival.result c.prepare_arrival.ensures.decided
+    all_ready events c.args.id.now c.args.completion c.args.brought c.args.row c.in-Ok.ty of told.0 told.1 c.prepare_arrival.result c.prepare_arrival.ensures.decided
 
 pub returns-in-Err-clause-decided : goal.returns-in-Err-clause-decided
 returns-in-Err-clause-decided g c clean events store of =

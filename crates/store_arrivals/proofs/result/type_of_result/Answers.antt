@@ -17,7 +17,7 @@ returns-in_err-open-clause-decided g c clean events store =
     let id = c.args.id.now in
     let n = c.args.completion in
     let tests = completion_tests events id n c.args.brought.now in
-    decided_err tests (λ ty. number_of ty ≡ notification_type (entries_of events id) (CompletionId n)) c.from_residual.result c.from_residual.ensures.1 (λ why gives.
+    decided_err tests (λ ty. ty ≡ notification_type (entries_of events id) (CompletionId n)) c.from_residual.result c.from_residual.ensures.1 (λ why gives.
     subst (IsRefused (those_that_hold tests)) (sym gives) (refused_anyway tests _ (c.in_err-open.ensures.told clean events store)))
 
 pub returns-in-None-clause-decided : goal.returns-in-None-clause-decided
@@ -28,6 +28,6 @@ returns-in-None-clause-decided g c clean events store =
 pub returns-in-Some-clause-decided : goal.returns-in-Some-clause-decided
 returns-in-Some-clause-decided g c clean events store =
     let n = c.args.completion in
-    subst (λ r. Decides (completion_tests events c.args.id.now n c.args.brought.now) (λ ty. number_of ty ≡ notification_type (entries_of events c.args.id.now) (CompletionId n)) r)
+    subst (λ r. Decides (completion_tests events c.args.id.now n c.args.brought.now) (λ ty. ty ≡ notification_type (entries_of events c.args.id.now) (CompletionId n)) r)
     (sym c.type_given.ensures)
     (given (entries_of events c.args.id.now) n c.args.brought.now c.in-Some.asked (sym c.in-Some.is ∙ c.in_ok-open.ensures.told clean events store))

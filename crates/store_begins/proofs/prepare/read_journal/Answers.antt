@@ -4,10 +4,8 @@ use Rattle.sqlite.specs.State.{State, HasCleanDisk}
 use Rattle.store_tables.specs.declared.row.EntryRow.{EntryRow}
 use Rattle.store_refusals.specs.Refused.{IsRefused}
 use Rattle.store_model.specs.Kept.{journal_rows}
-use Rattle.store_lookups.specs.Lookups.{row_frame}
 use Rattle.store_invocations.proofs.Reading.{told_err}
-use Rattle.store_begins.specs.Frames.{AreFrames, framed}
-use Rattle.store_begins.proofs.ShortKinds.{journal_framed}
+use Rattle.store_begins.specs.Frames.{AreFrames}
 use Rattle.store_begins.proofs.Telling.{journal_is, journal_known}
 use Rattle.store_begins.proofs.prepare.read_journal.Goals as goal
 
@@ -17,16 +15,15 @@ returns-clause-told g c clean events store =
     let early : HasCleanDisk old = omega (arith, c.journal.ensures.looks.crash.clean) in
     let k = store.keeps early (c.in_ok-rows.ensures.open clean) in
     let frames = c.in_ok-frames.frames in
-    journal_framed events c.args.id.now frames
-    (subst (λ (rows : List EntryRow). AreFrames framed rows frames) (c.as_slice.ensures.value ∙ journal_is events old c.args.id.now c.in_ok-rows.rows.items k (c.in_ok-rows.ensures.found clean)) c.in_ok-frames.ensures)
+    subst (λ (rows : List EntryRow). AreFrames rows frames) (c.as_slice.ensures.value ∙ journal_is events old c.args.id.now c.in_ok-rows.rows.items k (c.in_ok-rows.ensures.found clean)) c.in_ok-frames.ensures
 
 pub returns-in_err-rows-clause-told : goal.returns-in_err-rows-clause-told
 returns-in_err-rows-clause-told g c clean events store =
     let old : State = state g.S.Store c.args.tables.now in
     let early : HasCleanDisk old = omega (arith, c.journal.ensures.looks.crash.clean) in
-    told_err (AreFrames row_frame (journal_rows events c.args.id.now)) c.from_residual.result c.from_residual.ensures.1 (λ why gives.
+    told_err (AreFrames (journal_rows events c.args.id.now)) c.from_residual.result c.from_residual.ensures.1 (λ why gives.
     subst (IsRefused []) (sym gives) (inr (journal_known events old c.args.id.now _ (store.keeps early) (c.in_err-rows.ensures.open clean) (c.in_err-rows.ensures.foreign clean))))
 
 pub returns-in_err-frames-clause-told : goal.returns-in_err-frames-clause-told
 returns-in_err-frames-clause-told g c clean events store =
-    told_err (AreFrames row_frame (journal_rows events c.args.id.now)) c.from_residual-in_err-frames.result c.from_residual-in_err-frames.ensures.1 (λ why gives. subst (IsRefused []) (sym gives) (inr refl))
+    told_err (AreFrames (journal_rows events c.args.id.now)) c.from_residual-in_err-frames.result c.from_residual-in_err-frames.ensures.1 (λ why gives. subst (IsRefused []) (sym gives) (inr refl))

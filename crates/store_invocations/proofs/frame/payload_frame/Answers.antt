@@ -18,6 +18,6 @@ returns c =
 pub returns-in_err-frame : goal.returns-in_err-frame
 returns-in_err-frame c =
     let payload = c.args.payload.now in
-    decided_err (payload_tests payload) (λ frame. frame ≡ frame_bytes (number_of c.args.ty) payload) c.from_residual.result c.from_residual.ensures.1 (λ why gives.
+    decided_err (payload_tests payload) (λ frame. frame ≡ frame_bytes c.args.ty payload) c.from_residual.result c.from_residual.ensures.1 (λ why gives.
     subst (IsRefused (those_that_hold (payload_tests payload))) (sym gives)
     (not_framed payload _ (long_of payload c.frame_of.result _ c.in_err-frame.was c.frame_of.ensures.too_long)))
