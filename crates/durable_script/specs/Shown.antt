@@ -8,6 +8,7 @@ use Rattle.journal_model.specs.declared.value.NonEmptyValue.TheVariants.{Success
 use Rattle.journal_model.specs.Event.{Event}
 use Rattle.journal_model.specs.Journal.{is_open}
 use Rattle.journal_model.specs.Cause.{those_that_hold}
+use Rattle.protocol_types.specs.MessageType.{number_of}
 use Rattle.store_refusals.specs.declared.refusal.Refusal.{Refusal}
 use Rattle.store_refusals.specs.Names.{name_of}
 use Rattle.store_refusals.specs.Refused.{IsRefused}
@@ -26,7 +27,7 @@ line_by kinds.Request line = line ++ 10 ∷ []
 line_by kinds.Arrival line = []
 
 abbrev pub entry_text : RecordedEntry → List ℕ
-entry_text entry = line_by entry.kind (request_line entry.place entry.ty entry.payload)
+entry_text entry = line_by entry.kind (request_line entry.place (number_of entry.ty) entry.payload)
 
 abbrev pub answer_line : Option NonEmptyValue → List ℕ
 answer_line None = codes "answer none"

@@ -1,5 +1,6 @@
 //! What is recorded of an invocation, as a line shows it.
 ghost use Rattle.std.specs.Prelude.{◌≡◌, Some, IfOk, IfErr, string_bytes};
+ghost use Rattle.protocol_types.specs.MessageType.{number_of};
 ghost use Rattle.script_lines.specs.Text.{request_line, request_text, answer_text};
 ghost use Rattle.durable_script.specs.Printed.{Makes};
 ghost use Rattle.durable_script.specs.Reaching.{Nowhere, Reaches};
@@ -26,11 +27,11 @@ struct ShownInvocation {
 }
 
 fn shown_request(entry: &RecordedEntry) -> ShownRequest<'_>
-    ensures { request_text result ≡ request_line entry.now.place entry.now.ty entry.now.payload }
+    ensures { request_text result ≡ request_line entry.now.place (number_of entry.now.ty) entry.now.payload }
 {
     ShownRequest {
         place: entry.place,
-        ty: entry.ty,
+        ty: u32::from(u16::from(entry.ty)),
         payload: entry.payload.as_slice(),
     }
 }

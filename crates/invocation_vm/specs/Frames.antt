@@ -9,7 +9,7 @@ use Rattle.journal_model.specs.Waiting.{leaf_or_nothing, and_leaf}
 use Rattle.journal_model.specs.Spelling.{frame_bytes, suspension_payload}
 use Rattle.protocol_types.specs.declared.message_type.MessageType.{MessageType}
 use Rattle.protocol_types.specs.Feature.{has_feature}
-use Rattle.protocol_types.specs.declared.feature.Feature.TheVariants.{AwaitTree}
+use Rattle.protocol_types.specs.declared.feature.Feature.TheVariants as features
 use Rattle.invocation_vm.specs.declared.options.AwaitingOnPolicy.{AwaitingOnPolicy}
 use Rattle.invocation_vm.specs.declared.failure.AttemptFailure.{AttemptFailure}
 
@@ -39,7 +39,7 @@ is_told AwaitingOnPolicy.DontSendWhenExecutingRun = true
 is_told AwaitingOnPolicy.DontSend = false
 
 abbrev pub tells_awaiting : ℕ → AwaitingOnPolicy → Bool
-tells_awaiting version policy = if has_feature version AwaitTree then is_told policy else false
+tells_awaiting version policy = if has_feature version features.AwaitTree then is_told policy else false
 
 -- the payloads of the frames that tell it: one, or none
 abbrev pub awaiting_payloads : ℕ → AwaitingOnPolicy → AwaitTree NotificationId → List (List ℕ)
