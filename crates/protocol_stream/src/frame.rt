@@ -1,7 +1,7 @@
 // Frames: a payload behind the header that has its type and its length.
-ghost use Rattle.std.specs.Prelude.{◌≡◌, ◌+◌, ◌*◌, ◌%◌, ◌≤◌, ◌^◌, ◌++◌, ◌↔◌, Err, drop, length, IfOk, OnOk, OnErr};
-ghost use Rattle.journal_model.specs.Spelling.{frame_bytes};
-ghost use Rattle.protocol_types.specs.MessageType.{number_of};
+ghost use Rattle.std.specs.Prelude.{◌≡◌, ◌≤◌, ◌^◌, ◌++◌, ◌↔◌, Err, drop, length, IfOk, OnOk, OnErr};
+ghost use Rattle.std.specs.Int.{w64, to_be_bytes};
+ghost use Rattle.journal_model.specs.Spelling.{frame_bytes, header_bytes};
 
 use crate::{EncodingError, MessageType};
 use bytes::{Bytes, BytesMut};
@@ -10,9 +10,10 @@ use std::alloc::{AllocError, Global};
 /// How many bytes a header has.
 pub const HEADER_LEN: usize = 8;
 
-// The number of a header that requests no acknowledgement, which has the lowest thirty-two bits of the payload's length.
+// A header that requests no acknowledgement, as one number. It has the lowest thirty-two bits of the payload's length.
+#[tactic(auto, using(crate::proofs::Spellings::header_is))]
 fn header_word(number: u16, len: usize) -> u64
-    ensures { result ≡ number * 2 ^ 48 + len % 2 ^ 32 }
+    ensures { to_be_bytes w64 result ≡ header_bytes number len }
 {
     let ty = u64::from(number) << 48;
     ty + len as u64 % 0x1_0000_0000
@@ -20,7 +21,6 @@ fn header_word(number: u16, len: usize) -> u64
 
 /// Puts the frame of a payload as a message of this type, which requests no acknowledgement, at the end, and tells how long it
 /// is. Of a longer payload the header has the lowest thirty-two bits of the length.
-#[tactic(auto, using(crate::proofs::Spellings::header_is))]
 pub fn put_frame(out: &mut BytesMut, ty: MessageType, payload: &[u8]) -> Result<usize, AllocError>
     ensures ok { OnOk result (out.new.items ≡ out.old.items ++ frame_bytes ty payload.now) }
     ensures len { IfOk result (λ len. len ≡ length (frame_bytes ty payload.now)) }

@@ -7,6 +7,7 @@ use Rattle.journal_model.specs.declared.invocation.NewInvocation.{NewInvocation}
 use Rattle.journal_model.specs.declared.invocation.StateMode.{StateMode}
 use Rattle.journal_model.specs.Event.{ForAny, Frame, Event}
 use Rattle.protocol_types.specs.declared.version.Version.TheVariants.{V5}
+use Rattle.protocol_types.specs.declared.message_type.MessageType.{MessageType}
 use Rattle.store_tables.specs.declared.row.Progress.{Progress}
 use Rattle.store_tables.specs.declared.row.EntryRow.{EntryRow}
 use Rattle.store_tables.specs.declared.row.Closing.TheVariants.{Ended}
@@ -32,7 +33,7 @@ start = record {
   entries = 1;
 }
 
-abbrev row : ℕ → ℕ → List ℕ → EntryRow
+abbrev row : ℕ → MessageType → List ℕ → EntryRow
 row place kind payload = record {
   invocation = codes "nap";
   place = place;
@@ -71,7 +72,7 @@ sets_state = Event.Take (codes "nap") 2 (Frame.Command (Request.SetState (codes 
 
 at_invoke : writes_of [] (Event.Invoke nap)
     ≡ AddInvocation (record { id = codes "nap"; object = codes "bed"; version = V5; seed = 7; is_whole = true; progress = start })
-    ∷ AddEntry (row 0 0x0400 (0x72 ∷ 4 ∷ 0x0a ∷ 2 ∷ 1 ∷ 2 ∷ [])) ∷ []
+    ∷ AddEntry (row 0 MessageType.InputCommand (0x72 ∷ 4 ∷ 0x0a ∷ 2 ∷ 1 ∷ 2 ∷ [])) ∷ []
 unfolding version_kept
 at_invoke = refl
 
@@ -83,7 +84,7 @@ at_hand_out : writes_of begun_once (Event.HandOut (codes "nap") 1 4096) ≡ []
 at_hand_out = refl
 
 at_sleep : writes_of handed_all (Event.Take (codes "nap") 1 (Frame.Command (Request.Sleep 5000 1 [])))
-    ≡ AddEntry (record (row 1 0x040c (8 ∷ 0x88 ∷ 0x27 ∷ 0x58 ∷ 1 ∷ [])) { completion = Some 1; moment = 5000 })
+    ≡ AddEntry (record (row 1 MessageType.SleepCommand (8 ∷ 0x88 ∷ 0x27 ∷ 0x58 ∷ 1 ∷ [])) { completion = Some 1; moment = 5000 })
     ∷ SetProgress (codes "nap") (record start { attempts = 1; last_completion = 1; entries = 2 }) ∷ []
 at_sleep = refl
 
@@ -95,12 +96,12 @@ at_early_tick : writes_of suspended (Event.Tick 4999) ≡ []
 at_early_tick = refl
 
 at_tick : writes_of suspended (Event.Tick 5000)
-    ≡ AddEntry (record (row 2 0x800c (8 ∷ 1 ∷ 0x22 ∷ 0 ∷ [])) { answered = Some 1 })
+    ≡ AddEntry (record (row 2 MessageType.SleepCompletionNotification (8 ∷ 1 ∷ 0x22 ∷ 0 ∷ [])) { answered = Some 1 })
     ∷ SetProgress (codes "nap") (record start { attempts = 1; last_completion = 1; entries = 3; suspension = Some (0x0a ∷ 1 ∷ 1 ∷ []); handed = Some 1 }) ∷ []
 at_tick = refl
 
 at_state : writes_of (Event.Begin (codes "nap") 6000 ∷ woken) (Event.Take (codes "nap") 2 (Frame.Command (Request.SetState (codes "k") (9 ∷ []) [])))
-    ≡ AddEntry (row 3 0x0403 (0x0a ∷ 1 ∷ 0x6b ∷ 0x1a ∷ 3 ∷ 0x0a ∷ 1 ∷ 9 ∷ []))
+    ≡ AddEntry (row 3 MessageType.SetStateCommand (0x0a ∷ 1 ∷ 0x6b ∷ 0x1a ∷ 3 ∷ 0x0a ∷ 1 ∷ 9 ∷ []))
     ∷ SetProgress (codes "nap") (record start { attempts = 2; last_completion = 1; entries = 4 })
     ∷ PutState (record { object = codes "bed"; key = codes "k"; value = 9 ∷ [] }) ∷ []
 at_state = refl
