@@ -16,6 +16,7 @@ use Rattle.journal_model.specs.Journal.{Entry, Recorded, Arrived, asks_for as is
 use Rattle.journal_model.specs.Attempt.{type_of_completion, notification_type, input_bytes, entry_piece, journal_pieces}
 use Rattle.journal_model.specs.Cause.{IsAccepted}
 use Rattle.journal_laws.proofs.ObjectState.{requests_in-append}
+use Rattle.protocol_types.specs.declared.message_type.MessageType.{MessageType}
 use Rattle.store_model.specs.Kept.{entry_row, rows_from, input_row, rows_of_journal}
 use Rattle.store_model.proofs.Journals.{added_to}
 use Rattle.store_lookups.specs.Lookups.{row_frame, AllFrames}
@@ -138,7 +139,7 @@ frames_of_rows id before place (Recorded request ∷ entries) all h e =
     (frames_of_rows id (before ++ Recorded request ∷ []) (place + 1) entries all h.1 (append_assoc before (Recorded request ∷ []) entries ∙ e))
 frames_of_rows id before place (Arrived arrival ∷ entries) all h e =
     ap₂ (λ (first rest : Bytes). first ++ rest)
-    (ap (λ (kind : ℕ). row_frame (record (entry_row id before place (Arrived arrival)) { kind = kind }))
+    (ap (λ (kind : MessageType). row_frame (record (entry_row id before place (Arrived arrival)) { kind = kind }))
     (kind_stays before (Arrived arrival ∷ entries) arrival.id h.0 ∙ ap (λ (some : List Entry). notification_type some arrival.id) e))
     (frames_of_rows id (before ++ Arrived arrival ∷ []) (place + 1) entries all h.1 (append_assoc before (Arrived arrival ∷ []) entries ∙ e))
 
