@@ -41,7 +41,7 @@ ReadsFirst ty t of payload rest came left (Err AttemptFailure.OutOfMemory) new =
 ReadsFirst ty t of payload rest came left (Err (AttemptFailure.BadPayload found)) new = (found ≡ ty) × IsSome (payload_fault LEVELS t payload)
 ReadsFirst ty t of payload rest came left (Err _) new = ⊥
 
-module _ (ty : MessageType) (payload rest came left : List ℕ) (is : IsFrame (message_of ty payload)) (e : came ++ left ≡ frame_bytes (number_of ty) payload ++ rest) where
+module _ (ty : MessageType) (payload rest came left : List ℕ) (is : IsFrame (message_of ty payload)) (e : came ++ left ≡ frame_bytes ty payload ++ rest) where
   abbrev bytes : came ++ left ≡ spelled (message_of ty payload) ++ rest
   bytes = e ∙ ap (λ (s : List ℕ). s ++ rest) (sym (spelled-frame_bytes ty payload is.ty.number is.fits))
 

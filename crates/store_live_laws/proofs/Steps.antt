@@ -172,7 +172,7 @@ is_acknowledged events id number n value (Some attempt) late kept =
     grown events event id refl refl refl (piece ∷ []) (place ∷ [])
     (ap₂ (λ (o : Option ℕ) (some : List Entry). later_pieces (entries ++ some) o (arrivals_in some)) told more)
     (ap (places_of_arrivals place) more)
-    (frame_full 0x0006 (acknowledgement_payload n), tt)
+    (frame_full MessageType.ProposeRunCompletionAck (acknowledgement_payload n), tt)
     attempt (after_put place frame attempt) (begun_before event events id refl) (and_false (bytes_eq id id)) refl refl
     (ap (λ (bytes : List ℕ). attempt.input.bytes ++ bytes) (sym (append-nil frame))) refl refl
     (sym (ap (λ (b : Bool). b || attempt.is_input_closed) (and_false (bytes_eq id id)))) kept
