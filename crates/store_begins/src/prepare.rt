@@ -11,6 +11,7 @@ ghost use Rattle.store_lookups.specs.Lookups.{row_frame};
 ghost use Rattle.store_refusals.specs.Prepared.{Tells};
 ghost use Rattle.store_invocations.specs.Rows.{Decides, IsOpenRow, IsStoreOf, payload_tests};
 ghost use Rattle.store_begins.specs.Begun.{AreHanded, IsBegun, shown_states};
+ghost use Rattle.protocol_types.specs.declared.message_type.MessageType.{MessageType};
 ghost use Rattle.store_begins.specs.Frames.{AreFrames};
 ghost use Rattle.store_begins.specs.Start.{start_of};
 

@@ -1,5 +1,4 @@
 use Rattle.journal_model.specs.Spelling.{notification_payload}
-use Rattle.protocol_types.specs.MessageType.{number_of}
 use Rattle.store_invocations.proofs.Refusing.{refused_memory}
 use Rattle.store_invocations.specs.Rows.{payload_tests}
 use Rattle.store_arrivals.specs.Arrivals.{IsArrival}
@@ -8,7 +7,7 @@ use Rattle.store_arrivals.proofs.Written.{arrival_made}
 use Rattle.store_arrivals.proofs.arrival.arrival_in.Goals as goal
 
 pub arrival_with-requires-clause-framed : goal.arrival_with-requires-clause-framed
-arrival_with-requires-clause-framed c = long_enough _ (notification_payload c.args.arrival) c.in-Ok.frame c.in-Ok.ensures.1
+arrival_with-requires-clause-framed c = long_enough c.args.ty (notification_payload c.args.arrival) c.in-Ok.frame c.in-Ok.ensures.1
 
 pub returns-in_ok-made-in-Ok-clause-decided : goal.returns-in_ok-made-in-Ok-clause-decided
 returns-in_ok-made-in-Ok-clause-decided c = (

@@ -1,9 +1,8 @@
 use Rattle.std.proofs.Common.{◌≡◌, ◌∙◌, sym, ap, subst, arith, inr, IsTrue}
 use Rattle.sqlite.specs.Held.{state}
 use Rattle.sqlite.specs.State.{State, HasCleanDisk}
-use Rattle.std.proofs.Common.{option_and_then}
+use Rattle.std.proofs.Common.{option_and_then, option_map}
 use Rattle.journal_model.specs.Journal.{entries_of, request_asking}
-use Rattle.protocol_types.specs.MessageType.{named_type}
 use Rattle.store_tables.specs.declared.row.EntryRow.{EntryRow}
 use Rattle.store_tables.specs.Questions.{asks_second_for}
 use Rattle.store_lookups.specs.Lookups.{asked_at, second_row}
@@ -25,7 +24,7 @@ returns-clause-told g c clean events store =
     let asked = asked_at 1 (entries_of events id) n in
     let found = found_is events old (λ r. r.entries) (asks_second_for id n) (option_and_then (second_row id n) asked) c.in_ok-row.row k
     (λ r accepted kept. (asked_found events r id n accepted kept).1) (c.in_ok-row.ensures.found clean) in
-    c.type_of-ty.ensures ∙ ap (option_and_then (λ (e : EntryRow). named_type e.kind)) found ∙ type_second id n asked
+    c.type_of-ty.ensures ∙ ap (option_map (λ (e : EntryRow). e.kind)) found ∙ type_second id n asked
     ∙ ap (option_and_then (second_type n)) (asked_found events k.records id n k.accepted k.kept).2
 
 pub returns-in_err-row-clause-told : goal.returns-in_err-row-clause-told
