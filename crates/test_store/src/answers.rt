@@ -98,7 +98,11 @@ fn kind_word(kind: EntryKind) -> &'static str {
 fn print_entry<R: Print>(rt: &R, entry: &RecordedEntry) -> Result<(), Fault> {
     let kind = kind_word(entry.kind);
     let payload = Hex(entry.payload.as_slice());
-    Ok(print!(rt; "{} {kind} {:04x} {payload}, ", entry.place, u16::from(entry.ty))?)
+    Ok(print!(rt;
+        "{} {kind} {:04x} {payload}, ",
+        entry.place,
+        u16::from(entry.ty)
+    )?)
 }
 
 fn print_each<R: Print>(rt: &R, entries: &[RecordedEntry]) -> Result<(), Fault> {
