@@ -125,11 +125,11 @@ fn print_states<R: Print>(rt: &R, tables: &mut Tables) -> Result<(), Fault> {
 }
 
 /// The number of the type of the entry at a place.
-fn kind_at(tables: &mut Tables, place: usize) -> Option<u32> {
+fn kind_at(tables: &mut Tables, place: usize) -> Option<u16> {
     match journal(tables, &i1()) {
         Ok(entries) => {
             let kind = match entries.get(place) {
-                Some(entry) => Some(entry.kind),
+                Some(entry) => Some(u16::from(entry.kind)),
                 None => None,
             };
             drop(entries);
