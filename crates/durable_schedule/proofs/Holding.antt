@@ -1,8 +1,9 @@
 -- Calls on an attempt that is held, or is not.
-use Rattle.std.proofs.Common.{◌≡◌, refl, sym, ap, ◌∙◌, ℕ, List, Option, Some, None, get_or}
+use Rattle.std.proofs.Common.{◌≡◌, refl, sym, ap, subst, ◌∙◌, ℕ, List, Option, Some, None, get_or}
 use Rattle.std.specs.Prelude.{slice_set}
 use Rattle.std.specs.List.{position}
 use Rattle.sqlite_trees.specs.declared.store.Store.{Ghosts}
+use Rattle.sqlite.specs.Held.{state}
 use Rattle.journal_model.specs.Notification.{Text}
 use Rattle.invocation_vm.specs.View.{AttemptView}
 use Rattle.schedule_model.specs.declared.event.Reply.{Reply}
@@ -12,10 +13,12 @@ use Rattle.schedule_model.specs.declared.held.HeldAttempt.{HeldAttempt}
 use Rattle.schedule_model.specs.Following.{is_held, held_of}
 use Rattle.schedule_model.specs.Schedule.{IfHeld}
 use Rattle.schedule_model.proofs.Applying.{not_held, found_at, changes_held}
+use Rattle.schedule_model.proofs.Holding.{held_is}
 use Rattle.store_calls.specs.Standing.{Standing}
 use Rattle.journal_store.specs.Stored.{Stored}
 use Rattle.journal_store.specs.Stands.{Endures, Leads}
 use Rattle.journal_store.proofs.Enduring.{endures_so}
+use Rattle.durable_schedule.specs.Scheduled.{LeadsMoved, OutlastsMove}
 
 -- what is done to one that is held
 abbrev Changes : Type 0 → Type 1
@@ -38,6 +41,18 @@ module _ {H S : Type 0} (g : Ghosts S) (Change : Changes H) (id : Text) (n : ℕ
     finds changed answer kept does clean s standing =
         let it = does clean s standing in
         (it.0, it.1, changes_held Change id n held place one changed s it.0 answer (found_at id n held place one (place_is (Some place) at) read) kept it.2)
+
+    -- and what lasts of it
+    pub finds_lasting : (changed : HeldAttempt H) (answer : Reply) → changed ≡ record one { attempt = changed.attempt }
+        → LeadsMoved g one.invocation one.number answer (λ (s t : Standing). Change one s answer t changed.attempt) old new
+        → LeadsMoved g id n answer (λ (s t : Standing). IfHeld Change (held_of held id n) s held answer t (slice_set held place changed)) old new
+    finds_lasting changed answer kept does clean s standing =
+        let it = does clean s standing in
+        let found = found_at id n held place one (place_is (Some place) at) read in
+        let is = held_is id n one found.at.passes in
+        let database = state g new.connection in
+        let lasts = subst (λ (i : Text). OutlastsMove i one.number answer it.0 database) is.0 it.2.1 in
+        (it.0, it.1, (changes_held Change id n held place one changed s it.0 answer found kept it.2.0, subst (λ (m : ℕ). OutlastsMove id m answer it.0 database) is.1 lasts))
 
     -- where a crash comes
     pub finds_crashed : Endures g (λ (s t : Standing). (answer : Reply) × (changed : AttemptView H) × Change one s answer t changed) old new

@@ -13,7 +13,7 @@ use Rattle.invocation_vm.specs.declared.options.VMOptions.{VMOptions}
 use Rattle.store_live.specs.Attempts.{Attempts}
 use Rattle.store_refusals.specs.declared.refusal.Refusal.TheVariants.{OutOfMemory}
 use Rattle.journal_store.specs.Stored.{Stored}
-use Rattle.journal_store.specs.Stands.{Stands as StandsFor, IsStanding, Leads, Keeps, Endures, KeepsAll, Outlasts, output_of}
+use Rattle.journal_store.specs.Stands.{Stands as StandsFor, IsStanding, Leads, Keeps, Endures, KeepsAll, output_of}
 use Rattle.schedule_model.specs.declared.event.Event.{Event}
 use Rattle.schedule_model.specs.declared.event.Event.TheVariants as event
 use Rattle.schedule_model.specs.declared.event.Reply.{Reply}
@@ -25,7 +25,7 @@ use Rattle.schedule_model.specs.Schedule.{Scheduled, Does, Applies, AppliesAll, 
 use Rattle.schedule_model.specs.Laws.{LeavesRuns}
 use Rattle.schedule_model.proofs.Applying.{schedules_grow}
 use Rattle.durable_schedule.specs.declared.scheduler.Scheduler.{Scheduler}
-use Rattle.durable_schedule.specs.Scheduled.{IsScheduled, IsWritten, KeepsMore, LeadsLasting, Extends, AppliesWith, AppliesFirst, FollowRuns, at_first}
+use Rattle.durable_schedule.specs.Scheduled.{IsScheduled, IsWritten, KeepsMore, OutlastsEvent, Extends, AppliesWith, AppliesFirst, FollowRuns, at_first}
 use Rattle.journal_store.proofs.Leading.{stood}
 use Rattle.journal_store.proofs.Enduring.{BeginsSome, endures_so, endures_on}
 use Rattle.durable_schedule.proofs.Growing.{all_grow}
@@ -64,15 +64,18 @@ module _ {H S : Type 0} (g : Ghosts S) where
 
   -- and what is written of it lasts
   pub applied_lasting : (function : H → Handler) (old new : Scheduler H S) (asked one : Event H) (answer : Reply) → asked ≡ one
-      → (IsWritten one answer → LeadsLasting g (λ (s t : Standing). Does function old.options one s old.held.items answer t new.held.items) old.store new.store)
+      → (IsWritten one answer
+          → Leads g (λ (s t : Standing). Does function old.options one s old.held.items answer t new.held.items × OutlastsEvent one answer t (state g new.store.connection)) old.store new.store)
       → IsWritten asked answer → HasCleanDisk (state g new.store.connection) → (from : Scheduled H) → IsScheduled g from old
-      → (to : Scheduled H) × IsScheduled g to new × Applies function old.options asked answer from to × Outlasts to.standing.events (state g new.store.connection)
+      → (to : Scheduled H) × IsScheduled g to new × Applies function old.options asked answer from to × OutlastsEvent asked answer to.standing (state g new.store.connection)
   applied_lasting function old new asked one answer same does written clean from is =
       let lasts = does (subst (λ (event : Event H). IsWritten event answer) same written) in
-      let it = led old new (λ s held t more. Does function old.options one s held answer t more × Outlasts t.events (state g new.store.connection)) lasts clean from is in
-      (it.0, it.1, subst (λ (event : Event H). Applies function old.options event answer from it.0) (sym same) it.2.0, it.2.1)
+      let database = state g new.store.connection in
+      let it = led old new (λ s held t more. Does function old.options one s held answer t more × OutlastsEvent one answer t database) lasts clean from is in
+      let did = subst (λ (event : Event H). Applies function old.options event answer from it.0 × OutlastsEvent event answer it.0.standing database) (sym same) it.2 in
+      (it.0, it.1, did.0, did.1)
 
-  -- no other event is written in one commit
+  -- nothing is written of another event
   pub unwritten : (asked one : Event H) (answer : Reply) → asked ≡ one → (IsWritten one answer → ⊥) → {P : Type 0} → IsWritten asked answer → P
   unwritten asked one answer same none written = absurd (none (subst (λ (event : Event H). IsWritten event answer) same written))
 

@@ -1,10 +1,10 @@
 -- What a scheduler stands for, and what its calls make of that.
-use Rattle.std.specs.Prelude.{◌≡◌, ℕ, List, [], ◌++◌, Some, None}
+use Rattle.std.specs.Prelude.{◌≡◌, ◌≢◌, ℕ, List, [], ◌++◌, Option, Some, None}
 use Rattle.std.specs.List.{AllByRecursion}
 use Rattle.sqlite_trees.specs.declared.store.Store.{Ghosts}
 use Rattle.sqlite_trees.specs.Tree.{Trees}
 use Rattle.sqlite.specs.Held.{state}
-use Rattle.sqlite.specs.State.{Survives}
+use Rattle.sqlite.specs.State.{State, Survives}
 use Rattle.journal_model.specs.Notification.{Text}
 use Rattle.journal_model.specs.declared.invocation.NewInvocation.{NewInvocation}
 use Rattle.journal_model.specs.Event.{Event}
@@ -14,6 +14,8 @@ use Rattle.journal_model.specs.Run.{Handler}
 use Rattle.invocation_vm.specs.declared.options.VMOptions.{VMOptions}
 use Rattle.invocation_vm.specs.First.{given_by}
 use Rattle.invocation_vm.specs.View.{AttemptView}
+use Rattle.store_refusals.specs.declared.refusal.Refusal.{Refusal}
+use Rattle.journal_store.specs.Accepting.{OutlastsFrames}
 use Rattle.journal_store.specs.Stored.{Stored}
 use Rattle.journal_store.specs.Stands.{Stands, IsStanding, KeepsAll, Leads, Outlasts}
 use Rattle.schedule_model.specs.declared.event.Event as scheduled
@@ -21,6 +23,7 @@ use Rattle.schedule_model.specs.declared.event.Event.TheVariants as event
 use Rattle.schedule_model.specs.declared.event.Reply.{Reply}
 use Rattle.schedule_model.specs.declared.event.Reply.TheVariants as reply
 use Rattle.schedule_model.specs.declared.held.HeldAttempt.{HeldAttempt}
+use Rattle.store_calls.specs.Frames.{Rests}
 use Rattle.store_calls.specs.Standing.{Standing}
 use Rattle.schedule_model.specs.Schedule.{Scheduled, MovesOne, Does, AppliesAll, Brings}
 use Rattle.schedule_model.specs.Following.{IsBeginningOfRun}
@@ -52,11 +55,36 @@ abbrev pub HasBegun : Reply → Type 0
 HasBegun (reply.Begun number) = Unit {0}
 HasBegun _ = ⊥
 
--- an event is answered done that is written in one commit
+-- one frame was taken at least
+abbrev pub HasTakenFrames : Reply → Type 0
+HasTakenFrames (reply.Moved bytes frames why) = frames ≢ 0
+HasTakenFrames _ = ⊥
+
+-- an event is answered so that something of it was written
 abbrev pub IsWritten : {H : Type 0} → scheduled.Event H → Reply → Type 0
 IsWritten (event.Invoke one) answer = IsDone answer
 IsWritten (event.Begin id handler now) answer = HasBegun answer
+IsWritten (event.Move id attempt count) answer = HasTakenFrames answer
 IsWritten _ answer = ⊥
+
+-- ---- what lasts of that
+
+-- The frames that were taken last, up to where no further one was; one that was refused may have been written.
+abbrev pub OutlastsRest : Text → (attempt : ℕ) → Option Refusal → Standing → State → Type 0
+OutlastsRest id attempt why t database = (between : Standing) × Rests id attempt why between t × OutlastsFrames id attempt why between database
+
+abbrev pub OutlastsMove : Text → (attempt : ℕ) → Reply → Standing → State → Type 0
+OutlastsMove id attempt (reply.Moved bytes frames why) t database = OutlastsRest id attempt why t database
+OutlastsMove id attempt _ t database = ⊥
+
+-- Whatever a crash leaves from now on, the tables keep what was written.
+abbrev pub OutlastsEvent : {H : Type 0} → scheduled.Event H → Reply → Standing → State → Type 0
+OutlastsEvent (event.Move id attempt count) answer t database = OutlastsMove id attempt answer t database
+OutlastsEvent _ answer t database = Outlasts t.events database
+
+-- Whatever the store stood for, it stands for something in this relation to it then, and the frames that were taken last.
+abbrev pub LeadsMoved : {S : Type 0} → Ghosts S → Text → (attempt : ℕ) → Reply → (Standing → Standing → Type 0) → Stored S → Stored S → Type 0
+LeadsMoved g id attempt answer Relation old new = Leads g (λ s t. Relation s t × OutlastsMove id attempt answer t (state g new.connection)) old new
 
 -- so many bytes at most were moved, with some answer
 abbrev pub MovesSome : {H : Type 0} → (count : ℕ) → HeldAttempt H → Standing → Standing → Type 0

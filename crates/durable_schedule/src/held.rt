@@ -3,7 +3,7 @@ ghost use Rattle.std.specs.Prelude.{◌≡◌, position};
 ghost use Rattle.schedule_model.specs.Following.{is_held};
 ghost use Rattle.journal_store.specs.Stands.{Endures, IsQuiet, Leads};
 ghost use Rattle.schedule_model.specs.Schedule.{FeedsOne, MovesOne};
-ghost use Rattle.durable_schedule.specs.Scheduled.{MovesSome};
+ghost use Rattle.durable_schedule.specs.Scheduled.{HasTakenFrames, LeadsMoved, MovesSome};
 
 use bytes::ByteStr;
 use journal_model::Handler;
@@ -56,6 +56,7 @@ pub(crate) fn take_in<H: Handler, S: Alter + Drop>(
 ) -> Reply
     ensures does { Leads S.Store (λ s t. MovesOne count one.old s result t one.new.attempt) store.old store.new }
     ensures kept { one.new ≡ record one.old { attempt = one.new.attempt } }
+    ensures settled { HasTakenFrames result → LeadsMoved S.Store one.old.invocation one.old.number result (λ s t. MovesOne count one.old s result t one.new.attempt) store.old store.new }
     ensures crash { Endures S.Store (MovesSome count one.old) store.old store.new }
 {
     let bytes = count.min(one.attempt.output().len());

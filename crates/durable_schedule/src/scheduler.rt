@@ -11,10 +11,10 @@ ghost use Rattle.store_reads.specs.Answered.{answer_told};
 ghost use Rattle.store_calls.specs.declared.begun.BegunAttempt.{BegunAttempt};
 ghost use Rattle.store_calls.specs.Standing.{Adds, Standing};
 ghost use Rattle.store_calls.specs.Calls.{Begins, Invokes, Stops};
-ghost use Rattle.journal_store.specs.Stands.{Endures, IsQuiet, IsStanding, Leads, Outlasts, Stands};
+ghost use Rattle.journal_store.specs.Stands.{Endures, IsQuiet, IsStanding, Leads, Stands};
 ghost use Rattle.schedule_model.specs.Following.{held_of};
 ghost use Rattle.schedule_model.specs.Schedule.{RepliesDone, BeginDoes, IfHeld, FeedsOne, TurnsOne, MovesOne, Applies, AppliesAll, FitsEvent, Scheduled};
-ghost use Rattle.durable_schedule.specs.Scheduled.{AppliesFirst, AppliesWith, Extends, FollowRuns, HasBegun, IsDone, IsScheduled, IsWritten, LeadsLasting, at_first};
+ghost use Rattle.durable_schedule.specs.Scheduled.{AppliesFirst, AppliesWith, Extends, FollowRuns, HasBegun, HasTakenFrames, IsDone, IsScheduled, IsWritten, LeadsLasting, LeadsMoved, OutlastsEvent, at_first};
 
 use crate::held::{hand_out, place_of, take_in};
 use bytes::ByteStr;
@@ -132,6 +132,7 @@ impl<H: Handler + Drop, S: Alter + Drop> Scheduler<H, S> {
     fn transfer(&mut self, invocation: &ByteStr, number: u32, count: usize) -> Reply
         ensures does { Leads S.Store (λ s t. IfHeld (MovesOne count) (held_of self.old.held.items invocation.now number) s self.old.held.items result t self.new.held.items) self.old.store self.new.store }
         ensures options { self.new.options ≡ self.old.options }
+        ensures settled { HasTakenFrames result → LeadsMoved S.Store invocation.now number result (λ s t. IfHeld (MovesOne count) (held_of self.old.held.items invocation.now number) s self.old.held.items result t self.new.held.items) self.old.store self.new.store }
         ensures crash { Endures S.Store (AppliesWith H.next_call self.old.options (Event.Move invocation.now number count) self.old.held.items) self.old.store self.new.store }
     {
         match place_of(&self.held, invocation, number) {
@@ -144,8 +145,8 @@ impl<H: Handler + Drop, S: Alter + Drop> Scheduler<H, S> {
     pub fn apply(&mut self, event: Event<H>) -> Reply
         ensures does { HasCleanDisk (state S.Store self.new.store.connection) → (old : Scheduled H) → IsScheduled S.Store old self.old → (new : Scheduled H) × IsScheduled S.Store new self.new × Applies H.next_call self.old.options event result old new }
         ensures options { self.new.options ≡ self.old.options }
-        // What an invocation or a begin that is answered done left lasts: whatever a crash leaves from then on, the tables keep it.
-        ensures settled { IsWritten event result → HasCleanDisk (state S.Store self.new.store.connection) → (old : Scheduled H) → IsScheduled S.Store old self.old → (new : Scheduled H) × IsScheduled S.Store new self.new × Applies H.next_call self.old.options event result old new × Outlasts new.standing.events (state S.Store self.new.store.connection) }
+        // What is answered as written lasts: whatever a crash leaves from then on, the tables keep it.
+        ensures settled { IsWritten event result → HasCleanDisk (state S.Store self.new.store.connection) → (old : Scheduled H) → IsScheduled S.Store old self.old → (new : Scheduled H) × IsScheduled S.Store new self.new × Applies H.next_call self.old.options event result old new × OutlastsEvent event result new.standing (state S.Store self.new.store.connection) }
         ensures fits { FitsEvent event }
         ensures crash { Endures S.Store (AppliesWith H.next_call self.old.options event self.old.held.items) self.old.store self.new.store }
     {

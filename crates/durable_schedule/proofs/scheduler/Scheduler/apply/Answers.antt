@@ -55,7 +55,8 @@ pub returns-in-Turn-clause-settled : goal.returns-in-Turn-clause-settled
 returns-in-Turn-clause-settled g c = unwritten g.S.Store c.args.event (event.Turn c.in-Turn.invocation c.in-Turn.attempt) c.turn.result c.in-Turn.is (λ written. written)
 
 pub returns-in-Move-clause-settled : goal.returns-in-Move-clause-settled
-returns-in-Move-clause-settled g c = unwritten g.S.Store c.args.event (event.Move c.in-Move.invocation c.in-Move.attempt c.in-Move.count) c.transfer.result c.in-Move.is (λ written. written)
+returns-in-Move-clause-settled g c =
+    applied_lasting g.S.Store g.H.Handler.next_call c.args.self.now c.transfer.new.self c.args.event (event.Move c.in-Move.invocation c.in-Move.attempt c.in-Move.count) c.transfer.result c.in-Move.is c.transfer.ensures.settled
 
 pub returns-in-Stop-clause-settled : goal.returns-in-Stop-clause-settled
 returns-in-Stop-clause-settled g c = unwritten g.S.Store c.args.event (event.Stop c.in-Stop.invocation c.in-Stop.attempt) c.stop.result c.in-Stop.is (λ written. written)
