@@ -29,14 +29,14 @@ pub arrival_recorded : (events : List Event) (event : Event) (id : Text) (arriva
     → (causes_of events event ≡ []) × IsMadeReady events event id arrival made
     → IfOk result (λ place. place ≡ made.place) → OnOk result (IsTrue mid.is_open × Turns (applied_all made.writes.items) mid.now.trees new.now.trees)
     → OnOk result (Changes id (after_put made.place made.frame) attempts left) → IfErr result (λ why. IsTrue (is_circumstance why))
-    → OnErr result (Asked mid new × AreAsBefore attempts left) → Stands events old attempts
+    → OnErr result (Asked mid new) → OnErr result (AreAsBefore attempts left) → Stands events old attempts
     → Does events event (λ place. place ≡ 1 + length (entries_of events id)) result new left
-arrival_recorded events event id arrival old mid new P Q attempts left made (Ok place) of_it no_tick brings plain read before asked lives clean ready place_is wrote put why undone stands =
+arrival_recorded events event id arrival old mid new P Q attempts left made (Ok place) of_it no_tick brings plain read before asked lives clean ready place_is wrote put why undone same stands =
     let early : HasCleanDisk mid = omega (arith, lives.clean, clean) in
     let store = store_still events old mid P before asked stands.kept in
     let after = written events event mid new made.writes.items store read early ready.0 ready.1.writes wrote.0 wrote.1 in
     (ready.0, place_is ∙ ready.1.place, stands_arrived events event id arrival made.place made.frame new attempts left of_it no_tick brings plain stands.kept.accepted ready.0 after ready.1.place ready.1.frame put stands.live)
-arrival_recorded events event id arrival old mid new P Q attempts left made (Err why) of_it no_tick brings plain read before asked lives clean ready place_is wrote put circumstance undone stands =
+arrival_recorded events event id arrival old mid new P Q attempts left made (Err why) of_it no_tick brings plain read before asked lives clean ready place_is wrote put circumstance undone same stands =
     let store = store_still events old mid P before asked stands.kept in
     let between : Stands events mid attempts = record { kept = store; live = stands.live } in
-    (inr circumstance, stands_still events mid new Q attempts left lives undone.0 undone.1 between)
+    (inr circumstance, stands_still events mid new Q attempts left lives undone same between)

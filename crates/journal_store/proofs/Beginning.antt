@@ -122,9 +122,9 @@ pub begin_recorded : (events : List Event) (id : Text) (now : ℕ) (old mid new 
     → causes_of events (Event.Begin id now) ≡ those_that_hold ((not (is_some (invocation_begun events id)), UnknownInvocation) ∷ more)
     → Survives old mid P → Asked old mid → Survives mid new Q → HasCleanDisk new → (causes_of events (Event.Begin id now) ≡ []) × IsBegun events id now made
     → IfOk result (IsToldAs made) → OnOk result (IsTrue mid.is_open × Turns (applied_all made.writes.items) mid.now.trees new.now.trees)
-    → OnOk result (TakesIn id made.number made.version made.frames.journal attempts left) → IfErr result (λ why. IsTrue (is_circumstance why)) → OnErr result (Asked mid new × (left ≡ attempts))
+    → OnOk result (TakesIn id made.number made.version made.frames.journal attempts left) → IfErr result (λ why. IsTrue (is_circumstance why)) → OnErr result (Asked mid new) → OnErr result (left ≡ attempts)
     → Stands events old attempts → Does events (Event.Begin id now) (IsBegunAttempt events id now) result new left
-begin_recorded events id now old mid new P Q attempts left made more (Ok told) tests before asked lives clean ready is wrote put why undone stands =
+begin_recorded events id now old mid new P Q attempts left made more (Ok told) tests before asked lives clean ready is wrote put why undone same stands =
     let early : HasCleanDisk mid = omega (arith, lives.clean, clean) in
     let store = store_still events old mid P before asked stands.kept in
     let after = written events (Event.Begin id now) mid new made.writes.items store tt early ready.0 ready.1.writes wrote.0 wrote.1 in
@@ -134,11 +134,11 @@ begin_recorded events id now old mid new P Q attempts left made more (Ok told) t
       record { number = is.0 ∙ ready.1.number; version = is.1 ∙ ready.1.version; start = is.2 ∙ ready.1.start },
       stands_after events (Event.Begin id now) id (Some _) new attempts left refl refl after agrees (put fits) stands.live,
     )
-begin_recorded events id now old mid new P Q attempts left made more (Err why) tests before asked lives clean ready is wrote put circumstance undone stands =
+begin_recorded events id now old mid new P Q attempts left made more (Err why) tests before asked lives clean ready is wrote put circumstance undone same stands =
     let store = store_still events old mid P before asked stands.kept in (
       inr circumstance,
       record {
-        kept = store_still events mid new Q lives undone.0 store;
-        live = subst (λ (all : ByInvocation). (one : Text) → Agrees events one (attempt_of all one)) (sym undone.1) stands.live;
+        kept = store_still events mid new Q lives undone store;
+        live = subst (λ (all : ByInvocation). (one : Text) → Agrees events one (attempt_of all one)) (sym same) stands.live;
       },
     )

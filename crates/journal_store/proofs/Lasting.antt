@@ -25,9 +25,6 @@ kept_then a b c earlier one two clean is_open =
 pub undone_kept : {A E : Type 0} (result : Result A E) (a b c : State) → (HasCleanDisk c → HasCleanDisk b) → IsKept a b → OnErr result (IsKept b c) → OnErr result (IsKept a c)
 undone_kept result a b c earlier one two = on_err_weaker result (λ it. kept_then a b c earlier one it) two
 
-pub refused_kept : {A E : Type 0} (P : Type 0) (result : Result A E) (a b c : State) → (HasCleanDisk c → HasCleanDisk b) → IsKept a b → OnErr result (IsKept b c × P) → OnErr result (IsKept a c)
-refused_kept P result a b c earlier one two = on_err_weaker result (λ it. kept_then a b c earlier one it.0) two
-
 pub on_err : {A E P : Type 0} (result : Result A E) → P → OnErr result P
 on_err (Ok answer) it = tt
 on_err (Err why) it = it

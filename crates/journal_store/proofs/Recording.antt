@@ -1,20 +1,17 @@
 -- An invocation is recorded, or an event is refused.
-use Rattle.std.proofs.Common.{◌≡◌, refl, List, [], inr, Result, Ok, Err, IfErr, OnOk, OnErr, IsTrue, arith}
+use Rattle.std.proofs.Common.{◌≡◌, refl, List, [], inr, Result, Ok, Err, arith}
 use Rattle.sqlite_trees.specs.declared.store.Store.{Ghosts}
-use Rattle.sqlite_trees.specs.Tree.{Trees}
 use Rattle.sqlite.specs.Held.{Held, state}
-use Rattle.sqlite.specs.State.{HasCleanDisk, Survives}
-use Rattle.sql_tables.specs.Asking.{IsKept}
+use Rattle.sqlite.specs.State.{HasCleanDisk}
 use Rattle.journal_model.specs.declared.invocation.NewInvocation.{NewInvocation}
 use Rattle.journal_model.specs.Event.{Event}
 use Rattle.journal_model.specs.Cause.{causes_of}
 use Rattle.store_tables.specs.declared.row.Write.{Write}
 use Rattle.store_tables.specs.Looks.{Looks}
-use Rattle.store_tables.specs.Records.{applied_all}
-use Rattle.store_tables.specs.Steps.{Turns}
+use Rattle.store_tables.specs.Steps.{Lands}
 use Rattle.store_model.specs.Writes.{writes_of}
 use Rattle.store_refusals.specs.declared.refusal.Refusal.{Refusal}
-use Rattle.store_refusals.specs.Refused.{is_circumstance, IsRefused}
+use Rattle.store_refusals.specs.Refused.{IsRefused}
 use Rattle.store_invocations.specs.Rows.{IsStoreOf}
 use Rattle.store_invocations.proofs.Standing.{store_kept}
 use Rattle.store_live.specs.Attempts.{Attempts}
@@ -22,6 +19,7 @@ use Rattle.store_calls.specs.Standing.{Refuses}
 use Rattle.store_calls.specs.Calls.{Invokes}
 use Rattle.journal_store.specs.Stored.{stored}
 use Rattle.journal_store.specs.Stands.{Leads}
+use Rattle.journal_store.specs.Writing.{WritesAll}
 use Rattle.journal_store.proofs.Standing.{stands_asked, stands_invoked, store_still, written}
 use Rattle.journal_store.proofs.Leading.{adds, refuses}
 
@@ -34,20 +32,17 @@ looked g a b live event why looks cause clean s is =
     (stands_asked s.events (state g a) (state g b) live.attempts looks.crash looks.kept is.stands) (λ id. refl)
 
 -- what was made ready was written, or nothing was
-pub invokes : {S : Type 0} (g : Ghosts S) (a mid b : Held S) (live : Attempts) (new : NewInvocation) (writes : List Write) (result : Result (Unit {0}) Refusal) (Q : Trees → Type 0)
-    → Looks g a mid
+pub invokes : {S : Type 0} (g : Ghosts S) (a mid b : Held S) (live : Attempts) (new : NewInvocation) (writes : List Write) (result : Result (Unit {0}) Refusal) → Looks g a mid
     → (HasCleanDisk (state g mid) → (events : List Event) → IsStoreOf events (state g a) → (causes_of events (Event.Invoke new) ≡ []) × (writes ≡ writes_of events (Event.Invoke new)))
-    → Survives (state g mid) (state g b) Q
-    → (HasCleanDisk (state g b) → OnOk result (IsTrue (state g mid).is_open × Turns (applied_all writes) (state g mid).now.trees (state g b).now.trees))
-    → IfErr result (λ why. IsTrue (is_circumstance why)) → OnErr result (IsKept (state g mid) (state g b)) → Leads g (Invokes new result) (stored a live) (stored b live)
-invokes g a mid b live new writes (Ok done) Q looks ready lives wrote why undone clean s is =
-    let early : HasCleanDisk (state g mid) = omega (arith, lives.clean, clean) in
+    → WritesAll g writes mid b result → Leads g (Invokes new result) (stored a live) (stored b live)
+invokes g a mid b live new writes (Ok done) looks ready wrote clean s is =
+    let early : HasCleanDisk (state g mid) = omega (arith, wrote.crash.clean, clean) in
     let made = ready early s.events is.stands.kept in
     let store = store_kept s.events (state g a) (state g mid) looks.crash looks.kept is.stands.kept in
-    let all = wrote clean in
+    let all = wrote.done clean in
     let after = written s.events (Event.Invoke new) (state g mid) (state g b) writes store tt early made.0 made.1 all.0 all.1 in
     adds g s (stored a live) (stored b live) is (Event.Invoke new) (stands_invoked s.events new (state g b) live.attempts made.0 is.stands.kept.accepted after is.stands.live) (λ id. refl)
-invokes g a mid b live new writes (Err why) Q looks ready lives wrote circumstance undone clean s is =
+invokes g a mid b live new writes (Err why) looks ready wrote clean s is =
     let store = store_kept s.events (state g a) (state g mid) looks.crash looks.kept is.stands.kept in
-    refuses g s (stored a live) (stored b live) is (Event.Invoke new) why (inr circumstance)
-    (record { kept = store_still s.events (state g mid) (state g b) Q lives undone store; live = is.stands.live }) (λ id. refl)
+    refuses g s (stored a live) (stored b live) is (Event.Invoke new) why (inr wrote.why)
+    (record { kept = store_still s.events (state g mid) (state g b) (Lands writes (state g mid)) wrote.crash wrote.undone store; live = is.stands.live }) (λ id. refl)

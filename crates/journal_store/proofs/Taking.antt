@@ -47,6 +47,7 @@ use Rattle.store_calls.proofs.Taking.{same_stays}
 use Rattle.journal_store.specs.Stored.{Stored, stored}
 use Rattle.journal_store.specs.Stands.{Stands, IsStanding, Leads, Keeps, KeepsAll, Endures, WaitsNow}
 use Rattle.journal_store.specs.Taking.{HasMessage, HasMessageOf, HasSettled, HasWritten, IsEndedBy, IsFirstOf, IsSeen, LandsSome, SettlesStep, passed}
+use Rattle.journal_store.specs.Writing.{WritesSome}
 use Rattle.journal_store.proofs.Lasting.{outlasts_now}
 use Rattle.journal_store.proofs.Standing.{landed, store_still, stands_after, unwritten, written}
 use Rattle.journal_store.proofs.Quiet.{live_here, stands_stopped, this_one}
@@ -205,22 +206,23 @@ module _ {S : Type 0} (g : Ghosts S) (a mid b : Held S) (before after : Attempts
       (it.0, it.1, inr it.2)
 
   -- what was made ready was written, and the frame is passed; or nothing was done
-  pub seen_taken : (made : PreparedFrame) (result : Result (Option FrameReply) Refusal) (Q : Trees → Type 0) → Looks g a mid → Survives (state g mid) (state g b) Q
+  pub seen_taken : (made : PreparedFrame) (result : Result (Option FrameReply) Refusal) → Looks g a mid → WritesSome g made.writes.items mid b result
       → LeavesState (frame_of attempt.version seen.message_is)
       → (HasCleanDisk (state g mid) → (events : List Event) → Stands events (state g a) before.attempts
       → (causes_of events event ≡ []) × IsTaken events id n (frame_of attempt.version seen.message_is) made)
-      → IfOk result (λ reply. reply ≡ Some made.reply) → (HasCleanDisk (state g b) → OnOk result (HasWritten made.writes.items (state g mid) (state g b)))
+      → IfOk result (λ reply. reply ≡ Some made.reply)
       → OnOk result (IsNow id (passed (does_end made.reply) it.len (attempt_of before.attempts id)) before.attempts after.attempts)
-      → IfErr result (λ why. IsTrue (is_circumstance why)) → OnErr result (Asked (state g mid) (state g b) × (after.attempts ≡ before.attempts))
+      → OnErr result (after.attempts ≡ before.attempts)
       → Leads g (StepsBy result) (stored a before) (stored b after)
-  seen_taken made (Ok None) Q looks lives stateless prepared replied wrote now why undone clean s is = cc
-  seen_taken made (Ok (Some reply)) Q looks lives stateless prepared told wrote now why undone clean s is =
+  seen_taken made (Ok None) looks wrote stateless prepared replied now same clean s is = cc
+  seen_taken made (Ok (Some reply)) looks wrote stateless prepared told now same clean s is =
       let replied : reply ≡ made.reply = cc in
       let frame : Frame = frame_of attempt.version seen.message_is in
-      let early : HasCleanDisk (state g mid) = omega (arith, lives.clean, clean) in
+      let early : HasCleanDisk (state g mid) = omega (arith, wrote.crash.clean, clean) in
       let ready = prepared early s.events is.stands in
       let store = store_still s.events (state g a) (state g mid) (λ _. ⊥) looks.crash looks.kept is.stands.kept in
-      let all = stands_written s.events event (state g mid) (state g b) Q made.writes.items lives clean store (attempt.version, seen.message_is, refl) ready.0 ready.1.writes (wrote clean) in
+      let all = stands_written s.events event (state g mid) (state g b) (LandsSome made.writes.items (state g mid)) made.writes.items wrote.crash clean store (attempt.version, seen.message_is, refl) ready.0 ready.1.writes
+      (wrote.done clean) in
       let agrees : Agrees s.events id (Some attempt) = subst (Agrees s.events id) found (is.stands.live id) in
       let is_reply : IsReply s.events id frame reply = subst (IsReply s.events id frame) (sym replied) ready.1.reply in
       let is_now : IsNow id (attempt_left (does_end reply) left_of attempt) before.attempts after.attempts =
@@ -244,34 +246,33 @@ module _ {S : Type 0} (g : Ghosts S) (a mid b : Held S) (before after : Attempts
           to.2.events,
         ),
       )
-  seen_taken made (Err why) Q looks lives stateless prepared replied wrote now circumstance undone clean s is =
+  seen_taken made (Err why) looks wrote stateless prepared replied now same clean s is =
       let store = store_still s.events (state g a) (state g mid) (λ _. ⊥) looks.crash looks.kept is.stands.kept in
-      let it = item_refused g (stored a before) (stored b after) s is id n attempt (message seen.message_is) left_of found seen.first why here (inr circumstance)
-      (store_still s.events (state g mid) (state g b) Q lives undone.0 store) false (not_in_frame why circumstance) undone.1 in
+      let it = item_refused g (stored a before) (stored b after) s is id n attempt (message seen.message_is) left_of found seen.first why here (inr wrote.why)
+      (store_still s.events (state g mid) (state g b) (LandsSome made.writes.items (state g mid)) wrote.crash wrote.undone store) false (not_in_frame why wrote.why) same in
       (it.0, it.1, (inr it.2, tt))
 
   pub steps_so : (result : Result (Option FrameReply) Refusal) → Leads g (StepsBy result) (stored a before) (stored b after) → Leads g (Steps id n result) (stored a before) (stored b after)
   steps_so result leads clean s is = let t = leads clean s is in (t.0, t.1, t.2.0)
 
   -- what was answered lasts
-  pub seen_settled : (made : PreparedFrame) (result : Result (Option FrameReply) Refusal) (Q : Trees → Type 0) → Looks g a mid → Survives (state g mid) (state g b) Q
+  pub seen_settled : (made : PreparedFrame) (result : Result (Option FrameReply) Refusal) → Looks g a mid → WritesSome g made.writes.items mid b result
       → (IsTrue (state g a).is_open → Lasts (state g a)) → (HasCleanDisk (state g mid) → IsTrue (state g a).is_open)
       → (HasCleanDisk (state g mid) → (events : List Event) → Stands events (state g a) before.attempts
       → (causes_of events event ≡ []) × IsTaken events id n (frame_of attempt.version seen.message_is) made)
-      → IfOk result (λ reply. reply ≡ Some made.reply) → (HasCleanDisk (state g b) → OnOk result (HasSettled g made.writes.items mid b))
-      → Leads g (StepsBy result) (stored a before) (stored b after) → SettlesStep g id n result (stored a before) (stored b after)
-  seen_settled made (Ok None) Q looks lives idle asked prepared replied lasts leads = cc
-  seen_settled made (Err why) Q looks lives idle asked prepared replied lasts leads = tt
-  seen_settled made (Ok (Some reply)) Q looks lives idle asked prepared replied lasts leads =
+      → IfOk result (λ reply. reply ≡ Some made.reply) → Leads g (StepsBy result) (stored a before) (stored b after) → SettlesStep g id n result (stored a before) (stored b after)
+  seen_settled made (Ok None) looks wrote idle asked prepared replied leads = cc
+  seen_settled made (Err why) looks wrote idle asked prepared replied leads = tt
+  seen_settled made (Ok (Some reply)) looks wrote idle asked prepared replied leads =
       λ clean s is.
       let t = leads clean s is in
-      let early : HasCleanDisk (state g mid) = omega (arith, lives.clean, clean) in
+      let early : HasCleanDisk (state g mid) = omega (arith, wrote.crash.clean, clean) in
       let first : HasCleanDisk (state g a) = omega (arith, looks.crash.clean, early) in
       let ready = prepared early s.events is.stands in (
         t.0,
         t.1,
         t.2.0,
-        elim (lasts clean) [
+        elim (wrote.lasts clean) [
           | inl none ↦ λ trees may.
               let before_it : (state g a).may_leave trees =
               elim (looks.crash.crash early trees (subst (λ (held : Held S). (state g held).may_leave trees) none.1 may)) [ inl earlier ↦ earlier | inr never ↦ absurd never ] in
@@ -348,35 +349,3 @@ module _ {S : Type 0} (g : Ghosts S) (tables : Held S) (before after : Attempts)
       let first : HasMessage one.attempt = subst HasMessageOf one.is whole in
       let it = item_refused g (stored tables before) (stored tables before) s is id n one.attempt (message first.0) first.1 one.is first.2 refusal.OutOfMemory here (inr refl) is.stands.kept false refl refl in
       subst (λ (live : Attempts). (t : Standing) × IsStanding g t (stored tables live) × Steps id n (Err refusal.OutOfMemory) s t) (sym same) (it.0, it.1, inr it.2)
-
--- ---- writes
-
--- nothing lands of no writes
-pub lands_some : (old new : State) (writes : List Write) → (writes ≡ [] → ⊥) → Survives old new (Lands writes old) → Survives old new (LandsSome writes old)
-lands_some old new writes some lives = record {
-  clean = lives.clean;
-  shield = lives.shield;
-  counts = lives.counts;
-  limit = lives.limit;
-  closes = lives.closes;
-  crash = λ clean db may. elim (lives.crash clean db may) [
-    | inl earlier ↦ inl earlier
-    | inr lands ↦ inr (elim lands.0 [ inl none ↦ absurd (some none) | inr still ↦ still ], lands.1)
-  ];
-}
-
--- nothing lands at all
-pub nothing_lands : (old new : State) (P : Trees → Type 0) → Survives old new (λ _. ⊥) → Survives old new P
-nothing_lands old new P lives = record {
-  clean = lives.clean;
-  shield = lives.shield;
-  counts = lives.counts;
-  limit = lives.limit;
-  closes = lives.closes;
-  crash = λ clean db may. elim (lives.crash clean db may) [ inl earlier ↦ inl earlier | inr none ↦ absurd none ];
-}
-
--- writes that are some
-pub some_writes : (writes : List Write) (b : Bool) → b ≡ (length writes == 0) → b ≡ false → writes ≡ [] → ⊥
-some_writes [] b is e none = cc
-some_writes (one ∷ more) b is e none = cc

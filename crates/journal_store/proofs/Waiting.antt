@@ -45,10 +45,10 @@ before_waits old new same id = by_both (attempt_of old id) (attempt_of new id) (
     by_both None (Some other) is = absurd is
     by_both (Some one) None is = absurd is
 
-pub arrived_waits : {A : Type 0} (P : Type 0) (id : Text) (place : ℕ) (frame : Bytes) (old new : ByInvocation) (result : Result A Refusal)
-    → OnOk result (Changes id (after_put place frame) old new) → OnErr result (P × AreAsBefore old new) → KeepsOutputs old new
-arrived_waits P id place frame old new (Ok done) put undone = changed_waits id (after_put place frame) old new (λ one. refl) put
-arrived_waits P id place frame old new (Err why) put undone = before_waits old new undone.1
+pub arrived_waits : {A : Type 0} (id : Text) (place : ℕ) (frame : Bytes) (old new : ByInvocation) (result : Result A Refusal)
+    → OnOk result (Changes id (after_put place frame) old new) → OnErr result (AreAsBefore old new) → KeepsOutputs old new
+arrived_waits id place frame old new (Ok done) put same = changed_waits id (after_put place frame) old new (λ one. refl) put
+arrived_waits id place frame old new (Err why) put same = before_waits old new same
 
 -- of one invocation the attempt is this now, and of the others it is as before
 pub now_waits : (id : Text) (attempt : Option LiveAttempt) (old new : ByInvocation) → IsNow id attempt old new → WaitsNow id (option_map output_in attempt) old new

@@ -2,5 +2,6 @@ pub mod Stored
 pub mod Stands
 pub mod Attempts
 pub mod Taking
+pub mod Writing
 pub mod Accepting
 pub mod Opened

@@ -1,17 +1,14 @@
 // Events that are recorded: each is made ready, and then written in one transaction.
-ghost use Rattle.std.specs.Prelude.{◌≡◌, ◌∷◌, Some, [], ◌+◌, ◌<◌, ◌^◌, false, length, List, IfErr, IfOk, IsTrue, OnErr, OnOk};
+ghost use Rattle.std.specs.Prelude.{◌≡◌, ◌∷◌, Some, [], ◌+◌, ◌<◌, ◌^◌, false, length, List, IfOk, OnErr, OnOk};
 ghost use Rattle.sqlite.specs.Held.{state};
 ghost use Rattle.sqlite.specs.State.{HasCleanDisk, Survives};
 ghost use Rattle.journal_model.specs.Event.{Event};
 ghost use Rattle.sql_tables.specs.Asking.{IsKept};
-ghost use Rattle.store_tables.specs.Looks.{Lasts};
-ghost use Rattle.store_tables.specs.Records.{applied_all};
-ghost use Rattle.store_tables.specs.Steps.{Lands, Turns};
-ghost use Rattle.store_refusals.specs.Refused.{is_circumstance};
 ghost use Rattle.store_live.specs.Attempts.{Changes, after_put};
 ghost use Rattle.store_calls.specs.Calls.{BeginsAttempt, Completes, Invokes};
 ghost use Rattle.journal_store.specs.Attempts.{IsToldAs, TakesIn, fresh};
 ghost use Rattle.journal_store.specs.Stands.{AreAsBefore, Commits, KeepsOutputs, Leads, Outlasts, Stands, WaitsAfter};
+ghost use Rattle.journal_store.specs.Writing.{WritesAll};
 
 use crate::store::Store;
 use bytes::ByteStr;
@@ -26,24 +23,23 @@ use store_live::{AttemptInput, AttemptOutput, LiveAttempt, LiveAttempts};
 use store_refusals::Refusal;
 use store_tables::{StoreTables, Write, commit_all};
 
-/// Writes in one transaction what was made ready of an event.
-fn commit<S: Alter>(tables: &mut StoreTables<S>, writes: Vec<Write>) -> Result<(), Refusal>
-    ensures written { HasCleanDisk (state S.Store tables.new) → OnOk result (IsTrue (state S.Store tables.old).is_open × Turns (applied_all writes.items) (state S.Store tables.old).now.trees (state S.Store tables.new).now.trees) }
-    ensures why { IfErr result (λ why. IsTrue (is_circumstance why)) }
-    ensures undone { OnErr result (IsKept (state S.Store tables.old) (state S.Store tables.new)) }
-    ensures settled { HasCleanDisk (state S.Store tables.new) → OnOk result (Lasts (state S.Store tables.new)) }
-    ensures crash { Survives (state S.Store tables.old) (state S.Store tables.new) (Lands writes.items (state S.Store tables.old)) }
+/// Writes in one transaction.
+pub(crate) fn commit<S: Alter>(tables: &mut StoreTables<S>, writes: &[Write]) -> Result<(), Refusal>
+    ensures { WritesAll S.Store writes.now tables.old tables.new result }
 {
-    match commit_all(tables, writes.as_slice()) {
-        Ok(()) => {
-            drop(writes);
-            Ok(())
-        }
-        Err(cause) => {
-            drop(writes);
-            Err(Refusal::StatementRefused(cause))
-        }
+    match commit_all(tables, writes) {
+        Ok(()) => Ok(()),
+        Err(cause) => Err(Refusal::StatementRefused(cause)),
     }
+}
+
+/// Writes what was made ready of an event.
+fn commit_ready<S: Alter>(tables: &mut StoreTables<S>, writes: Vec<Write>) -> Result<(), Refusal>
+    ensures { WritesAll S.Store writes.items tables.old tables.new result }
+{
+    let done = commit(tables, writes.as_slice());
+    drop(writes);
+    done
 }
 
 /// Writes an arrival that was made ready, and puts its frame behind the input of the live attempt, if one is live: it is recorded
@@ -56,28 +52,25 @@ fn record_arrival<S: Alter>(
 ) -> Result<u32, Refusal>
     requires place { made.place + 1 < 2 ^ 32 }
     ensures place { IfOk result (λ place. place ≡ made.place) }
-    ensures written { HasCleanDisk (state S.Store tables.new) → OnOk result (IsTrue (state S.Store tables.old).is_open × Turns (applied_all made.writes.items) (state S.Store tables.old).now.trees (state S.Store tables.new).now.trees) }
+    ensures made { WritesAll S.Store made.writes.items tables.old tables.new result }
     ensures put { OnOk result (Changes id.now (after_put made.place made.frame) live.old.attempts live.new.attempts) }
-    ensures why { IfErr result (λ why. IsTrue (is_circumstance why)) }
-    ensures undone { OnErr result (IsKept (state S.Store tables.old) (state S.Store tables.new) × AreAsBefore live.old.attempts live.new.attempts) }
-    ensures settled { HasCleanDisk (state S.Store tables.new) → OnOk result (Lasts (state S.Store tables.new)) }
-    ensures crash { Survives (state S.Store tables.old) (state S.Store tables.new) (Lands made.writes.items (state S.Store tables.old)) }
+    ensures stays { OnErr result (AreAsBefore live.old.attempts live.new.attempts) }
 {
     let room = live.reserve(id, made.frame.len());
     if room.is_err() {
         drop(made);
         return Err(Refusal::OutOfMemory);
     }
-    match commit_all(tables, made.writes.as_slice()) {
+    match commit(tables, made.writes.as_slice()) {
         Ok(()) => {
             let place = made.place;
             live.put(id, place, made.frame.as_slice(), &[]);
             drop(made);
             Ok(place)
         }
-        Err(cause) => {
+        Err(why) => {
             drop(made);
-            Err(Refusal::StatementRefused(cause))
+            Err(why)
         }
     }
 }
@@ -124,13 +117,10 @@ fn take_in<S: Alter>(
     version: u32,
     journal: JournalFrames,
 ) -> Result<(), Refusal>
-    ensures written { HasCleanDisk (state S.Store tables.new) → OnOk result (IsTrue (state S.Store tables.old).is_open × Turns (applied_all writes.now) (state S.Store tables.old).now.trees (state S.Store tables.new).now.trees) }
+    ensures made { WritesAll S.Store writes.now tables.old tables.new result }
     ensures put { OnOk result (TakesIn id.now number version journal live.old.attempts live.new.attempts) }
     ensures waits { WaitsAfter id.now (Some []) result live.old.attempts live.new.attempts }
-    ensures why { IfErr result (λ why. IsTrue (is_circumstance why)) }
-    ensures undone { OnErr result (IsKept (state S.Store tables.old) (state S.Store tables.new) × (live.new.attempts ≡ live.old.attempts)) }
-    ensures settled { HasCleanDisk (state S.Store tables.new) → OnOk result (Lasts (state S.Store tables.new)) }
-    ensures crash { Survives (state S.Store tables.old) (state S.Store tables.new) (Lands writes.now (state S.Store tables.old)) }
+    ensures stays { OnErr result (live.new.attempts ≡ live.old.attempts) }
 {
     let Ok(attempt) = fresh_attempt(tables.alloc(), number, version, journal) else {
         return Err(Refusal::OutOfMemory);
@@ -139,15 +129,15 @@ fn take_in<S: Alter>(
         drop(attempt);
         return Err(Refusal::OutOfMemory);
     };
-    match commit_all(tables, writes) {
+    match commit(tables, writes) {
         Ok(()) => {
             live.put_begun(own, attempt);
             Ok(())
         }
-        Err(cause) => {
+        Err(why) => {
             drop(own);
             drop(attempt);
-            Err(Refusal::StatementRefused(cause))
+            Err(why)
         }
     }
 }
@@ -160,13 +150,10 @@ fn begin_prepared<S: Alter>(
     made: PreparedAttempt,
 ) -> Result<BegunAttempt, Refusal>
     ensures told { IfOk result (IsToldAs made) }
-    ensures written { HasCleanDisk (state S.Store tables.new) → OnOk result (IsTrue (state S.Store tables.old).is_open × Turns (applied_all made.writes.items) (state S.Store tables.old).now.trees (state S.Store tables.new).now.trees) }
+    ensures made { WritesAll S.Store made.writes.items tables.old tables.new result }
     ensures put { OnOk result (TakesIn id.now made.number made.version made.frames.journal live.old.attempts live.new.attempts) }
     ensures waits { WaitsAfter id.now (Some []) result live.old.attempts live.new.attempts }
-    ensures why { IfErr result (λ why. IsTrue (is_circumstance why)) }
-    ensures undone { OnErr result (IsKept (state S.Store tables.old) (state S.Store tables.new) × (live.new.attempts ≡ live.old.attempts)) }
-    ensures settled { HasCleanDisk (state S.Store tables.new) → OnOk result (Lasts (state S.Store tables.new)) }
-    ensures crash { Survives (state S.Store tables.old) (state S.Store tables.new) (Lands made.writes.items (state S.Store tables.old)) }
+    ensures stays { OnErr result (live.new.attempts ≡ live.old.attempts) }
 {
     let PreparedAttempt {
         writes,
@@ -210,7 +197,7 @@ impl<S: Alter + Drop> Store<S> {
         let prepared = prepare_invoke(&mut self.tables, &new);
         drop(new);
         match prepared {
-            Ok(writes) => commit(&mut self.tables, writes),
+            Ok(writes) => commit_ready(&mut self.tables, writes),
             Err(why) => Err(why),
         }
     }

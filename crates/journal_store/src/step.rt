@@ -1,28 +1,28 @@
 // Frames of an attempt are taken one by one: what a frame asks for is recorded, and then it is passed.
-ghost use Rattle.std.specs.Prelude.{◌≡◌, ◌≤◌, true, length, Some, IfErr, IfOk, IsTrue, OnErr, OnOk};
+ghost use Rattle.std.specs.Prelude.{◌≡◌, ◌≤◌, true, length, Some, IfOk, OnErr, OnOk};
 ghost use Rattle.std.specs.Option.{ForSome};
 ghost use Rattle.sqlite.specs.Held.{state};
-ghost use Rattle.sqlite.specs.State.{HasCleanDisk, Survives};
 ghost use Rattle.sql_tables.specs.Asking.{IsKept};
-ghost use Rattle.store_refusals.specs.Refused.{is_circumstance};
 ghost use Rattle.store_steps.specs.Taken.{does_end, lies_in_frame};
 ghost use Rattle.store_live.specs.Attempts.{IsNow, attempt_of};
 ghost use Rattle.store_live_laws.specs.Agrees.{has_number};
 ghost use Rattle.store_calls.specs.Frames.{Steps, TakesOne};
 ghost use Rattle.journal_store.specs.Stands.{Endures, Leads};
 ghost use Rattle.journal_store.specs.Stored.{stored};
-ghost use Rattle.journal_store.specs.Taking.{HasMessage, HasMessageOf, HasSettled, HasWritten, IsEndedBy, IsFirstOf, IsFirstSeen, IsSeenOf, LandsSome, SettlesStep, passed};
+ghost use Rattle.journal_store.specs.Taking.{HasMessage, HasMessageOf, IsEndedBy, IsFirstOf, IsFirstSeen, IsSeenOf, SettlesStep, passed};
+ghost use Rattle.journal_store.specs.Writing.{WritesSome};
 
 use crate::attempt::{is_live, stale_refusal};
+use crate::events::commit;
 use crate::store::Store;
 use bytes::ByteStr;
-use sqlite::{Alter, Connection, Error};
+use sqlite::Alter;
 use std::alloc::{AllocError, Global};
 use store_frames::{AttemptFrame, read_frame_at};
 use store_live::{FirstItem, HEADER_LEN, LiveAttempt, LiveAttempts};
 use store_refusals::Refusal;
 use store_steps::{FrameReply, LiveFacts, PreparedFrame, prepare_frame, refusal_ends_attempt};
-use store_tables::{StoreTables, Write, commit_all};
+use store_tables::{StoreTables, Write};
 
 /// A whole frame that stands first.
 #[derive(Debug, Drop)]
@@ -78,16 +78,13 @@ fn first_of(alloc: Global, live: &LiveAttempts, id: &ByteStr) -> Result<FirstSee
 }
 
 /// Writes in one transaction what is to be written, if there is anything.
-fn commit_some<S: Alter>(tables: &mut StoreTables<S>, writes: &[Write]) -> Result<(), Error>
-    ensures written { HasCleanDisk (state S.Store tables.new) → OnOk result (HasWritten writes.now (state S.Store tables.old) (state S.Store tables.new)) }
-    ensures undone { OnErr result (IsKept (state S.Store tables.old) (state S.Store tables.new)) }
-    ensures settled { HasCleanDisk (state S.Store tables.new) → OnOk result (HasSettled S.Store writes.now tables.old tables.new) }
-    ensures crash { Survives (state S.Store tables.old) (state S.Store tables.new) (LandsSome writes.now (state S.Store tables.old)) }
+fn commit_some<S: Alter>(tables: &mut StoreTables<S>, writes: &[Write]) -> Result<(), Refusal>
+    ensures { WritesSome S.Store writes.now tables.old tables.new result }
 {
     if writes.is_empty() {
         return Ok(());
     }
-    commit_all(tables, writes)
+    commit(tables, writes)
 }
 
 /// Passes a frame of so many bytes that was taken and answered so: its attempt goes on behind it, or is over.
@@ -112,12 +109,9 @@ fn take_prepared<S: Alter>(
 ) -> Result<Option<FrameReply>, Refusal>
     requires len { ForSome (attempt_of live.old.attempts id.now) (λ attempt. len ≤ length attempt.output) }
     ensures reply { IfOk result (λ reply. reply ≡ Some made.reply) }
-    ensures written { HasCleanDisk (state S.Store tables.new) → OnOk result (HasWritten made.writes.items (state S.Store tables.old) (state S.Store tables.new)) }
+    ensures made { WritesSome S.Store made.writes.items tables.old tables.new result }
     ensures left { OnOk result (IsNow id.now (passed (does_end made.reply) len (attempt_of live.old.attempts id.now)) live.old.attempts live.new.attempts) }
-    ensures why { IfErr result (λ why. IsTrue (is_circumstance why)) }
-    ensures undone { OnErr result (IsKept (state S.Store tables.old) (state S.Store tables.new) × (live.new.attempts ≡ live.old.attempts)) }
-    ensures settled { HasCleanDisk (state S.Store tables.new) → OnOk result (HasSettled S.Store made.writes.items tables.old tables.new) }
-    ensures crash { Survives (state S.Store tables.old) (state S.Store tables.new) (LandsSome made.writes.items (state S.Store tables.old)) }
+    ensures stays { OnErr result (live.new.attempts ≡ live.old.attempts) }
 {
     let reply = made.reply;
     let done = commit_some(tables, made.writes.as_slice());
@@ -127,7 +121,7 @@ fn take_prepared<S: Alter>(
             pass_frame(live, id, len, reply);
             Ok(Some(reply))
         }
-        Err(cause) => Err(Refusal::StatementRefused(cause)),
+        Err(why) => Err(why),
     }
 }
 

@@ -4,7 +4,7 @@ use Rattle.sqlite.specs.Held.{state}
 use Rattle.journal_model.specs.Event.{Event}
 use Rattle.store_calls.specs.Calls.{BeginsAttempt}
 use Rattle.journal_store.specs.Stored.{stored}
-use Rattle.journal_store.proofs.Lasting.{refused_kept}
+use Rattle.journal_store.proofs.Lasting.{undone_kept}
 use Rattle.journal_store.proofs.Leading.{begins, settled_so}
 use Rattle.journal_store.proofs.Recording.{looked}
 use Rattle.journal_store.proofs.Beginning.{begin_recorded, other_tests}
@@ -18,10 +18,10 @@ returns-in-Ok-clause-does g c =
     let new : State = state g.S.Store c.begin_prepared.new.tables in
     rw (← c.self.view_is) (begins g.S.Store (stored c.self.inside.tables c.self.inside.live) (stored c.begin_prepared.new.tables c.begin_prepared.new.live) c.args.id.now c.args.now c.begin_prepared.result
     (λ clean events stands.
-    let early : HasCleanDisk mid = omega (arith, c.begin_prepared.ensures.crash.clean, clean) in
+    let early : HasCleanDisk mid = omega (arith, c.begin_prepared.ensures.made.crash.clean, clean) in
     begin_recorded events c.args.id.now c.args.now old mid new _ _ c.self.inside.live.attempts c.begin_prepared.new.live.attempts c.in-Ok.made (other_tests events c.args.id.now c.args.now) c.begin_prepared.result refl
-    c.prepare_begin.ensures.looks.crash c.prepare_begin.ensures.looks.kept c.begin_prepared.ensures.crash clean (c.in-Ok.ensures.prepared early events stands.kept)
-    c.begin_prepared.ensures.told (c.begin_prepared.ensures.written clean) c.begin_prepared.ensures.put c.begin_prepared.ensures.why c.begin_prepared.ensures.undone stands)
+    c.prepare_begin.ensures.looks.crash c.prepare_begin.ensures.looks.kept c.begin_prepared.ensures.made.crash clean (c.in-Ok.ensures.prepared early events stands.kept)
+    c.begin_prepared.ensures.told (c.begin_prepared.ensures.made.done clean) c.begin_prepared.ensures.put c.begin_prepared.ensures.made.why c.begin_prepared.ensures.made.undone c.begin_prepared.ensures.stays stands)
     c.begin_prepared.ensures.waits)
 
 pub returns-in-Err-clause-does : goal.returns-in-Err-clause-does
@@ -33,15 +33,15 @@ pub returns-in-Ok-clause-crash : goal.returns-in-Ok-clause-crash
 returns-in-Ok-clause-crash g c =
     rw (← c.self.view_is) (commits_after (state g.S.Store c.self.inside.tables) (state g.S.Store c.prepare_begin.new.tables) (state g.S.Store c.begin_prepared.new.tables)
     (Event.Begin c.args.id.now c.args.now) c.in-Ok.made.writes.items tt c.prepare_begin.ensures.looks.crash c.prepare_begin.ensures.looks.kept
-    c.begin_prepared.ensures.crash (λ clean events store. let ready = c.in-Ok.ensures.prepared clean events store in (ready.0, ready.1.writes)) (λ events none. cc))
+    c.begin_prepared.ensures.made.crash (λ clean events store. let ready = c.in-Ok.ensures.prepared clean events store in (ready.0, ready.1.writes)) (λ events none. cc))
 
 pub returns-in-Ok-clause-settled : goal.returns-in-Ok-clause-settled
 returns-in-Ok-clause-settled g c =
     settled_so g.S.Store c.args.self.now (stored c.begin_prepared.new.tables c.begin_prepared.new.live) (Event.Begin c.args.id.now c.args.now)
-    (BeginsAttempt c.args.id.now c.args.now) c.begin_prepared.result (λ answer s t it. it.leaves.events) (returns-in-Ok-clause-does g c) c.begin_prepared.ensures.settled
+    (BeginsAttempt c.args.id.now c.args.now) c.begin_prepared.result (λ answer s t it. it.leaves.events) (returns-in-Ok-clause-does g c) c.begin_prepared.ensures.made.lasts
 
 pub returns-in-Ok-clause-kept : goal.returns-in-Ok-clause-kept
 returns-in-Ok-clause-kept g c =
     let mid : State = state g.S.Store c.prepare_begin.new.tables in
-    rw (← c.self.view_is) (refused_kept _ c.begin_prepared.result (state g.S.Store c.self.inside.tables) mid (state g.S.Store c.begin_prepared.new.tables)
-    (λ clean. omega (arith, c.begin_prepared.ensures.crash.clean, clean)) c.prepare_begin.ensures.looks.kept c.begin_prepared.ensures.undone)
+    rw (← c.self.view_is) (undone_kept c.begin_prepared.result (state g.S.Store c.self.inside.tables) mid (state g.S.Store c.begin_prepared.new.tables)
+    (λ clean. omega (arith, c.begin_prepared.ensures.made.crash.clean, clean)) c.prepare_begin.ensures.looks.kept c.begin_prepared.ensures.made.undone)

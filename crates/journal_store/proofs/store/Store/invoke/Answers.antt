@@ -12,8 +12,8 @@ use Rattle.journal_store.proofs.store.Store.invoke.Goals as goal
 
 pub returns-in-Ok-clause-does : goal.returns-in-Ok-clause-does
 returns-in-Ok-clause-does g c =
-    rw (← c.self.view_is) (invokes g.S.Store c.self.inside.tables c.prepare_invoke-prepared.new.tables c.commit.new.tables c.self.inside.live c.args.new c.in-Ok.writes.items c.commit.result _
-    c.prepare_invoke-prepared.ensures.looks c.in-Ok.ensures.prepared c.commit.ensures.crash c.commit.ensures.written c.commit.ensures.why c.commit.ensures.undone)
+    rw (← c.self.view_is) (invokes g.S.Store c.self.inside.tables c.prepare_invoke-prepared.new.tables c.commit_ready.new.tables c.self.inside.live c.args.new c.in-Ok.writes.items c.commit_ready.result
+    c.prepare_invoke-prepared.ensures.looks c.in-Ok.ensures.prepared c.commit_ready.ensures)
 
 pub returns-in-Err-clause-does : goal.returns-in-Err-clause-does
 returns-in-Err-clause-does g c =
@@ -22,17 +22,17 @@ returns-in-Err-clause-does g c =
 
 pub returns-in-Ok-clause-crash : goal.returns-in-Ok-clause-crash
 returns-in-Ok-clause-crash g c =
-    rw (← c.self.view_is) (commits_after (state g.S.Store c.self.inside.tables) (state g.S.Store c.prepare_invoke-prepared.new.tables) (state g.S.Store c.commit.new.tables)
+    rw (← c.self.view_is) (commits_after (state g.S.Store c.self.inside.tables) (state g.S.Store c.prepare_invoke-prepared.new.tables) (state g.S.Store c.commit_ready.new.tables)
     (Event.Invoke c.args.new) c.in-Ok.writes.items tt c.prepare_invoke-prepared.ensures.looks.crash c.prepare_invoke-prepared.ensures.looks.kept
-    c.commit.ensures.crash c.in-Ok.ensures.prepared (λ events none. cc))
+    c.commit_ready.ensures.crash c.in-Ok.ensures.prepared (λ events none. cc))
 
 pub returns-in-Ok-clause-settled : goal.returns-in-Ok-clause-settled
 returns-in-Ok-clause-settled g c =
-    settled_so g.S.Store c.args.self.now (stored c.commit.new.tables c.self.inside.live) (Event.Invoke c.args.new) (Invokes c.args.new) c.commit.result (λ answer s t it. it.events)
-    (returns-in-Ok-clause-does g c) c.commit.ensures.settled
+    settled_so g.S.Store c.args.self.now (stored c.commit_ready.new.tables c.self.inside.live) (Event.Invoke c.args.new) (Invokes c.args.new) c.commit_ready.result (λ answer s t it. it.events)
+    (returns-in-Ok-clause-does g c) c.commit_ready.ensures.lasts
 
 pub returns-in-Ok-clause-kept : goal.returns-in-Ok-clause-kept
 returns-in-Ok-clause-kept g c =
     let mid : State = state g.S.Store c.prepare_invoke-prepared.new.tables in
-    rw (← c.self.view_is) (undone_kept c.commit.result (state g.S.Store c.self.inside.tables) mid (state g.S.Store c.commit.new.tables)
-    (λ clean. omega (arith, c.commit.ensures.crash.clean, clean)) c.prepare_invoke-prepared.ensures.looks.kept c.commit.ensures.undone)
+    rw (← c.self.view_is) (undone_kept c.commit_ready.result (state g.S.Store c.self.inside.tables) mid (state g.S.Store c.commit_ready.new.tables)
+    (λ clean. omega (arith, c.commit_ready.ensures.crash.clean, clean)) c.prepare_invoke-prepared.ensures.looks.kept c.commit_ready.ensures.undone)

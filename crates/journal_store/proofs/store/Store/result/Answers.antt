@@ -6,7 +6,7 @@ use Rattle.journal_model.specs.Journal.{completion}
 use Rattle.store_live_laws.specs.Agrees.{completed}
 use Rattle.store_calls.specs.Calls.{Completes}
 use Rattle.journal_store.specs.Stored.{stored}
-use Rattle.journal_store.proofs.Lasting.{refused_kept}
+use Rattle.journal_store.proofs.Lasting.{undone_kept}
 use Rattle.journal_store.proofs.Leading.{completes, settled_so}
 use Rattle.journal_store.proofs.Recording.{looked}
 use Rattle.journal_store.proofs.Arriving.{arrival_recorded}
@@ -22,13 +22,13 @@ returns-in-Ok-clause-does g c =
     let id = c.args.id.now in
     rw (← c.self.view_is) (completes g.S.Store (stored c.self.inside.tables c.self.inside.live) (stored c.record_arrival.new.tables c.record_arrival.new.live) id c.args.completion c.args.brought c.record_arrival.result
     (λ clean events stands.
-    let early : HasCleanDisk mid = omega (arith, c.record_arrival.ensures.crash.clean, clean) in
+    let early : HasCleanDisk mid = omega (arith, c.record_arrival.ensures.made.crash.clean, clean) in
     arrival_recorded events (Event.Complete id c.args.completion c.args.brought) id (completion c.args.completion c.args.brought) old mid new _ _
     c.self.inside.live.attempts c.record_arrival.new.live.attempts c.in-Ok.made c.record_arrival.result refl refl (completed id c.args.completion c.args.brought) refl tt
-    c.prepare_result.ensures.looks.crash c.prepare_result.ensures.looks.kept c.record_arrival.ensures.crash clean (c.in-Ok.ensures.prepared early events stands.kept)
-    c.record_arrival.ensures.place (c.record_arrival.ensures.written clean) c.record_arrival.ensures.put c.record_arrival.ensures.why c.record_arrival.ensures.undone stands)
-    (arrived_waits _ id c.in-Ok.made.place c.in-Ok.made.frame c.self.inside.live.attempts c.record_arrival.new.live.attempts c.record_arrival.result
-    c.record_arrival.ensures.put c.record_arrival.ensures.undone))
+    c.prepare_result.ensures.looks.crash c.prepare_result.ensures.looks.kept c.record_arrival.ensures.made.crash clean (c.in-Ok.ensures.prepared early events stands.kept)
+    c.record_arrival.ensures.place (c.record_arrival.ensures.made.done clean) c.record_arrival.ensures.put c.record_arrival.ensures.made.why c.record_arrival.ensures.made.undone c.record_arrival.ensures.stays stands)
+    (arrived_waits id c.in-Ok.made.place c.in-Ok.made.frame c.self.inside.live.attempts c.record_arrival.new.live.attempts c.record_arrival.result
+    c.record_arrival.ensures.put c.record_arrival.ensures.stays))
 
 pub returns-in-Err-clause-does : goal.returns-in-Err-clause-does
 returns-in-Err-clause-does g c =
@@ -39,20 +39,20 @@ pub returns-in-Ok-clause-crash : goal.returns-in-Ok-clause-crash
 returns-in-Ok-clause-crash g c =
     rw (← c.self.view_is) (commits_after (state g.S.Store c.self.inside.tables) (state g.S.Store c.prepare_result.new.tables) (state g.S.Store c.record_arrival.new.tables)
     (Event.Complete c.args.id.now c.args.completion c.args.brought) c.in-Ok.made.writes.items tt c.prepare_result.ensures.looks.crash c.prepare_result.ensures.looks.kept
-    c.record_arrival.ensures.crash (λ clean events store. let ready = c.in-Ok.ensures.prepared clean events store in (ready.0, ready.1.writes)) (λ events none. cc))
+    c.record_arrival.ensures.made.crash (λ clean events store. let ready = c.in-Ok.ensures.prepared clean events store in (ready.0, ready.1.writes)) (λ events none. cc))
 
 pub returns-in-Ok-clause-waits : goal.returns-in-Ok-clause-waits
 returns-in-Ok-clause-waits g c =
-    rw (← c.self.view_is) (arrived_waits _ c.args.id.now c.in-Ok.made.place c.in-Ok.made.frame c.self.inside.live.attempts c.record_arrival.new.live.attempts c.record_arrival.result
-    c.record_arrival.ensures.put c.record_arrival.ensures.undone)
+    rw (← c.self.view_is) (arrived_waits c.args.id.now c.in-Ok.made.place c.in-Ok.made.frame c.self.inside.live.attempts c.record_arrival.new.live.attempts c.record_arrival.result
+    c.record_arrival.ensures.put c.record_arrival.ensures.stays)
 
 pub returns-in-Ok-clause-settled : goal.returns-in-Ok-clause-settled
 returns-in-Ok-clause-settled g c =
     settled_so g.S.Store c.args.self.now (stored c.record_arrival.new.tables c.record_arrival.new.live) (Event.Complete c.args.id.now c.args.completion c.args.brought)
-    (Completes c.args.id.now c.args.completion c.args.brought) c.record_arrival.result (λ answer s t it. it.1.events) (returns-in-Ok-clause-does g c) c.record_arrival.ensures.settled
+    (Completes c.args.id.now c.args.completion c.args.brought) c.record_arrival.result (λ answer s t it. it.1.events) (returns-in-Ok-clause-does g c) c.record_arrival.ensures.made.lasts
 
 pub returns-in-Ok-clause-kept : goal.returns-in-Ok-clause-kept
 returns-in-Ok-clause-kept g c =
     let mid : State = state g.S.Store c.prepare_result.new.tables in
-    rw (← c.self.view_is) (refused_kept _ c.record_arrival.result (state g.S.Store c.self.inside.tables) mid (state g.S.Store c.record_arrival.new.tables)
-    (λ clean. omega (arith, c.record_arrival.ensures.crash.clean, clean)) c.prepare_result.ensures.looks.kept c.record_arrival.ensures.undone)
+    rw (← c.self.view_is) (undone_kept c.record_arrival.result (state g.S.Store c.self.inside.tables) mid (state g.S.Store c.record_arrival.new.tables)
+    (λ clean. omega (arith, c.record_arrival.ensures.made.crash.clean, clean)) c.prepare_result.ensures.looks.kept c.record_arrival.ensures.made.undone)
