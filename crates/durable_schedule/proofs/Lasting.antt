@@ -1,5 +1,5 @@
 -- What lasts of a move.
-use Rattle.std.proofs.Common.{◌≡◌, ◌≢◌, subst, ℕ, List, [], Option, Some, None, Ok, inl, inr}
+use Rattle.std.proofs.Common.{subst, ℕ, List, Option, Some, None, Ok, inl, inr}
 use Rattle.sqlite.specs.State.{State}
 use Rattle.journal_model.specs.Notification.{Bytes, Text}
 use Rattle.journal_model.specs.Event.{Event}

@@ -65,7 +65,7 @@ module _ {H S : Type 0} (g : Ghosts S) where
   -- and what is written of it lasts
   pub applied_lasting : (function : H → Handler) (old new : Scheduler H S) (asked one : Event H) (answer : Reply) → asked ≡ one
       → (IsWritten one answer
-          → Leads g (λ (s t : Standing). Does function old.options one s old.held.items answer t new.held.items × OutlastsEvent one answer t (state g new.store.connection)) old.store new.store)
+      → Leads g (λ (s t : Standing). Does function old.options one s old.held.items answer t new.held.items × OutlastsEvent one answer t (state g new.store.connection)) old.store new.store)
       → IsWritten asked answer → HasCleanDisk (state g new.store.connection) → (from : Scheduled H) → IsScheduled g from old
       → (to : Scheduled H) × IsScheduled g to new × Applies function old.options asked answer from to × OutlastsEvent asked answer to.standing (state g new.store.connection)
   applied_lasting function old new asked one answer same does written clean from is =

@@ -1,11 +1,10 @@
 -- A frame is taken, or refused.
-use Rattle.std.proofs.Common.{◌≡◌, ℕ, ◌==◌, length, refl, sym, ap, subst, ◌∙◌, inl, inr, arith, drop, Bool, true, false, not, List, [], ◌∷◌, Option, Some, None, option_map, Result, Ok, Err, IfOk, IfErr, OnOk, OnErr, IsTrue}
+use Rattle.std.proofs.Common.{◌≡◌, ℕ, refl, sym, ap, subst, ◌∙◌, inl, inr, arith, drop, Bool, true, false, not, List, [], ◌∷◌, Option, Some, None, option_map, Result, Ok, Err, IfOk, OnOk, OnErr, IsTrue}
 use Rattle.sqlite_trees.specs.declared.store.Store.{Ghosts}
 use Rattle.sqlite_trees.specs.Tree.{Trees}
 use Rattle.sqlite.specs.Held.{Held, state}
 use Rattle.sqlite.specs.State.{State, HasCleanDisk, Survives}
 use Rattle.sqlite.proofs.StateLemmas.{survives_then}
-use Rattle.sql_tables.specs.Asking.{IsKept as Asked}
 use Rattle.journal_model.specs.Notification.{Bytes, Text}
 use Rattle.journal_model.specs.Request.{Request}
 use Rattle.journal_model.specs.Event.{Event, Frame}
@@ -20,7 +19,6 @@ use Rattle.store_frames.specs.Read.{IsReadIn}
 use Rattle.store_tables.specs.declared.row.Write.{Write}
 use Rattle.store_tables.specs.Looks.{Lasts, Looks}
 use Rattle.store_tables.specs.Records.{Holds, applied_all}
-use Rattle.store_tables.specs.Steps.{Lands}
 use Rattle.store_model.specs.Writes.{writes_of}
 use Rattle.store_refusals.specs.declared.refusal.Refusal.{Refusal}
 use Rattle.store_refusals.specs.declared.refusal.Refusal.TheVariants as refusal
@@ -46,7 +44,7 @@ use Rattle.store_calls.proofs.Live.{told_end}
 use Rattle.store_calls.proofs.Taking.{same_stays}
 use Rattle.journal_store.specs.Stored.{Stored, stored}
 use Rattle.journal_store.specs.Stands.{Stands, IsStanding, Leads, Keeps, KeepsAll, Endures, WaitsNow}
-use Rattle.journal_store.specs.Taking.{HasMessage, HasMessageOf, HasSettled, HasWritten, IsEndedBy, IsFirstOf, IsSeen, LandsSome, SettlesStep, passed}
+use Rattle.journal_store.specs.Taking.{HasMessage, HasMessageOf, HasWritten, IsEndedBy, IsFirstOf, IsSeen, LandsSome, SettlesStep, passed}
 use Rattle.journal_store.specs.Writing.{WritesSome}
 use Rattle.journal_store.proofs.Lasting.{outlasts_now}
 use Rattle.journal_store.proofs.Standing.{landed, store_still, stands_after, unwritten, written}

@@ -1,4 +1,4 @@
-use Rattle.std.proofs.Common.{◌≢◌, arith, List, [], ℕ, refl, subst, ap, ◌∙◌, length, min, take, Option, Ok, Err}
+use Rattle.std.proofs.Common.{◌≢◌, arith, List, [], ℕ, refl, subst, ap, ◌∙◌, length, min, take, Option, Ok}
 use Rattle.sqlite.specs.Held.{state}
 use Rattle.store_refusals.specs.declared.refusal.Refusal.{Refusal}
 use Rattle.store_steps.specs.declared.frame.FrameReply.{FrameReply}
@@ -32,12 +32,18 @@ returns-in-Ok-clause-settled g c taken clean s is =
     let one = c.args.one.now in
     let it = returns-in-Ok-clause-does g c clean s is in
     let some : c.in-Ok.accepted.replies.items ≢ [] = λ none. taken (it.2.1 ∙ ap (λ (replies : List FrameReply). length replies) none) in
-    let lasts = c.in-Ok.ensures.settled some clean s is in
-    (it.0, it.1, (it.2, rest_lasts one.invocation one.number _ c.in-Ok.accepted.replies.items c.in-Ok.accepted.refusal s it.0 (state g.S.Store c.accept.new.self.connection)
-      (subst (λ (bytes : List ℕ). (m : Standing) × PutsBehind one.invocation one.number (take c.min-bytes.result bytes) s m
-        × ((k : Standing) × TakesEach one.invocation one.number c.in-Ok.accepted.replies.items m k × OutlastsFrames one.invocation one.number c.in-Ok.accepted.refusal k (state g.S.Store c.accept.new.self.connection)))
-        c.output-2.ensures lasts)
-      it.2.3))
+    let lasts = c.in-Ok.ensures.settled some clean s is in (
+      it.0,
+      it.1,
+      (
+        it.2,
+        rest_lasts one.invocation one.number _ c.in-Ok.accepted.replies.items c.in-Ok.accepted.refusal s it.0 (state g.S.Store c.accept.new.self.connection)
+            (subst (λ (bytes : List ℕ). (m : Standing) × PutsBehind one.invocation one.number (take c.min-bytes.result bytes) s m
+            × ((k : Standing) × TakesEach one.invocation one.number c.in-Ok.accepted.replies.items m k × OutlastsFrames one.invocation one.number c.in-Ok.accepted.refusal k (state g.S.Store c.accept.new.self.connection)))
+            c.output-2.ensures lasts)
+            it.2.3,
+      ),
+    )
 
 pub returns-in-Err-clause-settled : goal.returns-in-Err-clause-settled
 returns-in-Err-clause-settled g c taken = absurd taken
