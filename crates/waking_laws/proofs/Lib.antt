@@ -1,0 +1,4 @@
+pub mod SameTrees
+pub mod Suspending
+pub mod Waking
+pub mod Past
