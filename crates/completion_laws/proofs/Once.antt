@@ -19,7 +19,7 @@ use Rattle.completion_laws.specs.Once.{count_of, numbers_asked, number_of, numbe
 use Rattle.input_laws.proofs.Events.{added_by, entries_first, requests_now, arrivals_now}
 use Rattle.input_laws.proofs.LiveAttempts.{own_hold}
 
-count-append : (n : ℕ) (xs ys : List ℕ) → count_of n (xs ++ ys) ≡ count_of n xs + count_of n ys
+pub count-append : (n : ℕ) (xs ys : List ℕ) → count_of n (xs ++ ys) ≡ count_of n xs + count_of n ys
 count-append n [] ys = omega arith
 count-append n (x ∷ xs) ys = let later = count-append n xs ys in omega arith
 
