@@ -1,0 +1,6 @@
+pub mod Sending
+pub mod Turning
+pub mod Living
+pub mod LiveInput
+pub mod Keeping
+pub mod Schedules

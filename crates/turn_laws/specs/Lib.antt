@@ -1,0 +1,4 @@
+pub mod Sending
+pub mod Turning
+pub mod Live
+pub mod Laws
