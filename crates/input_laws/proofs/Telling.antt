@@ -1,17 +1,17 @@
 -- The messages of an attempt's input carry the recorded arrivals, by place.
-use Rattle.std.proofs.Common.{ℕ, ◌≡◌, refl, sym, ap, ap₂, ◌∙◌, arith, Bool, true, false, true≢false, nat_le, ◌&&◌, ◌||◌, if◌then◌else◌, List, [], ◌∷◌, ◌++◌, append-nil, append_assoc, length, take, map, Option, Some, None, is_some, bytes_eq}
+use Rattle.std.proofs.Common.{ℕ, ◌≡◌, refl, sym, ap, ap₂, ◌∙◌, arith, Bool, true, false, true≢false, if◌then◌else◌, List, [], ◌∷◌, ◌++◌, append-nil, append_assoc, length, take, map, Option, Some, None, is_some}
 use Rattle.std.proofs.Math.Seq.{take-append_seam}
 use Rattle.journal_model.specs.declared.invocation.NewInvocation.{NewInvocation}
 use Rattle.journal_model.specs.Notification.{Bytes, Text, Arrival}
-use Rattle.journal_model.specs.Value.{result_of_value}
 use Rattle.journal_model.specs.State.{StateMap}
 use Rattle.journal_model.specs.Request.{Request}
-use Rattle.journal_model.specs.Event.{Event, Frame}
-use Rattle.journal_model.specs.Journal.{Entry, Recorded, Arrived, completion, begins, invocation_begun, version_of, starting_state, requests_in, arrivals_in, entries_of, entries_added, entries_after, recorded_arrivals}
-use Rattle.journal_model.specs.Attempt.{Piece, begins_attempt, notification_type, arrival_piece, entry_piece, journal_pieces, later_pieces, event_pieces, input_from, input_pieces}
+use Rattle.journal_model.specs.Event.{Event}
+use Rattle.journal_model.specs.Journal.{Entry, Recorded, Arrived, begins, invocation_begun, starting_state, requests_in, arrivals_in, entries_of, recorded_arrivals}
+use Rattle.journal_model.specs.Attempt.{Piece, begins_attempt, notification_type, entry_piece, journal_pieces, event_pieces, input_from, input_pieces}
 use Rattle.journal_model.specs.Cause.{IsAccepted}
 use Rattle.input_laws.specs.Reading.{arrivals_among, HasReadPieces, arrivals_read}
 use Rattle.input_laws.specs.Message.{InputMessage, CarriesInput, CarriesRequest, CarriesArrival, CarriesOutcome, piece_of, arrival_carried, arrivals_carried, requests_carried, message_of, HasReadMessages}
+use Rattle.input_laws.proofs.News.{news}
 use Rattle.input_laws.proofs.Events.{added_by, start_same, entries_first, arrivals_now}
 use Rattle.input_laws.proofs.Handed.{brought, pieces_now, first_input, begin_added, begun_is}
 
@@ -54,29 +54,6 @@ pub record Brings (pieces : List Piece) (arrivals : List Arrival) : Type 0 where
   pub pieces_are : pieces ≡ map piece_of messages
   pub arrivals_are : arrivals_carried messages ≡ arrivals
 
-arrivals_bring : (all : List Entry) (arrivals : List Arrival) → Brings (map (arrival_piece all) arrivals) arrivals
-arrivals_bring all [] = record { messages = []; pieces_are = refl; arrivals_are = refl }
-arrivals_bring all (arrival ∷ arrivals) =
-    let later = arrivals_bring all arrivals in record {
-      messages = CarriesArrival (notification_type all arrival.id) arrival ∷ later.messages;
-      pieces_are = ap (λ (rest : List Piece). arrival_piece all arrival ∷ rest) later.pieces_are;
-      arrivals_are = ap (λ (rest : List Arrival). arrival ∷ rest) later.arrivals_are;
-    }
-
-event_brings : (start : StateMap) (earlier : List Event) (id : Text) (event : Event) (entries : List Entry)
-    → Brings (event_pieces start earlier id event entries) (arrivals_in (entries_added start earlier id event entries))
-event_brings start earlier id (Event.Take other attempt (Frame.RunOutcome n value true)) entries =
-    by_tests (entries_after start earlier id (Event.Take other attempt (Frame.RunOutcome n value true)) entries) (nat_le 7 (version_of earlier id)) (bytes_eq other id)
-  where
-    by_tests : (all : List Entry) (a b : Bool)
-        → Brings (later_pieces all (if a && b then Some n else None) (arrivals_in (if b || false then Arrived (completion n (result_of_value value)) ∷ [] else [])))
-        (arrivals_in (if b || false then Arrived (completion n (result_of_value value)) ∷ [] else []))
-    by_tests all true true = record { messages = CarriesOutcome n value ∷ []; pieces_are = refl; arrivals_are = refl }
-    by_tests all true false = arrivals_bring all []
-    by_tests all false true = arrivals_bring all (completion n (result_of_value value) ∷ [])
-    by_tests all false false = arrivals_bring all []
-event_brings start earlier id event entries = arrivals_bring (entries_after start earlier id event entries) (arrivals_in (entries_added start earlier id event entries))
-
 journal_brings : (o : Option NewInvocation) (entries : List Entry) → is_some o ≡ true → Brings (journal_pieces o entries) (arrivals_in entries)
 journal_brings None entries e = absurd (true≢false (sym e))
 journal_brings (Some new) entries e = record {
@@ -100,6 +77,11 @@ pub input_brings : (events : List Event) → IsAccepted events → (id : Text) �
 input_brings [] accepted id = record { messages = []; pieces_are = refl; arrivals_are = refl }
 input_brings (event ∷ events) accepted id = by_begin (begins id event) refl (begins_attempt id event) refl (input_brings events accepted.1 id)
   where
+    news_bring : (event : Event) (old : begins id event ≡ false) (going : begins_attempt id event ≡ false) → Brings (brought events event id old going) (arrivals_in (added_by events id event))
+    news_bring event old going =
+        let new = news events id event old going in
+        record { messages = new.messages; pieces_are = new.pieces_are; arrivals_are = new.arrivals_are }
+
     by_begin : (a : Bool) → begins id event ≡ a → (b : Bool) → begins_attempt id event ≡ b → Brings (input_pieces events id) (recorded_arrivals events id)
         → Brings (input_pieces (event ∷ events) id) (recorded_arrivals (event ∷ events) id)
     by_begin true e b f before =
@@ -117,7 +99,7 @@ input_brings (event ∷ events) accepted id = by_begin (begins id event) refl (b
         (recorded_arrivals events id ++ arrivals_in (added_by events id event)) (recorded_arrivals (event ∷ events) id)
         (pieces_now events event id e f) (arrivals_now event events id e)
         (brings-append (input_pieces events id) (brought events event id e f) (recorded_arrivals events id) (arrivals_in (added_by events id event)) before
-        (event_brings (starting_state events id) events id event (entries_of events id)))
+        (news_bring event e f))
 
 -- the frames of messages that were read were read
 pub messages_read : (events : List Event) (id : Text) (held : Bytes) (read unread : List InputMessage) → HasReadMessages events id held read unread → HasReadPieces events id held (map piece_of read) (map piece_of unread)

@@ -1,5 +1,5 @@
 -- The messages of an attempt's input: the input, the requests of the journal, and arrivals.
-use Rattle.std.specs.Prelude.{◌≡◌, ℕ, true, false, List, [], ◌∷◌, ◌++◌, map}
+use Rattle.std.specs.Prelude.{◌≡◌, ℕ, true, false, List, [], ◌∷◌, ◌++◌, map, bytes_eq}
 use Rattle.protocol_types.specs.declared.message_type.MessageType.{MessageType}
 use Rattle.protocol_types.specs.declared.message_type.MessageType.TheVariants.{ProposeRunCompletionAck}
 use Rattle.journal_model.specs.declared.invocation.NewInvocation.{NewInvocation}
@@ -8,7 +8,7 @@ use Rattle.journal_model.specs.Notification.{Bytes, Text, Arrival}
 use Rattle.journal_model.specs.Value.{result_of_value}
 use Rattle.journal_model.specs.Request.{Request}
 use Rattle.journal_model.specs.Spelling.{request_frame, input_frame, frame_bytes, notification_payload, acknowledgement_payload}
-use Rattle.journal_model.specs.Event.{Event}
+use Rattle.journal_model.specs.Event.{Event, Frame}
 use Rattle.journal_model.specs.Journal.{Entry, Recorded, Arrived, completion, recorded_arrivals}
 use Rattle.journal_model.specs.Attempt.{Piece, notification_type, input_pieces, input_bytes, input_left}
 
@@ -59,3 +59,11 @@ pub record IsInput (events : List Event) (id : Text) (messages : List InputMessa
 pub record HasReadMessages (events : List Event) (id : Text) (held : Bytes) (read unread : List InputMessage) : Type 0 where
   pub all : IsInput events id (read ++ unread)
   pub bytes : held ++ input_left events id ≡ input_bytes (map piece_of unread)
+
+-- a message that one more event brings, which leaves these entries: an arrival as a notification of the type that its request has, or the
+-- acknowledgement of an outcome that the event takes
+abbrev pub IsBroughtBy : List Entry → Text → Event → InputMessage → Type 0
+IsBroughtBy entries id event (CarriesArrival type arrival) = type ≡ notification_type entries arrival.id
+IsBroughtBy entries id (Event.Take other attempt (Frame.RunOutcome taken outcome true)) (CarriesOutcome number value) =
+    (bytes_eq other id ≡ true) × (taken ≡ number) × (outcome ≡ value)
+IsBroughtBy entries id event _ = ⊥

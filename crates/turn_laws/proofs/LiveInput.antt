@@ -1,5 +1,5 @@
 -- The live attempt, after one more event.
-use Rattle.std.proofs.Common.{ℕ, ◌≡◌, refl, sym, ap, ap₂, ◌∙◌, ◌⊎◌, inl, inr, Bool, true, false, ◌||◌, if◌then◌else◌, List, [], ◌∷◌, ◌++◌, append-nil, append_assoc, take, map, Option, Some, None, bytes_eq}
+use Rattle.std.proofs.Common.{subst, ℕ, ◌≡◌, refl, sym, ap, ap₂, ◌∙◌, ◌⊎◌, inl, inr, Bool, true, false, ◌||◌, if◌then◌else◌, List, [], ◌∷◌, ◌++◌, append-nil, append_assoc, take, map, Option, Some, None, bytes_eq}
 use Rattle.journal_model.specs.declared.invocation.NewInvocation.{NewInvocation}
 use Rattle.journal_model.specs.Notification.{Bytes, Text, Arrival}
 use Rattle.journal_model.specs.Request.{Request}
@@ -9,11 +9,14 @@ use Rattle.journal_model.specs.Journal.{Entry, requests_in, begins, invocation_b
 use Rattle.journal_model.specs.Attempt.{Piece, begins_attempt, bytes_asked, journal_pieces, input_pieces, input_bytes, input_left}
 use Rattle.journal_model.specs.Cause.{IsAccepted}
 use Rattle.turn_laws.specs.Sending.{PassesOn}
-use Rattle.input_laws.specs.Message.{InputMessage, CarriesInput, piece_of, arrivals_carried, requests_carried, message_of}
+use Rattle.input_laws.specs.Message.{InputMessage, CarriesInput, piece_of, arrivals_carried, requests_carried, message_of, IsBroughtBy}
 use Rattle.turn_laws.specs.Live.{IsLive}
+use Rattle.std.specs.List.{AllByRecursion}
+use Rattle.completion_laws.specs.Once.{ComeWhenAsked}
+use Rattle.completion_laws.proofs.Results.{recorded_when_asked}
+use Rattle.input_laws.proofs.Events.{entries_now, itself, arrivals_now, requests_now}
+use Rattle.turn_laws.specs.Laws.{MessagesComeWhenAsked, AttemptsBeginLive, EventsKeepLive, HandingOutKeepsLive}
 use Rattle.input_laws.proofs.News.{news, requests_carried-append}
-use Rattle.input_laws.proofs.Events.{itself, arrivals_now, requests_now}
-use Rattle.turn_laws.specs.Laws.{AttemptsBeginLive, EventsKeepLive, HandingOutKeepsLive}
 use Rattle.input_laws.proofs.Handed.{brought, pieces_now, quiet_pieces, begin_added}
 use Rattle.input_laws.proofs.Reading.{reads_on, reads_more, reads_first}
 use Rattle.input_laws.proofs.Telling.{pieces-append, arrivals_carried-append, entries_pieces, entries_arrivals, entries_requests, messages_read}
@@ -110,11 +113,16 @@ pub begin_live : AttemptsBeginLive
 begin_live next given id event events new old e begun = live_first next given id events event new old e begun
 
 pub keep_live : EventsKeepLive
-keep_live next given id event events coming coming' held read unread calls left written accepted old going asks passes live = (
-  (news events id event old going).messages,
-  (news events id event old going).none,
-  live_on next given id events event coming coming' held read unread calls left written accepted old going asks passes live,
-)
+keep_live next given id event events coming coming' held read unread calls left written accepted old going asks passes live =
+    let new = news events id event old going in (
+      new.messages,
+      subst (λ (entries : List Entry). AllByRecursion (IsBroughtBy entries id event) new.messages) (sym (entries_now event events id old)) new.brought,
+      live_on next given id events event coming coming' held read unread calls left written accepted old going asks passes live,
+    )
+
+pub live_asked : MessagesComeWhenAsked
+live_asked next given id events coming held read unread calls left written accepted live =
+    subst (λ (arrivals : List Arrival). ComeWhenAsked (recorded_requests events id) arrivals) (sym live.input.all.arrivals) (recorded_when_asked events id accepted)
 
 pub hand_live : HandingOutKeepsLive
 hand_live next given id events attempt most coming held read unread calls left written accepted live =

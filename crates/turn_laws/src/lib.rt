@@ -2,7 +2,7 @@
 //! its frames on their way to the store. The functions do nothing: their contracts are the laws.
 #![tactic(auto)]
 
-ghost use Rattle.turn_laws.specs.Laws.{AttemptsBeginLive, BeginsFollow, EventsKeep, EventsKeepLive, HandingOutKeepsLive, PositionsAreAtCalls, SchedulesFollow, SchedulesLeave, TurnsKeep, TurnsSend};
+ghost use Rattle.turn_laws.specs.Laws.{AttemptsBeginLive, AttemptsBeginWith, BeginsFollow, BegunWithStays, EventsKeep, EventsKeepLive, HandingOutKeepsLive, InputsBegin, InputsGoOn, JournalsBegin, MessagesComeWhenAsked, PositionsAreAtCalls, SchedulesFollow, SchedulesLeave, TurnsKeep, TurnsPropose, TurnsSend};
 
 /// A schedule whose attempts write frames of the run alone keeps an invocation in its run, from its begin and event by event.
 pub fn schedules_follow()
@@ -32,4 +32,19 @@ pub fn attempts_are_live()
     ensures begins { AttemptsBeginLive }
     ensures events { EventsKeepLive }
     ensures handed { HandingOutKeepsLive }
+    ensures asked { MessagesComeWhenAsked }
+{}
+
+/// What an attempt was begun with: its start frame, and a journal that begins the run.
+pub fn attempts_begin_with_journals()
+    ensures begins { AttemptsBeginWith }
+    ensures stays { BegunWithStays }
+    ensures of_run { JournalsBegin }
+{}
+
+/// Which messages the input of the live attempt has.
+pub fn inputs_have_journals()
+    ensures begins { InputsBegin }
+    ensures events { InputsGoOn }
+    ensures turns { TurnsPropose }
 {}
