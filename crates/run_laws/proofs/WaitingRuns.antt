@@ -87,6 +87,16 @@ module _ (next : Handler) (given : Invocation) (arrivals : List Arrival) where
           subst (λ (some : List Step). WaitsAt next given arrivals some tree) (sym same) at
       by_ending other g e before = before e
 
+  -- the call at which a run comes to wait adds no step
+  pub steps_at_wait : (n : ℕ) (tree : AwaitTree (Option NotificationId)) → (run next given arrivals n).ending ≡ GoesOn → (run next given arrivals (suc n)).ending ≡ Waits tree
+      → (run next given arrivals (suc n)).steps ≡ (run next given arrivals n).steps
+  steps_at_wait n tree going e =
+      let steps = (run next given arrivals n).steps in
+      let there : run next given arrivals (suc n) ≡ after_call given steps arrivals (next given.input (answers_of steps)) =
+      ap (continued_by next given arrivals (run next given arrivals n)) going in
+      ap (λ (p : Progress). p.steps) there
+      ∙ (call_waits n steps tree (ap (λ (ending : Ending). record { steps = steps; ending = ending }) going) (sym (ap (λ (p : Progress). p.ending) there) ∙ e)).1
+
   -- the steps of more calls are no fewer
   pub steps_rise : (n m : ℕ) → n ≤ m → length (run next given arrivals n).steps ≤ length (run next given arrivals m).steps
   steps_rise n zero low = let same : n ≡ 0 = omega arith in subst (λ (k : ℕ). length (run next given arrivals k).steps ≤ length (run next given arrivals 0).steps) (sym same) (omega arith)

@@ -2,3 +2,4 @@ pub mod SameTrees
 pub mod Suspending
 pub mod Waking
 pub mod Past
+pub mod Awaits
