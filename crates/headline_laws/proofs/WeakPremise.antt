@@ -5,7 +5,6 @@ use Rattle.std.proofs.Common.{◌≡◌, refl, sym, ap, ℕ, suc, zero, ◌≤�
 use Rattle.journal_model.specs.declared.notification.NotificationId.TheVariants.{CompletionId}
 use Rattle.journal_model.specs.Notification.{Arrival}
 use Rattle.journal_model.specs.AwaitTree.{Single}
-use Rattle.journal_model.specs.Request.{Request}
 use Rattle.journal_model.specs.Event.{ForTree, Frame, Event}
 use Rattle.journal_model.specs.Cause.{IsAccepted}
 use Rattle.journal_model.specs.Run.{Handler, Invocation, Progress, Ending, GoesOn, Waits, RefusedCall, Ended, run, is_going}
@@ -13,7 +12,8 @@ use Rattle.journal_model.specs.Headline.{IsWaiting, GoesPast, FollowsRun, NeverL
 use Rattle.journal_model.proofs.Continuing.{run-stopped}
 use Rattle.built_in_handlers.specs.Handlers
 use Rattle.run_laws.proofs.WaitingRuns.{steps_rise}
-use Rattle.headline_laws.proofs.TakenRows.{i1, new, given, take}
+use Rattle.run_laws.proofs.RunRows.{i1, new, given, sleep}
+use Rattle.headline_laws.proofs.TakenRows.{take}
 
 order : (n m : ℕ) → (n ≤ m) ⊎ (m < n)
 order zero m = inl (omega arith)
@@ -44,7 +44,7 @@ no_past next invocation arrivals past = by_order (order past.more_calls past.cal
 -- the nap sleeps under completion 1, and its suspension names completion 7
 abbrev wrong_events : List Event
 wrong_events =
-    take 1 (Frame.Suspend (Some (ForTree (Single (CompletionId 7))))) ∷ take 1 (Frame.Command (Request.Sleep 10 1 [])) ∷ Event.CloseInput i1 1 ∷ Event.HandOut i1 1 10 ∷ Event.Begin i1 0 ∷ Event.Invoke new ∷ []
+    take 1 (Frame.Suspend (Some (ForTree (Single (CompletionId 7))))) ∷ take 1 (Frame.Command (sleep)) ∷ Event.CloseInput i1 1 ∷ Event.HandOut i1 1 10 ∷ Event.Begin i1 0 ∷ Event.Invoke new ∷ []
 
 wrong-accepted : IsAccepted (Event.Tick 10 ∷ wrong_events)
 wrong-accepted = (refl, (refl, (refl, (refl, (refl, (refl, (refl, tt)))))))

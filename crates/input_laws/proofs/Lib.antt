@@ -4,3 +4,4 @@ pub mod Reading
 pub mod News
 pub mod Telling
 pub mod LiveAttempts
+pub mod InputRows

@@ -4,3 +4,4 @@ pub mod WaitingRuns
 pub mod Tallies
 pub mod Fronts
 pub mod Replaying
+pub mod RunRows

@@ -5,3 +5,4 @@ pub mod LiveInput
 pub mod Begun
 pub mod Keeping
 pub mod Schedules
+pub mod TurnRows

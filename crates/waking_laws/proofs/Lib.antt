@@ -3,3 +3,4 @@ pub mod Suspending
 pub mod Waking
 pub mod Past
 pub mod Awaits
+pub mod SuspensionRows

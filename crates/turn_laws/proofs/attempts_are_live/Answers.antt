@@ -1,6 +1,5 @@
 -- All are proved in `LiveInput`.
-use Rattle.turn_laws.proofs.LiveInput.{begin_live, keep_live, hand_live}
-use Rattle.turn_laws.proofs.LiveInput.{live_asked}
+use Rattle.turn_laws.proofs.LiveInput.{begin_live, keep_live, hand_live, live_asked}
 use Rattle.turn_laws.proofs.attempts_are_live.Goals as goal
 
 pub returns-clause-begins : goal.returns-clause-begins
