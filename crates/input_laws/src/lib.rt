@@ -1,0 +1,16 @@
+//! What was an attempt told? Laws of its input, of what it was handed and of what it has read. The functions do nothing: their
+//! contracts are the laws.
+#![tactic(auto)]
+
+ghost use Rattle.input_laws.specs.Laws.{HandedIsRead, InputsAreMessages, ReadIsHanded};
+
+/// The input of an attempt is messages, which carry all recorded arrivals, by place.
+pub fn inputs_are_messages()
+    ensures { InputsAreMessages }
+{}
+
+/// What an attempt has read is a beginning of what it was handed, and all of it where it holds no whole frame of an arrival.
+pub fn read_is_handed()
+    ensures first { ReadIsHanded }
+    ensures all { HandedIsRead }
+{}

@@ -1,0 +1,5 @@
+pub mod Sending
+pub mod Turning
+pub mod Live
+pub mod Begun
+pub mod Laws

@@ -1,0 +1,2 @@
+pub mod Suspended
+pub mod Laws
