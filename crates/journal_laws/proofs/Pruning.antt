@@ -86,7 +86,7 @@ succeeded_completed Succeeded e = refl
 succeeded_completed Failed e = refl
 
 -- a node that is completed, and by no child at once, has only completed children
-completed-all : (combinator : Combinator) (xs : List AwaitState) → is_completed (combined_state combinator xs) ≡ true
+pub completed-all : (combinator : Combinator) (xs : List AwaitState) → is_completed (combined_state combinator xs) ≡ true
     → list_any (ends_at_once combinator) xs ≡ false → list_all is_completed xs ≡ true
 completed-all Unknown xs done quiet = by_cases (first-completed xs)
   where

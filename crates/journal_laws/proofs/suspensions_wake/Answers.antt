@@ -1,5 +1,5 @@
 -- Both laws are proved in `Leaving` and in `Pruning`.
-use Rattle.std.proofs.Common.{◌≡◌, refl, Option, Some, None}
+use Rattle.std.proofs.Common.{◌≡◌, refl, Option, Some, None, inr}
 use Rattle.journal_model.specs.declared.notification.NotificationId.{NotificationId}
 use Rattle.journal_model.specs.AwaitTree.{AwaitState, Pending}
 use Rattle.journal_model.specs.Waiting.{state_of_some}
@@ -17,7 +17,7 @@ stays_pending states (Some c) e = cc
 
 pub returns-clause-leaving_out : goal.returns-clause-leaving_out
 returns-clause-leaving_out c = λ states tree awake.
-    only_leaves-awake (λ leaf. leaf) (state_of_some states) states (same_state states) (stays_pending states) tree awake
+    only_leaves-awake (λ leaf. leaf) (state_of_some states) states (λ a b e. inr (same_state states a b e)) (stays_pending states) tree awake
 
 pub returns-clause-pruning : goal.returns-clause-pruning
 returns-clause-pruning c = λ early late tree asleep. pruned-awake early late tree asleep
