@@ -1,0 +1,6 @@
+pub mod Standing
+pub mod CallKinds
+pub mod Reading
+pub mod Answering
+pub mod Awaiting
+pub mod Simulating
