@@ -1,5 +1,5 @@
 -- A call that looks, takes, ends, or makes handles or requests is answered as the run answers it.
-use Rattle.std.proofs.Common.{◌≡◌, refl, sym, ap, ap₂, ◌∙◌, subst, ℕ, suc, ◌+◌, ◌≤◌, ◌==◌, arith, Bool, false, List, [], ◌∷◌, ◌++◌, append-nil, length, map, Option, Some, None, is_some, option_map, option_and_then, ◌⊎◌, inl, inr}
+use Rattle.std.proofs.Common.{map, ◌≡◌, refl, sym, ap, ap₂, ◌∙◌, subst, ℕ, suc, ◌+◌, ◌≤◌, ◌==◌, arith, Bool, false, List, [], ◌∷◌, ◌++◌, append-nil, length, Option, Some, None, is_some, option_map, option_and_then, ◌⊎◌, inl, inr}
 use Rattle.std.specs.List.{list_any}
 use Rattle.journal_model.specs.declared.notification.NotificationId.{NotificationId}
 use Rattle.journal_model.specs.declared.notification.NotificationId.TheVariants.{CompletionId}
@@ -19,7 +19,7 @@ use Rattle.journal_model.specs.Run.{Handler, Invocation, Progress, Ending, GoesO
 use Rattle.journal_model.proofs.Continuing.{run-next, after_call-answers, after_call-ends}
 use Rattle.attempt_model.specs.Children.{Child, new_child, child_with_value}
 use Rattle.attempt_model.specs.Machine.{Machine, Reply, Answered, ToTake, ToLook, ToMake, work_of, next_slot, reply_to_make, reply_to_take, reply_to_end}
-use Rattle.attempt_model.specs.Requests.{answer_by, requests_by, Progressed, put_all}
+use Rattle.attempt_model.specs.Requests.{answer_by, Commands, requests_by, Progressed, put_all}
 use Rattle.attempt_model.specs.Results.{Ready, Slots, ready_after, first_of, slot_of, waiting_for, ready_without_first, slots_without, ready_after_all}
 use Rattle.attempt_model.specs.Standing.{results_for, TablesStand, RequestsStand, Reached, here, ahead, cancelling, IsShown, children_of, Fits, next_call, AnswersNext, RepliesAsRun, IsReflexive}
 use Rattle.attempt_model.proofs.Requests.{Agrees, Puts, put, agree, none_left}
@@ -90,7 +90,9 @@ module _ (same_header : Request → Request → Bool) (reflexive : IsReflexive s
   -- a step without requests
   pub quiet : (step : Step) → step.requests ≡ [] → RequestsStand journal (step ∷ steps) m.left m.written
   quiet step none = record {
-    requests = ap (λ (xs : List Request). (requests_of steps ++ xs) ++ m.left) none ∙ ap (λ (xs : List Request). xs ++ m.left) (append-nil (requests_of steps)) ∙ requests.requests;
+    left = requests.left;
+    are_requests = requests.are_requests;
+    requests = ap (λ (xs : List Request). (requests_of steps ++ xs) ++ requests.left) none ∙ ap (λ (xs : List Request). xs ++ requests.left) (append-nil (requests_of steps)) ∙ requests.requests;
     replays = requests.replays;
   }
 
@@ -179,16 +181,19 @@ module _ (same_header : Request → Request → Bool) (reflexive : IsReflexive s
       by_result (Some r) f = by_slot r f (slot_of m.slots handle) refl
 
   -- where the run stops nothing is left, and its requests are all matched or written
-  pub nothing_left : (ending : Ending) → is_going ending ≡ false → run handler given arrivals (suc calls) ≡ record { steps = steps; ending = ending } → m.left ≡ []
-  nothing_left ending stopped goes =
-      none_left handler given journal arrivals fits.calls fits.beginning (suc calls) (requests_of steps) m.left m.written
+  none_is_left : (ending : Ending) → is_going ending ≡ false → run handler given arrivals (suc calls) ≡ record { steps = steps; ending = ending } → requests.left ≡ []
+  none_is_left ending stopped goes =
+      none_left handler given journal arrivals fits.calls fits.beginning (suc calls) (requests_of steps) requests.left m.written
       (ap (λ (p : Progress). is_going p.ending) goes ∙ stopped) (ap (λ (p : Progress). requests_of p.steps) goes) requests.requests requests.replays
+
+  pub nothing_left : (ending : Ending) → is_going ending ≡ false → run handler given arrivals (suc calls) ≡ record { steps = steps; ending = ending } → m.left ≡ []
+  nothing_left ending stopped goes = requests.are_requests ∙ ap (map (λ (request : Request). Some request)) (none_is_left ending stopped goes)
 
   pub all_there : (ending : Ending) → is_going ending ≡ false → run handler given arrivals (suc calls) ≡ record { steps = steps; ending = ending }
       → run_requests handler given arrivals (suc calls) ≡ journal ++ m.written
   all_there ending stopped goes =
       ap (λ (p : Progress). requests_of p.steps) goes ∙ sym (append-nil (requests_of steps))
-      ∙ ap (λ (xs : List Request). requests_of steps ++ xs) (sym (nothing_left ending stopped goes)) ∙ requests.requests
+      ∙ ap (λ (xs : List Request). requests_of steps ++ xs) (sym (none_is_left ending stopped goes)) ∙ requests.requests
 
   -- the end
   pub ends : call ≡ Call.End → refusal_of given.version call ≡ None → Replies (reply_to_end same_header given m m.left)
@@ -197,9 +202,9 @@ module _ (same_header : Request → Request → Bool) (reflexive : IsReflexive s
       goes : run handler given arrivals (suc calls) ≡ record { steps = steps; ending = Ended }
       goes = after ∙ ap (after_call given steps arrivals) e ∙ after_call-ends given steps arrivals Call.End (accepted_is Call.End e accepted) refl
 
-      by_left : (left : List Request) → m.left ≡ left → Replies (reply_to_end same_header given m left)
+      by_left : (left : Commands) → m.left ≡ left → Replies (reply_to_end same_header given m left)
       by_left [] f = record { ended = ap (λ (p : Progress). p.ending) goes; exactly = all_there Ended refl goes }
-      by_left (request ∷ left) f = let wrong : request ∷ left ≡ [] = sym f ∙ nothing_left Ended refl goes in cc
+      by_left (command ∷ left) f = let wrong : command ∷ left ≡ [] = sym f ∙ nothing_left Ended refl goes in cc
 
   -- a call that makes handles or requests alone
   pub makes_some : work_of call ≡ ToMake → refusal_of given.version call ≡ None
@@ -207,11 +212,11 @@ module _ (same_header : Request → Request → Bool) (reflexive : IsReflexive s
       (put_all same_header (requests_by m.start m.done m.left m.completions call) (record { left = m.left; written = m.written })))
   makes_some e accepted =
       subst (λ (some : List Request). Replies (reply_to_make same_header given m call some (put_all same_header some (record { left = m.left; written = m.written })))) (sym same_requests)
-      (subst (λ (o : Option Progressed). Replies (reply_to_make same_header given m call asked o)) (sym p.puts)
+      (subst (λ (o : Option Progressed). Replies (reply_to_make same_header given m call asked o)) (sym (ap (λ (some : Commands). put_all same_header asked (record { left = some; written = m.written })) requests.are_requests ∙ p.puts))
       (subst (λ (answer : Answer). AnswersNext handler given journal arrivals calls answer new) (sym same_answer)
       (stepped step goes new new_tables
       (ap (λ (n : ℕ). n + completions_of call) completions) (ap (λ (n : ℕ). n + signals_of call) signals)
-      (record { requests = p.whole; replays = p.replays })
+      (record { left = p.rest; are_requests = refl; requests = p.whole; replays = p.replays })
       shows (ap (λ (some : List Request). some ++ asked) done) new_children)))
     where
       at : place ≡ place_of steps
@@ -226,12 +231,12 @@ module _ (same_header : Request → Request → Bool) (reflexive : IsReflexive s
       goes : run handler given arrivals (suc calls) ≡ record { steps = step ∷ steps; ending = GoesOn }
       goes = after ∙ after_call-answers given steps arrivals call accepted (make-kind call e)
 
-      agrees : Agrees m.left asked
-      agrees = agree handler given journal arrivals fits.calls fits.beginning (suc calls) (requests_of steps) asked m.left m.written
+      agrees : Agrees requests.left asked
+      agrees = agree handler given journal arrivals fits.calls fits.beginning (suc calls) (requests_of steps) asked requests.left m.written
           (ap (λ (p : Progress). requests_of p.steps) goes) requests.requests requests.replays
 
-      p : Puts same_header journal (requests_of steps) asked m.left m.written
-      p = put same_header reflexive journal asked (requests_of steps) m.left m.written requests.requests requests.replays agrees
+      p : Puts same_header journal (requests_of steps) asked requests.left m.written
+      p = put same_header reflexive journal asked (requests_of steps) requests.left m.written requests.requests requests.replays agrees
 
       same_requests : requests_by m.start m.done m.left m.completions call ≡ asked
       same_requests = requests-same given steps m.start journal m.done m.left m.written m.completions shows done completions requests call agrees
@@ -247,8 +252,8 @@ module _ (same_header : Request → Request → Bool) (reflexive : IsReflexive s
 
       new : Machine
       new = record {
-        left = p.after.left;
-        written = p.after.written;
+        left = map Some p.rest;
+        written = p.wrote;
         completions = m.completions + completions_of call;
         signals = m.signals + signals_of call;
         queue = m.queue;

@@ -1,5 +1,5 @@
 -- An await is answered as the run answers it, however often it was asked before.
-use Rattle.std.proofs.Common.{◌≡◌, refl, sym, ap, ◌∙◌, subst, ℕ, suc, ◌+◌, ◌-◌, ◌≤◌, ◌<◌, nat_lt, arith, le_refl, eq-or-lt_of_le, Bool, true, false, ◌&&◌, if◌then◌else◌, List, [], ◌∷◌, ◌++◌, length, Option, Some, None, is_some, ◌⊎◌, inl, inr}
+use Rattle.std.proofs.Common.{map, ◌≡◌, refl, sym, ap, ◌∙◌, subst, ℕ, suc, ◌+◌, ◌-◌, ◌≤◌, ◌<◌, nat_lt, arith, le_refl, eq-or-lt_of_le, Bool, true, false, ◌&&◌, if◌then◌else◌, List, [], ◌∷◌, ◌++◌, length, Option, Some, None, is_some, ◌⊎◌, inl, inr}
 use Rattle.std.proofs.lemmas.Bool.{ltb-false, ltb-true}
 use Rattle.journal_model.specs.declared.notification.NotificationId.{NotificationId}
 use Rattle.journal_model.specs.declared.notification.NotificationId.TheVariants.{CompletionId}
@@ -20,7 +20,7 @@ use Rattle.journal_model.proofs.Continuing.{after_call-carried_out}
 use Rattle.attempt_calls.proofs.Answering as Answering
 use Rattle.attempt_model.specs.Children.{Child, cancel_requests_for, ChildrenOutcome, AllKnown, FirstUnknown, children_outcome}
 use Rattle.attempt_model.specs.Machine.{Machine, Reply, Answered, is_cancelled, reply_where_unknown, reply_where_asleep, reply_where_cancelled, reply_to_children, reply_where_awake, reply_to_await}
-use Rattle.attempt_model.specs.Requests.{Progressed, put_all}
+use Rattle.attempt_model.specs.Requests.{Commands, Progressed, put_all}
 use Rattle.attempt_model.specs.Results.{Ready, first_of, ready_without_first, Resolution, Awake, Asleep, resolution_of}
 use Rattle.attempt_model.specs.Standing.{results_for, TablesStand, RequestsStand, Reached, here, ahead, cancelling, IsShown, children_of, Fits, next_call, AnswersNext, RepliesAsRun, IsReflexive}
 use Rattle.attempt_model.proofs.Requests.{Puts, put, agree}
@@ -183,9 +183,9 @@ module _ (same_header : Request → Request → Bool) (reflexive : IsReflexive s
             goes_on : run handler given arrivals (suc calls) ≡ record { steps = step ∷ steps; ending = GoesOn }
             goes_on = goes (CancelledAt t.place asked) (outcome (Some t.place) placed)
 
-            puts : Puts same_header journal (requests_of steps) asked m.left m.written
-            puts = put same_header reflexive journal asked (requests_of steps) m.left m.written requests.requests requests.replays
-                (agree handler given journal arrivals fits.calls fits.beginning (suc calls) (requests_of steps) asked m.left m.written
+            puts : Puts same_header journal (requests_of steps) asked requests.left m.written
+            puts = put same_header reflexive journal asked (requests_of steps) requests.left m.written requests.requests requests.replays
+                (agree handler given journal arrivals fits.calls fits.beginning (suc calls) (requests_of steps) asked requests.left m.written
                 (ap (λ (p : Progress). requests_of p.steps) goes_on) requests.requests requests.replays)
 
             same_asked : cancel_requests_for ready m.children ≡ asked
@@ -201,10 +201,10 @@ module _ (same_header : Request → Request → Bool) (reflexive : IsReflexive s
                 cc
             by_first (Some r) f =
                 subst (λ (some : List Request). Replies (reply_where_cancelled same_header given (record m { queue = queue; ready = ready }) some (put_all same_header some (record { left = m.left; written = m.written })))) (sym same_asked)
-                (subst (λ (o : Option Progressed). Replies (reply_where_cancelled same_header given (record m { queue = queue; ready = ready }) asked o)) (sym puts.puts)
+                (subst (λ (o : Option Progressed). Replies (reply_where_cancelled same_header given (record m { queue = queue; ready = ready }) asked o)) (sym (ap (λ (some : Commands). put_all same_header asked (record { left = some; written = m.written })) requests.are_requests ∙ puts.puts))
                 (stepped step goes_on (record {
-                  left = puts.after.left;
-                  written = puts.after.written;
+                  left = map Some puts.rest;
+                  written = puts.wrote;
                   completions = m.completions;
                   signals = m.signals;
                   queue = queue;
@@ -217,7 +217,7 @@ module _ (same_header : Request → Request → Bool) (reflexive : IsReflexive s
                 (takes_first given.options steps arrivals t.place step queue ready m.slots 1 cancel_id r refl
                 (record { none_made = refl; handle_is = refl; none_known = known-cancels given.options steps arrivals t.place (next_completion steps) tracked }) t.stands refl f)
                 (completions ∙ none_more (next_completion steps)) (signals ∙ none_more (next_signal steps))
-                (record { requests = puts.whole; replays = puts.replays })
+                (record { left = puts.rest; are_requests = refl; requests = puts.whole; replays = puts.replays })
                 shows (ap (λ (some : List Request). some ++ asked) done) refl))
         by_told (FirstUnknown child ready) t = by_left m.left refl
           where
@@ -239,7 +239,7 @@ module _ (same_header : Request → Request → Bool) (reflexive : IsReflexive s
                 by_order true f = unknown q above (ltb-true q p f)
                 by_order false f = t.unknown q (ltb-false q p f) (omega (arith, below))
 
-            by_left : (some : List Request) → m.left ≡ some → Replies (reply_where_unknown same_header given child (record m { queue = []; ready = ready }) some)
+            by_left : (some : Commands) → m.left ≡ some → Replies (reply_where_unknown same_header given child (record m { queue = []; ready = ready }) some)
             by_left [] f = record {
               stands = record {
                 steps = steps;
@@ -257,7 +257,7 @@ module _ (same_header : Request → Request → Bool) (reflexive : IsReflexive s
               waits = ap (λ (p : Progress). p.ending) waits;
               exactly = all_there (Waits (Single (child_id child))) refl waits;
             }
-            by_left (request ∷ some) f = let wrong : request ∷ some ≡ [] = sym f ∙ nothing_left (Waits (Single (child_id child))) refl waits in cc
+            by_left (command ∷ some) f = let wrong : command ∷ some ≡ [] = sym f ∙ nothing_left (Waits (Single (child_id child))) refl waits in cc
 
     -- a wake without a cancellation
     wakes_up : (q : ℕ) (line : List Arrival) (waiting : Ready) → Starts q → is_cancelled_at given.options steps arrivals q ≡ false
@@ -331,7 +331,7 @@ module _ (same_header : Request → Request → Bool) (reflexive : IsReflexive s
                 let top : q ≤ length arrivals = omega (arith, high) in
                 test-is q low top ∙ s.asleep q (ltb-false q place f) top
 
-        by_left : (some : List Request) → m.left ≡ some → Replies (reply_where_asleep same_header given left (record m { queue = []; ready = waiting }) some)
+        by_left : (some : Commands) → m.left ≡ some → Replies (reply_where_asleep same_header given left (record m { queue = []; ready = waiting }) some)
         by_left [] f = record {
           stands = record {
             steps = steps;
@@ -352,7 +352,7 @@ module _ (same_header : Request → Request → Bool) (reflexive : IsReflexive s
           rest = subst (λ (some : List Step). map_leaves (stands_for some) left ≡ pruned ids (leaf_state given.options some arrivals (place_of some) (length arrivals))) (sym same_steps)
               (s.rest ∙ ap (pruned ids) (sym (leaf_state-fronts given.options steps arrivals fits.queued once (place_of steps) (length arrivals) (omega (arith, low_place, within)) (le_refl (length arrivals)))));
         }
-        by_left (request ∷ some) f = let wrong : request ∷ some ≡ [] = sym f ∙ nothing_left (Waits ids) refl waits in cc
+        by_left (command ∷ some) f = let wrong : command ∷ some ≡ [] = sym f ∙ nothing_left (Waits ids) refl waits in cc
 
     -- a cancellation waits: the tree is awake at once, and the children are told from here on
     asks_again : (wakes : ℕ) → Starts wakes → wakes ≤ place → is_cancelled_at given.options steps arrivals wakes ≡ true

@@ -1,5 +1,5 @@
 -- The requests of a call are those of the run: behind the journal by the state that is known, in replay by the record.
-use Rattle.std.proofs.Common.{◌≡◌, refl, sym, ap, ap₂, ◌∙◌, ℕ, Bool, true, false, ◌||◌, if◌then◌else◌, List, [], ◌∷◌, ◌++◌, append-nil, is_some, ◌⊎◌, inl, inr}
+use Rattle.std.proofs.Common.{map, Some, ◌≡◌, refl, sym, ap, ap₂, ◌∙◌, ℕ, Bool, true, false, ◌||◌, if◌then◌else◌, List, [], ◌∷◌, ◌++◌, append-nil, is_some, ◌⊎◌, inl, inr}
 use Rattle.std.specs.List.{list_any}
 use Rattle.journal_model.specs.declared.notification.NotificationId.TheVariants.{CompletionId}
 use Rattle.journal_model.specs.declared.notification.NotificationResult.{NotificationResult}
@@ -11,7 +11,7 @@ use Rattle.journal_model.specs.History.{Step, requests_of, next_completion}
 use Rattle.journal_model.specs.Delivery.{known_result, value_or_void}
 use Rattle.journal_model.specs.Run.{Invocation, requests_to, name_or_empty}
 use Rattle.journal_laws.proofs.Applying.{state_after-twice}
-use Rattle.attempt_model.specs.Requests.{read_value, read_keys, fresh_value, fresh_keys, requests_by}
+use Rattle.attempt_model.specs.Requests.{Commands, read_value, read_keys, fresh_value, fresh_keys, requests_by}
 use Rattle.attempt_model.specs.Standing.{RequestsStand, IsShown, whole_state, same_state}
 use Rattle.attempt_model.proofs.Requests.{Agrees}
 
@@ -53,57 +53,57 @@ module _ (given shown : StartState) (journal done written : List Request) (is : 
 first-same : (recorded request : Request) (left behind others : List Request) → (recorded ∷ left) ++ behind ≡ (request ∷ []) ++ others → recorded ≡ request
 first-same recorded request left behind others e = cc
 
-module _ (given : Invocation) (steps : List Step) (start : StartState) (journal done left written : List Request) (completions : ℕ)
-    (shows : IsShown given.start journal start) (is : done ≡ requests_of steps) (at : completions ≡ next_completion steps) (requests : RequestsStand journal steps left written) where
+module _ (given : Invocation) (steps : List Step) (start : StartState) (journal done : List Request) (commands : Commands) (written : List Request) (completions : ℕ)
+    (shows : IsShown given.start journal start) (is : done ≡ requests_of steps) (at : completions ≡ next_completion steps) (requests : RequestsStand journal steps commands written) where
   by-value : (key : Bytes) (name : Text) (request : Request) → request ≡ fresh_value given.start (requests_of steps) (next_completion steps) key name
-      → (some : List Request) → left ≡ some → Agrees some (request ∷ [])
-      → read_value some (fresh_value start done completions key name) completions key name ≡ request
+      → (some : List Request) → requests.left ≡ some → Agrees some (request ∷ [])
+      → read_value (map Some some) (fresh_value start done completions key name) completions key name ≡ request
   by-value key name request r [] e agrees =
       let behind : done ≡ journal ++ written = is ∙ sym (append-nil (requests_of steps)) ∙ ap (λ (xs : List Request). requests_of steps ++ xs) (sym e) ∙ requests.requests in
       value-same given.start start journal done written behind shows completions key name
       ∙ ap₂ (λ (some : List Request) (n : ℕ). fresh_value given.start some n key name) is at ∙ sym r
   by-value key name request r (recorded ∷ some) e agrees =
       let same : recorded ≡ request = first-same recorded request some agrees.behind_left agrees.behind_requests agrees.same in
-      ap₂ (λ (recorded : Request) (n : ℕ). read_value (recorded ∷ some) (fresh_value start done completions key name) n key name) (same ∙ r) at
+      ap₂ (λ (recorded : Request) (n : ℕ). read_value (Some recorded ∷ map Some some) (fresh_value start done completions key name) n key name) (same ∙ r) at
       ∙ by_known (knows_key given.start (requests_of steps) key) ∙ sym r
     where
-      by_known : (b : Bool) → read_value ((if b then Request.GetEagerState key (known_value given.start (requests_of steps) key) name else Request.GetLazyState key (next_completion steps) name) ∷ some)
+      by_known : (b : Bool) → read_value (Some (if b then Request.GetEagerState key (known_value given.start (requests_of steps) key) name else Request.GetLazyState key (next_completion steps) name) ∷ map Some some)
           (fresh_value start done completions key name) (next_completion steps) key name
           ≡ (if b then Request.GetEagerState key (known_value given.start (requests_of steps) key) name else Request.GetLazyState key (next_completion steps) name)
       by_known true = refl
       by_known false = refl
 
   by-keys : (name : Text) (request : Request) → request ≡ fresh_keys given.start (requests_of steps) (next_completion steps) name
-      → (some : List Request) → left ≡ some → Agrees some (request ∷ [])
-      → read_keys some (fresh_keys start done completions name) completions name ≡ request
+      → (some : List Request) → requests.left ≡ some → Agrees some (request ∷ [])
+      → read_keys (map Some some) (fresh_keys start done completions name) completions name ≡ request
   by-keys name request r [] e agrees =
       let behind : done ≡ journal ++ written = is ∙ sym (append-nil (requests_of steps)) ∙ ap (λ (xs : List Request). requests_of steps ++ xs) (sym e) ∙ requests.requests in
       keys-same given.start start journal done written behind shows completions name
       ∙ ap₂ (λ (some : List Request) (n : ℕ). fresh_keys given.start some n name) is at ∙ sym r
   by-keys name request r (recorded ∷ some) e agrees =
       let same : recorded ≡ request = first-same recorded request some agrees.behind_left agrees.behind_requests agrees.same in
-      ap₂ (λ (recorded : Request) (n : ℕ). read_keys (recorded ∷ some) (fresh_keys start done completions name) n name) (same ∙ r) at
+      ap₂ (λ (recorded : Request) (n : ℕ). read_keys (Some recorded ∷ map Some some) (fresh_keys start done completions name) n name) (same ∙ r) at
       ∙ by_known (knows_all_keys given.start (requests_of steps)) ∙ sym r
     where
-      by_known : (b : Bool) → read_keys ((if b then Request.GetEagerStateKeys (known_keys given.start (requests_of steps)) name else Request.GetLazyStateKeys (next_completion steps) name) ∷ some)
+      by_known : (b : Bool) → read_keys (Some (if b then Request.GetEagerStateKeys (known_keys given.start (requests_of steps)) name else Request.GetLazyStateKeys (next_completion steps) name) ∷ map Some some)
           (fresh_keys start done completions name) (next_completion steps) name
           ≡ (if b then Request.GetEagerStateKeys (known_keys given.start (requests_of steps)) name else Request.GetLazyStateKeys (next_completion steps) name)
       by_known true = refl
       by_known false = refl
 
   -- the requests of each call are those of the run
-  pub requests-same : (call : Call) → Agrees left (requests_to given steps call) → requests_by start done left completions call ≡ requests_to given steps call
-  requests-same (Call.StateGet key name options) agrees = ap (λ (r : Request). r ∷ []) (by-value key (name_or_empty name) _ refl left refl agrees)
-  requests-same (Call.StateGetKeys name) agrees = ap (λ (r : Request). r ∷ []) (by-keys (name_or_empty name) _ refl left refl agrees)
-  requests-same (Call.Sleep name wake_up now) agrees = ap (λ (n : ℕ). requests_by start done left n (Call.Sleep name wake_up now)) at
-  requests-same (Call.Call target parameter name options) agrees = ap (λ (n : ℕ). requests_by start done left n (Call.Call target parameter name options)) at
-  requests-same (Call.Send target parameter execution_time name options) agrees = ap (λ (n : ℕ). requests_by start done left n (Call.Send target parameter execution_time name options)) at
-  requests-same (Call.GetPromise key) agrees = ap (λ (n : ℕ). requests_by start done left n (Call.GetPromise key)) at
-  requests-same (Call.PeekPromise key) agrees = ap (λ (n : ℕ). requests_by start done left n (Call.PeekPromise key)) at
-  requests-same (Call.CompletePromise key value options) agrees = ap (λ (n : ℕ). requests_by start done left n (Call.CompletePromise key value options)) at
-  requests-same (Call.Run name) agrees = ap (λ (n : ℕ). requests_by start done left n (Call.Run name)) at
-  requests-same (Call.Attach target) agrees = ap (λ (n : ℕ). requests_by start done left n (Call.Attach target)) at
-  requests-same (Call.GetOutput target) agrees = ap (λ (n : ℕ). requests_by start done left n (Call.GetOutput target)) at
+  pub requests-same : (call : Call) → Agrees requests.left (requests_to given steps call) → requests_by start done commands completions call ≡ requests_to given steps call
+  requests-same (Call.StateGet key name options) agrees = ap (λ (r : Request). r ∷ []) (ap (λ (some : Commands). read_value some (fresh_value start done completions key (name_or_empty name)) completions key (name_or_empty name)) requests.are_requests ∙ by-value key (name_or_empty name) _ refl requests.left refl agrees)
+  requests-same (Call.StateGetKeys name) agrees = ap (λ (r : Request). r ∷ []) (ap (λ (some : Commands). read_keys some (fresh_keys start done completions (name_or_empty name)) completions (name_or_empty name)) requests.are_requests ∙ by-keys (name_or_empty name) _ refl requests.left refl agrees)
+  requests-same (Call.Sleep name wake_up now) agrees = ap (λ (n : ℕ). requests_by start done commands n (Call.Sleep name wake_up now)) at
+  requests-same (Call.Call target parameter name options) agrees = ap (λ (n : ℕ). requests_by start done commands n (Call.Call target parameter name options)) at
+  requests-same (Call.Send target parameter execution_time name options) agrees = ap (λ (n : ℕ). requests_by start done commands n (Call.Send target parameter execution_time name options)) at
+  requests-same (Call.GetPromise key) agrees = ap (λ (n : ℕ). requests_by start done commands n (Call.GetPromise key)) at
+  requests-same (Call.PeekPromise key) agrees = ap (λ (n : ℕ). requests_by start done commands n (Call.PeekPromise key)) at
+  requests-same (Call.CompletePromise key value options) agrees = ap (λ (n : ℕ). requests_by start done commands n (Call.CompletePromise key value options)) at
+  requests-same (Call.Run name) agrees = ap (λ (n : ℕ). requests_by start done commands n (Call.Run name)) at
+  requests-same (Call.Attach target) agrees = ap (λ (n : ℕ). requests_by start done commands n (Call.Attach target)) at
+  requests-same (Call.GetOutput target) agrees = ap (λ (n : ℕ). requests_by start done commands n (Call.GetOutput target)) at
   requests-same _ agrees = refl
 
 -- a call reads one known state at most

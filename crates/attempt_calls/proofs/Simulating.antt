@@ -1,16 +1,18 @@
 -- Each call is answered as the run answers it.
-use Rattle.std.proofs.Common.{◌≡◌, refl, ap, ◌∙◌, ℕ, Bool, List, Option, Some, None}
+use Rattle.std.proofs.Common.{◌≡◌, refl, sym, ap, ◌∙◌, subst, suc, ◌++◌, [], append_assoc, append-nil, ◌⊎◌, inl, inr, List, ℕ, Bool, Option, Some, None}
 use Rattle.journal_model.specs.Notification.{Arrival}
 use Rattle.journal_model.specs.declared.call.Call.{Call}
 use Rattle.journal_model.specs.Request.{Request}
 use Rattle.journal_model.specs.Refusal.{Refusal, refusal_of}
 use Rattle.journal_model.specs.History.{Step, requests_of, next_completion, next_signal}
-use Rattle.journal_model.specs.Run.{Handler, Invocation, Progress, GoesOn, run}
+use Rattle.journal_model.specs.Run.{Handler, Invocation, Progress, GoesOn, run, run_requests}
 use Rattle.journal_model.proofs.Continuing.{after_call-refused}
 use Rattle.attempt_calls.proofs.Answering as Answering
 use Rattle.attempt_calls.proofs.Awaiting as Awaiting
-use Rattle.attempt_model.specs.Machine.{Machine, Reply, Work, ToAwait, ToEnd, ToTake, ToLook, ToMake, work_of, reply_to_work, reply_unless_refused, reply_to}
-use Rattle.attempt_model.specs.Standing.{TablesStand, RequestsStand, Reached, IsShown, children_of, Stands, Fits, next_call, RepliesAsRun, IsReflexive}
+use Rattle.attempt_model.specs.Machine.{Machine, Reply, Work, ToAwait, ToEnd, ToTake, ToLook, ToMake, work_of, reply_to_work, reply_unless_refused, reply_to, StopsMidway}
+use Rattle.attempt_model.specs.Requests.{Commands, Progressed, put_all}
+use Rattle.attempt_model.specs.Standing.{TablesStand, RequestsStand, Reached, IsShown, children_of, Stands, Fits, next_call, AnswersNext, RepliesAsRun, IsReflexive, AreReflexive, BeginsRun}
+use Rattle.attempt_model.proofs.Requests.{Agrees, Puts, put, agree}
 use Rattle.attempt_calls.proofs.CallKinds.{inv-take, inv-look, inv-await, inv-end}
 
 module _ (same_header : Request → Request → Bool) (reflexive : IsReflexive same_header) (handler : Handler) (given : Invocation) (journal : List Request) (arrivals : List Arrival)
@@ -36,10 +38,57 @@ module _ (same_header : Request → Request → Bool) (reflexive : IsReflexive s
   by_refusal None e = by_work (work_of call) refl e
 
 -- each call is answered as the run answers it, and the machine stands behind it
-pub simulates : (same_header : Request → Request → Bool) (handler : Handler) (given : Invocation) (journal : List Request) (arrivals : List Arrival) (calls : ℕ) (m : Machine)
-    → IsReflexive same_header → Fits handler given journal arrivals → (stands : Stands handler given journal arrivals calls m)
+pub simulates : (same_header : Call → Request → Request → Bool) (handler : Handler) (given : Invocation) (journal : List Request) (arrivals : List Arrival) (calls : ℕ) (m : Machine)
+    → AreReflexive same_header → Fits handler given journal arrivals → (stands : Stands handler given journal arrivals calls m)
     → RepliesAsRun handler given journal arrivals calls (reply_to same_header given m (next_call handler given stands.steps))
 simulates same_header handler given journal arrivals calls m reflexive fits stands =
-    by_refusal same_header reflexive handler given journal arrivals fits calls m stands.steps stands.place stands.going stands.tables stands.completions stands.signals
+    by_refusal (same_header (next_call handler given stands.steps)) (reflexive (next_call handler given stands.steps)) handler given journal arrivals fits calls m
+    stands.steps stands.place stands.going stands.tables stands.completions stands.signals
     stands.requests stands.start stands.done stands.children stands.reached (next_call handler given stands.steps) refl
     (refusal_of given.version (next_call handler given stands.steps)) refl
+
+abbrev written_of : Option Progressed → List Request
+written_of None = []
+written_of (Some p) = p.written
+
+-- a call that is stopped midway leaves a beginning of the run's requests
+pub stops_with_run : (same_header : Call → Request → Request → Bool) (handler : Handler) (given : Invocation) (journal : List Request) (arrivals : List Arrival) (calls : ℕ) (m : Machine)
+    → AreReflexive same_header → Fits handler given journal arrivals → (stands : Stands handler given journal arrivals calls m) → (stopped : Progressed)
+    → StopsMidway same_header given m (next_call handler given stands.steps) stopped → BeginsRun handler given arrivals (journal ++ stopped.written)
+stops_with_run same_header handler given journal arrivals calls m reflexive fits stands stopped stops = by_replays p.replays
+  where
+    call : Call
+    call = next_call handler given stands.steps
+
+    next : AnswersNext handler given journal arrivals calls stops.answer stops.whole
+    next = subst (RepliesAsRun handler given journal arrivals calls) stops.replies (simulates same_header handler given journal arrivals calls m reflexive fits stands)
+
+    is_run : run_requests handler given arrivals (suc calls) ≡ (requests_of stands.steps ++ stops.some) ++ stops.others
+    is_run = ap (λ (p : Progress). requests_of p.steps) next.stands.going ∙ sym next.stands.done ∙ stops.done
+        ∙ ap (λ (xs : List Request). (xs ++ stops.some) ++ stops.others) stands.done
+
+    all : Agrees stands.requests.left (stops.some ++ stops.others)
+    all = agree handler given journal arrivals fits.calls fits.beginning (suc calls) (requests_of stands.steps) (stops.some ++ stops.others) stands.requests.left m.written
+        (is_run ∙ append_assoc (requests_of stands.steps) stops.some stops.others) stands.requests.requests stands.requests.replays
+
+    p : Puts (same_header call) journal (requests_of stands.steps) stops.some stands.requests.left m.written
+    p = put (same_header call) (reflexive call) journal stops.some (requests_of stands.steps) stands.requests.left m.written stands.requests.requests stands.requests.replays
+        (record { behind_left = all.behind_left; behind_requests = stops.others ++ all.behind_requests; same = all.same ∙ append_assoc stops.some stops.others all.behind_requests })
+
+    wrote : stopped.written ≡ p.wrote
+    wrote = ap written_of (sym stops.puts ∙ ap (λ (some : Commands). put_all (same_header call) stops.some (record { left = some; written = m.written })) stands.requests.are_requests ∙ p.puts)
+
+    by_replays : (p.rest ≡ []) ⊎ (p.wrote ≡ []) → BeginsRun handler given arrivals (journal ++ stopped.written)
+    by_replays (inl none) = record {
+      calls = suc calls;
+      beginning = (stops.others, ap (λ (xs : List Request). (journal ++ xs) ++ stops.others) wrote
+          ∙ ap (λ (xs : List Request). xs ++ stops.others)
+          (sym p.whole ∙ ap (λ (xs : List Request). (requests_of stands.steps ++ stops.some) ++ xs) none ∙ append-nil (requests_of stands.steps ++ stops.some))
+          ∙ sym is_run);
+    }
+    by_replays (inr nothing) =
+        let (a, e) = fits.beginning in
+        record {
+          calls = fits.calls;
+          beginning = (a, ap (λ (xs : List Request). xs ++ a) (ap (λ (xs : List Request). journal ++ xs) (wrote ∙ nothing) ∙ append-nil journal) ∙ e);
+        }

@@ -1,5 +1,5 @@
 -- The machine stands to the run before its first call, and where one more arrival is read.
-use Rattle.std.proofs.Common.{◌≡◌, refl, sym, ap, ◌∙◌, ℕ, ◌≤◌, arith, true, false, List, [], ◌∷◌, ◌++◌, append_assoc, append-nil, length, inr}
+use Rattle.std.proofs.Common.{◌≡◌, refl, sym, ap, ◌∙◌, ℕ, ◌≤◌, arith, true, false, List, [], ◌∷◌, ◌++◌, append_assoc, append-nil, length, inr, map, Some}
 use Rattle.journal_model.specs.Notification.{Arrival}
 use Rattle.journal_model.specs.Request.{Request}
 use Rattle.journal_model.specs.State.{StartState}
@@ -14,7 +14,7 @@ use Rattle.attempt_tables.proofs.Tables.{within-more, comes, starts}
 
 -- the machine stands at the beginning
 pub begins : (handler : Handler) (given : Invocation) (start : StartState) (journal : List Request) (arrivals : List Arrival)
-    → IsShown given.start journal start → Stands handler given journal arrivals 0 (machine_at_start start journal arrivals)
+    → IsShown given.start journal start → Stands handler given journal arrivals 0 (machine_at_start start (map Some journal) arrivals)
 begins handler given start journal arrivals shows = record {
   steps = [];
   place = 0;
@@ -22,7 +22,7 @@ begins handler given start journal arrivals shows = record {
   tables = starts given.options arrivals;
   completions = refl;
   signals = refl;
-  requests = record { requests = sym (append-nil journal); replays = inr refl };
+  requests = record { left = journal; are_requests = refl; requests = sym (append-nil journal); replays = inr refl };
   start = shows;
   done = refl;
   children = refl;

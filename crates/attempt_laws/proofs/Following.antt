@@ -1,8 +1,9 @@
 -- A whole attempt follows the run.
-use Rattle.std.proofs.Common.{◌≡◌, refl, sym, ap, ap₂, ◌∙◌, subst, ℕ, suc, ◌+◌, ◌≤◌, arith, Bool, List, [], ◌∷◌, ◌++◌, append_assoc, append-nil, length, length-append}
+use Rattle.std.proofs.Common.{map, Some, ◌≡◌, refl, sym, ap, ap₂, ◌∙◌, subst, ℕ, suc, ◌+◌, ◌≤◌, arith, Bool, List, [], ◌∷◌, ◌++◌, append_assoc, append-nil, length, length-append}
 use Rattle.journal_model.specs.declared.notification.NotificationId.TheVariants.{CompletionId}
 use Rattle.journal_model.specs.Notification.{Arrival}
 use Rattle.journal_model.specs.declared.call.Answer.{Answer}
+use Rattle.journal_model.specs.declared.call.Call.{Call}
 use Rattle.journal_model.specs.Request.{Request}
 use Rattle.journal_model.specs.State.{StartState}
 use Rattle.journal_model.specs.History.{Step, answers_of, requests_of, next_completion}
@@ -13,23 +14,24 @@ use Rattle.journal_model.proofs.Extension as Extension
 use Rattle.journal_model.proofs.Extension.{run-more}
 use Rattle.attempt_model.specs.Attempts.{with_entries, Happening, Comes, Turns, AttemptState, Live, Over, attempt_with_arrival, attempt_after_reply, arrivals_after, attempt_after_turn, attempt_after, AnswersFirst, AgreesWithRun}
 use Rattle.attempt_model.specs.Machine.{Machine, machine_at_start, with_arrival, Mismatch, UncompletedInReplay, EndInReplay, Refused, Reply, Answered, AwaitsTree, AwaitsChild, Finished, FailedBy, reply_to}
-use Rattle.attempt_model.specs.Standing.{results_for, IsShown, Stands, ComesOnce, Fits, next_call, RepliesAsRun, IsReflexive}
+use Rattle.attempt_model.specs.Requests.{Commands}
+use Rattle.attempt_model.specs.Standing.{results_for, IsShown, Stands, ComesOnce, Fits, next_call, RepliesAsRun, AreReflexive}
 use Rattle.attempt_tables.proofs.Tables.{results-append}
 use Rattle.attempt_calls.proofs.Simulating.{simulates}
 use Rattle.attempt_calls.proofs.Standing.{begins, goes_same, reads_on, fits_on}
 
 -- the journal, entry by entry
-reads_from : (start : StartState) (requests : List Request) (arrivals : List Arrival) (entries : List Entry)
-    → with_entries (machine_at_start start requests arrivals) entries ≡ machine_at_start start (requests ++ requests_in entries) (arrivals ++ arrivals_in entries)
-reads_from start requests arrivals [] = ap₂ (λ (rs : List Request) (some : List Arrival). machine_at_start start rs some) (sym (append-nil requests)) (sym (append-nil arrivals))
-reads_from start requests arrivals (Recorded request ∷ entries) =
-    reads_from start (requests ++ request ∷ []) arrivals entries
-    ∙ ap (λ (rs : List Request). machine_at_start start rs (arrivals ++ arrivals_in entries)) (append_assoc requests (request ∷ []) (requests_in entries))
-reads_from start requests arrivals (Arrived arrival ∷ entries) =
-    reads_from start requests (arrivals ++ arrival ∷ []) entries
-    ∙ ap (λ (some : List Arrival). machine_at_start start (requests ++ requests_in entries) some) (append_assoc arrivals (arrival ∷ []) (arrivals_in entries))
+reads_from : (start : StartState) (commands : Commands) (arrivals : List Arrival) (entries : List Entry)
+    → with_entries (machine_at_start start commands arrivals) entries ≡ machine_at_start start (commands ++ map Some (requests_in entries)) (arrivals ++ arrivals_in entries)
+reads_from start commands arrivals [] = ap₂ (λ (some : Commands) (read : List Arrival). machine_at_start start some read) (sym (append-nil commands)) (sym (append-nil arrivals))
+reads_from start commands arrivals (Recorded request ∷ entries) =
+    reads_from start (commands ++ Some request ∷ []) arrivals entries
+    ∙ ap (λ (some : Commands). machine_at_start start some (arrivals ++ arrivals_in entries)) (append_assoc commands (Some request ∷ []) (map Some (requests_in entries)))
+reads_from start commands arrivals (Arrived arrival ∷ entries) =
+    reads_from start commands (arrivals ++ arrival ∷ []) entries
+    ∙ ap (λ (some : List Arrival). machine_at_start start (commands ++ map Some (requests_in entries)) some) (append_assoc arrivals (arrival ∷ []) (arrivals_in entries))
 
-pub reads_journal : (start : StartState) (entries : List Entry) → with_entries (machine_at_start start [] []) entries ≡ machine_at_start start (requests_in entries) (arrivals_in entries)
+pub reads_journal : (start : StartState) (entries : List Entry) → with_entries (machine_at_start start [] []) entries ≡ machine_at_start start (map Some (requests_in entries)) (arrivals_in entries)
 reads_journal start entries = reads_from start [] [] entries
 
 -- what comes once among more comes once among fewer
@@ -63,7 +65,7 @@ once-before handler given arrivals later once made n =
         fewer (known_results (run handler given arrivals made).steps) rest arrivals later n
         (subst (λ (known : List Arrival). length (results_for (known ++ (arrivals ++ later)) (CompletionId n)) ≤ 1) (ap known_results e ∙ f) (once made n))
 
-module _ (same_header : Request → Request → Bool) (reflexive : IsReflexive same_header) (handler : Handler) (given : Invocation) (start : StartState) (journal : List Request) (first : List Arrival)
+module _ (same_header : Call → Request → Request → Bool) (reflexive : AreReflexive same_header) (handler : Handler) (given : Invocation) (start : StartState) (journal : List Request) (first : List Arrival)
     (shows : IsShown given.start journal start) where
   -- behind all that happened, what is fed fits
   fits_after : (happened : List Happening) → Fits handler given journal first → ComesOnce handler given (arrivals_after first happened) → Fits handler given journal (arrivals_after first happened)
@@ -79,7 +81,9 @@ module _ (same_header : Request → Request → Bool) (reflexive : IsReflexive s
     calls = calls;
     stands = stands;
     answered = answered;
-    requested = ap (λ (p : Progress). requests_of p.steps ++ m.left) stands.going ∙ stands.requests.requests;
+    left = stands.requests.left;
+    are_requests = stands.requests.are_requests;
+    requested = ap (λ (p : Progress). requests_of p.steps ++ stands.requests.left) stands.going ∙ stands.requests.requests;
   }
 
   one_more : (arrivals : List Arrival) (arrival : Arrival) (a : AttemptState) → AgreesWithRun handler given journal arrivals a → AgreesWithRun handler given journal (arrivals ++ arrival ∷ []) (attempt_with_arrival arrival a)
@@ -129,16 +133,16 @@ module _ (same_header : Request → Request → Bool) (reflexive : IsReflexive s
   one_turn arrivals fits (Over (AwaitsChild child m)) f = absurd f
 
   follows : (happened : List Happening) → Fits handler given journal first → ComesOnce handler given (arrivals_after first happened)
-      → AgreesWithRun handler given journal (arrivals_after first happened) (attempt_after same_header handler given (machine_at_start start journal first) happened)
-  follows [] fits once = answers_by first 0 [] (machine_at_start start journal first) (begins handler given start journal first shows) refl
+      → AgreesWithRun handler given journal (arrivals_after first happened) (attempt_after same_header handler given (machine_at_start start (map Some journal) first) happened)
+  follows [] fits once = answers_by first 0 [] (machine_at_start start (map Some journal) first) (begins handler given start journal first shows) refl
   follows (Comes arrival ∷ earlier) fits once =
-      one_more (arrivals_after first earlier) arrival (attempt_after same_header handler given (machine_at_start start journal first) earlier)
+      one_more (arrivals_after first earlier) arrival (attempt_after same_header handler given (machine_at_start start (map Some journal) first) earlier)
       (follows earlier fits (once-before handler given (arrivals_after first earlier) (arrival ∷ []) once))
   follows (Turns ∷ earlier) fits once =
-      one_turn (arrivals_after first earlier) (fits_after earlier fits once) (attempt_after same_header handler given (machine_at_start start journal first) earlier) (follows earlier fits once)
+      one_turn (arrivals_after first earlier) (fits_after earlier fits once) (attempt_after same_header handler given (machine_at_start start (map Some journal) first) earlier) (follows earlier fits once)
 
-pub attempts_follow : (same_header : Request → Request → Bool) (handler : Handler) (given : Invocation) (start : StartState) (journal : List Request) (first : List Arrival) (happened : List Happening)
-    → IsReflexive same_header → IsShown given.start journal start → Fits handler given journal first → ComesOnce handler given (arrivals_after first happened)
-    → AgreesWithRun handler given journal (arrivals_after first happened) (attempt_after same_header handler given (machine_at_start start journal first) happened)
+pub attempts_follow : (same_header : Call → Request → Request → Bool) (handler : Handler) (given : Invocation) (start : StartState) (journal : List Request) (first : List Arrival) (happened : List Happening)
+    → AreReflexive same_header → IsShown given.start journal start → Fits handler given journal first → ComesOnce handler given (arrivals_after first happened)
+    → AgreesWithRun handler given journal (arrivals_after first happened) (attempt_after same_header handler given (machine_at_start start (map Some journal) first) happened)
 attempts_follow same_header handler given start journal first happened reflexive shows fits once =
     follows same_header reflexive handler given start journal first shows happened fits once

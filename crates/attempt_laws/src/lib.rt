@@ -3,7 +3,7 @@
 #![tactic(auto)]
 
 ghost use Rattle.attempt_model.specs.Attempts.{AttemptsFollow, OnceByAsking, ReadsJournal};
-ghost use Rattle.attempt_model.specs.Standing.{BeginsStanding, FitsOn, ReadsStanding, Simulates};
+ghost use Rattle.attempt_model.specs.Standing.{BeginsStanding, FitsOn, ReadsStanding, Simulates, StopsWithRun};
 
 /// The machine stands to the run before its first call, and where one more arrival is read; more arrivals fit too.
 pub fn attempts_stand()
@@ -13,8 +13,10 @@ pub fn attempts_stand()
 {}
 
 /// Each call is answered as the run over the arrivals read answers it, waits and ends where the run does, and matches and writes its requests.
+/// Where one is stopped midway, what was recorded and what was written are a beginning of the run's requests.
 pub fn calls_simulate()
-    ensures { Simulates }
+    ensures answers { Simulates }
+    ensures stops { StopsWithRun }
 {}
 
 /// A whole attempt, in any number of turns between any arrivals, follows the run over what it has read, whatever part of it was recorded.

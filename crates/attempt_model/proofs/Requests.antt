@@ -1,11 +1,11 @@
 -- The requests of a call are matched with the recorded ones that are left, and written behind them.
-use Rattle.std.proofs.Common.{◌≡◌, refl, sym, ap, ◌∙◌, ℕ, suc, ◌+◌, arith, Bool, true, false, if◌then◌else◌, List, [], ◌∷◌, ◌++◌, append_assoc, append-nil, length, length-append, Some, None, option_and_then, ◌⊎◌, inl, inr}
+use Rattle.std.proofs.Common.{◌≡◌, refl, sym, ap, ◌∙◌, ℕ, suc, ◌+◌, arith, Bool, true, false, if◌then◌else◌, List, [], ◌∷◌, ◌++◌, append_assoc, append-nil, length, length-append, map, Some, None, option_and_then, ◌⊎◌, inl, inr}
 use Rattle.journal_model.specs.Notification.{Arrival}
 use Rattle.journal_model.specs.Request.{Request}
 use Rattle.journal_model.specs.History.{requests_of}
 use Rattle.journal_model.specs.Run.{Handler, Invocation, Progress, run, run_requests, is_going, IsBeginning}
 use Rattle.journal_model.proofs.Continuing.{run_requests-beginning, run-stopped}
-use Rattle.attempt_model.specs.Requests.{Progressed, put_all}
+use Rattle.attempt_model.specs.Requests.{put_all}
 use Rattle.attempt_model.specs.Standing.{IsReflexive}
 
 append-cancel : {A : Type 0} (xs ys zs : List A) → xs ++ ys ≡ xs ++ zs → ys ≡ zs
@@ -20,16 +20,18 @@ pub record Agrees (left requests : List Request) : Type 0 where
 
 -- what is left to match, and was written, behind these requests
 pub record Puts (same_header : Request → Request → Bool) (journal done requests left written : List Request) : Type 0 where
-  pub after : Progressed
-  pub puts : put_all same_header requests (record { left = left; written = written }) ≡ Some after
-  pub whole : (done ++ requests) ++ after.left ≡ journal ++ after.written
-  pub replays : (after.left ≡ []) ⊎ (after.written ≡ [])
+  pub rest : List Request
+  pub wrote : List Request
+  pub puts : put_all same_header requests (record { left = map Some left; written = written }) ≡ Some (record { left = map Some rest; written = wrote })
+  pub whole : (done ++ requests) ++ rest ≡ journal ++ wrote
+  pub replays : (rest ≡ []) ⊎ (wrote ≡ [])
 
 module _ (same_header : Request → Request → Bool) (reflexive : IsReflexive same_header) (journal : List Request) where
   pub put : (requests done left written : List Request) → done ++ left ≡ journal ++ written → (left ≡ []) ⊎ (written ≡ [])
       → Agrees left requests → Puts same_header journal done requests left written
   put [] done left written e replays agrees = record {
-    after = record { left = left; written = written };
+    rest = left;
+    wrote = written;
     puts = refl;
     whole = ap (λ (xs : List Request). xs ++ left) (append-nil done) ∙ e;
     replays = replays;
@@ -41,9 +43,10 @@ module _ (same_header : Request → Request → Bool) (reflexive : IsReflexive s
     where
       one_more : Puts same_header journal (done ++ request ∷ []) requests [] (written ++ request ∷ []) → Puts same_header journal done (request ∷ requests) [] written
       one_more p = record {
-        after = p.after;
+        rest = p.rest;
+        wrote = p.wrote;
         puts = p.puts;
-        whole = ap (λ (xs : List Request). xs ++ p.after.left) (sym (append_assoc done (request ∷ []) requests)) ∙ p.whole;
+        whole = ap (λ (xs : List Request). xs ++ p.rest) (sym (append_assoc done (request ∷ []) requests)) ∙ p.whole;
         replays = p.replays;
       }
   put (request ∷ requests) done (recorded ∷ left) written e (inl wrong) agrees = cc
@@ -56,11 +59,12 @@ module _ (same_header : Request → Request → Bool) (reflexive : IsReflexive s
     where
       one_more : recorded ≡ request → Puts same_header journal (done ++ request ∷ []) requests left written → Puts same_header journal done (request ∷ requests) (recorded ∷ left) written
       one_more same p = record {
-        after = p.after;
+        rest = p.rest;
+        wrote = p.wrote;
         puts =
             let matches : same_header recorded request ≡ true = ap (λ (r : Request). same_header r request) same ∙ reflexive request in
-            ap (λ (b : Bool). option_and_then (put_all same_header requests) (if b then Some (record { left = left; written = written }) else None)) matches ∙ p.puts;
-        whole = ap (λ (xs : List Request). xs ++ p.after.left) (sym (append_assoc done (request ∷ []) requests)) ∙ p.whole;
+            ap (λ (b : Bool). option_and_then (put_all same_header requests) (if b then Some (record { left = map Some left; written = written }) else None)) matches ∙ p.puts;
+        whole = ap (λ (xs : List Request). xs ++ p.rest) (sym (append_assoc done (request ∷ []) requests)) ∙ p.whole;
         replays = p.replays;
       }
 

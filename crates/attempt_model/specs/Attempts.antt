@@ -1,20 +1,21 @@
 -- A whole attempt: it reads the entries of the journal, then takes turns while more arrivals come.
-use Rattle.std.specs.Prelude.{◌≡◌, ◌≤◌, ℕ, Bool, true, List, [], ◌∷◌, ◌++◌, length}
+use Rattle.std.specs.Prelude.{map, Some, ◌≡◌, ◌≤◌, ℕ, Bool, true, List, [], ◌∷◌, ◌++◌, length}
 use Rattle.std.specs.List.{list_any}
 use Rattle.journal_model.specs.declared.notification.NotificationId.TheVariants.{CompletionId}
 use Rattle.journal_model.specs.Notification.{Arrival}
 use Rattle.journal_model.specs.declared.call.Answer.{Answer}
+use Rattle.journal_model.specs.declared.call.Call.{Call}
 use Rattle.journal_model.specs.Request.{Request}
 use Rattle.journal_model.specs.State.{StartState}
 use Rattle.journal_model.specs.History.{answers_of}
 use Rattle.journal_model.specs.Journal.{asks_for, Entry, Recorded, Arrived, requests_in, arrivals_in}
 use Rattle.journal_model.specs.Run.{Handler, Invocation, Ending, RefusedCall, Ended, run, run_requests, IsBeginning}
 use Rattle.attempt_model.specs.Machine.{Machine, machine_at_start, with_arrival, Fault, Refused, Reply, Answered, AwaitsTree, AwaitsChild, Finished, FailedBy, reply_to}
-use Rattle.attempt_model.specs.Standing.{results_for, IsShown, Stands, ComesOnce, Fits, IsReflexive}
+use Rattle.attempt_model.specs.Standing.{results_for, IsShown, Stands, ComesOnce, Fits, AreReflexive}
 
 -- an entry of the journal is read: a request is to be matched, an arrival waits in line, wherever they stand among one another
 abbrev pub with_entry : Machine → Entry → Machine
-with_entry m (Recorded request) = record m { left = m.left ++ request ∷ [] }
+with_entry m (Recorded request) = record m { left = m.left ++ Some request ∷ [] }
 with_entry m (Arrived arrival) = with_arrival m arrival
 
 abbrev pub with_entries : Machine → List Entry → Machine
@@ -23,7 +24,7 @@ with_entries m (entry ∷ entries) = with_entries (with_entry m entry) entries
 
 -- however requests and arrivals stand among one another, the machine begins with all of both
 abbrev pub ReadsJournal : Type 0
-ReadsJournal = (start : StartState) (entries : List Entry) → with_entries (machine_at_start start [] []) entries ≡ machine_at_start start (requests_in entries) (arrivals_in entries)
+ReadsJournal = (start : StartState) (entries : List Entry) → with_entries (machine_at_start start [] []) entries ≡ machine_at_start start (map Some (requests_in entries)) (arrivals_in entries)
 
 -- what happens to an attempt whose journal was read
 pub data Happening : Type 0 where
@@ -52,7 +53,7 @@ arrivals_after first [] = first
 arrivals_after first (Comes arrival ∷ earlier) = arrivals_after first earlier ++ arrival ∷ []
 arrivals_after first (Turns ∷ earlier) = arrivals_after first earlier
 
-module _ (same_header : Request → Request → Bool) (handler : Handler) (given : Invocation) where
+module _ (same_header : Call → Request → Request → Bool) (handler : Handler) (given : Invocation) where
   -- a turn asks the handler, whose answers so far are these, and carries its call out; an await that waits is asked again
   abbrev pub attempt_after_turn : AttemptState → AttemptState
   attempt_after_turn (Live answers m) = attempt_after_reply answers (reply_to same_header given m (handler given.input answers))
@@ -68,8 +69,10 @@ pub record AnswersFirst (handler : Handler) (given : Invocation) (journal : List
   pub calls : ℕ
   pub stands : Stands handler given journal arrivals calls m
   pub answered : answers ≡ answers_of (run handler given arrivals calls).steps
-  -- what it has matched and written is what the run has requested
-  pub requested : run_requests handler given arrivals calls ++ m.left ≡ journal ++ m.written
+  -- what it has matched and written is what the run has requested, and what is left is what else was recorded
+  pub left : List Request
+  pub are_requests : m.left ≡ map Some left
+  pub requested : run_requests handler given arrivals calls ++ left ≡ journal ++ m.written
 
 -- it ended where the run over the arrivals that were read by then ends, with exactly its requests
 pub record EndedAs (handler : Handler) (given : Invocation) (journal : List Request) (arrivals : List Arrival) (m : Machine) : Type 0 where
@@ -102,9 +105,9 @@ AgreesWithRun handler given journal arrivals (Over (AwaitsChild child m)) = ⊥
 
 -- any number of turns between any arrivals: the attempt follows the run over what was read, whatever part of the run was recorded before
 abbrev pub AttemptsFollow : Type 0
-AttemptsFollow = (same_header : Request → Request → Bool) (handler : Handler) (given : Invocation) (start : StartState) (journal : List Request) (first : List Arrival) (happened : List Happening)
-    → IsReflexive same_header → IsShown given.start journal start → Fits handler given journal first → ComesOnce handler given (arrivals_after first happened)
-    → AgreesWithRun handler given journal (arrivals_after first happened) (attempt_after same_header handler given (machine_at_start start journal first) happened)
+AttemptsFollow = (same_header : Call → Request → Request → Bool) (handler : Handler) (given : Invocation) (start : StartState) (journal : List Request) (first : List Arrival) (happened : List Happening)
+    → AreReflexive same_header → IsShown given.start journal start → Fits handler given journal first → ComesOnce handler given (arrivals_after first happened)
+    → AgreesWithRun handler given journal (arrivals_after first happened) (attempt_after same_header handler given (machine_at_start start (map Some journal) first) happened)
 
 -- where what has come came once, and was asked for by requests that are a beginning of the run's, each completion comes once, known reads included
 abbrev pub OnceByAsking : Type 0

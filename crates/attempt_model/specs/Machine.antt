@@ -1,6 +1,6 @@
 -- One attempt as a machine: what of the recorded requests it has to match still, what has come and was not looked at,
 -- what waits to be taken, what handles stand for, and what it has written; and what a handler's call makes of it.
-use Rattle.std.specs.Prelude.{ℕ, ◌+◌, Bool, true, false, ◌&&◌, List, [], ◌∷◌, ◌++◌, length, map, Option, Some, None, is_some}
+use Rattle.std.specs.Prelude.{◌≡◌, ℕ, ◌+◌, Bool, true, false, ◌&&◌, List, [], ◌∷◌, ◌++◌, length, map, Option, Some, None, is_some}
 use Rattle.journal_model.specs.declared.notification.NotificationResult.{NotificationResult}
 use Rattle.journal_model.specs.Notification.{Arrival, cancel_id}
 use Rattle.journal_model.specs.AwaitTree.{AwaitTree}
@@ -15,12 +15,12 @@ use Rattle.journal_model.specs.Delivery.{known_result}
 use Rattle.journal_model.specs.Await.{child_of, awaited_tree, ends_awaits}
 use Rattle.journal_model.specs.Run.{Invocation}
 use Rattle.attempt_model.specs.Children.{Child, new_child, child_with_value, cancel_requests_for, ChildrenOutcome, AllKnown, FirstUnknown, children_outcome}
-use Rattle.attempt_model.specs.Requests.{answer_by, requests_by, Progressed, put_all}
+use Rattle.attempt_model.specs.Requests.{answer_by, Commands, requests_by, Progressed, put_all}
 use Rattle.attempt_model.specs.Results.{Ready, Slots, slot_of, waiting_for, ready_without_first, slots_without, Resolution, Awake, Asleep, resolution_of, ready_after_all}
 
 pub record Machine : Type 0 where
-  -- the recorded requests that no call has matched yet; while there is one, the machine replays
-  pub left : List Request
+  -- the recorded commands that no call has matched yet; while there is one, the machine replays
+  pub left : Commands
   -- the requests that it has written
   pub written : List Request
   -- the numbers of the next completion and of the next awakeable's signal
@@ -36,10 +36,10 @@ pub record Machine : Type 0 where
   -- the children that a cancellation is passed on to
   pub children : List Child
 
--- before the first call, with what the start has shown, these recorded requests, and these arrivals between and behind them
-abbrev pub machine_at_start : StartState → List Request → List Arrival → Machine
-machine_at_start start journal arrivals = record {
-  left = journal;
+-- before the first call, with what the start has shown, these recorded commands, and these arrivals between and behind them
+abbrev pub machine_at_start : StartState → Commands → List Arrival → Machine
+machine_at_start start commands arrivals = record {
+  left = commands;
   written = [];
   completions = 1;
   signals = 17;
@@ -121,14 +121,14 @@ module _ (same_header : Request → Request → Bool) (invocation : Invocation) 
   is_cancelled m = ends_awaits invocation.options.implicit_cancellation && is_some (waiting_for m.slots m.ready cancel_handle)
 
   -- in replay an await that waits for a child fails; behind it, it waits for that child alone
-  abbrev pub reply_where_unknown : Option ℕ → Machine → List Request → Reply
+  abbrev pub reply_where_unknown : Option ℕ → Machine → Commands → Reply
   reply_where_unknown child m [] = AwaitsChild child m
-  reply_where_unknown child m (request ∷ left) = FailedBy UncompletedInReplay
+  reply_where_unknown child m (command ∷ left) = FailedBy UncompletedInReplay
 
   -- in replay an await that stays asleep fails; behind it, it waits
-  abbrev pub reply_where_asleep : AwaitTree ℕ → Machine → List Request → Reply
+  abbrev pub reply_where_asleep : AwaitTree ℕ → Machine → Commands → Reply
   reply_where_asleep tree m [] = AwaitsTree tree m
-  reply_where_asleep tree m (request ∷ left) = FailedBy UncompletedInReplay
+  reply_where_asleep tree m (command ∷ left) = FailedBy UncompletedInReplay
 
   -- a cancellation: one request is made for each child, one delivery of it is taken, and the children are let go of
   abbrev pub reply_where_cancelled : Machine → List Request → Option Progressed → Reply
@@ -161,9 +161,9 @@ module _ (same_header : Request → Request → Bool) (invocation : Invocation) 
   reply_to_await m (Asleep tree ready) = reply_where_asleep tree (record m { queue = []; ready = ready }) m.left
 
   -- the end needs that nothing recorded is left
-  abbrev pub reply_to_end : Machine → List Request → Reply
+  abbrev pub reply_to_end : Machine → Commands → Reply
   reply_to_end m [] = Finished m
-  reply_to_end m (request ∷ left) = FailedBy EndInReplay
+  reply_to_end m (command ∷ left) = FailedBy EndInReplay
 
   abbrev pub reply_to_work : Machine → Call → Work → Reply
   reply_to_work m call (ToAwait tree) =
@@ -179,6 +179,16 @@ module _ (same_header : Request → Request → Bool) (invocation : Invocation) 
   reply_unless_refused m call (Some refusal) = FailedBy (Refused refusal)
   reply_unless_refused m call None = reply_to_work m call (work_of call)
 
-  -- what a handler's call makes of the machine
-  abbrev pub reply_to : Machine → Call → Reply
-  reply_to m call = reply_unless_refused m call (refusal_of invocation.version call)
+-- what a handler's call makes of the machine; which parts of two requests have to be the same depends on the call
+abbrev pub reply_to : (Call → Request → Request → Bool) → Invocation → Machine → Call → Reply
+reply_to same_header invocation m call = reply_unless_refused (same_header call) invocation m call (refusal_of invocation.version call)
+
+-- a call that is stopped midway, as by want of memory: a beginning of the requests that it would have put was matched or written
+pub record StopsMidway (same_header : Call → Request → Request → Bool) (invocation : Invocation) (m : Machine) (call : Call) (stopped : Progressed) : Type 0 where
+  pub answer : Answer
+  pub whole : Machine
+  pub replies : reply_to same_header invocation m call ≡ Answered answer whole
+  pub some : List Request
+  pub others : List Request
+  pub done : whole.done ≡ (m.done ++ some) ++ others
+  pub puts : put_all (same_header call) some (record { left = m.left; written = m.written }) ≡ Some stopped

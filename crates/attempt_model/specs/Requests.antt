@@ -1,5 +1,5 @@
 -- The answer of a call that makes handles or requests alone, and its requests: which they are, and how they are matched or written.
-use Rattle.std.specs.Prelude.{ℕ, suc, ◌+◌, Bool, if◌then◌else◌, List, [], ◌∷◌, ◌++◌, Option, Some, None, option_and_then}
+use Rattle.std.specs.Prelude.{ℕ, suc, Bool, if◌then◌else◌, List, [], ◌∷◌, ◌++◌, Option, Some, None, option_and_then}
 use Rattle.journal_model.specs.Notification.{Bytes, Text}
 use Rattle.journal_model.specs.declared.call.Call.{Call}
 use Rattle.journal_model.specs.declared.call.Answer.{Answer}
@@ -26,15 +26,19 @@ answer_by id handle signal (Call.Attach target) = Answer.Handle handle
 answer_by id handle signal (Call.GetOutput target) = Answer.Handle handle
 answer_by id handle signal _ = Answer.Done
 
+-- recorded commands, as calls have to match them: each the request that it is, or none where no call makes such a command
+abbrev pub Commands : Type 0
+Commands = List (Option Request)
+
 -- a read, as it is recorded: behind the journal eager where the value is known, in replay of the kind that the record has
-abbrev pub read_value : List Request → Request → ℕ → Bytes → Text → Request
+abbrev pub read_value : Commands → Request → ℕ → Bytes → Text → Request
 read_value [] fresh n key name = fresh
-read_value (Request.GetEagerState recorded value other ∷ left) fresh n key name = Request.GetEagerState key value name
+read_value (Some (Request.GetEagerState recorded value other) ∷ left) fresh n key name = Request.GetEagerState key value name
 read_value (_ ∷ left) fresh n key name = Request.GetLazyState key n name
 
-abbrev pub read_keys : List Request → Request → ℕ → Text → Request
+abbrev pub read_keys : Commands → Request → ℕ → Text → Request
 read_keys [] fresh n name = fresh
-read_keys (Request.GetEagerStateKeys keys other ∷ left) fresh n name = Request.GetEagerStateKeys keys name
+read_keys (Some (Request.GetEagerStateKeys keys other) ∷ left) fresh n name = Request.GetEagerStateKeys keys name
 read_keys (_ ∷ left) fresh n name = Request.GetLazyStateKeys n name
 
 abbrev pub fresh_value : StartState → List Request → ℕ → Bytes → Text → Request
@@ -44,7 +48,7 @@ abbrev pub fresh_keys : StartState → List Request → ℕ → Text → Request
 fresh_keys start done n name = if knows_all_keys start done then Request.GetEagerStateKeys (known_keys start done) name else Request.GetLazyStateKeys n name
 
 -- the requests of a call, with this next completion
-abbrev pub requests_by : StartState → (done left : List Request) → ℕ → Call → List Request
+abbrev pub requests_by : StartState → (done : List Request) → Commands → ℕ → Call → List Request
 requests_by start done left n (Call.StateGet key name options) = read_value left (fresh_value start done n key (name_or_empty name)) n key (name_or_empty name) ∷ []
 requests_by start done left n (Call.StateGetKeys name) = read_keys left (fresh_keys start done n (name_or_empty name)) n (name_or_empty name) ∷ []
 requests_by start done left n (Call.StateSet key value name options) = Request.SetState key value (name_or_empty name) ∷ []
@@ -67,14 +71,15 @@ requests_by start done left n _ = []
 
 -- what is left to match, and what was written
 pub record Progressed : Type 0 where
-  pub left : List Request
+  pub left : Commands
   pub written : List Request
 
 module _ (same_header : Request → Request → Bool) where
-  -- a request is matched with the next recorded one, and nothing is written; where none is left it is written
-  abbrev pub put_one : Request → List Request → List Request → Option Progressed
+  -- a request is matched with the next recorded command, and nothing is written; where none is left it is written
+  abbrev pub put_one : Request → Commands → List Request → Option Progressed
   put_one request [] written = Some (record { left = []; written = written ++ request ∷ [] })
-  put_one request (recorded ∷ left) written = if same_header recorded request then Some (record { left = left; written = written }) else None
+  put_one request (None ∷ left) written = None
+  put_one request (Some recorded ∷ left) written = if same_header recorded request then Some (record { left = left; written = written }) else None
 
   abbrev pub put_all : List Request → Progressed → Option Progressed
   put_all [] p = Some p

@@ -1,5 +1,5 @@
 -- How the machine stands to the run of its handler, and what each reply says of it.
-use Rattle.std.specs.Prelude.{◌≡◌, ◌≤◌, ◌<◌, ◌+◌, ◌⊎◌, ℕ, suc, Bool, true, false, if◌then◌else◌, List, [], ◌∷◌, ◌++◌, length, drop, map, filter, Option}
+use Rattle.std.specs.Prelude.{Some, ◌≡◌, ◌≤◌, ◌<◌, ◌+◌, ◌⊎◌, ℕ, suc, Bool, true, false, if◌then◌else◌, List, [], ◌∷◌, ◌++◌, length, drop, map, filter, Option}
 use Rattle.journal_model.specs.declared.notification.NotificationId.{NotificationId}
 use Rattle.journal_model.specs.declared.notification.NotificationId.TheVariants.{CompletionId}
 use Rattle.journal_model.specs.declared.notification.NotificationResult.{NotificationResult}
@@ -19,7 +19,8 @@ use Rattle.journal_model.specs.State.{StartState, state_after, IsOrdered}
 use Rattle.journal_model.specs.Waiting.{pruned}
 use Rattle.journal_model.specs.Run.{Handler, Invocation, GoesOn, Waits, RefusedCall, Ended, run, run_requests, IsBeginning}
 use Rattle.attempt_model.specs.Children.{Child}
-use Rattle.attempt_model.specs.Machine.{Machine, machine_at_start, with_arrival, Mismatch, UncompletedInReplay, EndInReplay, Refused, Reply, Answered, AwaitsTree, AwaitsChild, Finished, FailedBy, reply_to}
+use Rattle.attempt_model.specs.Machine.{Machine, machine_at_start, with_arrival, Mismatch, UncompletedInReplay, EndInReplay, Refused, Reply, Answered, AwaitsTree, AwaitsChild, Finished, FailedBy, reply_to, StopsMidway}
+use Rattle.attempt_model.specs.Requests.{Commands, Progressed}
 use Rattle.attempt_model.specs.Results.{Ready, Slots, slot_of}
 
 -- the results for one id
@@ -56,8 +57,11 @@ pub record TablesStand (options : RunOptions) (steps : List Step) (arrivals : Li
   pub next : 17 + length table ≡ next_handle steps
   pub takes : TakesBelow (next_handle steps) steps
 
--- the requests that were matched and written are those of the steps, and nothing is written before all recorded ones are matched
-pub record RequestsStand (journal : List Request) (steps : List Step) (left written : List Request) : Type 0 where
+-- the commands that are left are requests; those that were matched and written are the steps', and nothing is written before all recorded
+-- ones are matched
+pub record RequestsStand (journal : List Request) (steps : List Step) (commands : Commands) (written : List Request) : Type 0 where
+  pub left : List Request
+  pub are_requests : commands ≡ map Some left
   pub requests : requests_of steps ++ left ≡ journal ++ written
   pub replays : (left ≡ []) ⊎ (written ≡ [])
 
@@ -160,10 +164,14 @@ RepliesAsRun handler given journal arrivals calls (FailedBy (Refused refusal)) =
 abbrev pub IsReflexive : (Request → Request → Bool) → Type 0
 IsReflexive same_header = (request : Request) → same_header request request ≡ true
 
+-- whatever the call leaves out of the comparison
+abbrev pub AreReflexive : (Call → Request → Request → Bool) → Type 0
+AreReflexive same_header = (call : Call) → IsReflexive (same_header call)
+
 -- the machine stands at the beginning
 abbrev pub BeginsStanding : Type 0
 BeginsStanding = (handler : Handler) (given : Invocation) (start : StartState) (journal : List Request) (arrivals : List Arrival)
-    → IsShown given.start journal start → Stands handler given journal arrivals 0 (machine_at_start start journal arrivals)
+    → IsShown given.start journal start → Stands handler given journal arrivals 0 (machine_at_start start (map Some journal) arrivals)
 
 -- and where one more arrival is read
 abbrev pub ReadsStanding : Type 0
@@ -178,6 +186,17 @@ FitsOn = (handler : Handler) (given : Invocation) (journal : List Request) (arri
 
 -- each call is answered as the run answers it, and the machine stands behind it
 abbrev pub Simulates : Type 0
-Simulates = (same_header : Request → Request → Bool) (handler : Handler) (given : Invocation) (journal : List Request) (arrivals : List Arrival) (calls : ℕ) (m : Machine)
-    → IsReflexive same_header → Fits handler given journal arrivals → (stands : Stands handler given journal arrivals calls m)
+Simulates = (same_header : Call → Request → Request → Bool) (handler : Handler) (given : Invocation) (journal : List Request) (arrivals : List Arrival) (calls : ℕ) (m : Machine)
+    → AreReflexive same_header → Fits handler given journal arrivals → (stands : Stands handler given journal arrivals calls m)
     → RepliesAsRun handler given journal arrivals calls (reply_to same_header given m (next_call handler given stands.steps))
+
+-- requests that are a beginning of the run's, over so many calls
+pub record BeginsRun (handler : Handler) (given : Invocation) (arrivals : List Arrival) (requests : List Request) : Type 0 where
+  pub calls : ℕ
+  pub beginning : IsBeginning requests (run_requests handler given arrivals calls)
+
+-- where a call is stopped midway, what was recorded and what was written are a beginning of the run's requests
+abbrev pub StopsWithRun : Type 0
+StopsWithRun = (same_header : Call → Request → Request → Bool) (handler : Handler) (given : Invocation) (journal : List Request) (arrivals : List Arrival) (calls : ℕ) (m : Machine)
+    → AreReflexive same_header → Fits handler given journal arrivals → (stands : Stands handler given journal arrivals calls m) → (stopped : Progressed)
+    → StopsMidway same_header given m (next_call handler given stands.steps) stopped → BeginsRun handler given arrivals (journal ++ stopped.written)
