@@ -1,6 +1,6 @@
 -- A call that looks, takes, ends, or makes handles or requests is answered as the run answers it.
-use Rattle.std.proofs.Common.{map, ◌≡◌, refl, sym, ap, ap₂, ◌∙◌, subst, ℕ, suc, ◌+◌, ◌≤◌, ◌==◌, arith, Bool, false, List, [], ◌∷◌, ◌++◌, append-nil, length, Option, Some, None, is_some, option_map, option_and_then, ◌⊎◌, inl, inr}
-use Rattle.std.specs.List.{list_any}
+use Rattle.std.proofs.Common.{map, ◌≡◌, refl, sym, ap, ap₂, ◌∙◌, subst, ℕ, suc, ◌+◌, ◌≤◌, ◌==◌, arith, Bool, false, List, [], ◌∷◌, ◌++◌, append-nil, length, Option, Some, None, is_some, option_map, option_and_then, ◌⊎◌, inl, inr, true}
+use Rattle.std.specs.List.{list_any, list_all}
 use Rattle.journal_model.specs.declared.notification.NotificationId.{NotificationId}
 use Rattle.journal_model.specs.declared.notification.NotificationId.TheVariants.{CompletionId}
 use Rattle.journal_model.specs.declared.notification.NotificationResult.{NotificationResult}
@@ -14,20 +14,21 @@ use Rattle.journal_model.specs.declared.options.ImplicitCancellationOption.{Impl
 use Rattle.journal_model.specs.Refusal.{refusal_of}
 use Rattle.journal_model.specs.History.{Step, answers_of, requests_of, place_of, next_completion, next_signal, stands_for, takes_handle, ids_of, completions_of, signals_of}
 use Rattle.journal_model.specs.Delivery.{known_results, known_result, front}
-use Rattle.journal_model.specs.Await.{child_of, children_after}
+use Rattle.journal_model.specs.Await.{tracked_children, child_of, children_after}
 use Rattle.journal_model.specs.Run.{Handler, Invocation, Progress, Ending, GoesOn, Ended, front_of_handle, answer_to, requests_to, answered_step, after_call, run, run_requests, is_going}
 use Rattle.journal_model.proofs.Continuing.{run-next, after_call-answers, after_call-ends}
-use Rattle.attempt_model.specs.Children.{Child, new_child, child_with_value}
-use Rattle.attempt_model.specs.Machine.{Machine, Reply, Answered, ToTake, ToLook, ToMake, work_of, next_slot, reply_to_make, reply_to_take, reply_to_end}
+use Rattle.attempt_model.specs.Children.{Child, new_child, child_with_value, may_take}
+use Rattle.attempt_model.specs.Machine.{Machine, Reply, Answered, ToTake, ToLook, ToMake, work_of, next_slot, reply_to_make, reply_where_taken, reply_to_take, reply_to_end}
 use Rattle.attempt_model.specs.Requests.{answer_by, Commands, requests_by, Progressed, put_all}
-use Rattle.attempt_model.specs.Results.{Ready, Slots, ready_after, first_of, slot_of, waiting_for, ready_without_first, slots_without, ready_after_all}
-use Rattle.attempt_model.specs.Standing.{results_for, TablesStand, RequestsStand, Reached, here, ahead, cancelling, IsShown, children_of, Fits, next_call, AnswersNext, RepliesAsRun, IsReflexive}
+use Rattle.attempt_model.specs.Results.{Ready, Slots, ready_after, first_of, slot_of, waiting_for, ready_without_first, slots_without, ready_after_all, are_keys_text}
+use Rattle.attempt_model.specs.Standing.{results_for, TablesStand, RequestsStand, Reached, here, ahead, cancelling, IsShown, children_of, is_id_if_known, Fits, next_call, AnswersNext, RepliesAsRun, IsReflexive}
 use Rattle.attempt_model.proofs.Requests.{Agrees, Puts, put, agree, none_left}
 use Rattle.attempt_tables.proofs.Children.{children-made, children-taken}
 use Rattle.attempt_tables.proofs.Making.{Creates, makes, knows}
-use Rattle.attempt_tables.proofs.Tables.{in_front}
+use Rattle.attempt_tables.proofs.Tables.{front-untaken, in_front}
 use Rattle.attempt_tables.proofs.Taking.{known-id, takes_first}
 use Rattle.attempt_calls.proofs.CallKinds.{make-kind, make-answer, make-takes, make-keeps, no_child-look, no_child-take}
+use Rattle.attempt_calls.proofs.Ids.{is_in, takes-ids, taken-ids, new-ids}
 use Rattle.attempt_calls.proofs.Reading.{requests-same, known-one}
 
 module _ (same_header : Request → Request → Bool) (reflexive : IsReflexive same_header) (handler : Handler) (given : Invocation) (journal : List Request) (arrivals : List Arrival)
@@ -36,7 +37,7 @@ module _ (same_header : Request → Request → Bool) (reflexive : IsReflexive s
     (tables : TablesStand given.options steps arrivals place m.queue m.ready m.slots)
     (completions : m.completions ≡ next_completion steps) (signals : m.signals ≡ next_signal steps)
     (requests : RequestsStand journal steps m.left m.written) (shows : IsShown given.start journal m.start) (done : m.done ≡ requests_of steps)
-    (children : m.children ≡ children_of given.options.implicit_cancellation steps) (reached : Reached handler given arrivals steps place)
+    (children : m.children ≡ children_of given.options.implicit_cancellation steps) (ids_known : list_all (λ child. is_id_if_known child.taken) m.children ≡ true) (reached : Reached handler given arrivals steps place)
     (call : Call) (is : next_call handler given steps ≡ call) where
   abbrev Replies : Reply → Type 0
   Replies reply = RepliesAsRun handler given journal arrivals calls reply
@@ -68,9 +69,9 @@ module _ (same_header : Request → Request → Bool) (reflexive : IsReflexive s
   pub stepped : (step : Step) → run handler given arrivals (suc calls) ≡ record { steps = step ∷ steps; ending = GoesOn } → (new : Machine)
       → TablesStand given.options (step ∷ steps) arrivals step.place new.queue new.ready new.slots
       → new.completions ≡ next_completion (step ∷ steps) → new.signals ≡ next_signal (step ∷ steps) → RequestsStand journal (step ∷ steps) new.left new.written
-      → IsShown given.start journal new.start → new.done ≡ requests_of (step ∷ steps) → new.children ≡ children_of cancellation (step ∷ steps)
+      → IsShown given.start journal new.start → new.done ≡ requests_of (step ∷ steps) → new.children ≡ children_of cancellation (step ∷ steps) → list_all (λ child. is_id_if_known child.taken) new.children ≡ true
       → AnswersNext handler given journal arrivals calls step.answer new
-  stepped step goes new tables' completions' signals' requests' shows' done' children' = record {
+  stepped step goes new tables' completions' signals' requests' shows' done' children' ids' = record {
     stands = record {
       steps = step ∷ steps;
       place = step.place;
@@ -82,6 +83,7 @@ module _ (same_header : Request → Request → Bool) (reflexive : IsReflexive s
       start = shows';
       done = done';
       children = children';
+      ids = ids';
       reached = here refl;
     };
     answers = ap (λ (p : Progress). answers_of p.steps) goes ∙ ap (λ (some : List Step). answers_of some ++ step.answer ∷ []) (sym same_steps);
@@ -125,6 +127,16 @@ module _ (same_header : Request → Request → Bool) (reflexive : IsReflexive s
   pub accepted_is : (other : Call) → call ≡ other → refusal_of given.version call ≡ None → refusal_of given.version other ≡ None
   accepted_is other e accepted = sym (ap (refusal_of given.version) e) ∙ accepted
 
+  -- what is in front of a child is an invocation id, and keys in front are text
+  pub front_ids : (q : ℕ) → q ≤ length arrivals → (n : ℕ) → is_in (tracked_children cancellation steps) n ≡ true
+      → is_id_if_known (option_map as_taken (front given.options steps arrivals q (CompletionId n))) ≡ true
+  front_ids q high n e =
+      subst (λ (some : List Step). is_id_if_known (option_map as_taken (front given.options some arrivals q (CompletionId n))) ≡ true) same_steps
+      (fits.kinds.ids calls q n high (ap (λ (some : List Step). is_in (tracked_children cancellation some) n) same_steps ∙ e))
+
+  keys_text : (id : NotificationId) (r : NotificationResult) → front given.options steps arrivals (place_of steps) id ≡ Some r → are_keys_text r ≡ true
+  keys_text id r e = fits.kinds.keys calls id r (ap (λ (some : List Step). front given.options some arrivals (place_of some) id) same_steps ∙ e)
+
   -- looking
   pub looks : (handle : ℕ) → call ≡ Call.IsCompleted handle → refusal_of given.version call ≡ None
       → Replies (Answered (Answer.Completed (is_some (waiting_for m.slots m.ready handle))) m)
@@ -133,7 +145,7 @@ module _ (same_header : Request → Request → Bool) (reflexive : IsReflexive s
       subst (λ (o : Option NotificationResult). AnswersNext handler given journal arrivals calls (Answer.Completed (is_some o)) m) (sym (waiting-is handle at))
       (stepped step goes m (quiet_tables step place m.queue m.ready (sym at) (record { made = refl; takes = refl }) refl tables)
       (completions ∙ none_more (next_completion steps)) (signals ∙ none_more (next_signal steps)) (quiet step refl)
-      shows (quiet_done step refl) (quiet_children step (record { made = refl; takes = refl }) (no_child-look cancellation (next_completion steps) handle) (λ xs. refl)))
+      shows (quiet_done step refl) (quiet_children step (record { made = refl; takes = refl }) (no_child-look cancellation (next_completion steps) handle) (λ xs. refl)) ids_known)
     where
       step : Step
       step = answered_step given steps arrivals (Call.IsCompleted handle)
@@ -160,11 +172,18 @@ module _ (same_header : Request → Request → Bool) (reflexive : IsReflexive s
           (sym (waiting-is handle at) ∙ f)
 
       by_slot : (r : NotificationResult) → waiting_for m.slots m.ready handle ≡ Some r → (o : Option NotificationId) → slot_of m.slots handle ≡ o
-          → Replies (Answered (Answer.Taken (Some (as_taken r))) (record m { ready = ready_without_first m.ready o; slots = slots_without m.slots handle; children = map (child_with_value o (as_taken r)) m.children }))
+          → Replies (reply_where_taken same_header given m handle r (are_keys_text r) (list_all (may_take (slot_of m.slots handle) (as_taken r)) m.children))
       by_slot r f None slot = let wrong : None ≡ Some r = sym (ap (option_and_then (λ (id : NotificationId). first_of (m.ready id))) slot) ∙ f in cc
       by_slot r f (Some id) slot =
           let first : first_of (m.ready id) ≡ Some r = sym (ap (option_and_then (λ (id : NotificationId). first_of (m.ready id))) slot) ∙ f in
-          stepped (taking (Some r)) (goes (Some r) f) (record m { ready = ready_without_first m.ready (Some id); slots = slots_without m.slots handle; children = map (child_with_value (Some id) (as_taken r)) m.children })
+          let there : front given.options steps arrivals place id ≡ Some r = front-untaken given.options steps arrivals place id ∙ sym (ap first_of (tables.ready id)) ∙ first in
+          let text : are_keys_text r ≡ true = keys_text id r (ap (λ (n : ℕ). front given.options steps arrivals n id) (sym at) ∙ there) in
+          let ids : list_all (may_take (Some id) (as_taken r)) m.children ≡ true = ap (list_all (may_take (Some id) (as_taken r))) children
+              ∙ takes-ids given.options steps arrivals place (tracked_children cancellation steps) id r there (λ n e. front_ids place tables.within n e) in
+          subst (λ (b : Bool). Replies (reply_where_taken same_header given m handle r b (list_all (may_take (slot_of m.slots handle) (as_taken r)) m.children))) (sym text)
+          (subst (λ (b : Bool). Replies (reply_where_taken same_header given m handle r true b)) (sym (ap (λ (o : Option NotificationId). list_all (may_take o (as_taken r)) m.children) slot ∙ ids))
+          (subst (λ (o : Option NotificationId). Replies (Answered (Answer.Taken (Some (as_taken r))) (record m { ready = ready_without_first m.ready o; slots = slots_without m.slots handle; children = map (child_with_value o (as_taken r)) m.children }))) (sym slot)
+          (stepped (taking (Some r)) (goes (Some r) f) (record m { ready = ready_without_first m.ready (Some id); slots = slots_without m.slots handle; children = map (child_with_value (Some id) (as_taken r)) m.children })
           (subst (λ (n : ℕ). TablesStand given.options (taking (Some r) ∷ steps) arrivals n m.queue (ready_without_first m.ready (Some id)) (slots_without m.slots handle)) at
           (takes_first given.options steps arrivals place (taking (Some r)) m.queue m.ready m.slots handle id r (sym at)
           (record { none_made = refl; handle_is = refl; none_known = refl }) tables slot first))
@@ -172,12 +191,13 @@ module _ (same_header : Request → Request → Bool) (reflexive : IsReflexive s
           shows (quiet_done (taking (Some r)) refl)
           (ap (map (child_with_value (Some id) (as_taken r))) children
           ∙ sym (children-taken cancellation steps handle (place_of steps) id (as_taken r) (known-id (handle == 1) (list_any (takes_handle handle) steps) _ id (sym (tables.handles handle) ∙ slot))))
+          (taken-ids id (as_taken r) m.children ids_known ids))))
 
       by_result : (o : Option NotificationResult) → waiting_for m.slots m.ready handle ≡ o → Replies (reply_to_take same_header given m handle o)
       by_result None f =
           stepped (taking None) (goes None f) m (quiet_tables (taking None) place m.queue m.ready (sym at) (record { made = refl; takes = refl }) refl tables)
           (completions ∙ none_more (next_completion steps)) (signals ∙ none_more (next_signal steps)) (quiet (taking None) refl)
-          shows (quiet_done (taking None) refl) (quiet_children (taking None) (record { made = refl; takes = refl }) (no_child-take cancellation (next_completion steps) handle) (λ xs. refl))
+          shows (quiet_done (taking None) refl) (quiet_children (taking None) (record { made = refl; takes = refl }) (no_child-take cancellation (next_completion steps) handle) (λ xs. refl)) ids_known
       by_result (Some r) f = by_slot r f (slot_of m.slots handle) refl
 
   -- where the run stops nothing is left, and its requests are all matched or written
@@ -217,7 +237,8 @@ module _ (same_header : Request → Request → Bool) (reflexive : IsReflexive s
       (stepped step goes new new_tables
       (ap (λ (n : ℕ). n + completions_of call) completions) (ap (λ (n : ℕ). n + signals_of call) signals)
       (record { left = p.rest; are_requests = refl; requests = p.whole; replays = p.replays })
-      shows (ap (λ (some : List Request). some ++ asked) done) new_children)))
+      shows (ap (λ (some : List Request). some ++ asked) done) new_children
+      (new-ids m.children (child_of cancellation m.completions call) ids_known))))
     where
       at : place ≡ place_of steps
       at = is_here (inl e)

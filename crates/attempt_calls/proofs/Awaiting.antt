@@ -1,6 +1,7 @@
 -- An await is answered as the run answers it, however often it was asked before.
 use Rattle.std.proofs.Common.{map, ◌≡◌, refl, sym, ap, ◌∙◌, subst, ℕ, suc, ◌+◌, ◌-◌, ◌≤◌, ◌<◌, nat_lt, arith, le_refl, eq-or-lt_of_le, Bool, true, false, ◌&&◌, if◌then◌else◌, List, [], ◌∷◌, ◌++◌, length, Option, Some, None, is_some, ◌⊎◌, inl, inr}
 use Rattle.std.proofs.lemmas.Bool.{ltb-false, ltb-true}
+use Rattle.std.specs.List.{list_all}
 use Rattle.journal_model.specs.declared.notification.NotificationId.{NotificationId}
 use Rattle.journal_model.specs.declared.notification.NotificationId.TheVariants.{CompletionId}
 use Rattle.journal_model.specs.declared.notification.NotificationResult.{NotificationResult}
@@ -18,11 +19,11 @@ use Rattle.journal_model.specs.Waiting.{pruned}
 use Rattle.journal_model.specs.Run.{Handler, Invocation, Progress, Ending, GoesOn, Waits, Awaits, after_await, after_call, run, run_requests, is_going}
 use Rattle.journal_model.proofs.Continuing.{after_call-carried_out}
 use Rattle.attempt_calls.proofs.Answering as Answering
-use Rattle.attempt_model.specs.Children.{Child, cancel_requests_for, ChildrenOutcome, AllKnown, FirstUnknown, children_outcome}
+use Rattle.attempt_model.specs.Children.{Child, cancel_requests_for, ChildrenOutcome, AllKnown, FirstUnknown, OneIsNoId, children_outcome}
 use Rattle.attempt_model.specs.Machine.{Machine, Reply, Answered, is_cancelled, reply_where_unknown, reply_where_asleep, reply_where_cancelled, reply_to_children, reply_where_awake, reply_to_await}
 use Rattle.attempt_model.specs.Requests.{Commands, Progressed, put_all}
 use Rattle.attempt_model.specs.Results.{Ready, first_of, ready_without_first, Resolution, Awake, Asleep, resolution_of}
-use Rattle.attempt_model.specs.Standing.{results_for, TablesStand, RequestsStand, Reached, here, ahead, cancelling, IsShown, children_of, Fits, next_call, AnswersNext, RepliesAsRun, IsReflexive}
+use Rattle.attempt_model.specs.Standing.{results_for, TablesStand, RequestsStand, Reached, here, ahead, cancelling, IsShown, children_of, is_id_if_known, Fits, next_call, AnswersNext, RepliesAsRun, IsReflexive}
 use Rattle.attempt_model.proofs.Requests.{Puts, put, agree}
 use Rattle.attempt_tables.proofs.Children.{cancels-same, TellsFrom, tells}
 use Rattle.attempt_tables.proofs.Making.{Creates}
@@ -30,6 +31,7 @@ use Rattle.attempt_tables.proofs.Tables.{front-untaken, starts}
 use Rattle.attempt_tables.proofs.Taking.{takes_first}
 use Rattle.attempt_tables.proofs.Waking.{least-some, least-none, front-stays, fronts, leaf_state-fronts, still-whole, ResolvesFrom, resolves}
 use Rattle.attempt_calls.proofs.CallKinds.{no_child-await, awake-cancelled, completed-some, known-cancels, awaits-same}
+use Rattle.attempt_calls.proofs.Ids.{results-ids}
 
 module _ (same_header : Request → Request → Bool) (reflexive : IsReflexive same_header) (handler : Handler) (given : Invocation) (journal : List Request) (arrivals : List Arrival)
     (fits : Fits handler given journal arrivals) (calls : ℕ) (m : Machine) (steps : List Step) (place : ℕ)
@@ -37,7 +39,7 @@ module _ (same_header : Request → Request → Bool) (reflexive : IsReflexive s
     (tables : TablesStand given.options steps arrivals place m.queue m.ready m.slots)
     (completions : m.completions ≡ next_completion steps) (signals : m.signals ≡ next_signal steps)
     (requests : RequestsStand journal steps m.left m.written) (shows : IsShown given.start journal m.start) (done : m.done ≡ requests_of steps)
-    (children : m.children ≡ children_of given.options.implicit_cancellation steps) (reached : Reached handler given arrivals steps place)
+    (children : m.children ≡ children_of given.options.implicit_cancellation steps) (ids_known : list_all (λ child. is_id_if_known child.taken) m.children ≡ true) (reached : Reached handler given arrivals steps place)
     (call : Call) (is : next_call handler given steps ≡ call) where
   abbrev Replies : Reply → Type 0
   Replies reply = RepliesAsRun handler given journal arrivals calls reply
@@ -47,44 +49,44 @@ module _ (same_header : Request → Request → Bool) (reflexive : IsReflexive s
 
   -- what all calls share
   after : run handler given arrivals (suc calls) ≡ after_call given steps arrivals call
-  after = Answering.after same_header reflexive handler given journal arrivals fits calls m steps place going tables completions signals requests shows done children reached call is
+  after = Answering.after same_header reflexive handler given journal arrivals fits calls m steps place going tables completions signals requests shows done children ids_known reached call is
 
   same_steps : (run handler given arrivals calls).steps ≡ steps
-  same_steps = Answering.same_steps same_header reflexive handler given journal arrivals fits calls m steps place going tables completions signals requests shows done children reached call is
+  same_steps = Answering.same_steps same_header reflexive handler given journal arrivals fits calls m steps place going tables completions signals requests shows done children ids_known reached call is
 
   stepped : (step : Step) → run handler given arrivals (suc calls) ≡ record { steps = step ∷ steps; ending = GoesOn } → (new : Machine)
       → TablesStand given.options (step ∷ steps) arrivals step.place new.queue new.ready new.slots
       → new.completions ≡ next_completion (step ∷ steps) → new.signals ≡ next_signal (step ∷ steps) → RequestsStand journal (step ∷ steps) new.left new.written
-      → IsShown given.start journal new.start → new.done ≡ requests_of (step ∷ steps) → new.children ≡ children_of cancellation (step ∷ steps)
+      → IsShown given.start journal new.start → new.done ≡ requests_of (step ∷ steps) → new.children ≡ children_of cancellation (step ∷ steps) → list_all (λ child. is_id_if_known child.taken) new.children ≡ true
       → AnswersNext handler given journal arrivals calls step.answer new
-  stepped = Answering.stepped same_header reflexive handler given journal arrivals fits calls m steps place going tables completions signals requests shows done children reached call is
+  stepped = Answering.stepped same_header reflexive handler given journal arrivals fits calls m steps place going tables completions signals requests shows done children ids_known reached call is
 
   quiet : (step : Step) → step.requests ≡ [] → RequestsStand journal (step ∷ steps) m.left m.written
-  quiet = Answering.quiet same_header reflexive handler given journal arrivals fits calls m steps place going tables completions signals requests shows done children reached call is
+  quiet = Answering.quiet same_header reflexive handler given journal arrivals fits calls m steps place going tables completions signals requests shows done children ids_known reached call is
 
   quiet_done : (step : Step) → step.requests ≡ [] → m.done ≡ requests_of (step ∷ steps)
-  quiet_done = Answering.quiet_done same_header reflexive handler given journal arrivals fits calls m steps place going tables completions signals requests shows done children reached call is
+  quiet_done = Answering.quiet_done same_header reflexive handler given journal arrivals fits calls m steps place going tables completions signals requests shows done children ids_known reached call is
 
   quiet_children : (step : Step) → Creates steps step [] → child_of cancellation (next_completion steps) step.call ≡ [] → ((xs : List ℕ) → children_after step.answer xs ≡ xs)
       → m.children ≡ children_of cancellation (step ∷ steps)
-  quiet_children = Answering.quiet_children same_header reflexive handler given journal arrivals fits calls m steps place going tables completions signals requests shows done children reached call is
+  quiet_children = Answering.quiet_children same_header reflexive handler given journal arrivals fits calls m steps place going tables completions signals requests shows done children ids_known reached call is
 
   none_more : (n : ℕ) → n ≡ n + 0
-  none_more = Answering.none_more same_header reflexive handler given journal arrivals fits calls m steps place going tables completions signals requests shows done children reached call is
+  none_more = Answering.none_more same_header reflexive handler given journal arrivals fits calls m steps place going tables completions signals requests shows done children ids_known reached call is
 
   quiet_tables : (step : Step) (q : ℕ) (line : List Arrival) (waiting : Ready) → step.place ≡ q → Creates steps step [] → known_result (next_completion steps) step.requests ≡ []
       → TablesStand given.options steps arrivals q line waiting m.slots → TablesStand given.options (step ∷ steps) arrivals step.place line waiting m.slots
-  quiet_tables = Answering.quiet_tables same_header reflexive handler given journal arrivals fits calls m steps place going tables completions signals requests shows done children reached call is
+  quiet_tables = Answering.quiet_tables same_header reflexive handler given journal arrivals fits calls m steps place going tables completions signals requests shows done children ids_known reached call is
 
   accepted_is : (other : Call) → call ≡ other → refusal_of given.version call ≡ None → refusal_of given.version other ≡ None
-  accepted_is = Answering.accepted_is same_header reflexive handler given journal arrivals fits calls m steps place going tables completions signals requests shows done children reached call is
+  accepted_is = Answering.accepted_is same_header reflexive handler given journal arrivals fits calls m steps place going tables completions signals requests shows done children ids_known reached call is
 
   nothing_left : (ending : Ending) → is_going ending ≡ false → run handler given arrivals (suc calls) ≡ record { steps = steps; ending = ending } → m.left ≡ []
-  nothing_left = Answering.nothing_left same_header reflexive handler given journal arrivals fits calls m steps place going tables completions signals requests shows done children reached call is
+  nothing_left = Answering.nothing_left same_header reflexive handler given journal arrivals fits calls m steps place going tables completions signals requests shows done children ids_known reached call is
 
   all_there : (ending : Ending) → is_going ending ≡ false → run handler given arrivals (suc calls) ≡ record { steps = steps; ending = ending }
       → run_requests handler given arrivals (suc calls) ≡ journal ++ m.written
-  all_there = Answering.all_there same_header reflexive handler given journal arrivals fits calls m steps place going tables completions signals requests shows done children reached call is
+  all_there = Answering.all_there same_header reflexive handler given journal arrivals fits calls m steps place going tables completions signals requests shows done children ids_known reached call is
 
   -- an await
   module _ (tree : AwaitTree ℕ) (e : call ≡ Call.Await tree) (accepted : refusal_of given.version call ≡ None) where
@@ -132,7 +134,9 @@ module _ (same_header : Request → Request → Bool) (reflexive : IsReflexive s
     tells_them wakes starts cancel p line waiting low unknown stands =
         by_told (children_outcome given.options.signal_delivery m.children line waiting)
         (subst (λ (some : List Child). TellsFrom given.options steps arrivals m.slots tracked p (children_outcome given.options.signal_delivery some line waiting)) (sym children)
-        (tells given.options steps arrivals m.slots tracked p line waiting stands))
+        (tells given.options steps arrivals m.slots tracked
+        (λ q high. results-ids given.options steps arrivals q tracked (ap (list_all (λ child. is_id_if_known child.taken)) (sym children) ∙ ids_known) (λ n f. Answering.front_ids same_header reflexive handler given journal arrivals fits calls m steps place going tables completions signals requests shows done children ids_known reached call is q high n f))
+        p line waiting stands))
       where
         p_high : p ≤ length arrivals
         p_high = stands.within
@@ -218,7 +222,8 @@ module _ (same_header : Request → Request → Bool) (reflexive : IsReflexive s
                 (record { none_made = refl; handle_is = refl; none_known = known-cancels given.options steps arrivals t.place (next_completion steps) tracked }) t.stands refl f)
                 (completions ∙ none_more (next_completion steps)) (signals ∙ none_more (next_signal steps))
                 (record { left = puts.rest; are_requests = refl; requests = puts.whole; replays = puts.replays })
-                shows (ap (λ (some : List Request). some ++ asked) done) refl))
+                shows (ap (λ (some : List Request). some ++ asked) done) refl refl))
+        by_told OneIsNoId t = absurd t
         by_told (FirstUnknown child ready) t = by_left m.left refl
           where
             none : children_place given.options steps arrivals wakes ≡ None
@@ -228,7 +233,7 @@ module _ (same_header : Request → Request → Bool) (reflexive : IsReflexive s
                 by_order q above below true f = unknown q above (ltb-true q p f)
                 by_order q above below false f = t.unknown q (ltb-false q p f) below
 
-            waits : run handler given arrivals (suc calls) ≡ record { steps = steps; ending = Waits (Single (child_id child)) }
+            waits : run handler given arrivals (suc calls) ≡ record { steps = steps; ending = Waits (Single (Some (CompletionId child))) }
             waits = goes (WaitsFor (Single (child_id (first_unknown given.options steps arrivals tracked)))) (outcome None none)
                 ∙ ap (λ (o : Option ℕ). record { steps = steps; ending = Waits (Single (child_id o)) }) (sym t.first)
 
@@ -252,12 +257,13 @@ module _ (same_header : Request → Request → Bool) (reflexive : IsReflexive s
                 start = shows;
                 done = done;
                 children = children;
+                ids = ids_known;
                 reached = cancelling tree (is ∙ e) wakes starts.above (omega (arith, low, p_high)) starts.awake starts.before cancel before;
               };
               waits = ap (λ (p : Progress). p.ending) waits;
-              exactly = all_there (Waits (Single (child_id child))) refl waits;
+              exactly = all_there (Waits (Single (Some (CompletionId child)))) refl waits;
             }
-            by_left (command ∷ some) f = let wrong : command ∷ some ≡ [] = sym f ∙ nothing_left (Waits (Single (child_id child))) refl waits in cc
+            by_left (command ∷ some) f = let wrong : command ∷ some ≡ [] = sym f ∙ nothing_left (Waits (Single (Some (CompletionId child)))) refl waits in cc
 
     -- a wake without a cancellation
     wakes_up : (q : ℕ) (line : List Arrival) (waiting : Ready) → Starts q → is_cancelled_at given.options steps arrivals q ≡ false
@@ -269,7 +275,7 @@ module _ (same_header : Request → Request → Bool) (reflexive : IsReflexive s
         (record m { queue = line; ready = waiting })
         (quiet_tables step q line waiting refl (record { made = refl; takes = refl }) refl stands)
         (completions ∙ none_more (next_completion steps)) (signals ∙ none_more (next_signal steps)) (quiet step refl)
-        shows (quiet_done step refl) (quiet_children step (record { made = refl; takes = refl }) (no_child-await cancellation (next_completion steps) tree) (λ xs. refl))
+        shows (quiet_done step refl) (quiet_children step (record { made = refl; takes = refl }) (no_child-await cancellation (next_completion steps) tree) (λ xs. refl)) ids_known
       where
         step : Step
         step = record { call = Call.Await tree; answer = Answer.Woken; requests = []; place = q }
@@ -344,6 +350,7 @@ module _ (same_header : Request → Request → Bool) (reflexive : IsReflexive s
             start = shows;
             done = done;
             children = children;
+                ids = ids_known;
             reached = ahead tree (is ∙ e) (omega (arith, low_place, within)) before;
           };
           ids = ids;

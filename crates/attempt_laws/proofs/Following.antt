@@ -13,9 +13,9 @@ use Rattle.journal_model.specs.Run.{Handler, Invocation, Progress, run}
 use Rattle.journal_model.proofs.Extension as Extension
 use Rattle.journal_model.proofs.Extension.{run-more}
 use Rattle.attempt_model.specs.Attempts.{with_entries, Happening, Comes, Turns, AttemptState, Live, Over, attempt_with_arrival, attempt_after_reply, arrivals_after, attempt_after_turn, attempt_after, AnswersFirst, AgreesWithRun}
-use Rattle.attempt_model.specs.Machine.{Machine, machine_at_start, with_arrival, Mismatch, UncompletedInReplay, EndInReplay, Refused, Reply, Answered, AwaitsTree, AwaitsChild, Finished, FailedBy, reply_to}
+use Rattle.attempt_model.specs.Machine.{Machine, machine_at_start, with_arrival, Mismatch, UncompletedInReplay, EndInReplay, KeysNotText, ChildNotId, Refused, Reply, Answered, AwaitsTree, AwaitsChild, Finished, FailedBy, reply_to}
 use Rattle.attempt_model.specs.Requests.{Commands}
-use Rattle.attempt_model.specs.Standing.{results_for, IsShown, Stands, ComesOnce, Fits, next_call, RepliesAsRun, AreReflexive}
+use Rattle.attempt_model.specs.Standing.{results_for, IsShown, Stands, ComesOnce, AreOfKind, Fits, next_call, RepliesAsRun, AreReflexive}
 use Rattle.attempt_tables.proofs.Tables.{results-append}
 use Rattle.attempt_calls.proofs.Simulating.{simulates}
 use Rattle.attempt_calls.proofs.Standing.{begins, goes_same, reads_on, fits_on}
@@ -67,13 +67,19 @@ once-before handler given arrivals later once made n =
 
 module _ (same_header : Call → Request → Request → Bool) (reflexive : AreReflexive same_header) (handler : Handler) (given : Invocation) (start : StartState) (journal : List Request) (first : List Arrival)
     (shows : IsShown given.start journal start) where
+  kinds_before : (earlier : List Happening) (arrival : Arrival) → ((some later : List Arrival) → some ++ later ≡ arrivals_after first earlier ++ arrival ∷ [] → AreOfKind handler given some)
+      → (some later : List Arrival) → some ++ later ≡ arrivals_after first earlier → AreOfKind handler given some
+  kinds_before earlier arrival kinds some later e = kinds some (later ++ arrival ∷ []) (sym (append_assoc some later (arrival ∷ [])) ∙ ap (λ (xs : List Arrival). xs ++ arrival ∷ []) e)
+
   -- behind all that happened, what is fed fits
-  fits_after : (happened : List Happening) → Fits handler given journal first → ComesOnce handler given (arrivals_after first happened) → Fits handler given journal (arrivals_after first happened)
-  fits_after [] fits once = fits
-  fits_after (Comes arrival ∷ earlier) fits once =
+  fits_after : (happened : List Happening) → Fits handler given journal first → ComesOnce handler given (arrivals_after first happened)
+      → ((some later : List Arrival) → some ++ later ≡ arrivals_after first happened → AreOfKind handler given some) → Fits handler given journal (arrivals_after first happened)
+  fits_after [] fits once kinds = fits
+  fits_after (Comes arrival ∷ earlier) fits once kinds =
       fits_on handler given journal (arrivals_after first earlier) (arrival ∷ [])
-      (fits_after earlier fits (once-before handler given (arrivals_after first earlier) (arrival ∷ []) once)) once
-  fits_after (Turns ∷ earlier) fits once = fits_after earlier fits once
+      (fits_after earlier fits (once-before handler given (arrivals_after first earlier) (arrival ∷ []) once) (kinds_before earlier arrival kinds)) once
+      (kinds (arrivals_after first earlier ++ arrival ∷ []) [] (append-nil (arrivals_after first earlier ++ arrival ∷ [])))
+  fits_after (Turns ∷ earlier) fits once kinds = fits_after earlier fits once kinds
 
   answers_by : (arrivals : List Arrival) (calls : ℕ) (answers : List Answer) (m : Machine) → Stands handler given journal arrivals calls m
       → answers ≡ answers_of (run handler given arrivals calls).steps → AnswersFirst handler given journal arrivals answers m
@@ -125,6 +131,8 @@ module _ (same_header : Call → Request → Request → Bool) (reflexive : AreR
       by_reply (FailedBy Mismatch) r = absurd r
       by_reply (FailedBy UncompletedInReplay) r = absurd r
       by_reply (FailedBy EndInReplay) r = absurd r
+      by_reply (FailedBy KeysNotText) r = absurd r
+      by_reply (FailedBy ChildNotId) r = absurd r
       by_reply (FailedBy (Refused refusal)) r = record { some = arrivals; later = []; read = sym (append-nil arrivals); calls = suc f.calls; refused = r }
   one_turn arrivals fits (Over (Finished m)) f = f
   one_turn arrivals fits (Over (FailedBy fault)) f = f
@@ -133,16 +141,18 @@ module _ (same_header : Call → Request → Request → Bool) (reflexive : AreR
   one_turn arrivals fits (Over (AwaitsChild child m)) f = absurd f
 
   follows : (happened : List Happening) → Fits handler given journal first → ComesOnce handler given (arrivals_after first happened)
+      → ((some later : List Arrival) → some ++ later ≡ arrivals_after first happened → AreOfKind handler given some)
       → AgreesWithRun handler given journal (arrivals_after first happened) (attempt_after same_header handler given (machine_at_start start (map Some journal) first) happened)
-  follows [] fits once = answers_by first 0 [] (machine_at_start start (map Some journal) first) (begins handler given start journal first shows) refl
-  follows (Comes arrival ∷ earlier) fits once =
+  follows [] fits once kinds = answers_by first 0 [] (machine_at_start start (map Some journal) first) (begins handler given start journal first shows) refl
+  follows (Comes arrival ∷ earlier) fits once kinds =
       one_more (arrivals_after first earlier) arrival (attempt_after same_header handler given (machine_at_start start (map Some journal) first) earlier)
-      (follows earlier fits (once-before handler given (arrivals_after first earlier) (arrival ∷ []) once))
-  follows (Turns ∷ earlier) fits once =
-      one_turn (arrivals_after first earlier) (fits_after earlier fits once) (attempt_after same_header handler given (machine_at_start start (map Some journal) first) earlier) (follows earlier fits once)
+      (follows earlier fits (once-before handler given (arrivals_after first earlier) (arrival ∷ []) once) (kinds_before earlier arrival kinds))
+  follows (Turns ∷ earlier) fits once kinds =
+      one_turn (arrivals_after first earlier) (fits_after earlier fits once kinds) (attempt_after same_header handler given (machine_at_start start (map Some journal) first) earlier) (follows earlier fits once kinds)
 
 pub attempts_follow : (same_header : Call → Request → Request → Bool) (handler : Handler) (given : Invocation) (start : StartState) (journal : List Request) (first : List Arrival) (happened : List Happening)
     → AreReflexive same_header → IsShown given.start journal start → Fits handler given journal first → ComesOnce handler given (arrivals_after first happened)
+    → ((some later : List Arrival) → some ++ later ≡ arrivals_after first happened → AreOfKind handler given some)
     → AgreesWithRun handler given journal (arrivals_after first happened) (attempt_after same_header handler given (machine_at_start start (map Some journal) first) happened)
-attempts_follow same_header handler given start journal first happened reflexive shows fits once =
-    follows same_header reflexive handler given start journal first shows happened fits once
+attempts_follow same_header handler given start journal first happened reflexive shows fits once kinds =
+    follows same_header reflexive handler given start journal first shows happened fits once kinds

@@ -95,7 +95,7 @@ abbrev told_id : ℕ → Bytes → Arrival
 told_id n id = completed n (NotificationResult.InvocationId id)
 
 abbrev waits_for_child : Reply → Option ℕ
-waits_for_child (AwaitsChild child m) = child
+waits_for_child (AwaitsChild child m) = Some child
 waits_for_child _ = None
 
 pair-waits : waits_for_child (plays Handlers.pair (whole []) 9 (machine_over shown (asked 1 2 ∷ asked 3 4 ∷ []) (told_id 1 (codes "a") ∷ cancel ∷ []))).reply ≡ Some 3

@@ -11,7 +11,7 @@ use Rattle.journal_model.specs.declared.call.Answer.{Answer}
 use Rattle.journal_model.specs.declared.options.ImplicitCancellationOption.TheVariants.{Enabled}
 use Rattle.journal_model.specs.declared.options.SignalDelivery.TheVariants.{Queued}
 use Rattle.journal_model.specs.Run.{Invocation}
-use Rattle.attempt_model.specs.Machine.{machine_at_start, Fault, Mismatch, UncompletedInReplay, EndInReplay, Reply, Answered, AwaitsChild, FailedBy, reply_to}
+use Rattle.attempt_model.specs.Machine.{machine_at_start, Fault, Mismatch, UncompletedInReplay, EndInReplay, ChildNotId, Reply, Answered, AwaitsChild, FailedBy, reply_to}
 
 abbrev any_header : Call → Request → Request → Bool
 any_header call recorded request = true
@@ -53,7 +53,7 @@ fault_of (FailedBy fault) = Some fault
 fault_of reply = None
 
 abbrev child_of_reply : Reply → Option ℕ
-child_of_reply (AwaitsChild child m) = child
+child_of_reply (AwaitsChild child m) = Some child
 child_of_reply reply = None
 
 abbrev sleep : Call
@@ -108,6 +108,19 @@ end-in-replay = refl
 -- a cancellation waits for each of its children
 waits-for-last : child_of_reply (reply_over [] (told_id 1 ∷ cancel ∷ []) (ask ∷ ask ∷ Call.Await (Single 18) ∷ [])) ≡ Some 3
 waits-for-last = refl
+
+-- what is no invocation id fails the machine, where a cancellation looks for its children and where it is taken
+abbrev value_of : ℕ → Arrival
+value_of n = completed n (NotificationResult.Value [])
+
+cancels-no-value : fault_of (reply_over [] (value_of 1 ∷ cancel ∷ []) (ask ∷ ask ∷ Call.Await (Single 18) ∷ [])) ≡ Some ChildNotId
+cancels-no-value = refl
+
+waits-in-order : child_of_reply (reply_over [] (value_of 3 ∷ cancel ∷ []) (ask ∷ ask ∷ Call.Await (Single 18) ∷ [])) ≡ Some 1
+waits-in-order = refl
+
+takes-no-value : fault_of (reply_over [] (value_of 1 ∷ []) (ask ∷ Call.Await (Single 17) ∷ Call.Take 17 ∷ [])) ≡ Some ChildNotId
+takes-no-value = refl
 
 -- a child whose invocation id was taken is known; the cancellation goes on without what was taken
 told-when-taken : written_of (reply_over [] (told_id 1 ∷ cancel ∷ []) (ask ∷ Call.Await (Single 17) ∷ Call.Take 17 ∷ Call.Await (Single 18) ∷ []))

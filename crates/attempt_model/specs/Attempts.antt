@@ -11,7 +11,7 @@ use Rattle.journal_model.specs.History.{answers_of}
 use Rattle.journal_model.specs.Journal.{asks_for, Entry, Recorded, Arrived, requests_in, arrivals_in}
 use Rattle.journal_model.specs.Run.{Handler, Invocation, Ending, RefusedCall, Ended, run, run_requests, IsBeginning}
 use Rattle.attempt_model.specs.Machine.{Machine, machine_at_start, with_arrival, Fault, Refused, Reply, Answered, AwaitsTree, AwaitsChild, Finished, FailedBy, reply_to}
-use Rattle.attempt_model.specs.Standing.{results_for, IsShown, Stands, ComesOnce, Fits, AreReflexive}
+use Rattle.attempt_model.specs.Standing.{results_for, IsShown, Stands, ComesOnce, AreOfKind, Fits, AreReflexive}
 
 -- an entry of the journal is read: a request is to be matched, an arrival waits in line, wherever they stand among one another
 abbrev pub with_entry : Machine → Entry → Machine
@@ -107,6 +107,7 @@ AgreesWithRun handler given journal arrivals (Over (AwaitsChild child m)) = ⊥
 abbrev pub AttemptsFollow : Type 0
 AttemptsFollow = (same_header : Call → Request → Request → Bool) (handler : Handler) (given : Invocation) (start : StartState) (journal : List Request) (first : List Arrival) (happened : List Happening)
     → AreReflexive same_header → IsShown given.start journal start → Fits handler given journal first → ComesOnce handler given (arrivals_after first happened)
+    → ((some later : List Arrival) → some ++ later ≡ arrivals_after first happened → AreOfKind handler given some)
     → AgreesWithRun handler given journal (arrivals_after first happened) (attempt_after same_header handler given (machine_at_start start (map Some journal) first) happened)
 
 -- where what has come came once, and was asked for by requests that are a beginning of the run's, each completion comes once, known reads included

@@ -1,6 +1,7 @@
 -- One attempt as a machine: what of the recorded requests it has to match still, what has come and was not looked at,
 -- what waits to be taken, what handles stand for, and what it has written; and what a handler's call makes of it.
 use Rattle.std.specs.Prelude.{◌≡◌, ℕ, ◌+◌, Bool, true, false, ◌&&◌, List, [], ◌∷◌, ◌++◌, length, map, Option, Some, None, is_some}
+use Rattle.std.specs.List.{list_all}
 use Rattle.journal_model.specs.declared.notification.NotificationResult.{NotificationResult}
 use Rattle.journal_model.specs.Notification.{Arrival, cancel_id}
 use Rattle.journal_model.specs.AwaitTree.{AwaitTree}
@@ -14,9 +15,9 @@ use Rattle.journal_model.specs.State.{StartState}
 use Rattle.journal_model.specs.Delivery.{known_result}
 use Rattle.journal_model.specs.Await.{child_of, awaited_tree, ends_awaits}
 use Rattle.journal_model.specs.Run.{Invocation}
-use Rattle.attempt_model.specs.Children.{Child, new_child, child_with_value, cancel_requests_for, ChildrenOutcome, AllKnown, FirstUnknown, children_outcome}
+use Rattle.attempt_model.specs.Children.{Child, new_child, child_with_value, may_take, cancel_requests_for, ChildrenOutcome, AllKnown, FirstUnknown, OneIsNoId, children_outcome}
 use Rattle.attempt_model.specs.Requests.{answer_by, Commands, requests_by, Progressed, put_all}
-use Rattle.attempt_model.specs.Results.{Ready, Slots, slot_of, waiting_for, ready_without_first, slots_without, Resolution, Awake, Asleep, resolution_of, ready_after_all}
+use Rattle.attempt_model.specs.Results.{Ready, Slots, slot_of, waiting_for, ready_without_first, slots_without, Resolution, Awake, Asleep, resolution_of, ready_after_all, are_keys_text}
 
 pub record Machine : Type 0 where
   -- the recorded commands that no call has matched yet; while there is one, the machine replays
@@ -60,6 +61,10 @@ pub data Fault : Type 0 where
   Mismatch : Fault
   UncompletedInReplay : Fault
   EndInReplay : Fault
+  -- a notification that is taken holds state keys that are no text
+  KeysNotText : Fault
+  -- what came for a child that a cancellation is passed on to is no invocation id
+  ChildNotId : Fault
   Refused : Refusal → Fault
 
 pub data Reply : Type 0 where
@@ -67,7 +72,7 @@ pub data Reply : Type 0 where
   -- nothing is answered; what is left of the awaited tree is what is waited for
   AwaitsTree : AwaitTree ℕ → Machine → Reply
   -- a cancellation waits for the invocation id of this child alone
-  AwaitsChild : Option ℕ → Machine → Reply
+  AwaitsChild : ℕ → Machine → Reply
   Finished : Machine → Reply
   FailedBy : Fault → Reply
 
@@ -108,20 +113,25 @@ module _ (same_header : Request → Request → Bool) (invocation : Invocation) 
       })
 
   -- a take: what was first is taken, and its handle stands for nothing from then on
-  abbrev pub reply_to_take : Machine → ℕ → Option NotificationResult → Reply
-  reply_to_take m handle None = Answered (Answer.Taken None) m
-  reply_to_take m handle (Some result) =
+  abbrev pub reply_where_taken : Machine → ℕ → NotificationResult → (keys_are_text is_id_of_child : Bool) → Reply
+  reply_where_taken m handle result false is_id_of_child = FailedBy KeysNotText
+  reply_where_taken m handle result true false = FailedBy ChildNotId
+  reply_where_taken m handle result true true =
       Answered (Answer.Taken (Some (as_taken result))) (record m {
         ready = ready_without_first m.ready (slot_of m.slots handle);
         slots = slots_without m.slots handle;
         children = map (child_with_value (slot_of m.slots handle) (as_taken result)) m.children;
       })
 
+  abbrev pub reply_to_take : Machine → ℕ → Option NotificationResult → Reply
+  reply_to_take m handle None = Answered (Answer.Taken None) m
+  reply_to_take m handle (Some result) = reply_where_taken m handle result (are_keys_text result) (list_all (may_take (slot_of m.slots handle) (as_taken result)) m.children)
+
   abbrev pub is_cancelled : Machine → Bool
   is_cancelled m = ends_awaits invocation.options.implicit_cancellation && is_some (waiting_for m.slots m.ready cancel_handle)
 
   -- in replay an await that waits for a child fails; behind it, it waits for that child alone
-  abbrev pub reply_where_unknown : Option ℕ → Machine → Commands → Reply
+  abbrev pub reply_where_unknown : ℕ → Machine → Commands → Reply
   reply_where_unknown child m [] = AwaitsChild child m
   reply_where_unknown child m (command ∷ left) = FailedBy UncompletedInReplay
 
@@ -151,6 +161,7 @@ module _ (same_header : Request → Request → Bool) (invocation : Invocation) 
       reply_where_cancelled (record m { queue = queue; ready = ready }) (cancel_requests_for ready m.children)
       (put_all same_header (cancel_requests_for ready m.children) (record { left = m.left; written = m.written }))
   reply_to_children m (FirstUnknown child ready) = reply_where_unknown child (record m { queue = []; ready = ready }) m.left
+  reply_to_children m OneIsNoId = FailedBy ChildNotId
 
   abbrev pub reply_where_awake : Machine → Bool → Reply
   reply_where_awake m false = Answered Answer.Woken m

@@ -1,5 +1,7 @@
 -- What has come and waits to be taken, what handles stand for, and how an awaited tree is resolved from the line.
-use Rattle.std.specs.Prelude.{ℕ, ◌-◌, ◌==◌, nat_lt, if◌then◌else◌, List, [], ◌∷◌, ◌++◌, drop, slice_get, slice_set, Option, Some, None, option_and_then}
+use Rattle.std.specs.Prelude.{Bool, true, ℕ, ◌-◌, ◌==◌, nat_lt, if◌then◌else◌, List, [], ◌∷◌, ◌++◌, drop, slice_get, slice_set, Option, Some, None, option_and_then}
+use Rattle.std.specs.List.{list_all}
+use Rattle.std.specs.Str.{is_utf8}
 use Rattle.journal_model.specs.declared.notification.NotificationId.{NotificationId}
 use Rattle.journal_model.specs.declared.notification.NotificationResult.{NotificationResult}
 use Rattle.journal_model.specs.Notification.{same_id, Arrival, cancel_id}
@@ -72,3 +74,8 @@ resolution_of delivery slots tree (arrival ∷ queue) ready =
 abbrev pub ready_after_all : SignalDelivery → Ready → List Arrival → Ready
 ready_after_all delivery ready [] = ready
 ready_after_all delivery ready (arrival ∷ arrivals) = ready_after_all delivery (ready_after delivery ready arrival) arrivals
+
+-- whether a result holds no state key that is not text
+abbrev pub are_keys_text : NotificationResult → Bool
+are_keys_text (NotificationResult.StateKeys keys) = list_all is_utf8 keys
+are_keys_text _ = true

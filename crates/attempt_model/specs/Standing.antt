@@ -1,5 +1,8 @@
 -- How the machine stands to the run of its handler, and what each reply says of it.
-use Rattle.std.specs.Prelude.{Some, ◌≡◌, ◌≤◌, ◌<◌, ◌+◌, ◌⊎◌, ℕ, suc, Bool, true, false, if◌then◌else◌, List, [], ◌∷◌, ◌++◌, length, drop, map, filter, Option}
+use Rattle.std.specs.Prelude.{None, option_map, ◌==◌, Some, ◌≡◌, ◌≤◌, ◌<◌, ◌+◌, ◌⊎◌, ℕ, suc, Bool, true, false, if◌then◌else◌, List, [], ◌∷◌, ◌++◌, length, drop, map, filter, Option}
+use Rattle.std.specs.List.{list_all, list_any}
+use Rattle.journal_model.specs.declared.value.Value.{Value}
+use Rattle.journal_model.specs.Value.{as_taken}
 use Rattle.journal_model.specs.declared.notification.NotificationId.{NotificationId}
 use Rattle.journal_model.specs.declared.notification.NotificationId.TheVariants.{CompletionId}
 use Rattle.journal_model.specs.declared.notification.NotificationResult.{NotificationResult}
@@ -12,16 +15,16 @@ use Rattle.journal_model.specs.declared.options.RunOptions.{RunOptions}
 use Rattle.journal_model.specs.declared.options.SignalDelivery.TheVariants.{Queued}
 use Rattle.journal_model.specs.Options.{replaces}
 use Rattle.journal_model.specs.History.{Step, answers_of, requests_of, place_of, next_completion, next_signal, next_handle, stands_for, ids_created, TakesBelow, WithinPlaces}
-use Rattle.journal_model.specs.Delivery.{known_results, deliveries, takes_of, passed_at_take, leaf_state}
-use Rattle.journal_model.specs.Await.{awaited_ids, is_awake_at, is_cancelled_at, all_known_at, last_taken, tracked_children, child_id}
+use Rattle.journal_model.specs.Delivery.{front, known_results, deliveries, takes_of, passed_at_take, leaf_state}
+use Rattle.journal_model.specs.Await.{awaited_ids, is_awake_at, is_cancelled_at, all_known_at, last_taken, tracked_children}
 use Rattle.journal_model.specs.declared.options.ImplicitCancellationOption.{ImplicitCancellationOption}
 use Rattle.journal_model.specs.State.{StartState, state_after, IsOrdered}
 use Rattle.journal_model.specs.Waiting.{pruned}
 use Rattle.journal_model.specs.Run.{Handler, Invocation, GoesOn, Waits, RefusedCall, Ended, run, run_requests, IsBeginning}
-use Rattle.attempt_model.specs.Children.{Child}
-use Rattle.attempt_model.specs.Machine.{Machine, machine_at_start, with_arrival, Mismatch, UncompletedInReplay, EndInReplay, Refused, Reply, Answered, AwaitsTree, AwaitsChild, Finished, FailedBy, reply_to, StopsMidway}
+use Rattle.attempt_model.specs.Children.{Child, is_id}
+use Rattle.attempt_model.specs.Machine.{Machine, machine_at_start, with_arrival, Mismatch, UncompletedInReplay, EndInReplay, KeysNotText, ChildNotId, Refused, Reply, Answered, AwaitsTree, AwaitsChild, Finished, FailedBy, reply_to, StopsMidway}
 use Rattle.attempt_model.specs.Requests.{Commands, Progressed}
-use Rattle.attempt_model.specs.Results.{Ready, Slots, slot_of}
+use Rattle.attempt_model.specs.Results.{Ready, Slots, slot_of, are_keys_text}
 
 -- the results for one id
 abbrev pub results_for : List Arrival → NotificationId → List NotificationResult
@@ -93,6 +96,10 @@ child_after steps n = record { completion = n; taken = last_taken (ids_created s
 abbrev pub children_of : ImplicitCancellationOption → List Step → List Child
 children_of cancellation steps = map (child_after steps) (tracked_children cancellation steps)
 
+abbrev pub is_id_if_known : Option Value → Bool
+is_id_if_known None = true
+is_id_if_known (Some value) = is_id value
+
 -- the machine stands where the run over the arrivals that it has read has made so many calls and goes on
 pub record Stands (handler : Handler) (given : Invocation) (journal : List Request) (arrivals : List Arrival) (calls : ℕ) (m : Machine) : Type 0 where
   pub steps : List Step
@@ -105,12 +112,22 @@ pub record Stands (handler : Handler) (given : Invocation) (journal : List Reque
   pub start : IsShown given.start journal m.start
   pub done : m.done ≡ requests_of steps
   pub children : m.children ≡ children_of given.options.implicit_cancellation steps
+  -- what was taken of a child is an invocation id
+  pub ids : list_all (λ child. is_id_if_known child.taken) m.children ≡ true
   pub reached : Reached handler given arrivals steps place
 
 -- each completion comes once
 abbrev pub ComesOnce : Handler → Invocation → List Arrival → Type 0
 ComesOnce handler given arrivals =
     (made n : ℕ) → length (results_for (known_results (run handler given arrivals made).steps ++ arrivals) (CompletionId n)) ≤ 1
+
+-- what comes is of the kind that is asked for: for a child that a cancellation is passed on to an invocation id, and state keys are text
+pub record AreOfKind (handler : Handler) (given : Invocation) (arrivals : List Arrival) : Type 0 where
+  pub ids : (made place n : ℕ) → place ≤ length arrivals → let steps = (run handler given arrivals made).steps in
+      list_any (λ m. m == n) (tracked_children given.options.implicit_cancellation steps) ≡ true
+      → is_id_if_known (option_map as_taken (front given.options steps arrivals place (CompletionId n))) ≡ true
+  pub keys : (made : ℕ) (id : NotificationId) (result : NotificationResult) → let steps = (run handler given arrivals made).steps in
+      front given.options steps arrivals (place_of steps) id ≡ Some result → are_keys_text result ≡ true
 
 -- what is fed to an attempt: recorded requests that are a beginning of the run's over these arrivals; signals wait in line,
 -- and each completion comes once, as an arrival or as the answer of a known read
@@ -119,6 +136,7 @@ pub record Fits (handler : Handler) (given : Invocation) (journal : List Request
   pub beginning : IsBeginning journal (run_requests handler given arrivals calls)
   pub queued : given.options.signal_delivery ≡ Queued
   pub once : ComesOnce handler given arrivals
+  pub kinds : AreOfKind handler given arrivals
 
 -- the next call of a run that goes on
 abbrev pub next_call : Handler → Invocation → List Step → Call
@@ -139,9 +157,9 @@ pub record WaitsWithRun (handler : Handler) (given : Invocation) (journal : List
       ≡ pruned ids (leaf_state given.options (run handler given arrivals calls).steps arrivals (place_of (run handler given arrivals calls).steps) (length arrivals))
 
 -- the same where a cancellation waits for a child
-pub record WaitsForChild (handler : Handler) (given : Invocation) (journal : List Request) (arrivals : List Arrival) (calls : ℕ) (child : Option ℕ) (m : Machine) : Type 0 where
+pub record WaitsForChild (handler : Handler) (given : Invocation) (journal : List Request) (arrivals : List Arrival) (calls : ℕ) (child : ℕ) (m : Machine) : Type 0 where
   pub stands : Stands handler given journal arrivals calls m
-  pub waits : (run handler given arrivals (suc calls)).ending ≡ Waits (Single (child_id child))
+  pub waits : (run handler given arrivals (suc calls)).ending ≡ Waits (Single (Some (CompletionId child)))
   pub exactly : run_requests handler given arrivals (suc calls) ≡ journal ++ m.written
 
 -- the run has ended, with exactly these requests
@@ -158,6 +176,8 @@ RepliesAsRun handler given journal arrivals calls (Finished m) = EndsWithRun han
 RepliesAsRun handler given journal arrivals calls (FailedBy Mismatch) = ⊥
 RepliesAsRun handler given journal arrivals calls (FailedBy UncompletedInReplay) = ⊥
 RepliesAsRun handler given journal arrivals calls (FailedBy EndInReplay) = ⊥
+RepliesAsRun handler given journal arrivals calls (FailedBy KeysNotText) = ⊥
+RepliesAsRun handler given journal arrivals calls (FailedBy ChildNotId) = ⊥
 RepliesAsRun handler given journal arrivals calls (FailedBy (Refused refusal)) = (run handler given arrivals (suc calls)).ending ≡ RefusedCall refusal
 
 -- a request is header-equal to itself
@@ -178,10 +198,10 @@ abbrev pub ReadsStanding : Type 0
 ReadsStanding = (handler : Handler) (given : Invocation) (journal : List Request) (arrivals : List Arrival) (arrival : Arrival) (calls : ℕ) (m : Machine)
     → Stands handler given journal arrivals calls m → Stands handler given journal (arrivals ++ arrival ∷ []) calls (with_arrival m arrival)
 
--- what is fed fits with more arrivals too, where no completion comes again
+-- what is fed fits with more arrivals too, where no completion comes again and all is of its kind
 abbrev pub FitsOn : Type 0
 FitsOn = (handler : Handler) (given : Invocation) (journal : List Request) (arrivals later : List Arrival)
-    → Fits handler given journal arrivals → ComesOnce handler given (arrivals ++ later)
+    → Fits handler given journal arrivals → ComesOnce handler given (arrivals ++ later) → AreOfKind handler given (arrivals ++ later)
     → Fits handler given journal (arrivals ++ later)
 
 -- each call is answered as the run answers it, and the machine stands behind it

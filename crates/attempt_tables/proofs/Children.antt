@@ -1,6 +1,7 @@
 -- The children that a cancellation is passed on to, and the least place by which all of them are known.
 use Rattle.std.proofs.Common.{◌≡◌, refl, sym, ap, ap₂, ◌∙◌, subst, ℕ, zero, suc, ◌+◌, ◌-◌, ◌≤◌, ◌<◌, ◌==◌, nat_lt, arith, le_refl, eq-or-lt_of_le, Bool, true, false, ◌&&◌, if◌then◌else◌, List, [], ◌∷◌, ◌++◌, append-nil, length, map, slice_get, Option, Some, None, is_some, option_map, option_and_then, eqb-true, ◌⊎◌, inl, inr}
 use Rattle.std.proofs.Math.Path.{fun_ext}
+use Rattle.std.specs.List.{list_all}
 use Rattle.journal_model.specs.declared.notification.NotificationId.{NotificationId}
 use Rattle.journal_model.specs.declared.notification.NotificationId.TheVariants.{CompletionId, SignalId, SignalName}
 use Rattle.journal_model.specs.declared.notification.NotificationResult.{NotificationResult}
@@ -17,9 +18,9 @@ use Rattle.journal_model.specs.History.{Step, next_completion, next_signal, next
 use Rattle.journal_model.specs.Delivery.{taken_is, or_else}
 use Rattle.journal_model.specs.Await.{child_of, children_after, tracked_children, value_taken, last_taken, child_result, all_known_at, first_unknown, cancel_request, cancel_requests}
 use Rattle.journal_model.proofs.Handles.{id_of_handle-old}
-use Rattle.attempt_model.specs.Children.{Child, new_child, child_with_value, child_value, are_all_known, first_unknown_child, cancel_requests_for, ChildrenOutcome, AllKnown, FirstUnknown, children_outcome}
+use Rattle.attempt_model.specs.Children.{Child, new_child, child_with_value, child_value, ChildrenState, AreIds, IsUnknown, IsNoId, with_child, children_state, cancel_requests_for, ChildrenOutcome, AllKnown, FirstUnknown, OneIsNoId, outcome_by, children_outcome}
 use Rattle.attempt_model.specs.Results.{Ready, Slots, ready_after, first_of}
-use Rattle.attempt_model.specs.Standing.{TablesStand, child_after, children_of}
+use Rattle.attempt_model.specs.Standing.{TablesStand, child_after, children_of, is_id_if_known}
 use Rattle.attempt_tables.proofs.Making.{Creates}
 use Rattle.attempt_tables.proofs.Tables.{front-untaken, drop-nil-length, arrive}
 
@@ -199,18 +200,87 @@ module _ (options : RunOptions) (steps : List Step) (arrivals : List Arrival) wh
     value-same n = ap (λ (o : Option NotificationResult). or_else (last_taken (ids_created steps) (CompletionId n) steps) (option_map as_taken o))
         (ap first_of (stands.ready (CompletionId n)) ∙ sym (front-untaken options steps arrivals place (CompletionId n)))
 
-    pub told-same : (ns : List ℕ) → are_all_known waiting (map (child_after steps) ns) ≡ all_known_at options steps arrivals ns place
-    told-same [] = refl
-    told-same (n ∷ ns) = ap₂ (λ (v : Option Value) (b : Bool). is_some v && b) (value-same n) (told-same ns)
+    -- what the machine knows of the children, by what the run knows of them
+    abbrev state : List ℕ → ChildrenState
+    state ns = children_state waiting (map (child_after steps) ns)
+
+    state-next : (n : ℕ) (ns : List ℕ) (v : Option Value) → child_result options steps arrivals place n ≡ v → state (n ∷ ns) ≡ with_child v n (state ns)
+    state-next n ns v e = ap (λ (v : Option Value). with_child v n (state ns)) (value-same n ∙ e)
+
+    pub all-known : (ns : List ℕ) → state ns ≡ AreIds → all_known_at options steps arrivals ns place ≡ true
+    all-known [] e = refl
+    all-known (n ∷ ns) e = by_value (child_result options steps arrivals place n) refl (all-known ns)
+      where
+        by_value : (v : Option Value) → child_result options steps arrivals place n ≡ v → (state ns ≡ AreIds → all_known_at options steps arrivals ns place ≡ true)
+            → (is_some (child_result options steps arrivals place n) && all_known_at options steps arrivals ns place) ≡ true
+        by_value None f later = let wrong : IsUnknown n ≡ AreIds = sym (state-next n ns None f) ∙ e in cc
+        by_value (Some (Value.InvocationId id)) f later = ap₂ (λ (v : Option Value) (b : Bool). is_some v && b) f (later (sym (state-next n ns (Some (Value.InvocationId id)) f) ∙ e))
+        by_value (Some Value.Void) f later = let wrong : IsNoId ≡ AreIds = sym (state-next n ns (Some Value.Void) f) ∙ e in cc
+        by_value (Some (Value.Success bytes)) f later = let wrong : IsNoId ≡ AreIds = sym (state-next n ns (Some (Value.Success bytes)) f) ∙ e in cc
+        by_value (Some (Value.Failure failure)) f later = let wrong : IsNoId ≡ AreIds = sym (state-next n ns (Some (Value.Failure failure)) f) ∙ e in cc
+        by_value (Some (Value.StateKeys keys)) f later = let wrong : IsNoId ≡ AreIds = sym (state-next n ns (Some (Value.StateKeys keys)) f) ∙ e in cc
+
+    -- one that is not known
+    pub record FirstMissing (ns : List ℕ) (child : ℕ) : Type 0 where
+      pub unknown : all_known_at options steps arrivals ns place ≡ false
+      pub first : place ≡ length arrivals → Some child ≡ first_unknown options steps arrivals ns
+
+    pub one-unknown : (ns : List ℕ) (child : ℕ) → state ns ≡ IsUnknown child → FirstMissing ns child
+    one-unknown [] child e = cc
+    one-unknown (n ∷ ns) child e = by_value (child_result options steps arrivals place n) refl (one-unknown ns child)
+      where
+        at_end : place ≡ length arrivals → child_result options steps arrivals (length arrivals) n ≡ child_result options steps arrivals place n
+        at_end over = ap (λ (p : ℕ). child_result options steps arrivals p n) (sym over)
+
+        by_value : (v : Option Value) → child_result options steps arrivals place n ≡ v → (state ns ≡ IsUnknown child → FirstMissing ns child) → FirstMissing (n ∷ ns) child
+        by_value None f later =
+            let is : IsUnknown n ≡ IsUnknown child = sym (state-next n ns None f) ∙ e in
+            let same : child ≡ n = cc in
+            record {
+              unknown = ap (λ (v : Option Value). is_some v && all_known_at options steps arrivals ns place) f;
+              first = λ over. ap (λ (m : ℕ). Some m) same ∙ sym (ap (λ (v : Option Value). if is_some v then first_unknown options steps arrivals ns else Some n) (at_end over ∙ f));
+            }
+        by_value (Some (Value.InvocationId id)) f later =
+            let u : FirstMissing ns child = later (sym (state-next n ns (Some (Value.InvocationId id)) f) ∙ e) in
+            record {
+              unknown = ap₂ (λ (v : Option Value) (b : Bool). is_some v && b) f u.unknown;
+              first = λ over. u.first over ∙ sym (ap (λ (v : Option Value). if is_some v then first_unknown options steps arrivals ns else Some n) (at_end over ∙ f));
+            }
+        by_value (Some Value.Void) f later = let wrong : IsNoId ≡ IsUnknown child = sym (state-next n ns (Some Value.Void) f) ∙ e in cc
+        by_value (Some (Value.Success bytes)) f later = let wrong : IsNoId ≡ IsUnknown child = sym (state-next n ns (Some (Value.Success bytes)) f) ∙ e in cc
+        by_value (Some (Value.Failure failure)) f later = let wrong : IsNoId ≡ IsUnknown child = sym (state-next n ns (Some (Value.Failure failure)) f) ∙ e in cc
+        by_value (Some (Value.StateKeys keys)) f later = let wrong : IsNoId ≡ IsUnknown child = sym (state-next n ns (Some (Value.StateKeys keys)) f) ∙ e in cc
+
+    -- what is known of children whose results are ids is an id
+    pub no-other : (ns : List ℕ) → list_all (λ n. is_id_if_known (child_result options steps arrivals place n)) ns ≡ true → state ns ≡ IsNoId → ⊥
+    no-other [] ids e = cc
+    no-other (n ∷ ns) ids e = by_value (child_result options steps arrivals place n) refl (no-other ns)
+      where
+        second : (b c : Bool) → (b && c) ≡ true → c ≡ true
+        second true c f = f
+        second false c f = cc
+
+        first : (b c : Bool) → (b && c) ≡ true → b ≡ true
+        first true c f = refl
+        first false c f = cc
+
+        here : is_id_if_known (child_result options steps arrivals place n) ≡ true
+        here = first (is_id_if_known (child_result options steps arrivals place n)) _ ids
+
+        others : list_all (λ n. is_id_if_known (child_result options steps arrivals place n)) ns ≡ true
+        others = second (is_id_if_known (child_result options steps arrivals place n)) _ ids
+
+        by_value : (v : Option Value) → child_result options steps arrivals place n ≡ v → (list_all (λ n. is_id_if_known (child_result options steps arrivals place n)) ns ≡ true → state ns ≡ IsNoId → ⊥) → ⊥
+        by_value None f later = let wrong : IsUnknown n ≡ IsNoId = sym (state-next n ns None f) ∙ e in cc
+        by_value (Some (Value.InvocationId id)) f later = later others (sym (state-next n ns (Some (Value.InvocationId id)) f) ∙ e)
+        by_value (Some Value.Void) f later = let wrong : false ≡ true = sym (ap is_id_if_known f) ∙ here in cc
+        by_value (Some (Value.Success bytes)) f later = let wrong : false ≡ true = sym (ap is_id_if_known f) ∙ here in cc
+        by_value (Some (Value.Failure failure)) f later = let wrong : false ≡ true = sym (ap is_id_if_known f) ∙ here in cc
+        by_value (Some (Value.StateKeys keys)) f later = let wrong : false ≡ true = sym (ap is_id_if_known f) ∙ here in cc
 
     pub cancels-same : (ns : List ℕ) → cancel_requests_for waiting (map (child_after steps) ns) ≡ cancel_requests options steps arrivals place ns
     cancels-same [] = refl
     cancels-same (n ∷ ns) = ap₂ (λ (v : Option Value) (rs : List Request). cancel_request v ++ rs) (value-same n) (cancels-same ns)
-
-    untold-same : place ≡ length arrivals → (ns : List ℕ) → first_unknown_child waiting (map (child_after steps) ns) ≡ first_unknown options steps arrivals ns
-    untold-same over [] = refl
-    untold-same over (n ∷ ns) =
-        ap₂ (λ (v : Option Value) (o : Option ℕ). if is_some v then o else Some n) (value-same n ∙ ap (λ (p : ℕ). child_result options steps arrivals p n) over) (untold-same over ns)
 
   -- what telling comes to, from a place on
   module _ (table : Slots) (ns : List ℕ) where
@@ -221,14 +291,15 @@ module _ (options : RunOptions) (steps : List Step) (arrivals : List Arrival) wh
       pub before : (q : ℕ) → from ≤ q → q < place → all_known_at options steps arrivals ns q ≡ false
       pub stands : TablesStand options steps arrivals place line waiting table
 
-    pub record Misses (from : ℕ) (child : Option ℕ) (waiting : Ready) : Type 0 where
+    pub record Misses (from : ℕ) (child : ℕ) (waiting : Ready) : Type 0 where
       pub unknown : (q : ℕ) → from ≤ q → q ≤ length arrivals → all_known_at options steps arrivals ns q ≡ false
-      pub first : child ≡ first_unknown options steps arrivals ns
+      pub first : Some child ≡ first_unknown options steps arrivals ns
       pub stands : TablesStand options steps arrivals (length arrivals) [] waiting table
 
     abbrev pub TellsFrom : ℕ → ChildrenOutcome → Type 0
     TellsFrom from (AllKnown line waiting) = Tells from line waiting
     TellsFrom from (FirstUnknown child waiting) = Misses from child waiting
+    TellsFrom from OneIsNoId = ⊥
 
     later-tells : (place : ℕ) → all_known_at options steps arrivals ns place ≡ false → (t : ChildrenOutcome) → TellsFrom (suc place) t → TellsFrom place t
     later-tells place unknown (AllKnown line waiting) t = record {
@@ -242,6 +313,7 @@ module _ (options : RunOptions) (steps : List Step) (arrivals : List Arrival) wh
         by_order : (q : ℕ) → q < t.place → (place ≡ q) ⊎ (place < q) → all_known_at options steps arrivals ns q ≡ false
         by_order q high (inl same) = ap (all_known_at options steps arrivals ns) (sym same) ∙ unknown
         by_order q high (inr above) = t.before q above high
+    later-tells place unknown OneIsNoId t = absurd t
     later-tells place unknown (FirstUnknown child waiting) t = record {
       unknown = λ q low high. by_order q high (eq-or-lt_of_le low);
       first = t.first;
@@ -252,43 +324,48 @@ module _ (options : RunOptions) (steps : List Step) (arrivals : List Arrival) wh
         by_order q high (inl same) = ap (all_known_at options steps arrivals ns) (sym same) ∙ unknown
         by_order q high (inr above) = t.unknown q above high
 
-    pub tells : (place : ℕ) (line : List Arrival) (waiting : Ready) → TablesStand options steps arrivals place line waiting table
-        → TellsFrom place (children_outcome options.signal_delivery (map (child_after steps) ns) line waiting)
-    tells place [] waiting stands = by_test (are_all_known waiting (map (child_after steps) ns)) refl
-      where
-        within : place ≤ length arrivals
-        within = stands.within
+    module _ (ids : (q : ℕ) → q ≤ length arrivals → list_all (λ n. is_id_if_known (child_result options steps arrivals q n)) ns ≡ true) where
+      pub tells : (place : ℕ) (line : List Arrival) (waiting : Ready) → TablesStand options steps arrivals place line waiting table
+          → TellsFrom place (children_outcome options.signal_delivery (map (child_after steps) ns) line waiting)
+      tells place [] waiting stands = by_state (children_state waiting (map (child_after steps) ns)) refl
+        where
+          within : place ≤ length arrivals
+          within = stands.within
 
-        over : place ≡ length arrivals
-        over = let low : length arrivals ≤ place = drop-nil-length place arrivals (sym stands.queue) in omega (arith, low, within)
+          over : place ≡ length arrivals
+          over = let low : length arrivals ≤ place = drop-nil-length place arrivals (sym stands.queue) in omega (arith, low, within)
 
-        by_test : (b : Bool) → are_all_known waiting (map (child_after steps) ns) ≡ b
-            → TellsFrom place (if b then AllKnown [] waiting else FirstUnknown (first_unknown_child waiting (map (child_after steps) ns)) waiting)
-        by_test true e = record {
-          place = place;
-          above = le_refl place;
-          known = sym (told-same place [] waiting table stands ns) ∙ e;
-          before = λ q low high. absurd (omega (arith, low, high));
-          stands = stands;
-        }
-        by_test false e = record {
-          unknown = λ q low high. (let same : q ≡ place = omega (arith, low, high, over) in
-              ap (all_known_at options steps arrivals ns) same ∙ sym (told-same place [] waiting table stands ns) ∙ e);
-          first = untold-same place [] waiting table stands over ns;
-          stands = subst (λ (n : ℕ). TablesStand options steps arrivals n [] waiting table) over stands;
-        }
-    tells place (arrival ∷ line) waiting stands = by_test (are_all_known waiting (map (child_after steps) ns)) refl
-        (tells (suc place) line (ready_after options.signal_delivery waiting arrival) (arrive options steps arrivals place arrival line waiting table stands))
-      where
-        by_test : (b : Bool) → are_all_known waiting (map (child_after steps) ns) ≡ b
-            → TellsFrom (suc place) (children_outcome options.signal_delivery (map (child_after steps) ns) line (ready_after options.signal_delivery waiting arrival))
-            → TellsFrom place (if b then AllKnown (arrival ∷ line) waiting else children_outcome options.signal_delivery (map (child_after steps) ns) line (ready_after options.signal_delivery waiting arrival))
-        by_test true e later = record {
-          place = place;
-          above = le_refl place;
-          known = sym (told-same place (arrival ∷ line) waiting table stands ns) ∙ e;
-          before = λ q low high. absurd (omega (arith, low, high));
-          stands = stands;
-        }
-        by_test false e later = later-tells place (sym (told-same place (arrival ∷ line) waiting table stands ns) ∙ e)
-            (children_outcome options.signal_delivery (map (child_after steps) ns) line (ready_after options.signal_delivery waiting arrival)) later
+          by_state : (c : ChildrenState) → children_state waiting (map (child_after steps) ns) ≡ c
+              → TellsFrom place (outcome_by c (AllKnown [] waiting) (λ n. FirstUnknown n waiting))
+          by_state AreIds e = record {
+            place = place;
+            above = le_refl place;
+            known = all-known place [] waiting table stands ns e;
+            before = λ q low high. absurd (omega (arith, low, high));
+            stands = stands;
+          }
+          by_state (IsUnknown n) e =
+              let u = one-unknown place [] waiting table stands ns n e in
+              record {
+                unknown = λ q low high. (let same : q ≡ place = omega (arith, low, high, over) in ap (all_known_at options steps arrivals ns) same ∙ u.unknown);
+                first = u.first over;
+                stands = subst (λ (n : ℕ). TablesStand options steps arrivals n [] waiting table) over stands;
+              }
+          by_state IsNoId e = no-other place [] waiting table stands ns (ids place within) e
+      tells place (arrival ∷ line) waiting stands = by_state (children_state waiting (map (child_after steps) ns)) refl
+          (tells (suc place) line (ready_after options.signal_delivery waiting arrival) (arrive options steps arrivals place arrival line waiting table stands))
+        where
+          by_state : (c : ChildrenState) → children_state waiting (map (child_after steps) ns) ≡ c
+              → TellsFrom (suc place) (children_outcome options.signal_delivery (map (child_after steps) ns) line (ready_after options.signal_delivery waiting arrival))
+              → TellsFrom place (outcome_by c (AllKnown (arrival ∷ line) waiting) (λ n. children_outcome options.signal_delivery (map (child_after steps) ns) line (ready_after options.signal_delivery waiting arrival)))
+          by_state AreIds e later = record {
+            place = place;
+            above = le_refl place;
+            known = all-known place (arrival ∷ line) waiting table stands ns e;
+            before = λ q low high. absurd (omega (arith, low, high));
+            stands = stands;
+          }
+          by_state (IsUnknown n) e later =
+              let u = one-unknown place (arrival ∷ line) waiting table stands ns n e in
+              later-tells place u.unknown (children_outcome options.signal_delivery (map (child_after steps) ns) line (ready_after options.signal_delivery waiting arrival)) later
+          by_state IsNoId e later = no-other place (arrival ∷ line) waiting table stands ns (ids place stands.within) e
