@@ -179,7 +179,7 @@ module _ (same_header : Request → Request → Bool) (reflexive : IsReflexive s
           let there : front given.options steps arrivals place id ≡ Some r = front-untaken given.options steps arrivals place id ∙ sym (ap first_of (tables.ready id)) ∙ first in
           let text : are_keys_text r ≡ true = keys_text id r (ap (λ (n : ℕ). front given.options steps arrivals n id) (sym at) ∙ there) in
           let ids : list_all (may_take (Some id) (as_taken r)) m.children ≡ true = ap (list_all (may_take (Some id) (as_taken r))) children
-              ∙ takes-ids given.options steps arrivals place (tracked_children cancellation steps) id r there (λ n e. front_ids place tables.within n e) in
+          ∙ takes-ids given.options steps arrivals place (tracked_children cancellation steps) id r there (λ n e. front_ids place tables.within n e) in
           subst (λ (b : Bool). Replies (reply_where_taken same_header given m handle r b (list_all (may_take (slot_of m.slots handle) (as_taken r)) m.children))) (sym text)
           (subst (λ (b : Bool). Replies (reply_where_taken same_header given m handle r true b)) (sym (ap (λ (o : Option NotificationId). list_all (may_take o (as_taken r)) m.children) slot ∙ ids))
           (subst (λ (o : Option NotificationId). Replies (Answered (Answer.Taken (Some (as_taken r))) (record m { ready = ready_without_first m.ready o; slots = slots_without m.slots handle; children = map (child_with_value o (as_taken r)) m.children }))) (sym slot)

@@ -350,7 +350,7 @@ module _ (same_header : Request → Request → Bool) (reflexive : IsReflexive s
             start = shows;
             done = done;
             children = children;
-                ids = ids_known;
+            ids = ids_known;
             reached = ahead tree (is ∙ e) (omega (arith, low_place, within)) before;
           };
           ids = ids;

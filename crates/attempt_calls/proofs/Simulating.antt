@@ -82,10 +82,13 @@ stops_with_run same_header handler given journal arrivals calls m reflexive fits
     by_replays : (p.rest ≡ []) ⊎ (p.wrote ≡ []) → BeginsRun handler given arrivals (journal ++ stopped.written)
     by_replays (inl none) = record {
       calls = suc calls;
-      beginning = (stops.others, ap (λ (xs : List Request). (journal ++ xs) ++ stops.others) wrote
-          ∙ ap (λ (xs : List Request). xs ++ stops.others)
-          (sym p.whole ∙ ap (λ (xs : List Request). (requests_of stands.steps ++ stops.some) ++ xs) none ∙ append-nil (requests_of stands.steps ++ stops.some))
-          ∙ sym is_run);
+      beginning = (
+        stops.others,
+        ap (λ (xs : List Request). (journal ++ xs) ++ stops.others) wrote
+            ∙ ap (λ (xs : List Request). xs ++ stops.others)
+            (sym p.whole ∙ ap (λ (xs : List Request). (requests_of stands.steps ++ stops.some) ++ xs) none ∙ append-nil (requests_of stands.steps ++ stops.some))
+            ∙ sym is_run,
+      );
     }
     by_replays (inr nothing) =
         let (a, e) = fits.beginning in
