@@ -1,0 +1,3 @@
+pub mod MachineRows
+pub mod Following
+pub mod Apart

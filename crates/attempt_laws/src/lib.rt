@@ -1,0 +1,31 @@
+//! An attempt that replays answers as the one run of its handler: laws over a machine without bytes. Each function does nothing, and
+//! its contract is the law. Worked rows are computed in `proofs/MachineRows.antt`.
+#![tactic(auto)]
+
+ghost use Rattle.attempt_model.specs.Attempts.{AttemptsFollow, OnceByAsking, ReadsJournal};
+ghost use Rattle.attempt_model.specs.Standing.{BeginsStanding, FitsOn, ReadsStanding, Simulates, StopsWithRun};
+
+/// The machine stands to the run before its first call, and where one more arrival is read; more arrivals fit too.
+pub fn attempts_stand()
+    ensures begins { BeginsStanding }
+    ensures reads { ReadsStanding }
+    ensures fits { FitsOn }
+{}
+
+/// Each call is answered as the run over the arrivals read answers it, waits and ends where the run does, and matches and writes its requests.
+/// Where one is stopped midway, what was recorded and what was written are a beginning of the run's requests.
+pub fn calls_simulate()
+    ensures answers { Simulates }
+    ensures stops { StopsWithRun }
+{}
+
+/// A whole attempt, in any number of turns between any arrivals, follows the run over what it has read, whatever part of it was recorded.
+pub fn attempts_follow()
+    ensures journal { ReadsJournal }
+    ensures follows { AttemptsFollow }
+{}
+
+/// Where what has come came once and was asked for, no known read has a number of what has come: the premise of the other laws.
+pub fn completions_come_once()
+    ensures { OnceByAsking }
+{}

@@ -1,0 +1,5 @@
+pub mod Tables
+pub mod Making
+pub mod Taking
+pub mod Waking
+pub mod Children
