@@ -1,19 +1,18 @@
 -- What is kept of an invocation is kept by each event that takes frames of its run alone, from any list of events of which it holds.
-use Rattle.std.proofs.Common.{◌≡◌, sym, ap, subst, ◌∙◌, false, List, ◌∷◌, Some, filter_map, bytes_eq}
+use Rattle.std.proofs.Common.{◌≡◌, sym, ap, subst, ◌∙◌, List, ◌∷◌, Some, filter_map, bytes_eq}
 use Rattle.journal_model.specs.declared.invocation.NewInvocation.{NewInvocation}
 use Rattle.std.proofs.lemmas.Slice.Eq.{bytes_eq-Decides}
-use Rattle.journal_model.specs.Notification.{Text, Arrival}
+use Rattle.journal_model.specs.Notification.{Text}
 use Rattle.journal_model.specs.Event.{Event}
 use Rattle.journal_model.specs.Journal.{invoked_by, invocation_begun, starting_state}
 use Rattle.journal_model.specs.Cause.{IsAccepted}
-use Rattle.journal_model.specs.Request.{Request}
 use Rattle.journal_model.specs.History.{requests_of}
-use Rattle.journal_model.specs.Run.{Handler, Invocation, Progress, Ending, run, is_going}
-use Rattle.journal_model.specs.Headline.{run_of, IsWholeRun, FollowsRun, NeverLate, WakesExactly}
+use Rattle.journal_model.specs.Run.{Handler, Invocation, Progress}
+use Rattle.journal_model.specs.Headline.{run_of, FollowsRun, NeverLate, WakesExactly}
 use Rattle.journal_laws.proofs.ObjectState.{state_of_open, find-passes}
 use Rattle.headline_laws.specs.Taken.{TakesOfRun, AllOfRun}
 use Rattle.headline_laws.specs.Held.{Holds}
-use Rattle.headline_laws.specs.Laws.{HeadlineStands}
+use Rattle.headline_laws.specs.Laws.{HeadlineStands, RunsRecordTheSame}
 use Rattle.headline_laws.proofs.Following.{begins_next, answered_next, all-begin, all-answered}
 use Rattle.run_laws.proofs.WaitingRuns.{stopped_same}
 use Rattle.headline_laws.proofs.Whole.{whole_step, all-whole}
@@ -50,14 +49,9 @@ module _ (next : Handler) (given : Invocation) (id : Text) where
   holds_wakes events h = (never_late next given events id h.waits, wakes_exactly next given events id h.waits)
 
 -- two records that are each the whole of the run over the same arrivals are the same
-pub whole_same : (next : Handler) (given : Invocation) (arrivals : List Arrival) (requests others : List Request) (IsOver IsOverToo : Ending → Type 0)
-    → ((ending : Ending) → IsOver ending → is_going ending ≡ false) → ((ending : Ending) → IsOverToo ending → is_going ending ≡ false)
-    → IsWholeRun next given arrivals requests IsOver → IsWholeRun next given arrivals others IsOverToo → requests ≡ others
-whole_same next given arrivals requests others IsOver IsOverToo stops stops_too a b =
-    a.exactly
-    ∙ ap (λ (p : Progress). requests_of p.steps)
-    (stopped_same next given arrivals a.calls b.calls (stops (run next given arrivals a.calls).ending a.over) (stops_too (run next given arrivals b.calls).ending b.over))
-    ∙ sym b.exactly
+pub whole_same : RunsRecordTheSame
+whole_same next given arrivals requests others a b =
+    a.exactly ∙ ap (λ (p : Progress). requests_of p.steps) (stopped_same next given arrivals a.calls b.calls a.over b.over) ∙ sym b.exactly
 
 -- ---- what holds of an invocation in every run, said of the events
 

@@ -1,13 +1,14 @@
 -- The laws of this crate.
-use Rattle.std.specs.Prelude.{◌≡◌, ℕ, List, ◌∷◌, Some, None}
-use Rattle.journal_model.specs.Notification.{Text}
+use Rattle.std.specs.Prelude.{◌≡◌, ℕ, false, List, ◌∷◌, Some, None}
+use Rattle.journal_model.specs.Notification.{Text, Arrival}
 use Rattle.journal_model.specs.declared.invocation.NewInvocation.{NewInvocation}
 use Rattle.journal_model.specs.declared.options.RunOptions.{RunOptions}
-use Rattle.journal_model.specs.Run.{Handler, Invocation}
+use Rattle.journal_model.specs.Request.{Request}
+use Rattle.journal_model.specs.Run.{Handler, Invocation, is_going}
 use Rattle.journal_model.specs.Event.{Event}
 use Rattle.journal_model.specs.Journal.{invocation_begun, starting_state}
 use Rattle.journal_model.specs.Cause.{IsAccepted}
-use Rattle.journal_model.specs.Headline.{run_of, Headline, NeverLate, WakesExactly}
+use Rattle.journal_model.specs.Headline.{IsWholeRun, run_of, Headline, NeverLate, WakesExactly}
 use Rattle.headline_laws.specs.Taken.{TakesOfRun, AllOfRun}
 use Rattle.headline_laws.specs.Held.{Holds}
 
@@ -37,3 +38,9 @@ HeadlineStands = (next : Handler) (options : RunOptions) (fallback_seed : ℕ) (
 abbrev pub SuspensionsWake : Type 0
 SuspensionsWake = (next : Handler) (given : Invocation) (events : List Event) (id : Text) → Holds next given id events
     → NeverLate next given events id × WakesExactly next given events id
+
+-- requests that are each the whole of the run over the same arrivals are the same, however they came to be recorded
+abbrev pub RunsRecordTheSame : Type 0
+RunsRecordTheSame = (next : Handler) (given : Invocation) (arrivals : List Arrival) (requests others : List Request)
+    → IsWholeRun next given arrivals requests (λ ending. is_going ending ≡ false) → IsWholeRun next given arrivals others (λ ending. is_going ending ≡ false)
+    → requests ≡ others

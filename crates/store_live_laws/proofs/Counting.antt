@@ -1,12 +1,12 @@
--- The frames of an attempt's input and their places, one by one; and no more is handed out than there is.
-use Rattle.std.proofs.Common.{ℕ, suc, ◌+◌, ◌≤◌, arith, nat_le, ◌≡◌, refl, sym, ap, ap₂, ◌∙◌, Bool, true, false, ◌||◌, ◌&&◌, if◌then◌else◌, List, [], ◌∷◌, ◌++◌, append_assoc, length, length-append, map, Option, Some, None, bytes_eq}
+-- The frames of an attempt's input and their places, one by one.
+use Rattle.std.proofs.Common.{ℕ, suc, ◌+◌, nat_le, ◌≡◌, refl, sym, ap, ap₂, ◌∙◌, Bool, true, false, ◌||◌, ◌&&◌, if◌then◌else◌, List, [], ◌∷◌, ◌++◌, length, length-append, map, Option, Some, None, bytes_eq}
 use Rattle.journal_model.specs.Notification.{Text, Arrival}
 use Rattle.journal_model.specs.Value.{result_of_value}
 use Rattle.journal_model.specs.State.{StateMap}
 use Rattle.journal_model.specs.declared.invocation.NewInvocation.{NewInvocation}
 use Rattle.journal_model.specs.Event.{Frame, Event}
 use Rattle.journal_model.specs.Journal.{Entry, Recorded, Arrived, completion, invocation_begun, version_of, starting_state, arrivals_in, entries_from, entries_added, entries_after}
-use Rattle.journal_model.specs.Attempt.{Piece, begins_attempt, entry_piece, arrival_piece, journal_pieces, later_pieces, event_pieces, input_from, input_bytes, input_pieces, bytes_asked, handed_after, handed_from, bytes_handed}
+use Rattle.journal_model.specs.Attempt.{begins_attempt, entry_piece, arrival_piece, journal_pieces, later_pieces, event_pieces, input_from, input_pieces}
 use Rattle.store_model.specs.Places.{places_of, places_of_arrivals, journal_places, places_from, input_places}
 
 -- ---- each frame has its place
@@ -58,30 +58,3 @@ count_from start (event ∷ earlier) id = by_test (begins_attempt id event) (cou
 
 pub same_count : (events : List Event) (id : Text) → length (input_pieces events id) ≡ length (input_places events id)
 same_count events id = count_from (starting_state events id) events id
-
--- ---- no more is handed out than there is
-
-pub bytes_more : (pieces more : List Piece) → input_bytes (pieces ++ more) ≡ input_bytes pieces ++ input_bytes more
-bytes_more [] more = refl
-bytes_more (piece ∷ pieces) more = ap (λ (rest : List ℕ). piece.bytes ++ rest) (bytes_more pieces more) ∙ sym (append_assoc piece.bytes (input_bytes pieces) (input_bytes more))
-
-within_from : (start : StateMap) (events : List Event) (id : Text) → handed_from start events id ≤ length (input_bytes (input_from start events id))
-within_from start [] id = omega arith
-within_from start (event ∷ earlier) id = by_test (begins_attempt id event) (bytes_asked id event) (within_from start earlier id)
-  where
-    by_test : (b : Bool) (o : Option ℕ) → handed_from start earlier id ≤ length (input_bytes (input_from start earlier id))
-        → (if b then 0 else handed_after o (handed_from start earlier id) (length (input_bytes (input_from start earlier id))))
-        ≤ length (input_bytes (if b then journal_pieces (invocation_begun earlier id) (entries_from start earlier id)
-        else input_from start earlier id ++ event_pieces start earlier id event (entries_from start earlier id)))
-    by_test true o h = omega arith
-    by_test false None h =
-        let more = ap (λ (xs : List ℕ). length xs) (bytes_more (input_from start earlier id) (event_pieces start earlier id event (entries_from start earlier id))) in
-        let sum = length-append (input_bytes (input_from start earlier id)) (input_bytes (event_pieces start earlier id event (entries_from start earlier id))) in
-        omega arith
-    by_test false (Some most) h =
-        let more = ap (λ (xs : List ℕ). length xs) (bytes_more (input_from start earlier id) (event_pieces start earlier id event (entries_from start earlier id))) in
-        let sum = length-append (input_bytes (input_from start earlier id)) (input_bytes (event_pieces start earlier id event (entries_from start earlier id))) in
-        omega arith
-
-pub handed_within : (events : List Event) (id : Text) → bytes_handed events id ≤ length (input_bytes (input_pieces events id))
-handed_within events id = within_from (starting_state events id) events id

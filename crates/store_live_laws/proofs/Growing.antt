@@ -13,7 +13,8 @@ use Rattle.store_live.specs.declared.attempt.LiveAttempt.{LiveAttempt}
 use Rattle.store_live.specs.Input.{pieces_after, place_after}
 use Rattle.store_live.proofs.Pieces.{count_of, AreFrames, pieces_more, place_more}
 use Rattle.store_live_laws.specs.Agrees.{whole_pieces, pieces_left, IsKeptLive}
-use Rattle.store_live_laws.proofs.Counting.{same_count, bytes_more, handed_within}
+use Rattle.input_laws.proofs.Handed.{bytes_more, handed_within}
+use Rattle.store_live_laws.proofs.Counting.{same_count}
 use Rattle.store_live_laws.proofs.Whole.{whole_more, whole_count, place_counted}
 
 pub version_same : (events : List Event) (event : Event) (id : Text) → invocation_begun (event ∷ events) id ≡ invocation_begun events id
