@@ -15,16 +15,16 @@ use Rattle.attempt_model.specs.Children.{Child, new_child, child_with_value, is_
 use Rattle.attempt_model.specs.Standing.{child_after, is_id_if_known}
 use Rattle.attempt_tables.proofs.Tables.{same_id-same}
 
-both-true : (a b : Bool) → a ≡ true → b ≡ true → (a && b) ≡ true
+pub both-true : (a b : Bool) → a ≡ true → b ≡ true → (a && b) ≡ true
 both-true true true e f = refl
 both-true true false e f = cc
 both-true false b e f = cc
 
-first-true : (a b : Bool) → (a && b) ≡ true → a ≡ true
+pub first-true : (a b : Bool) → (a && b) ≡ true → a ≡ true
 first-true true b e = refl
 first-true false b e = cc
 
-second-true : (a b : Bool) → (a && b) ≡ true → b ≡ true
+pub second-true : (a b : Bool) → (a && b) ≡ true → b ≡ true
 second-true true b e = e
 second-true false b e = cc
 

@@ -24,18 +24,18 @@ use Rattle.attempt_tables.proofs.Tables.{results-append}
 use Rattle.attempt_laws.proofs.Following.{known-more}
 
 -- whether some of the requests asks for a completion, and how often it is known
-abbrev asked : ℕ → List Request → Bool
+abbrev pub asked : ℕ → List Request → Bool
 asked n requests = list_any (asks_for n) requests
 
-abbrev times : ℕ → List Arrival → ℕ
+abbrev pub times : ℕ → List Arrival → ℕ
 times n arrivals = length (results_for arrivals (CompletionId n))
 
 -- a step asks for its own completions alone, and what it knows it does not ask for
-record Own (c : ℕ) (step : Step) : Type 0 where
-  asks : (n : ℕ) → asked n step.requests ≡ true → (c ≤ n) × (n < c + completions_of step.call)
-  knows : (n : ℕ) → (times n (known_result c step.requests) ≡ 0) ⊎ ((n ≡ c) × (1 ≤ completions_of step.call) × (asked n step.requests ≡ false) × (times n (known_result c step.requests) ≡ 1))
+pub record Own (c : ℕ) (step : Step) : Type 0 where
+  pub asks : (n : ℕ) → asked n step.requests ≡ true → (c ≤ n) × (n < c + completions_of step.call)
+  pub knows : (n : ℕ) → (times n (known_result c step.requests) ≡ 0) ⊎ ((n ≡ c) × (1 ≤ completions_of step.call) × (asked n step.requests ≡ false) × (times n (known_result c step.requests) ≡ 1))
 
-abbrev AllOwn : List Step → Type 0
+abbrev pub AllOwn : List Step → Type 0
 AllOwn [] = Unit {0}
 AllOwn (step ∷ earlier) = Own (next_completion earlier) step × AllOwn earlier
 
@@ -195,7 +195,7 @@ own-continued handler given arrivals progress GoesOn own =
     own-call given progress.steps arrivals (handler given.input (answers_of progress.steps)) (refusal_of given.version (handler given.input (answers_of progress.steps))) own
 own-continued handler given arrivals progress _ own = own
 
-own-run : (handler : Handler) (given : Invocation) (arrivals : List Arrival) (made : ℕ) → AllOwn (run handler given arrivals made).steps
+pub own-run : (handler : Handler) (given : Invocation) (arrivals : List Arrival) (made : ℕ) → AllOwn (run handler given arrivals made).steps
 own-run handler given arrivals zero = tt
 own-run handler given arrivals (suc made) = own-continued handler given arrivals (run handler given arrivals made) (run handler given arrivals made).ending (own-run handler given arrivals made)
 
@@ -211,12 +211,12 @@ times-append : (n : ℕ) (xs ys : List Arrival) → times n (xs ++ ys) ≡ times
 times-append n xs ys = ap length (results-append xs ys (CompletionId n)) ∙ length-append (results_for xs (CompletionId n)) (results_for ys (CompletionId n))
 
 -- what is asked for or known is below the next completion; what is asked for is not known; and each is known once at most
-record IsApart (n : ℕ) (steps : List Step) : Type 0 where
-  above : next_completion steps ≤ n → (asked n (requests_of steps) ≡ false) × (times n (known_results steps) ≡ 0)
-  unknown : asked n (requests_of steps) ≡ true → times n (known_results steps) ≡ 0
-  once : times n (known_results steps) ≤ 1
+pub record IsApart (n : ℕ) (steps : List Step) : Type 0 where
+  pub above : next_completion steps ≤ n → (asked n (requests_of steps) ≡ false) × (times n (known_results steps) ≡ 0)
+  pub unknown : asked n (requests_of steps) ≡ true → times n (known_results steps) ≡ 0
+  pub once : times n (known_results steps) ≤ 1
 
-apart : (n : ℕ) (steps : List Step) → AllOwn steps → IsApart n steps
+pub apart : (n : ℕ) (steps : List Step) → AllOwn steps → IsApart n steps
 apart n [] own = record { above = λ h. (refl, refl); unknown = λ e. refl; once = omega arith }
 apart n (step ∷ earlier) own = by_order (nat_lt n (next_completion earlier)) refl (apart n earlier own.1)
   where

@@ -1,3 +1,4 @@
 pub mod MachineRows
 pub mod Following
 pub mod Apart
+pub mod Coming

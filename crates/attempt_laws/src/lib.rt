@@ -2,7 +2,7 @@
 //! its contract is the law. Worked rows are computed in `proofs/MachineRows.antt`.
 #![tactic(auto)]
 
-ghost use Rattle.attempt_model.specs.Attempts.{AttemptsFollow, OnceByAsking, ReadsJournal};
+ghost use Rattle.attempt_model.specs.Attempts.{AttemptsFollow, KindsByAsking, OnceByAsking, ReadsJournal};
 ghost use Rattle.attempt_model.specs.Standing.{BeginsStanding, FitsOn, ReadsStanding, Simulates, StopsWithRun};
 
 /// The machine stands to the run before its first call, and where one more arrival is read; more arrivals fit too.
@@ -28,4 +28,10 @@ pub fn attempts_follow()
 /// Where what has come came once and was asked for, no known read has a number of what has come: the premise of the other laws.
 pub fn completions_come_once()
     ensures { OnceByAsking }
+{}
+
+/// Of arrivals of the kinds that a store lets in, what comes for a child is its invocation id, and keys that are taken are text: a premise of
+/// the other laws.
+pub fn kinds_come_as_asked()
+    ensures { KindsByAsking }
 {}

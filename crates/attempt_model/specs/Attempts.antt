@@ -1,6 +1,8 @@
 -- A whole attempt: it reads the entries of the journal, then takes turns while more arrivals come.
-use Rattle.std.specs.Prelude.{map, Some, ◌≡◌, ◌≤◌, ℕ, Bool, true, List, [], ◌∷◌, ◌++◌, length}
-use Rattle.std.specs.List.{list_any}
+use Rattle.std.specs.Prelude.{false, ◌==◌, map, Some, ◌≡◌, ◌≤◌, ℕ, Bool, true, List, [], ◌∷◌, ◌++◌, length}
+use Rattle.std.specs.List.{list_any, list_all}
+use Rattle.std.specs.Str.{is_utf8}
+use Rattle.journal_model.specs.Cause.{is_invocation_id, keys_of}
 use Rattle.journal_model.specs.declared.notification.NotificationId.TheVariants.{CompletionId}
 use Rattle.journal_model.specs.Notification.{Arrival}
 use Rattle.journal_model.specs.declared.call.Answer.{Answer}
@@ -11,6 +13,7 @@ use Rattle.journal_model.specs.History.{answers_of}
 use Rattle.journal_model.specs.Journal.{asks_for, Entry, Recorded, Arrived, requests_in, arrivals_in}
 use Rattle.journal_model.specs.Run.{Handler, Invocation, Ending, RefusedCall, Ended, run, run_requests, IsBeginning}
 use Rattle.attempt_model.specs.Machine.{Machine, machine_at_start, with_arrival, Fault, Refused, Reply, Answered, AwaitsTree, AwaitsChild, Finished, FailedBy, reply_to}
+use Rattle.attempt_model.specs.Results.{are_keys_text}
 use Rattle.attempt_model.specs.Standing.{results_for, IsShown, Stands, ComesOnce, AreOfKind, Fits, AreReflexive}
 
 -- an entry of the journal is read: a request is to be matched, an arrival waits in line, wherever they stand among one another
@@ -115,3 +118,19 @@ abbrev pub OnceByAsking : Type 0
 OnceByAsking = (handler : Handler) (given : Invocation) (requests : List Request) (arrivals : List Arrival) (some : ℕ) → IsBeginning requests (run_requests handler given arrivals some)
     → ((n : ℕ) → length (results_for arrivals (CompletionId n)) ≤ 1) → ((n : ℕ) → 1 ≤ length (results_for arrivals (CompletionId n)) → list_any (asks_for n) requests ≡ true)
     → ComesOnce handler given arrivals
+
+-- whether a completion gives the invocation id of a call or a send
+abbrev pub gives_id : ℕ → Request → Bool
+gives_id n (Request.CallService call m result name) = m == n
+gives_id n (Request.OneWayCall call time m name) = m == n
+gives_id n _ = false
+
+-- arrivals of the kinds that a store lets in: for a call's or a send's invocation id comes one, and state keys that come or are asked for are text
+pub record ComeAsAsked (handler : Handler) (given : Invocation) (arrivals : List Arrival) : Type 0 where
+  pub ids : (made n : ℕ) → list_any (gives_id n) (run_requests handler given arrivals made) ≡ true → list_all is_invocation_id (results_for arrivals (CompletionId n)) ≡ true
+  pub keys : list_all (λ arrival. are_keys_text arrival.result) arrivals ≡ true
+  pub known : (made : ℕ) → list_all (λ request. list_all is_utf8 (keys_of request)) (run_requests handler given arrivals made) ≡ true
+
+-- so what comes for a child is an invocation id, and keys that are taken are text
+abbrev pub KindsByAsking : Type 0
+KindsByAsking = (handler : Handler) (given : Invocation) (arrivals : List Arrival) → ComeAsAsked handler given arrivals → AreOfKind handler given arrivals
