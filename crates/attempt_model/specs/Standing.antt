@@ -23,7 +23,7 @@ use Rattle.journal_model.specs.Waiting.{pruned}
 use Rattle.journal_model.specs.Run.{Handler, Invocation, GoesOn, Waits, RefusedCall, Ended, run, run_requests, IsBeginning}
 use Rattle.attempt_model.specs.Children.{Child, is_id}
 use Rattle.attempt_model.specs.Machine.{Machine, machine_at_start, with_arrival, Mismatch, UncompletedInReplay, EndInReplay, KeysNotText, ChildNotId, Refused, Reply, Answered, AwaitsTree, AwaitsChild, Finished, FailedBy, reply_to, StopsMidway}
-use Rattle.attempt_model.specs.Requests.{Commands, Progressed}
+use Rattle.attempt_model.specs.Requests.{Commands, PutState}
 use Rattle.attempt_model.specs.Results.{Ready, Slots, slot_of, Resolution, Awake, Asleep, resolution_of, are_keys_text}
 
 -- the results for one id
@@ -218,7 +218,7 @@ pub record BeginsRun (handler : Handler) (given : Invocation) (arrivals : List A
 -- where a call is stopped midway, what was recorded and what was written are a beginning of the run's requests
 abbrev pub StopsWithRun : Type 0
 StopsWithRun = (same_header : Call → Request → Request → Bool) (handler : Handler) (given : Invocation) (journal : List Request) (arrivals : List Arrival) (calls : ℕ) (m : Machine)
-    → AreReflexive same_header → Fits handler given journal arrivals → (stands : Stands handler given journal arrivals calls m) → (stopped : Progressed)
+    → AreReflexive same_header → Fits handler given journal arrivals → (stands : Stands handler given journal arrivals calls m) → (stopped : PutState)
     → StopsMidway same_header given m (next_call handler given stands.steps) stopped → BeginsRun handler given arrivals (journal ++ stopped.written)
 
 -- what an await comes to that is asked for the first time: it wakes at the least place, or what is left of it is what the run waits for
