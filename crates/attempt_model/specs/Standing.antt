@@ -148,6 +148,7 @@ pub record AnswersNext (handler : Handler) (given : Invocation) (journal : List 
   pub answers : answers_of (run handler given arrivals (suc calls)).steps ≡ answers_of (run handler given arrivals calls).steps ++ answer ∷ []
 
 -- the run over what was read waits, all its requests were matched or written, and what is left of the tree is what it waits for
+-- (the machine's own tree: what code tells of its tree is compared with it as a set of children)
 pub record WaitsWithRun (handler : Handler) (given : Invocation) (journal : List Request) (arrivals : List Arrival) (calls : ℕ) (tree : AwaitTree ℕ) (m : Machine) : Type 0 where
   pub stands : Stands handler given journal arrivals calls m
   pub ids : AwaitTree (Option NotificationId)
