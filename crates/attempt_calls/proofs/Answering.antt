@@ -19,7 +19,7 @@ use Rattle.journal_model.specs.Run.{Handler, Invocation, Progress, Ending, GoesO
 use Rattle.journal_model.proofs.Continuing.{run-next, after_call-answers, after_call-ends}
 use Rattle.attempt_model.specs.Children.{Child, new_child, child_with_value, may_take}
 use Rattle.attempt_model.specs.Machine.{Machine, Reply, Answered, ToTake, ToLook, ToMake, work_of, next_slot, reply_to_make, reply_where_taken, reply_to_take, reply_to_end}
-use Rattle.attempt_model.specs.Requests.{answer_by, Commands, requests_by, Progressed, put_all}
+use Rattle.attempt_model.specs.Requests.{answer_by, Commands, requests_by, PutState, put_all}
 use Rattle.attempt_model.specs.Results.{Ready, Slots, ready_after, first_of, slot_of, waiting_for, ready_without_first, slots_without, ready_after_all, are_keys_text}
 use Rattle.attempt_model.specs.Standing.{results_for, TablesStand, RequestsStand, Reached, here, ahead, cancelling, IsShown, children_of, is_id_if_known, Fits, next_call, AnswersNext, RepliesAsRun, IsReflexive}
 use Rattle.attempt_model.proofs.Requests.{Agrees, Puts, put, agree, none_left}
@@ -232,7 +232,7 @@ module _ (same_header : Request → Request → Bool) (reflexive : IsReflexive s
       (put_all same_header (requests_by m.start m.done m.left m.completions call) (record { left = m.left; written = m.written })))
   makes_some e accepted =
       subst (λ (some : List Request). Replies (reply_to_make same_header given m call some (put_all same_header some (record { left = m.left; written = m.written })))) (sym same_requests)
-      (subst (λ (o : Option Progressed). Replies (reply_to_make same_header given m call asked o)) (sym (ap (λ (some : Commands). put_all same_header asked (record { left = some; written = m.written })) requests.are_requests ∙ p.puts))
+      (subst (λ (o : Option PutState). Replies (reply_to_make same_header given m call asked o)) (sym (ap (λ (some : Commands). put_all same_header asked (record { left = some; written = m.written })) requests.are_requests ∙ p.puts))
       (subst (λ (answer : Answer). AnswersNext handler given journal arrivals calls answer new) (sym same_answer)
       (stepped step goes new new_tables
       (ap (λ (n : ℕ). n + completions_of call) completions) (ap (λ (n : ℕ). n + signals_of call) signals)

@@ -21,7 +21,7 @@ use Rattle.journal_model.proofs.Continuing.{after_call-carried_out}
 use Rattle.attempt_calls.proofs.Answering as Answering
 use Rattle.attempt_model.specs.Children.{Child, cancel_requests_for, ChildrenOutcome, AllKnown, FirstUnknown, OneIsNoId, children_outcome}
 use Rattle.attempt_model.specs.Machine.{Machine, Reply, Answered, is_cancelled, reply_where_unknown, reply_where_asleep, reply_where_cancelled, reply_to_children, reply_where_awake, reply_to_await}
-use Rattle.attempt_model.specs.Requests.{Commands, Progressed, put_all}
+use Rattle.attempt_model.specs.Requests.{Commands, PutState, put_all}
 use Rattle.attempt_model.specs.Results.{Ready, first_of, ready_without_first, Resolution, Awake, Asleep, resolution_of}
 use Rattle.attempt_model.specs.Standing.{results_for, TablesStand, RequestsStand, Reached, here, ahead, cancelling, IsShown, children_of, is_id_if_known, Fits, next_call, AnswersNext, RepliesAsRun, IsReflexive}
 use Rattle.attempt_model.proofs.Requests.{Puts, put, agree}
@@ -205,7 +205,7 @@ module _ (same_header : Request → Request → Bool) (reflexive : IsReflexive s
                 cc
             by_first (Some r) f =
                 subst (λ (some : List Request). Replies (reply_where_cancelled same_header given (record m { queue = queue; ready = ready }) some (put_all same_header some (record { left = m.left; written = m.written })))) (sym same_asked)
-                (subst (λ (o : Option Progressed). Replies (reply_where_cancelled same_header given (record m { queue = queue; ready = ready }) asked o)) (sym (ap (λ (some : Commands). put_all same_header asked (record { left = some; written = m.written })) requests.are_requests ∙ puts.puts))
+                (subst (λ (o : Option PutState). Replies (reply_where_cancelled same_header given (record m { queue = queue; ready = ready }) asked o)) (sym (ap (λ (some : Commands). put_all same_header asked (record { left = some; written = m.written })) requests.are_requests ∙ puts.puts))
                 (stepped step goes_on (record {
                   left = map Some puts.rest;
                   written = puts.wrote;

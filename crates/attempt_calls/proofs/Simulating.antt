@@ -11,7 +11,7 @@ use Rattle.journal_model.proofs.Continuing.{after_call-refused}
 use Rattle.attempt_calls.proofs.Answering as Answering
 use Rattle.attempt_calls.proofs.Awaiting as Awaiting
 use Rattle.attempt_model.specs.Machine.{Machine, Reply, Work, ToAwait, ToEnd, ToTake, ToLook, ToMake, work_of, reply_to_work, reply_unless_refused, reply_to, StopsMidway}
-use Rattle.attempt_model.specs.Requests.{Commands, Progressed, put_all}
+use Rattle.attempt_model.specs.Requests.{Commands, PutState, put_all}
 use Rattle.attempt_model.specs.Standing.{TablesStand, RequestsStand, Reached, IsShown, children_of, is_id_if_known, Stands, Fits, next_call, AnswersNext, RepliesAsRun, IsReflexive, AreReflexive, BeginsRun}
 use Rattle.attempt_model.proofs.Requests.{Agrees, Puts, put, agree}
 use Rattle.attempt_calls.proofs.CallKinds.{inv-take, inv-look, inv-await, inv-end}
@@ -48,13 +48,13 @@ simulates same_header handler given journal arrivals calls m reflexive fits stan
     stands.requests stands.start stands.done stands.children stands.ids stands.reached (next_call handler given stands.steps) refl
     (refusal_of given.version (next_call handler given stands.steps)) refl
 
-abbrev written_of : Option Progressed → List Request
+abbrev written_of : Option PutState → List Request
 written_of None = []
 written_of (Some p) = p.written
 
 -- a call that is stopped midway leaves a beginning of the run's requests
 pub stops_with_run : (same_header : Call → Request → Request → Bool) (handler : Handler) (given : Invocation) (journal : List Request) (arrivals : List Arrival) (calls : ℕ) (m : Machine)
-    → AreReflexive same_header → Fits handler given journal arrivals → (stands : Stands handler given journal arrivals calls m) → (stopped : Progressed)
+    → AreReflexive same_header → Fits handler given journal arrivals → (stands : Stands handler given journal arrivals calls m) → (stopped : PutState)
     → StopsMidway same_header given m (next_call handler given stands.steps) stopped → BeginsRun handler given arrivals (journal ++ stopped.written)
 stops_with_run same_header handler given journal arrivals calls m reflexive fits stands stopped stops = by_replays p.replays
   where

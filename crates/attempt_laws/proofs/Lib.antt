@@ -2,3 +2,4 @@ pub mod MachineRows
 pub mod Following
 pub mod Apart
 pub mod Coming
+pub mod FirstAsks

@@ -3,7 +3,7 @@
 #![tactic(auto)]
 
 ghost use Rattle.attempt_model.specs.Attempts.{AttemptsFollow, KindsByAsking, OnceByAsking, ReadsJournal};
-ghost use Rattle.attempt_model.specs.Standing.{BeginsStanding, FitsOn, ReadsStanding, Simulates, StopsWithRun};
+ghost use Rattle.attempt_model.specs.Standing.{BeginsStanding, FirstAsksResolve, FitsOn, ReadsStanding, Simulates, StopsWithRun};
 
 /// The machine stands to the run before its first call, and where one more arrival is read; more arrivals fit too.
 pub fn attempts_stand()
@@ -34,4 +34,10 @@ pub fn completions_come_once()
 /// the other laws.
 pub fn kinds_come_as_asked()
     ensures { KindsByAsking }
+{}
+
+/// An await that is asked for the first time wakes where the definitions say, or what is left of it is what the run waits for, also where
+/// signals overwrite one another.
+pub fn awaits_resolve()
+    ensures { FirstAsksResolve }
 {}

@@ -16,7 +16,7 @@ use Rattle.journal_model.specs.Delivery.{known_result}
 use Rattle.journal_model.specs.Await.{child_of, awaited_tree, ends_awaits}
 use Rattle.journal_model.specs.Run.{Invocation}
 use Rattle.attempt_model.specs.Children.{Child, new_child, child_with_value, may_take, cancel_requests_for, ChildrenOutcome, AllKnown, FirstUnknown, OneIsNoId, children_outcome}
-use Rattle.attempt_model.specs.Requests.{answer_by, Commands, requests_by, Progressed, put_all}
+use Rattle.attempt_model.specs.Requests.{answer_by, Commands, requests_by, PutState, put_all}
 use Rattle.attempt_model.specs.Results.{Ready, Slots, slot_of, waiting_for, ready_without_first, slots_without, Resolution, Awake, Asleep, resolution_of, ready_after_all, are_keys_text}
 
 pub record Machine : Type 0 where
@@ -96,7 +96,7 @@ next_slot m = 17 + length m.slots
 
 module _ (same_header : Request → Request → Bool) (invocation : Invocation) where
   -- a call that makes handles or requests alone
-  abbrev pub reply_to_make : Machine → Call → List Request → Option Progressed → Reply
+  abbrev pub reply_to_make : Machine → Call → List Request → Option PutState → Reply
   reply_to_make m call requests None = FailedBy Mismatch
   reply_to_make m call requests (Some p) =
       Answered (answer_by invocation.input.invocation_id (next_slot m) m.signals call) (record {
@@ -141,7 +141,7 @@ module _ (same_header : Request → Request → Bool) (invocation : Invocation) 
   reply_where_asleep tree m (command ∷ left) = FailedBy UncompletedInReplay
 
   -- a cancellation: one request is made for each child, one delivery of it is taken, and the children are let go of
-  abbrev pub reply_where_cancelled : Machine → List Request → Option Progressed → Reply
+  abbrev pub reply_where_cancelled : Machine → List Request → Option PutState → Reply
   reply_where_cancelled m requests None = FailedBy Mismatch
   reply_where_cancelled m requests (Some p) = Answered Answer.Cancelled (record {
     left = p.left;
@@ -195,7 +195,7 @@ abbrev pub reply_to : (Call → Request → Request → Bool) → Invocation →
 reply_to same_header invocation m call = reply_unless_refused (same_header call) invocation m call (refusal_of invocation.version call)
 
 -- a call that is stopped midway, as by want of memory: a beginning of the requests that it would have put was matched or written
-pub record StopsMidway (same_header : Call → Request → Request → Bool) (invocation : Invocation) (m : Machine) (call : Call) (stopped : Progressed) : Type 0 where
+pub record StopsMidway (same_header : Call → Request → Request → Bool) (invocation : Invocation) (m : Machine) (call : Call) (stopped : PutState) : Type 0 where
   pub answer : Answer
   pub whole : Machine
   pub replies : reply_to same_header invocation m call ≡ Answered answer whole

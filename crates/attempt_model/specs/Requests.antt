@@ -70,17 +70,17 @@ requests_by start done left n (Call.Output value options) = Request.Output value
 requests_by start done left n _ = []
 
 -- what is left to match, and what was written
-pub record Progressed : Type 0 where
+pub record PutState : Type 0 where
   pub left : Commands
   pub written : List Request
 
 module _ (same_header : Request → Request → Bool) where
   -- a request is matched with the next recorded command, and nothing is written; where none is left it is written
-  abbrev pub put_one : Request → Commands → List Request → Option Progressed
+  abbrev pub put_one : Request → Commands → List Request → Option PutState
   put_one request [] written = Some (record { left = []; written = written ++ request ∷ [] })
   put_one request (None ∷ left) written = None
   put_one request (Some recorded ∷ left) written = if same_header recorded request then Some (record { left = left; written = written }) else None
 
-  abbrev pub put_all : List Request → Progressed → Option Progressed
+  abbrev pub put_all : List Request → PutState → Option PutState
   put_all [] p = Some p
   put_all (request ∷ requests) p = option_and_then (put_all requests) (put_one request p.left p.written)

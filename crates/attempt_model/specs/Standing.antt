@@ -16,15 +16,15 @@ use Rattle.journal_model.specs.declared.options.SignalDelivery.TheVariants.{Queu
 use Rattle.journal_model.specs.Options.{replaces}
 use Rattle.journal_model.specs.History.{Step, answers_of, requests_of, place_of, next_completion, next_signal, next_handle, stands_for, ids_created, TakesBelow, WithinPlaces}
 use Rattle.journal_model.specs.Delivery.{front, known_results, deliveries, takes_of, passed_at_take, leaf_state}
-use Rattle.journal_model.specs.Await.{awaited_ids, is_awake_at, is_cancelled_at, all_known_at, last_taken, tracked_children}
+use Rattle.journal_model.specs.Await.{awaited_ids, is_awake_at, is_cancelled_at, all_known_at, last_taken, tracked_children, awake_place, awaited_tree}
 use Rattle.journal_model.specs.declared.options.ImplicitCancellationOption.{ImplicitCancellationOption}
 use Rattle.journal_model.specs.State.{StartState, state_after, IsOrdered}
 use Rattle.journal_model.specs.Waiting.{pruned}
 use Rattle.journal_model.specs.Run.{Handler, Invocation, GoesOn, Waits, RefusedCall, Ended, run, run_requests, IsBeginning}
 use Rattle.attempt_model.specs.Children.{Child, is_id}
 use Rattle.attempt_model.specs.Machine.{Machine, machine_at_start, with_arrival, Mismatch, UncompletedInReplay, EndInReplay, KeysNotText, ChildNotId, Refused, Reply, Answered, AwaitsTree, AwaitsChild, Finished, FailedBy, reply_to, StopsMidway}
-use Rattle.attempt_model.specs.Requests.{Commands, Progressed}
-use Rattle.attempt_model.specs.Results.{Ready, Slots, slot_of, are_keys_text}
+use Rattle.attempt_model.specs.Requests.{Commands, PutState}
+use Rattle.attempt_model.specs.Results.{Ready, Slots, slot_of, Resolution, Awake, Asleep, resolution_of, are_keys_text}
 
 -- the results for one id
 abbrev pub results_for : List Arrival → NotificationId → List NotificationResult
@@ -148,6 +148,7 @@ pub record AnswersNext (handler : Handler) (given : Invocation) (journal : List 
   pub answers : answers_of (run handler given arrivals (suc calls)).steps ≡ answers_of (run handler given arrivals calls).steps ++ answer ∷ []
 
 -- the run over what was read waits, all its requests were matched or written, and what is left of the tree is what it waits for
+-- (the machine's own tree: what code tells of its tree is compared with it as a set of children)
 pub record WaitsWithRun (handler : Handler) (given : Invocation) (journal : List Request) (arrivals : List Arrival) (calls : ℕ) (tree : AwaitTree ℕ) (m : Machine) : Type 0 where
   pub stands : Stands handler given journal arrivals calls m
   pub ids : AwaitTree (Option NotificationId)
@@ -218,5 +219,26 @@ pub record BeginsRun (handler : Handler) (given : Invocation) (arrivals : List A
 -- where a call is stopped midway, what was recorded and what was written are a beginning of the run's requests
 abbrev pub StopsWithRun : Type 0
 StopsWithRun = (same_header : Call → Request → Request → Bool) (handler : Handler) (given : Invocation) (journal : List Request) (arrivals : List Arrival) (calls : ℕ) (m : Machine)
-    → AreReflexive same_header → Fits handler given journal arrivals → (stands : Stands handler given journal arrivals calls m) → (stopped : Progressed)
+    → AreReflexive same_header → Fits handler given journal arrivals → (stands : Stands handler given journal arrivals calls m) → (stopped : PutState)
     → StopsMidway same_header given m (next_call handler given stands.steps) stopped → BeginsRun handler given arrivals (journal ++ stopped.written)
+
+-- what an await comes to that is asked for the first time: it wakes at the least place, or what is left of it is what the run waits for
+pub record WakesAt (options : RunOptions) (steps : List Step) (arrivals : List Arrival) (slots : Slots) (ids : AwaitTree (Option NotificationId)) (queue : List Arrival) (ready : Ready) : Type 0 where
+  pub place : ℕ
+  pub least : awake_place options steps arrivals ids ≡ Some place
+  pub stands : TablesStand options steps arrivals place queue ready slots
+
+pub record StaysAsleep (options : RunOptions) (steps : List Step) (arrivals : List Arrival) (slots : Slots) (ids : AwaitTree (Option NotificationId)) (left : AwaitTree ℕ) (ready : Ready) : Type 0 where
+  pub never : awake_place options steps arrivals ids ≡ None
+  pub rest : map_leaves (stands_for steps) left ≡ pruned ids (leaf_state options steps arrivals (place_of steps) (length arrivals))
+  pub stands : TablesStand options steps arrivals (length arrivals) [] ready slots
+
+abbrev pub ResolvesAsDefined : RunOptions → List Step → List Arrival → Slots → AwaitTree (Option NotificationId) → Resolution → Type 0
+ResolvesAsDefined options steps arrivals slots ids (Awake queue ready) = WakesAt options steps arrivals slots ids queue ready
+ResolvesAsDefined options steps arrivals slots ids (Asleep left ready) = StaysAsleep options steps arrivals slots ids left ready
+
+-- whatever replaces what, and however often a completion comes, where no more was looked at than the run has gone past
+abbrev pub FirstAsksResolve : Type 0
+FirstAsksResolve = (options : RunOptions) (steps : List Step) (arrivals queue : List Arrival) (ready : Ready) (slots : Slots)
+    → TablesStand options steps arrivals (place_of steps) queue ready slots → (tree : AwaitTree ℕ)
+    → ResolvesAsDefined options steps arrivals slots (awaited_ids options steps tree) (resolution_of options.signal_delivery slots (awaited_tree options.implicit_cancellation tree) queue ready)

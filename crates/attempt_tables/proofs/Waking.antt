@@ -40,7 +40,7 @@ mutual
   some-map f leaves no_trees = refl
   some-map f leaves (and_trees t ts) = ap₂ (λ (a b : Bool). a || b) (ended-map f leaves t) (some-map f leaves ts)
 
-awake-map : {A B : Type 0} (f : A → B) (leaves : B → AwaitState) (t : AwaitTree A) → is_awake (map_leaves f t) leaves ≡ is_awake t (λ a. leaves (f a))
+pub awake-map : {A B : Type 0} (f : A → B) (leaves : B → AwaitState) (t : AwaitTree A) → is_awake (map_leaves f t) leaves ≡ is_awake t (λ a. leaves (f a))
 awake-map f leaves t = ap₂ (λ (x : AwaitState) (b : Bool). is_completed x || b) (state-map f leaves t) (ended-map f leaves t)
 
 at_child : {A B : Type 0} (f : A → B) (leaves : B → AwaitState) (t : AwaitTree A) (ts : AwaitTrees A) (b : Bool)
@@ -52,7 +52,7 @@ at_child f leaves t ts true here later = later
 at_child f leaves t ts false here later = ap₂ and_trees here later
 
 mutual
-  pruned-map : {A B : Type 0} (f : A → B) (leaves : B → AwaitState) (t : AwaitTree A) → pruned (map_leaves f t) leaves ≡ map_leaves f (pruned t (λ a. leaves (f a)))
+  pub pruned-map : {A B : Type 0} (f : A → B) (leaves : B → AwaitState) (t : AwaitTree A) → pruned (map_leaves f t) leaves ≡ map_leaves f (pruned t (λ a. leaves (f a)))
   pruned-map f leaves (Single leaf) = refl
   pruned-map f leaves (Combined combinator children) = ap (Combined combinator) (pruned_children-map f leaves children)
 
