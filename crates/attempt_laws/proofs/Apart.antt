@@ -90,6 +90,10 @@ module _ (given : Invocation) (steps : List Step) (arrivals : List Arrival) wher
   asks-own (Call.GetOutput target) n e = one-asked (next_completion steps) n e
   asks-own _ n e = cc
 
+  known-one : {k : ℕ} (n : ℕ) → (k ≡ 0) ⊎ ((n ≡ next_completion steps) × (k ≡ 1)) → (k ≡ 0) ⊎ ((n ≡ next_completion steps) × (1 ≤ 1) × (false ≡ false) × (k ≡ 1))
+  known-one n (inl e) = inl e
+  known-one n (inr e) = inr (e.0, omega arith, refl, e.1)
+
   knows-own : (call : Call) (n : ℕ) → (times n (known_result (next_completion steps) (requests_to given steps call)) ≡ 0)
       ⊎ ((n ≡ next_completion steps) × (1 ≤ completions_of call) × (asked n (requests_to given steps call) ≡ false) × (times n (known_result (next_completion steps) (requests_to given steps call)) ≡ 1))
   knows-own (Call.StateGet key name options) n = by_known (knows_key given.start (requests_of steps) key)
@@ -99,11 +103,7 @@ module _ (given : Invocation) (steps : List Step) (arrivals : List Arrival) wher
 
       by_known : (b : Bool) → (times n (known_result (next_completion steps) (request b ∷ [])) ≡ 0)
           ⊎ ((n ≡ next_completion steps) × (1 ≤ 1) × (asked n (request b ∷ []) ≡ false) × (times n (known_result (next_completion steps) (request b ∷ [])) ≡ 1))
-      by_known true = both (one-known (next_completion steps) n _)
-        where
-          both : {k : ℕ} → (k ≡ 0) ⊎ ((n ≡ next_completion steps) × (k ≡ 1)) → (k ≡ 0) ⊎ ((n ≡ next_completion steps) × (1 ≤ 1) × (false ≡ false) × (k ≡ 1))
-          both (inl e) = inl e
-          both (inr e) = inr (e.0, omega arith, refl, e.1)
+      by_known true = known-one n (one-known (next_completion steps) n _)
       by_known false = inl refl
   knows-own (Call.StateGetKeys name) n = by_known (knows_all_keys given.start (requests_of steps))
     where
@@ -112,11 +112,7 @@ module _ (given : Invocation) (steps : List Step) (arrivals : List Arrival) wher
 
       by_known : (b : Bool) → (times n (known_result (next_completion steps) (request b ∷ [])) ≡ 0)
           ⊎ ((n ≡ next_completion steps) × (1 ≤ 1) × (asked n (request b ∷ []) ≡ false) × (times n (known_result (next_completion steps) (request b ∷ [])) ≡ 1))
-      by_known true = both (one-known (next_completion steps) n _)
-        where
-          both : {k : ℕ} → (k ≡ 0) ⊎ ((n ≡ next_completion steps) × (k ≡ 1)) → (k ≡ 0) ⊎ ((n ≡ next_completion steps) × (1 ≤ 1) × (false ≡ false) × (k ≡ 1))
-          both (inl e) = inl e
-          both (inr e) = inr (e.0, omega arith, refl, e.1)
+      by_known true = known-one n (one-known (next_completion steps) n _)
       by_known false = inl refl
   knows-own _ n = inl refl
 
