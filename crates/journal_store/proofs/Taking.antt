@@ -142,6 +142,17 @@ module _ {S : Type 0} (g : Ghosts S) (old new : Stored S) (s : Standing) (is : I
     frame_is = ap (λ (version : ℕ). frame_in version item) kept.version;
   }
 
+  refuses_first : (why : Refusal) → has_number n (attempt_of old.live.attempts id) ≡ true → IsRefused (causes_of s.events (Event.Take id n (frame_in attempt.version item))) why
+      → (b : Bool) → lies_in_frame why ≡ b → (t : Standing) → LeavesRefused b id n s t → RefusesFrame id n why s t
+  refuses_first why here cause b lies t left = record {
+    live = live_here s.events (state g old.connection) old.live.attempts id n is.stands ∙ here;
+    frame = frame_in attempt.version item;
+    rest = rest;
+    next = next_item;
+    cause = cause;
+    left = subst (λ (lies : Bool). LeavesRefused lies id n s t) (sym lies) left;
+  }
+
   -- it is refused, and its attempt is over where the cause lies in it
   pub item_refused : (why : Refusal) → has_number n (attempt_of old.live.attempts id) ≡ true → IsRefused (causes_of s.events (Event.Take id n (frame_in attempt.version item))) why
       → IsStoreOf s.events (state g new.connection) → (b : Bool) → lies_in_frame why ≡ b → IsEndedBy b id old.live.attempts new.live.attempts
@@ -149,33 +160,11 @@ module _ {S : Type 0} (g : Ghosts S) (old new : Stored S) (s : Standing) (is : I
   item_refused why here cause store true lies ends =
       let early : Stands s.events (state g new.connection) old.live.attempts = record { kept = store; live = is.stands.live } in
       let did = stands_stopped s.events (state g new.connection) old.live.attempts new.live.attempts id n early here ends in
-      let it = leaves g s old new is (Event.Stop id n) id None did.2 (stopped_waits id old.live.attempts new.live.attempts ends) in (
-        it.0,
-        it.1,
-        record {
-          live = live_here s.events (state g old.connection) old.live.attempts id n is.stands ∙ here;
-          frame = frame_in attempt.version item;
-          rest = rest;
-          next = next_item;
-          cause = cause;
-          left = subst (λ (b : Bool). LeavesRefused b id n s it.0) (sym lies) it.2;
-        },
-      )
+      let it = leaves g s old new is (Event.Stop id n) id None did.2 (stopped_waits id old.live.attempts new.live.attempts ends) in (it.0, it.1, refuses_first why here cause true lies it.0 it.2)
   item_refused why here cause store false lies ends =
       let still : Stands s.events (state g new.connection) new.live.attempts =
       record { kept = store; live = subst (λ (all : ByInvocation). (one : Text) → Agrees s.events one (attempt_of all one)) (sym ends) is.stands.live } in
-      let it = stays g s old new is still (same_waits old.live.attempts new.live.attempts ends) in (
-        it.0,
-        it.1,
-        record {
-          live = live_here s.events (state g old.connection) old.live.attempts id n is.stands ∙ here;
-          frame = frame_in attempt.version item;
-          rest = rest;
-          next = next_item;
-          cause = cause;
-          left = subst (λ (b : Bool). LeavesRefused b id n s it.0) (sym lies) it.2;
-        },
-      )
+      let it = stays g s old new is still (same_waits old.live.attempts new.live.attempts ends) in (it.0, it.1, refuses_first why here cause false lies it.0 it.2)
 
 module _ {S : Type 0} (g : Ghosts S) (a mid b : Held S) (before after : Attempts) (id : Text) (n : ℕ) (attempt : LiveAttempt) (it : SeenFrame) (seen : IsSeen attempt it)
     (found : attempt_of before.attempts id ≡ Some attempt) (here : has_number n (attempt_of before.attempts id) ≡ true) where
