@@ -9,7 +9,7 @@ use Rattle.journal_model.specs.Notification.{Text}
 use Rattle.journal_model.specs.Event.{Event as Accepted}
 use Rattle.journal_model.specs.Cause.{IsAccepted}
 use Rattle.journal_model.specs.Run.{Handler}
-use Rattle.invocation_vm.specs.declared.options.VMOptions.{VMOptions}
+use Rattle.vm_types.specs.declared.options.VMOptions.{VMOptions}
 use Rattle.store_live.specs.Attempts.{Attempts}
 use Rattle.store_refusals.specs.declared.refusal.Refusal.TheVariants.{OutOfMemory}
 use Rattle.journal_store.specs.Stored.{Stored}

@@ -11,7 +11,7 @@ use Rattle.journal_model.specs.Event.{Event}
 use Rattle.journal_model.specs.Cause.{IsAccepted}
 use Rattle.journal_model.specs.Journal.{invocation_begun, starting_state, recorded_requests}
 use Rattle.journal_model.specs.Run.{Handler}
-use Rattle.invocation_vm.specs.declared.options.VMOptions.{VMOptions}
+use Rattle.vm_types.specs.declared.options.VMOptions.{VMOptions}
 use Rattle.invocation_vm.specs.First.{given_by}
 use Rattle.invocation_vm.specs.View.{AttemptView}
 use Rattle.store_refusals.specs.declared.refusal.Refusal.{Refusal}

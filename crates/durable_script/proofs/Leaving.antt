@@ -8,7 +8,7 @@ use Rattle.built_in_handlers.specs.declared.built_in.BuiltIn.{BuiltIn}
 use Rattle.journal_model.specs.Event.{Event}
 use Rattle.journal_model.specs.Cause.{IsAccepted}
 use Rattle.journal_model.specs.Journal.{invocation_begun}
-use Rattle.invocation_vm.specs.Options.{default_options}
+use Rattle.vm_types.specs.Options.{default_options}
 use Rattle.journal_store.specs.Stored.{Stored}
 use Rattle.journal_store.specs.Stands.{Stands, IsStanding, KeepsAll}
 use Rattle.durable_schedule.specs.declared.scheduler.Scheduler.{Scheduler}

@@ -7,8 +7,8 @@ use Rattle.sqlite.proofs.StateLemmas.{survives_then, survives_weaker}
 use Rattle.built_in_handlers.specs.declared.built_in.BuiltIn.{BuiltIn}
 use Rattle.built_in_handlers.specs.BuiltIn.{function_of}
 use Rattle.journal_model.specs.Event as model
-use Rattle.invocation_vm.specs.declared.options.VMOptions.{VMOptions}
-use Rattle.invocation_vm.specs.Options.{default_options}
+use Rattle.vm_types.specs.declared.options.VMOptions.{VMOptions}
+use Rattle.vm_types.specs.Options.{default_options}
 use Rattle.journal_store.specs.Stored.{Stored}
 use Rattle.schedule_model.specs.declared.event.Event.{Event}
 use Rattle.schedule_model.specs.declared.event.Reply.{Reply}

@@ -5,7 +5,7 @@ use Rattle.sqlite_trees.specs.Tree.{Trees}
 use Rattle.sqlite.specs.State.{HasCleanDisk, Survives}
 use Rattle.sqlite.specs.Held.{state}
 use Rattle.built_in_handlers.specs.declared.built_in.BuiltIn.{BuiltIn}
-use Rattle.invocation_vm.specs.Options.{default_options}
+use Rattle.vm_types.specs.Options.{default_options}
 use Rattle.journal_store.specs.Stands.{KeepsAll}
 use Rattle.schedule_model.specs.Schedule.{Scheduled}
 use Rattle.durable_schedule.specs.declared.scheduler.Scheduler.{Scheduler}

@@ -2,7 +2,7 @@
 ghost use Rattle.std.specs.Prelude.{◌≡◌, ◌≤◌, [], not, IfOk, IfErr, string_bytes};
 ghost use Rattle.script_lines.specs.Word.{handler_word};
 ghost use Rattle.script_lines.specs.Line.{IsLine};
-ghost use Rattle.invocation_vm.specs.Options.{default_options};
+ghost use Rattle.vm_types.specs.Options.{default_options};
 ghost use Rattle.durable_script.specs.Reaching.{Nowhere, Reaches};
 ghost use Rattle.durable_script.specs.Printed.{Makes};
 ghost use Rattle.durable_script.specs.Line.{new_invocation, was_answered, IsBegin, DoesEvent, DoesSomeEvent, TakesTurns, TookTurns, DoesLine, DoesSomeLine};

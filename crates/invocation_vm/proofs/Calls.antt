@@ -22,12 +22,12 @@ use Rattle.journal_model.specs.Run.{Invocation, answered_step}
 use Rattle.journal_model.proofs.Continuing.{after_call-answers, after_call-ends, after_call-waits}
 use Rattle.journal_model.proofs.FirstCalls.{FirstSteps, first_id, first-none, first-sleep, first-output, await_outcome-single, still_awaited-single}
 use Rattle.protocol_types.specs.declared.message_type.MessageType.{MessageType}
-use Rattle.invocation_vm.specs.declared.options.VMOptions.{VMOptions}
+use Rattle.vm_types.specs.declared.options.VMOptions.{VMOptions}
 use Rattle.invocation_vm.specs.declared.failure.AttemptFailure.{AttemptFailure}
 use Rattle.invocation_vm.specs.declared.failure.CallRefusal.{CallRefusal}
 use Rattle.invocation_vm.specs.declared.progress.Progress.{Progress}
 use Rattle.invocation_vm.specs.Failure.{refusal_meant}
-use Rattle.invocation_vm.specs.Options.{run_options}
+use Rattle.vm_types.specs.Options.{run_options}
 use Rattle.invocation_vm.specs.Frames.{FitsFrame, WriteFails, tree_awaited, awaiting_payloads, TellsAwaiting}
 use Rattle.invocation_vm.specs.Progress.{id_awaited, Sleeps, SleepFails, PutsOut, OutputFails}
 use Rattle.invocation_vm.proofs.Payloads.{IsNumbered, awaiting_fits}

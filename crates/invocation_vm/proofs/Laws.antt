@@ -4,7 +4,7 @@ use Rattle.journal_model.specs.Notification.{Arrival}
 use Rattle.journal_model.specs.Request.{Request}
 use Rattle.journal_model.specs.Run.{Handler, Invocation}
 use Rattle.protocol_records.specs.declared.start.StartMessage.{StartMessage}
-use Rattle.invocation_vm.specs.declared.options.VMOptions.{VMOptions}
+use Rattle.vm_types.specs.declared.options.VMOptions.{VMOptions}
 use Rattle.invocation_vm.specs.declared.progress.Turn.{Turn}
 use Rattle.invocation_vm.specs.View.{AttemptView, fresh}
 use Rattle.invocation_vm.specs.First.{FitsFrames, AreToRead}

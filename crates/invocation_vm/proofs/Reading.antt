@@ -26,7 +26,7 @@ use Rattle.protocol_stream.specs.Records.{header_record, header_told, is_partial
 use Rattle.protocol_stream.proofs.RecordSpellings.{starts_spelled, inputs_spelled}
 use Rattle.protocol_types.specs.Feature.{lacks_feature}
 use Rattle.protocol_types.specs.declared.feature.Feature.TheVariants.{RandomSeed, Scope}
-use Rattle.invocation_vm.specs.declared.options.VMOptions.{VMOptions}
+use Rattle.vm_types.specs.declared.options.VMOptions.{VMOptions}
 use Rattle.invocation_vm.specs.Preflight.{input_given, where_scoped}
 use Rattle.invocation_vm.proofs.Sizes.{number_holds, bool_holds, bytes_hold, optional_holds, repeated_hold, fields_are, small_as}
 use Rattle.invocation_vm.specs.First.{first_payload, second_payload, FitsFrames, given_by}

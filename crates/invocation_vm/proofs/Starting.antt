@@ -14,7 +14,7 @@ use Rattle.protocol_types.specs.declared.message_type.MessageType.{MessageType}
 use Rattle.protocol_stream.specs.Frame.{message_of, IsFrame}
 use Rattle.protocol_stream.specs.Records.{start_record}
 use Rattle.protocol_types.proofs.Types.{names_read_back}
-use Rattle.invocation_vm.specs.declared.options.VMOptions.{VMOptions}
+use Rattle.vm_types.specs.declared.options.VMOptions.{VMOptions}
 use Rattle.invocation_vm.specs.declared.failure.AttemptFailure.{AttemptFailure}
 use Rattle.invocation_vm.specs.First.{first_payload, second_payload, FitsFrames, AreToRead, CannotRead}
 use Rattle.invocation_vm.specs.Preflight.{ReadsRecord, StartFails, input_given}

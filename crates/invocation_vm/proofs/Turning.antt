@@ -13,7 +13,7 @@ use Rattle.invocation_vm.specs.declared.progress.Progress.{Progress}
 use Rattle.invocation_vm.specs.declared.progress.Turn.{Turn}
 use Rattle.invocation_vm.specs.View.{AttemptView, progress_of}
 use Rattle.journal_model.specs.Waiting.{still_awaited}
-use Rattle.invocation_vm.specs.Options.{run_options}
+use Rattle.vm_types.specs.Options.{run_options}
 use Rattle.invocation_vm.specs.Frames.{awaiting_payloads}
 use Rattle.invocation_vm.specs.First.{AreToRead}
 use Rattle.invocation_vm.specs.Reads.{HasInput}

@@ -15,7 +15,7 @@ use Rattle.protocol_types.specs.declared.message_type.MessageType.{MessageType}
 use Rattle.invocation_vm.specs.declared.failure.AttemptFailure.{AttemptFailure}
 use Rattle.invocation_vm.specs.declared.progress.Turn.{Turn}
 use Rattle.invocation_vm.specs.View.{AttemptView, progress_of}
-use Rattle.invocation_vm.specs.Options.{run_options}
+use Rattle.vm_types.specs.Options.{run_options}
 use Rattle.invocation_vm.specs.Frames.{FitsFrame, awaiting_payloads}
 use Rattle.invocation_vm.specs.Standing.{Tallies, IsFirstRequest, CarriesOut, HasCause}
 use Rattle.invocation_vm.specs.First.{FitsFrames, AreToRead, CannotRead, given_by}

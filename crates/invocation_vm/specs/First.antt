@@ -12,9 +12,9 @@ use Rattle.protocol_wire.specs.Check.{payload_fault}
 use Rattle.protocol_wire.specs.declared.record.TheConstants.{LEVELS}
 use Rattle.protocol_table.specs.declared.table.RecordType.TheVariants as types
 use Rattle.protocol_records.specs.declared.start.StartMessage.{StartMessage}
-use Rattle.invocation_vm.specs.declared.options.VMOptions.{VMOptions}
+use Rattle.vm_types.specs.declared.options.VMOptions.{VMOptions}
 use Rattle.invocation_vm.specs.declared.failure.AttemptFailure.{AttemptFailure}
-use Rattle.invocation_vm.specs.Options.{run_options}
+use Rattle.vm_types.specs.Options.{run_options}
 use Rattle.invocation_vm.specs.Frames.{FitsFrame}
 
 -- the payloads

@@ -10,7 +10,7 @@ use Rattle.journal_model.specs.Spelling.{frame_bytes, suspension_payload}
 use Rattle.protocol_types.specs.declared.message_type.MessageType.{MessageType}
 use Rattle.protocol_types.specs.Feature.{has_feature}
 use Rattle.protocol_types.specs.declared.feature.Feature.TheVariants as features
-use Rattle.invocation_vm.specs.declared.options.AwaitingOnPolicy.{AwaitingOnPolicy}
+use Rattle.vm_types.specs.declared.options.AwaitingOnPolicy.{AwaitingOnPolicy}
 use Rattle.invocation_vm.specs.declared.failure.AttemptFailure.{AttemptFailure}
 
 abbrev pub FitsFrame : List ℕ → Type 0

@@ -3,7 +3,6 @@ pub mod Commands
 pub mod Failure
 pub mod First
 pub mod Frames
-pub mod Options
 pub mod Preflight
 pub mod Progress
 pub mod Reads

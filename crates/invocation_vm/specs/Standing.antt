@@ -13,7 +13,7 @@ use Rattle.journal_model.specs.Delivery.{known_results}
 use Rattle.journal_model.specs.Waiting.{still_awaited}
 use Rattle.journal_model.specs.Run.{Invocation, GoesOn, Waits, Ended, after_call, requests_to}
 use Rattle.protocol_types.specs.declared.message_type.MessageType.{MessageType}
-use Rattle.invocation_vm.specs.declared.options.AwaitingOnPolicy.{AwaitingOnPolicy}
+use Rattle.vm_types.specs.declared.options.AwaitingOnPolicy.{AwaitingOnPolicy}
 use Rattle.invocation_vm.specs.declared.failure.AttemptFailure.{AttemptFailure}
 use Rattle.invocation_vm.specs.declared.progress.Progress.{Progress}
 use Rattle.invocation_vm.specs.declared.progress.Turn.{Turn}

@@ -3,7 +3,7 @@ use Rattle.std.specs.Prelude.{ℕ, List, [], Option, None}
 use Rattle.journal_model.specs.declared.handler.Input.{Input}
 use Rattle.journal_model.specs.declared.call.Answer.{Answer}
 use Rattle.protocol_records.specs.declared.start.StartMessage.{StartMessage}
-use Rattle.invocation_vm.specs.declared.options.VMOptions.{VMOptions}
+use Rattle.vm_types.specs.declared.options.VMOptions.{VMOptions}
 use Rattle.invocation_vm.specs.declared.progress.Progress.{Progress}
 use Rattle.invocation_vm.specs.declared.progress.Turn.{Turn}
 

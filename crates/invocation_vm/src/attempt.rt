@@ -5,7 +5,7 @@ ghost use Rattle.invocation_vm.specs.View.{fresh};
 ghost use Rattle.invocation_vm.specs.Attempt.{Advances, Announced, Feeds, IsUnread, OnlyReads, ReadsSome, Sends, Turns};
 
 use crate::failure::AttemptFailure;
-use crate::options::VMOptions;
+use vm_types::VMOptions;
 use crate::preflight::{have_start, read_input};
 use crate::progress::{Progress, Turn, carry_out};
 use bytes::Bytes;

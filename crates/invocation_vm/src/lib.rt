@@ -5,7 +5,6 @@
 mod attempt;
 mod commands;
 mod failure;
-mod options;
 mod output;
 mod preflight;
 mod progress;
@@ -17,10 +16,11 @@ pub use journal_model::{
     Header, ImplicitCancellationOption, Input, Moment, NonEmptyValue, NotificationHandle,
     PayloadOptions, RunOptions, SignalDelivery, Target, TerminalFailure, UnresolvedFuture, Value,
 };
-pub use options::{
-    AwaitingOnPolicy, JournalMismatchRetryBehavior, JournalReplay, NonDeterministicChecksOption,
-    VMOptions,
-};
 pub use progress::Turn;
 pub use protocol_stream::Version;
 pub use sequence::Sequence;
+pub use vm_types::{
+    AwaitResponse, AwaitingOnPolicy, AwakeableHandle, CallHandle, EphemeralCompletionId,
+    JournalMismatchRetryBehavior, JournalReplay, NonDeterministicChecksOption, ResponseHead,
+    SendHandle, State, VMOptions,
+};

@@ -11,7 +11,7 @@ ghost use Rattle.invocation_vm.specs.Preflight.{TakesNext, ReadsPayload, ReadsRe
 ghost use Rattle.invocation_vm.specs.Reads.{HasStart, HasInput};
 
 use crate::failure::AttemptFailure;
-use crate::options::VMOptions;
+use vm_types::VMOptions;
 use bytes::{ByteStr, Bytes};
 use journal_model::{Header, Input};
 use protocol_records::{InputCommandMessage, StartMessage, Value};

@@ -5,14 +5,14 @@ ghost use Rattle.journal_model.specs.History.{Step};
 ghost use Rattle.journal_model.specs.Refusal.{milliseconds, first_refusal, value_tests};
 ghost use Rattle.journal_model.specs.Spelling.{suspension_payload};
 ghost use Rattle.invocation_vm.specs.Failure.{refusal_meant};
-ghost use Rattle.invocation_vm.specs.Options.{run_options};
+ghost use Rattle.vm_types.specs.Options.{run_options};
 ghost use Rattle.invocation_vm.specs.Frames.{tree_awaited, awaiting_payloads, TellsAwaiting, WriteFails};
 ghost use Rattle.invocation_vm.specs.Progress.{id_awaited, Sleeps, SleepFails, PutsOut, OutputFails, SingleHandle};
 ghost use Rattle.invocation_vm.specs.Standing.{Tallies, CarriesOut, HasCause};
 
 use crate::commands::{write_awaiting_on, write_end, write_output, write_sleep};
 use crate::failure::{AttemptFailure, CallRefusal};
-use crate::options::{AwaitingOnPolicy, VMOptions};
+use vm_types::{AwaitingOnPolicy, VMOptions};
 use crate::output::Output;
 use bytes::ByteStr;
 use journal_model::{

@@ -7,7 +7,7 @@ use Rattle.journal_model.specs.Event.{Event}
 use Rattle.journal_model.specs.Journal.{is_of, is_tick, invocation_begun, starting_state, recorded_requests, recorded_arrivals}
 use Rattle.journal_model.specs.Attempt.{attempts_begun, live_attempt, input_left}
 use Rattle.journal_model.specs.Run.{Handler}
-use Rattle.invocation_vm.specs.declared.options.VMOptions.{VMOptions}
+use Rattle.vm_types.specs.declared.options.VMOptions.{VMOptions}
 use Rattle.schedule_model.specs.declared.held.HeldAttempt.{HeldAttempt}
 use Rattle.store_calls.specs.Standing.{Standing, KeepsOthers, Stays}
 use Rattle.schedule_model.specs.Following.{Seen, SeenAttempt, seen_attempt, seen_as, seen_by, seen_of, held_of, FollowsSeen, FollowsAt, Follows}

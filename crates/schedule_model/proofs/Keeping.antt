@@ -9,7 +9,7 @@ use Rattle.journal_model.specs.Cause.{causes_of, tests_of, IsAccepted}
 use Rattle.journal_model.specs.Run.{Handler}
 use Rattle.journal_laws.proofs.ObjectState.{tail_of, holds-head, holds-tail, not-false, open_when_accepted}
 use Rattle.store_refusals.specs.declared.refusal.Refusal.{Refusal}
-use Rattle.invocation_vm.specs.declared.options.VMOptions.{VMOptions}
+use Rattle.vm_types.specs.declared.options.VMOptions.{VMOptions}
 use Rattle.invocation_vm.specs.declared.progress.Turn.{Turn}
 use Rattle.invocation_vm.specs.View.{AttemptView, fresh}
 use Rattle.invocation_vm.specs.Attempt.{Feeds, Sends, Turns}

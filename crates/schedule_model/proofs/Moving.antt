@@ -5,7 +5,7 @@ use Rattle.journal_model.specs.Notification.{Arrival}
 use Rattle.journal_model.specs.Request.{Request}
 use Rattle.journal_model.specs.Run.{Handler}
 use Rattle.schedule_model.specs.First.{with_first}
-use Rattle.invocation_vm.specs.declared.options.VMOptions.{VMOptions}
+use Rattle.vm_types.specs.declared.options.VMOptions.{VMOptions}
 use Rattle.invocation_vm.specs.View.{AttemptView}
 use Rattle.invocation_vm.specs.declared.progress.Turn.{Turn}
 use Rattle.invocation_vm.specs.Attempt.{Stands, RunTurn, Feeds, Sends, Turns}

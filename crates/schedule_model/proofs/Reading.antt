@@ -12,7 +12,7 @@ use Rattle.journal_model.specs.Journal.{invocation_begun, entries_of, recorded_r
 use Rattle.journal_model.specs.Attempt.{entry_piece, journal_pieces, input_bytes}
 use Rattle.journal_model.specs.Cause.{causes_of, IsAccepted}
 use Rattle.protocol_types.specs.declared.message_type.MessageType.{MessageType}
-use Rattle.invocation_vm.specs.declared.options.VMOptions.{VMOptions}
+use Rattle.vm_types.specs.declared.options.VMOptions.{VMOptions}
 use Rattle.invocation_vm.specs.View.{AttemptView, fresh}
 use Rattle.invocation_vm.specs.Attempt.{Feeds}
 use Rattle.invocation_vm.proofs.Laws.{unread_at_first}

@@ -21,7 +21,7 @@ use Rattle.journal_model.specs.Journal.{Arrived, entries_of, starting_state, rea
 use Rattle.journal_model.specs.Attempt.{live_attempt, is_live}
 use Rattle.journal_model.specs.Cause.{causes_of, tests_of}
 use Rattle.journal_laws.proofs.ObjectState.{tail_of, holds-head, holds-tail, not-false}
-use Rattle.invocation_vm.specs.declared.options.VMOptions.{VMOptions}
+use Rattle.vm_types.specs.declared.options.VMOptions.{VMOptions}
 use Rattle.schedule_model.specs.declared.held.HeldAttempt.{HeldAttempt}
 use Rattle.store_calls.specs.Frames.{frame_in}
 use Rattle.schedule_model.specs.Flight.{Sent, Asks, Tells, Ends, FitsSent, spelled, stream, sent_type, sent_payload, requests_in}

@@ -6,7 +6,7 @@ use Rattle.journal_model.specs.Request.{Request}
 use Rattle.journal_model.specs.State.{StateMap}
 use Rattle.journal_model.specs.Spelling.{request_frame, frame_bytes}
 use Rattle.protocol_types.specs.declared.message_type.MessageType.{MessageType}
-use Rattle.invocation_vm.specs.declared.options.VMOptions.{VMOptions}
+use Rattle.vm_types.specs.declared.options.VMOptions.{VMOptions}
 use Rattle.invocation_vm.specs.View.{AttemptView}
 use Rattle.invocation_vm.specs.declared.progress.Turn.{Turn}
 use Rattle.invocation_vm.specs.declared.progress.Turn.TheVariants as turn

@@ -9,7 +9,7 @@ use Rattle.journal_model.specs.Event.{Event}
 use Rattle.journal_model.specs.Journal.{invocation_begun, starting_state, recorded_requests, recorded_arrivals}
 use Rattle.journal_model.specs.Attempt.{attempts_begun, live_attempt, input_left}
 use Rattle.journal_model.specs.Run.{Handler, Invocation, run_requests, IsBeginning}
-use Rattle.invocation_vm.specs.declared.options.VMOptions.{VMOptions}
+use Rattle.vm_types.specs.declared.options.VMOptions.{VMOptions}
 use Rattle.invocation_vm.specs.View.{AttemptView}
 use Rattle.invocation_vm.specs.First.{given_by}
 use Rattle.invocation_vm.specs.Attempt.{Announced, IsUnread, Stands}

@@ -5,7 +5,7 @@ use Rattle.journal_model.specs.Notification.{Text}
 use Rattle.journal_model.specs.declared.invocation.NewInvocation.{NewInvocation}
 use Rattle.journal_model.specs.Run.{Handler}
 use Rattle.journal_model.specs.Journal.{invocation_begun, starting_state, recorded_requests}
-use Rattle.invocation_vm.specs.declared.options.VMOptions.{VMOptions}
+use Rattle.vm_types.specs.declared.options.VMOptions.{VMOptions}
 use Rattle.invocation_vm.specs.First.{given_by}
 use Rattle.schedule_model.specs.declared.event.Event.{Event}
 use Rattle.invocation_vm.specs.View.{AttemptView}

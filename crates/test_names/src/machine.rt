@@ -1,9 +1,10 @@
 //! The machine: handlers, what they call and are answered, and attempts.
 pub use invocation_vm::{
-    Answer, AttachInvocationTarget, Attempt, AwaitedFuture, AwaitingOnPolicy,
-    CANCEL_NOTIFICATION_HANDLE, Call, Handler, ImplicitCancellationOption, Input,
-    JournalMismatchRetryBehavior, JournalReplay, Moment, NonDeterministicChecksOption,
-    NotificationHandle, PayloadOptions, SignalDelivery, Target, Turn, UnresolvedFuture, VMOptions,
+    Answer, AttachInvocationTarget, Attempt, AwaitResponse, AwaitedFuture, AwaitingOnPolicy,
+    AwakeableHandle, CANCEL_NOTIFICATION_HANDLE, Call, CallHandle, EphemeralCompletionId, Handler,
+    ImplicitCancellationOption, Input, JournalMismatchRetryBehavior, JournalReplay, Moment,
+    NonDeterministicChecksOption, NotificationHandle, PayloadOptions, ResponseHead, SendHandle,
+    SignalDelivery, State, Target, Turn, UnresolvedFuture, VMOptions,
 };
 
 /// What is called of an attempt.
@@ -19,4 +20,6 @@ pub fn name_handles() {
     let _ = <NotificationHandle as From<u32>>::from;
     let _ = <u32 as From<NotificationHandle>>::from;
     let _ = <UnresolvedFuture as From<NotificationHandle>>::from;
+    let _ = <EphemeralCompletionId as From<u32>>::from;
+    let _ = <u32 as From<EphemeralCompletionId>>::from;
 }

@@ -3,11 +3,11 @@ use Rattle.std.specs.Prelude.{true, false}
 use Rattle.journal_model.specs.declared.options.RunOptions.{RunOptions}
 use Rattle.journal_model.specs.declared.options.ImplicitCancellationOption.{ImplicitCancellationOption}
 use Rattle.journal_model.specs.declared.options.SignalDelivery.{SignalDelivery}
-use Rattle.invocation_vm.specs.declared.options.VMOptions.{VMOptions}
-use Rattle.invocation_vm.specs.declared.options.AwaitingOnPolicy.{AwaitingOnPolicy}
-use Rattle.invocation_vm.specs.declared.options.NonDeterministicChecksOption.{NonDeterministicChecksOption}
-use Rattle.invocation_vm.specs.declared.options.JournalMismatchRetryBehavior.{JournalMismatchRetryBehavior}
-use Rattle.invocation_vm.specs.declared.options.JournalReplay.{JournalReplay}
+use Rattle.vm_types.specs.declared.options.VMOptions.{VMOptions}
+use Rattle.vm_types.specs.declared.options.AwaitingOnPolicy.{AwaitingOnPolicy}
+use Rattle.vm_types.specs.declared.options.NonDeterministicChecksOption.{NonDeterministicChecksOption}
+use Rattle.vm_types.specs.declared.options.JournalMismatchRetryBehavior.{JournalMismatchRetryBehavior}
+use Rattle.vm_types.specs.declared.options.JournalReplay.{JournalReplay}
 
 abbrev pub default_options : VMOptions
 default_options = record {

@@ -12,7 +12,7 @@ pub enum AwaitingOnPolicy {
 
 impl Default for AwaitingOnPolicy {
     ghost use Rattle.std.specs.Prelude.{◌≡◌};
-    ghost use Rattle.invocation_vm.specs.declared.options.AwaitingOnPolicy.TheVariants.{DontSendWhenExecutingRun};
+    ghost use Rattle.vm_types.specs.declared.options.AwaitingOnPolicy.TheVariants.{DontSendWhenExecutingRun};
 
     ghost is_default = { λ policy. policy ≡ DontSendWhenExecutingRun };
 
@@ -30,7 +30,7 @@ pub enum NonDeterministicChecksOption {
 
 impl Default for NonDeterministicChecksOption {
     ghost use Rattle.std.specs.Prelude.{◌≡◌};
-    ghost use Rattle.invocation_vm.specs.declared.options.NonDeterministicChecksOption.TheVariants.{Enabled};
+    ghost use Rattle.vm_types.specs.declared.options.NonDeterministicChecksOption.TheVariants.{Enabled};
 
     ghost is_default = { λ checks. checks ≡ Enabled };
 
@@ -49,7 +49,7 @@ pub enum JournalMismatchRetryBehavior {
 
 impl Default for JournalMismatchRetryBehavior {
     ghost use Rattle.std.specs.Prelude.{◌≡◌};
-    ghost use Rattle.invocation_vm.specs.declared.options.JournalMismatchRetryBehavior.TheVariants.{FollowRetryPolicy};
+    ghost use Rattle.vm_types.specs.declared.options.JournalMismatchRetryBehavior.TheVariants.{FollowRetryPolicy};
 
     ghost is_default = { λ behavior. behavior ≡ FollowRetryPolicy };
 
@@ -67,7 +67,7 @@ pub enum JournalReplay {
 
 impl Default for JournalReplay {
     ghost use Rattle.std.specs.Prelude.{◌≡◌};
-    ghost use Rattle.invocation_vm.specs.declared.options.JournalReplay.TheVariants.{Enabled};
+    ghost use Rattle.vm_types.specs.declared.options.JournalReplay.TheVariants.{Enabled};
 
     ghost is_default = { λ replay. replay ≡ Enabled };
 
@@ -91,7 +91,7 @@ pub struct VMOptions {
 
 impl Default for VMOptions {
     ghost use Rattle.std.specs.Prelude.{◌≡◌};
-    ghost use Rattle.invocation_vm.specs.Options.{default_options};
+    ghost use Rattle.vm_types.specs.Options.{default_options};
 
     ghost is_default = { λ options. options ≡ default_options };
 
