@@ -13,7 +13,7 @@ use Rattle.journal_model.specs.Request.{Request}
 use Rattle.journal_model.specs.declared.options.ImplicitCancellationOption.{ImplicitCancellationOption}
 use Rattle.journal_model.specs.Refusal.{refusal_of}
 use Rattle.journal_model.specs.History.{Step, answers_of, requests_of, place_of, next_completion, next_signal, stands_for, takes_handle, ids_of, completions_of, signals_of}
-use Rattle.journal_model.specs.Delivery.{known_results, known_result, front}
+use Rattle.journal_model.specs.Delivery.{results_for, known_results, known_result, front}
 use Rattle.journal_model.specs.Await.{tracked_children, child_of, children_after}
 use Rattle.journal_model.specs.Run.{Handler, Invocation, Progress, Ending, GoesOn, Ended, front_of_handle, answer_to, requests_to, answered_step, after_call, run, run_requests, is_going}
 use Rattle.journal_model.proofs.Continuing.{run-next, after_call-answers, after_call-ends}
@@ -21,7 +21,7 @@ use Rattle.attempt_model.specs.Children.{Child, new_child, child_with_value, may
 use Rattle.attempt_model.specs.Machine.{Machine, Reply, Answered, ToTake, ToLook, ToMake, work_of, next_slot, reply_to_make, reply_where_taken, reply_to_take, reply_to_end}
 use Rattle.attempt_model.specs.Requests.{answer_by, Commands, requests_by, PutState, put_all}
 use Rattle.attempt_model.specs.Results.{Ready, Slots, ready_after, first_of, slot_of, waiting_for, ready_without_first, slots_without, ready_after_all, are_keys_text}
-use Rattle.attempt_model.specs.Standing.{results_for, TablesStand, RequestsStand, Reached, here, ahead, cancelling, IsShown, children_of, is_id_if_known, Fits, next_call, AnswersNext, RepliesAsRun, IsReflexive}
+use Rattle.attempt_model.specs.Standing.{TablesStand, RequestsStand, Reached, here, ahead, cancelling, IsShown, children_of, is_id_if_known, Fits, next_call, AnswersNext, RepliesAsRun, IsReflexive}
 use Rattle.attempt_model.proofs.Requests.{Agrees, Puts, put, agree, none_left}
 use Rattle.attempt_tables.proofs.Children.{children-made, children-taken}
 use Rattle.attempt_tables.proofs.Making.{Creates, makes, knows}
@@ -155,7 +155,7 @@ module _ (same_header : Request → Request → Bool) (reflexive : IsReflexive s
           ∙ after_call-answers given steps arrivals (Call.IsCompleted handle) (accepted_is (Call.IsCompleted handle) e accepted) refl
 
   -- taking
-  pub takes : (handle : ℕ) → call ≡ Call.Take handle → refusal_of given.version call ≡ None → Replies (reply_to_take same_header given m handle (waiting_for m.slots m.ready handle))
+  pub takes : (handle : ℕ) → call ≡ Call.Take handle → refusal_of given.version call ≡ None → Replies (reply_to_take m handle (waiting_for m.slots m.ready handle))
   takes handle e accepted = by_result (waiting_for m.slots m.ready handle) refl
     where
       at : place ≡ place_of steps
@@ -172,7 +172,7 @@ module _ (same_header : Request → Request → Bool) (reflexive : IsReflexive s
           (sym (waiting-is handle at) ∙ f)
 
       by_slot : (r : NotificationResult) → waiting_for m.slots m.ready handle ≡ Some r → (o : Option NotificationId) → slot_of m.slots handle ≡ o
-          → Replies (reply_where_taken same_header given m handle r (are_keys_text r) (list_all (may_take (slot_of m.slots handle) (as_taken r)) m.children))
+          → Replies (reply_where_taken m handle r (are_keys_text r) (list_all (may_take (slot_of m.slots handle) (as_taken r)) m.children))
       by_slot r f None slot = let wrong : None ≡ Some r = sym (ap (option_and_then (λ (id : NotificationId). first_of (m.ready id))) slot) ∙ f in cc
       by_slot r f (Some id) slot =
           let first : first_of (m.ready id) ≡ Some r = sym (ap (option_and_then (λ (id : NotificationId). first_of (m.ready id))) slot) ∙ f in
@@ -180,8 +180,8 @@ module _ (same_header : Request → Request → Bool) (reflexive : IsReflexive s
           let text : are_keys_text r ≡ true = keys_text id r (ap (λ (n : ℕ). front given.options steps arrivals n id) (sym at) ∙ there) in
           let ids : list_all (may_take (Some id) (as_taken r)) m.children ≡ true = ap (list_all (may_take (Some id) (as_taken r))) children
           ∙ takes-ids given.options steps arrivals place (tracked_children cancellation steps) id r there (λ n e. front_ids place tables.within n e) in
-          subst (λ (b : Bool). Replies (reply_where_taken same_header given m handle r b (list_all (may_take (slot_of m.slots handle) (as_taken r)) m.children))) (sym text)
-          (subst (λ (b : Bool). Replies (reply_where_taken same_header given m handle r true b)) (sym (ap (λ (o : Option NotificationId). list_all (may_take o (as_taken r)) m.children) slot ∙ ids))
+          subst (λ (b : Bool). Replies (reply_where_taken m handle r b (list_all (may_take (slot_of m.slots handle) (as_taken r)) m.children))) (sym text)
+          (subst (λ (b : Bool). Replies (reply_where_taken m handle r true b)) (sym (ap (λ (o : Option NotificationId). list_all (may_take o (as_taken r)) m.children) slot ∙ ids))
           (subst (λ (o : Option NotificationId). Replies (Answered (Answer.Taken (Some (as_taken r))) (record m { ready = ready_without_first m.ready o; slots = slots_without m.slots handle; children = map (child_with_value o (as_taken r)) m.children }))) (sym slot)
           (stepped (taking (Some r)) (goes (Some r) f) (record m { ready = ready_without_first m.ready (Some id); slots = slots_without m.slots handle; children = map (child_with_value (Some id) (as_taken r)) m.children })
           (subst (λ (n : ℕ). TablesStand given.options (taking (Some r) ∷ steps) arrivals n m.queue (ready_without_first m.ready (Some id)) (slots_without m.slots handle)) at
@@ -193,7 +193,7 @@ module _ (same_header : Request → Request → Bool) (reflexive : IsReflexive s
           ∙ sym (children-taken cancellation steps handle (place_of steps) id (as_taken r) (known-id (handle == 1) (list_any (takes_handle handle) steps) _ id (sym (tables.handles handle) ∙ slot))))
           (taken-ids id (as_taken r) m.children ids_known ids))))
 
-      by_result : (o : Option NotificationResult) → waiting_for m.slots m.ready handle ≡ o → Replies (reply_to_take same_header given m handle o)
+      by_result : (o : Option NotificationResult) → waiting_for m.slots m.ready handle ≡ o → Replies (reply_to_take m handle o)
       by_result None f =
           stepped (taking None) (goes None f) m (quiet_tables (taking None) place m.queue m.ready (sym at) (record { made = refl; takes = refl }) refl tables)
           (completions ∙ none_more (next_completion steps)) (signals ∙ none_more (next_signal steps)) (quiet (taking None) refl)
@@ -216,13 +216,13 @@ module _ (same_header : Request → Request → Bool) (reflexive : IsReflexive s
       ∙ ap (λ (xs : List Request). requests_of steps ++ xs) (sym (none_is_left ending stopped goes)) ∙ requests.requests
 
   -- the end
-  pub ends : call ≡ Call.End → refusal_of given.version call ≡ None → Replies (reply_to_end same_header given m m.left)
+  pub ends : call ≡ Call.End → refusal_of given.version call ≡ None → Replies (reply_to_end m m.left)
   ends e accepted = by_left m.left refl
     where
       goes : run handler given arrivals (suc calls) ≡ record { steps = steps; ending = Ended }
       goes = after ∙ ap (after_call given steps arrivals) e ∙ after_call-ends given steps arrivals Call.End (accepted_is Call.End e accepted) refl
 
-      by_left : (left : Commands) → m.left ≡ left → Replies (reply_to_end same_header given m left)
+      by_left : (left : Commands) → m.left ≡ left → Replies (reply_to_end m left)
       by_left [] f = record { ended = ap (λ (p : Progress). p.ending) goes; exactly = all_there Ended refl goes }
       by_left (command ∷ left) f = let wrong : command ∷ left ≡ [] = sym f ∙ nothing_left Ended refl goes in cc
 

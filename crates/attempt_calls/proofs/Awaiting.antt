@@ -13,7 +13,7 @@ use Rattle.journal_model.specs.Request.{Request}
 use Rattle.journal_model.specs.declared.options.ImplicitCancellationOption.{ImplicitCancellationOption}
 use Rattle.journal_model.specs.Refusal.{refusal_of}
 use Rattle.journal_model.specs.History.{Step, requests_of, place_of, next_completion, next_signal, stands_for}
-use Rattle.journal_model.specs.Delivery.{known_results, known_result, front, leaf_state}
+use Rattle.journal_model.specs.Delivery.{results_for, known_results, known_result, front, leaf_state}
 use Rattle.journal_model.specs.Await.{ends_awaits, awaited_tree, awaited_ids, is_awake_at, awake_place, is_cancelled_at, child_of, children_after, tracked_children, all_known_at, first_unknown, child_id, cancel_requests, children_place, AwaitOutcome, WaitsFor, WokenAt, CancelledAt, cancellation_outcome, outcome_from, await_outcome}
 use Rattle.journal_model.specs.Waiting.{pruned}
 use Rattle.journal_model.specs.Run.{Handler, Invocation, Progress, Ending, GoesOn, Waits, Awaits, after_await, after_call, run, run_requests, is_going}
@@ -23,7 +23,7 @@ use Rattle.attempt_model.specs.Children.{Child, cancel_requests_for, ChildrenOut
 use Rattle.attempt_model.specs.Machine.{Machine, Reply, Answered, is_cancelled, reply_where_unknown, reply_where_asleep, reply_where_cancelled, reply_to_children, reply_where_awake, reply_to_await}
 use Rattle.attempt_model.specs.Requests.{Commands, PutState, put_all}
 use Rattle.attempt_model.specs.Results.{Ready, first_of, ready_without_first, Resolution, Awake, Asleep, resolution_of}
-use Rattle.attempt_model.specs.Standing.{results_for, TablesStand, RequestsStand, Reached, here, ahead, cancelling, IsShown, children_of, is_id_if_known, Fits, next_call, AnswersNext, RepliesAsRun, IsReflexive}
+use Rattle.attempt_model.specs.Standing.{TablesStand, RequestsStand, Reached, here, ahead, cancelling, IsShown, children_of, is_id_if_known, Fits, next_call, AnswersNext, RepliesAsRun, IsReflexive}
 use Rattle.attempt_model.proofs.Requests.{Puts, put, agree}
 use Rattle.attempt_tables.proofs.Children.{cancels-same, TellsFrom, tells}
 use Rattle.attempt_tables.proofs.Making.{Creates}
@@ -244,7 +244,7 @@ module _ (same_header : Request → Request → Bool) (reflexive : IsReflexive s
                 by_order true f = unknown q above (ltb-true q p f)
                 by_order false f = t.unknown q (ltb-false q p f) (omega (arith, below))
 
-            by_left : (some : Commands) → m.left ≡ some → Replies (reply_where_unknown same_header given child (record m { queue = []; ready = ready }) some)
+            by_left : (some : Commands) → m.left ≡ some → Replies (reply_where_unknown child (record m { queue = []; ready = ready }) some)
             by_left [] f = record {
               stands = record {
                 steps = steps;
@@ -281,14 +281,14 @@ module _ (same_header : Request → Request → Bool) (reflexive : IsReflexive s
         step = record { call = Call.Await tree; answer = Answer.Woken; requests = []; place = q }
 
     cancelled-is : (q : ℕ) (line : List Arrival) (waiting : Ready) → TablesStand given.options steps arrivals q line waiting m.slots
-        → is_cancelled same_header given (record m { queue = line; ready = waiting }) ≡ is_cancelled_at given.options steps arrivals q
+        → is_cancelled given (record m { queue = line; ready = waiting }) ≡ is_cancelled_at given.options steps arrivals q
     cancelled-is q line waiting stands = ap (λ (o : Option NotificationResult). ends_awaits cancellation && is_some o)
         (ap first_of (stands.ready cancel_id) ∙ sym (front-untaken given.options steps arrivals q cancel_id))
 
     -- no cancellation waits: the machine has looked at no more than the run, or the tree was asleep at all it has looked at
     asks : place_of steps ≤ place → ((q : ℕ) → place_of steps ≤ q → q < place → test q ≡ false) → (r : Resolution)
         → ResolvesFrom given.options steps arrivals fits.queued once m.slots whole place r → Replies (reply_to_await same_header given m r)
-    asks low_place early (Awake line waiting) w = by_cancel (is_cancelled same_header given (record m { queue = line; ready = waiting })) refl
+    asks low_place early (Awake line waiting) w = by_cancel (is_cancelled given (record m { queue = line; ready = waiting })) refl
       where
         high : w.place ≤ length arrivals
         high = w.stands.within
@@ -307,7 +307,7 @@ module _ (same_header : Request → Request → Bool) (reflexive : IsReflexive s
             by_order q above below true f = early q above (ltb-true q place f)
             by_order q above below false f = test-is q above (omega (arith, below, high)) ∙ w.before q (ltb-false q place f) below
 
-        by_cancel : (b : Bool) → is_cancelled same_header given (record m { queue = line; ready = waiting }) ≡ b → Replies (reply_where_awake same_header given (record m { queue = line; ready = waiting }) b)
+        by_cancel : (b : Bool) → is_cancelled given (record m { queue = line; ready = waiting }) ≡ b → Replies (reply_where_awake same_header given (record m { queue = line; ready = waiting }) b)
         by_cancel false f = wakes_up w.place line waiting starts (sym (cancelled-is w.place line waiting w.stands) ∙ f) w.stands
         by_cancel true f =
             tells_them w.place starts (sym (cancelled-is w.place line waiting w.stands) ∙ f) w.place line waiting (le_refl w.place)
@@ -337,7 +337,7 @@ module _ (same_header : Request → Request → Bool) (reflexive : IsReflexive s
                 let top : q ≤ length arrivals = omega (arith, high) in
                 test-is q low top ∙ s.asleep q (ltb-false q place f) top
 
-        by_left : (some : Commands) → m.left ≡ some → Replies (reply_where_asleep same_header given left (record m { queue = []; ready = waiting }) some)
+        by_left : (some : Commands) → m.left ≡ some → Replies (reply_where_asleep left (record m { queue = []; ready = waiting }) some)
         by_left [] f = record {
           stands = record {
             steps = steps;
@@ -392,7 +392,7 @@ module _ (same_header : Request → Request → Bool) (reflexive : IsReflexive s
         awake_here = awake-cancelled steps cancellation ends tree (states place) (completed-some (front given.options steps arrivals place cancel_id) there)
 
         by_resolved : (r : Resolution) → ResolvesFrom given.options steps arrivals fits.queued once m.slots whole place r → Replies (reply_to_await same_header given m r)
-        by_resolved (Awake line waiting) w = by_cancel (is_cancelled same_header given (record m { queue = line; ready = waiting })) refl
+        by_resolved (Awake line waiting) w = by_cancel (is_cancelled given (record m { queue = line; ready = waiting })) refl
           where
             same : place ≡ w.place
             same = by_order (eq-or-lt_of_le w.above)
@@ -404,7 +404,7 @@ module _ (same_header : Request → Request → Bool) (reflexive : IsReflexive s
             cancel_here : is_cancelled_at given.options steps arrivals w.place ≡ true
             cancel_here = ap (λ (b : Bool). b && is_some (front given.options steps arrivals w.place cancel_id)) ends ∙ ap (λ (q : ℕ). is_some (front given.options steps arrivals q cancel_id)) (sym same) ∙ there
 
-            by_cancel : (b : Bool) → is_cancelled same_header given (record m { queue = line; ready = waiting }) ≡ b → Replies (reply_where_awake same_header given (record m { queue = line; ready = waiting }) b)
+            by_cancel : (b : Bool) → is_cancelled given (record m { queue = line; ready = waiting }) ≡ b → Replies (reply_where_awake same_header given (record m { queue = line; ready = waiting }) b)
             by_cancel false f = let wrong : false ≡ true = sym f ∙ cancelled-is w.place line waiting w.stands ∙ cancel_here in cc
             by_cancel true f =
                 tells_them wakes starts cancel w.place line waiting (omega (arith, under, same))

@@ -13,13 +13,13 @@ use Rattle.journal_model.specs.declared.options.RunOptions.{RunOptions}
 use Rattle.journal_model.specs.Refusal.{Refusal, refusal_of}
 use Rattle.journal_model.specs.State.{knows_key, knows_all_keys, known_value, known_keys}
 use Rattle.journal_model.specs.History.{Step, answers_of, requests_of, next_completion, completions_of}
-use Rattle.journal_model.specs.Delivery.{known_result, known_results}
+use Rattle.journal_model.specs.Delivery.{results_for, known_result, known_results}
 use Rattle.journal_model.specs.Await.{child_result, cancel_request, cancel_requests, AwaitOutcome, WaitsFor, WokenAt, CancelledAt, cancellation_outcome, outcome_from, await_outcome, is_cancelled_at, children_place, awake_place, awaited_ids}
 use Rattle.journal_model.specs.Journal.{asks_for}
 use Rattle.journal_model.specs.Run.{Handler, Invocation, Progress, Ending, GoesOn, Kind, Awaits, Ends, Answers, kind_of, requests_to, answered_step, after_await, carried_out, unless_refused, continued_by, run, run_requests, name_or_empty, IsBeginning}
 use Rattle.journal_model.proofs.Extension.{continued-steps}
 use Rattle.journal_model.proofs.Continuing.{run_requests-beginning}
-use Rattle.attempt_model.specs.Standing.{results_for, ComesOnce}
+use Rattle.attempt_model.specs.Standing.{ComesOnce}
 use Rattle.attempt_tables.proofs.Tables.{results-append}
 use Rattle.attempt_laws.proofs.Following.{known-more}
 

@@ -18,14 +18,14 @@ use Rattle.journal_model.specs.Options.{replaces}
 use Rattle.journal_model.specs.declared.options.ImplicitCancellationOption.{ImplicitCancellationOption}
 use Rattle.journal_model.specs.declared.options.ImplicitCancellationOption.TheVariants.{Disabled, Enabled}
 use Rattle.journal_model.specs.History.{Step, answers_of, requests_of, next_completion, ids_created, place_of}
-use Rattle.journal_model.specs.Delivery.{known_result, known_results, deliveries, front, last_of, takes_of, passed_at_take}
+use Rattle.journal_model.specs.Delivery.{results_for, known_result, known_results, deliveries, front, last_of, takes_of, passed_at_take}
 use Rattle.journal_model.specs.Await.{child_of, children_after, tracked_children, AwaitOutcome, WaitsFor, WokenAt, CancelledAt, await_outcome}
 use Rattle.journal_model.specs.Cause.{is_invocation_id, keys_of}
 use Rattle.journal_model.specs.Journal.{asks_for}
 use Rattle.journal_model.specs.Run.{Handler, Invocation, Progress, Ending, GoesOn, Kind, Awaits, Ends, Answers, kind_of, requests_to, after_await, carried_out, unless_refused, continued_by, run, run_requests}
 use Rattle.attempt_model.specs.Attempts.{gives_id, ComeAsAsked}
 use Rattle.attempt_model.specs.Results.{are_keys_text}
-use Rattle.attempt_model.specs.Standing.{results_for, is_id_if_known, AreOfKind}
+use Rattle.attempt_model.specs.Standing.{is_id_if_known, AreOfKind}
 use Rattle.attempt_tables.proofs.Tables.{results-append}
 use Rattle.attempt_calls.proofs.CallKinds.{no_child-await}
 use Rattle.attempt_calls.proofs.Ids.{both-true, first-true, second-true, is_in}

@@ -7,7 +7,7 @@ use Rattle.journal_model.specs.declared.call.Call.{Call}
 use Rattle.journal_model.specs.Request.{Request}
 use Rattle.journal_model.specs.State.{StartState}
 use Rattle.journal_model.specs.History.{Step, answers_of, requests_of, next_completion}
-use Rattle.journal_model.specs.Delivery.{known_results, known_result}
+use Rattle.journal_model.specs.Delivery.{results_for, known_results, known_result}
 use Rattle.journal_model.specs.Journal.{Entry, Recorded, Arrived, requests_in, arrivals_in}
 use Rattle.journal_model.specs.Run.{Handler, Invocation, Progress, run}
 use Rattle.journal_model.proofs.Extension as Extension
@@ -15,7 +15,7 @@ use Rattle.journal_model.proofs.Extension.{run-more}
 use Rattle.attempt_model.specs.Attempts.{with_entries, Happening, Comes, Turns, AttemptState, Live, Over, attempt_with_arrival, attempt_after_reply, arrivals_after, attempt_after_turn, attempt_after, AnswersFirst, AgreesWithRun}
 use Rattle.attempt_model.specs.Machine.{Machine, machine_at_start, with_arrival, Mismatch, UncompletedInReplay, EndInReplay, KeysNotText, ChildNotId, Refused, Reply, Answered, AwaitsTree, AwaitsChild, Finished, FailedBy, reply_to}
 use Rattle.attempt_model.specs.Requests.{Commands}
-use Rattle.attempt_model.specs.Standing.{results_for, IsShown, Stands, ComesOnce, AreOfKind, Fits, next_call, RepliesAsRun, AreReflexive}
+use Rattle.attempt_model.specs.Standing.{IsShown, Stands, ComesOnce, AreOfKind, Fits, next_call, RepliesAsRun, AreReflexive}
 use Rattle.attempt_tables.proofs.Tables.{results-append}
 use Rattle.attempt_calls.proofs.Simulating.{simulates}
 use Rattle.attempt_calls.proofs.Standing.{begins, goes_same, reads_on, fits_on}

@@ -94,6 +94,40 @@ work_of _ = ToMake
 abbrev pub next_slot : Machine → ℕ
 next_slot m = 17 + length m.slots
 
+-- a take: what was first is taken, and its handle stands for nothing from then on
+abbrev pub reply_where_taken : Machine → ℕ → NotificationResult → (keys_are_text is_id_of_child : Bool) → Reply
+reply_where_taken m handle result false is_id_of_child = FailedBy KeysNotText
+reply_where_taken m handle result true false = FailedBy ChildNotId
+reply_where_taken m handle result true true =
+    Answered (Answer.Taken (Some (as_taken result))) (record m {
+      ready = ready_without_first m.ready (slot_of m.slots handle);
+      slots = slots_without m.slots handle;
+      children = map (child_with_value (slot_of m.slots handle) (as_taken result)) m.children;
+    })
+
+abbrev pub reply_to_take : Machine → ℕ → Option NotificationResult → Reply
+reply_to_take m handle None = Answered (Answer.Taken None) m
+reply_to_take m handle (Some result) = reply_where_taken m handle result (are_keys_text result) (list_all (may_take (slot_of m.slots handle) (as_taken result)) m.children)
+
+-- whether a cancellation waits, and cancellations end awaits
+abbrev pub is_cancelled : Invocation → Machine → Bool
+is_cancelled invocation m = ends_awaits invocation.options.implicit_cancellation && is_some (waiting_for m.slots m.ready cancel_handle)
+
+-- in replay an await that waits for a child fails; behind it, it waits for that child alone
+abbrev pub reply_where_unknown : ℕ → Machine → Commands → Reply
+reply_where_unknown child m [] = AwaitsChild child m
+reply_where_unknown child m (command ∷ left) = FailedBy UncompletedInReplay
+
+-- in replay an await that stays asleep fails; behind it, it waits
+abbrev pub reply_where_asleep : AwaitTree ℕ → Machine → Commands → Reply
+reply_where_asleep tree m [] = AwaitsTree tree m
+reply_where_asleep tree m (command ∷ left) = FailedBy UncompletedInReplay
+
+-- the end needs that nothing recorded is left
+abbrev pub reply_to_end : Machine → Commands → Reply
+reply_to_end m [] = Finished m
+reply_to_end m (command ∷ left) = FailedBy EndInReplay
+
 module _ (same_header : Request → Request → Bool) (invocation : Invocation) where
   -- a call that makes handles or requests alone
   abbrev pub reply_to_make : Machine → Call → List Request → Option PutState → Reply
@@ -111,34 +145,6 @@ module _ (same_header : Request → Request → Bool) (invocation : Invocation) 
         done = m.done ++ requests;
         children = m.children ++ map new_child (child_of invocation.options.implicit_cancellation m.completions call);
       })
-
-  -- a take: what was first is taken, and its handle stands for nothing from then on
-  abbrev pub reply_where_taken : Machine → ℕ → NotificationResult → (keys_are_text is_id_of_child : Bool) → Reply
-  reply_where_taken m handle result false is_id_of_child = FailedBy KeysNotText
-  reply_where_taken m handle result true false = FailedBy ChildNotId
-  reply_where_taken m handle result true true =
-      Answered (Answer.Taken (Some (as_taken result))) (record m {
-        ready = ready_without_first m.ready (slot_of m.slots handle);
-        slots = slots_without m.slots handle;
-        children = map (child_with_value (slot_of m.slots handle) (as_taken result)) m.children;
-      })
-
-  abbrev pub reply_to_take : Machine → ℕ → Option NotificationResult → Reply
-  reply_to_take m handle None = Answered (Answer.Taken None) m
-  reply_to_take m handle (Some result) = reply_where_taken m handle result (are_keys_text result) (list_all (may_take (slot_of m.slots handle) (as_taken result)) m.children)
-
-  abbrev pub is_cancelled : Machine → Bool
-  is_cancelled m = ends_awaits invocation.options.implicit_cancellation && is_some (waiting_for m.slots m.ready cancel_handle)
-
-  -- in replay an await that waits for a child fails; behind it, it waits for that child alone
-  abbrev pub reply_where_unknown : ℕ → Machine → Commands → Reply
-  reply_where_unknown child m [] = AwaitsChild child m
-  reply_where_unknown child m (command ∷ left) = FailedBy UncompletedInReplay
-
-  -- in replay an await that stays asleep fails; behind it, it waits
-  abbrev pub reply_where_asleep : AwaitTree ℕ → Machine → Commands → Reply
-  reply_where_asleep tree m [] = AwaitsTree tree m
-  reply_where_asleep tree m (command ∷ left) = FailedBy UncompletedInReplay
 
   -- a cancellation: one request is made for each child, one delivery of it is taken, and the children are let go of
   abbrev pub reply_where_cancelled : Machine → List Request → Option PutState → Reply
@@ -168,13 +174,8 @@ module _ (same_header : Request → Request → Bool) (invocation : Invocation) 
   reply_where_awake m true = reply_to_children m (children_outcome invocation.options.signal_delivery m.children m.queue m.ready)
 
   abbrev pub reply_to_await : Machine → Resolution → Reply
-  reply_to_await m (Awake queue ready) = reply_where_awake (record m { queue = queue; ready = ready }) (is_cancelled (record m { queue = queue; ready = ready }))
+  reply_to_await m (Awake queue ready) = reply_where_awake (record m { queue = queue; ready = ready }) (is_cancelled invocation (record m { queue = queue; ready = ready }))
   reply_to_await m (Asleep tree ready) = reply_where_asleep tree (record m { queue = []; ready = ready }) m.left
-
-  -- the end needs that nothing recorded is left
-  abbrev pub reply_to_end : Machine → Commands → Reply
-  reply_to_end m [] = Finished m
-  reply_to_end m (command ∷ left) = FailedBy EndInReplay
 
   abbrev pub reply_to_work : Machine → Call → Work → Reply
   reply_to_work m call (ToAwait tree) =

@@ -15,7 +15,7 @@ use Rattle.journal_model.specs.declared.options.RunOptions.{RunOptions}
 use Rattle.journal_model.specs.declared.options.SignalDelivery.TheVariants.{Queued}
 use Rattle.journal_model.specs.Options.{replaces}
 use Rattle.journal_model.specs.History.{Step, answers_of, requests_of, place_of, next_completion, next_signal, next_handle, stands_for, ids_created, TakesBelow, WithinPlaces}
-use Rattle.journal_model.specs.Delivery.{front, known_results, deliveries, takes_of, passed_at_take, leaf_state}
+use Rattle.journal_model.specs.Delivery.{results_for, front, known_results, deliveries, takes_of, passed_at_take, leaf_state}
 use Rattle.journal_model.specs.Await.{awaited_ids, is_awake_at, is_cancelled_at, all_known_at, last_taken, tracked_children, awake_place, awaited_tree}
 use Rattle.journal_model.specs.declared.options.ImplicitCancellationOption.{ImplicitCancellationOption}
 use Rattle.journal_model.specs.State.{StartState, state_after, IsOrdered}
@@ -25,10 +25,6 @@ use Rattle.attempt_model.specs.Children.{Child, is_id}
 use Rattle.attempt_model.specs.Machine.{Machine, machine_at_start, with_arrival, Mismatch, UncompletedInReplay, EndInReplay, KeysNotText, ChildNotId, Refused, Reply, Answered, AwaitsTree, AwaitsChild, Finished, FailedBy, reply_to, StopsMidway}
 use Rattle.attempt_model.specs.Requests.{Commands, PutState}
 use Rattle.attempt_model.specs.Results.{Ready, Slots, slot_of, Resolution, Awake, Asleep, resolution_of, are_keys_text}
-
--- the results for one id
-abbrev pub results_for : List Arrival → NotificationId → List NotificationResult
-results_for arrivals id = map (λ arrival. arrival.result) (filter (λ arrival. same_id arrival.id id) arrivals)
 
 -- how many deliveries of an id calls have gone past
 abbrev pub passed_deliveries : RunOptions → List Step → List Arrival → NotificationId → ℕ

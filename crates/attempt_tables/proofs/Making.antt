@@ -10,10 +10,10 @@ use Rattle.journal_model.specs.Notification.{same_id, Arrival, cancel_id}
 use Rattle.journal_model.specs.declared.options.RunOptions.{RunOptions}
 use Rattle.journal_model.specs.Options.{replaces}
 use Rattle.journal_model.specs.History.{Step, ids_of, ids_created, stands_for, takes_handle, handle_is, handle_taken, id_of_handle, next_handle, next_completion, next_signal, IsBelow, TakesBelow}
-use Rattle.journal_model.specs.Delivery.{known_results, known_result, deliveries, taken_is, count_taken, passed_at_take}
+use Rattle.journal_model.specs.Delivery.{results_for, known_results, known_result, deliveries, taken_is, count_taken, passed_at_take}
 use Rattle.journal_model.proofs.Handles.{takes-more, id_of_handle-old, none-takes}
 use Rattle.attempt_model.specs.Results.{Ready, Slots, ready_after, slot_in, slot_of}
-use Rattle.attempt_model.specs.Standing.{results_for, passed_deliveries, only_last, kept_results, untaken_results, TablesStand}
+use Rattle.attempt_model.specs.Standing.{passed_deliveries, only_last, kept_results, untaken_results, TablesStand}
 use Rattle.attempt_tables.proofs.Tables.{same_id-same, results-append, get-front, get-back, length-some, slot-some, slot-high, id-high}
 
 -- a step that makes handles for these ids, and takes nothing

@@ -9,10 +9,10 @@ use Rattle.journal_model.specs.Notification.{same_id, Arrival, cancel_id}
 use Rattle.journal_model.specs.declared.options.RunOptions.{RunOptions}
 use Rattle.journal_model.specs.Options.{replaces}
 use Rattle.journal_model.specs.History.{Step, ids_created, stands_for, id_of_handle, WithinPlaces}
-use Rattle.journal_model.specs.Delivery.{known_results, deliveries, takes_of, passed_at_take, last_of, front}
+use Rattle.journal_model.specs.Delivery.{results_for, known_results, deliveries, takes_of, passed_at_take, last_of, front}
 use Rattle.journal_model.proofs.Extension.{deliveries-more, passed_at_take-more}
 use Rattle.attempt_model.specs.Results.{Ready, Slots, ready_after, first_of, slot_in, slot_of, waiting_for}
-use Rattle.attempt_model.specs.Standing.{results_for, passed_deliveries, only_last, kept_results, untaken_results, TablesStand}
+use Rattle.attempt_model.specs.Standing.{passed_deliveries, only_last, kept_results, untaken_results, TablesStand}
 
 -- ids that are the same are equal
 pub same_id-same : (a b : NotificationId) → same_id a b ≡ true → a ≡ b

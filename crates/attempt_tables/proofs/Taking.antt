@@ -8,9 +8,9 @@ use Rattle.journal_model.specs.Notification.{same_id, Arrival, cancel_id}
 use Rattle.journal_model.specs.declared.options.RunOptions.{RunOptions}
 use Rattle.journal_model.specs.Options.{replaces}
 use Rattle.journal_model.specs.History.{Step, ids_of, ids_created, stands_for, takes_handle, handle_is, handle_taken, id_of_handle, next_handle, next_completion, next_signal, IsBelow, TakesBelow}
-use Rattle.journal_model.specs.Delivery.{known_results, known_result, deliveries, taken_is, takes_of, count_taken, passed_at_take}
+use Rattle.journal_model.specs.Delivery.{results_for, known_results, known_result, deliveries, taken_is, takes_of, count_taken, passed_at_take}
 use Rattle.attempt_model.specs.Results.{Ready, Slots, first_of, slot_in, slot_of, ready_without_first, slots_without}
-use Rattle.attempt_model.specs.Standing.{results_for, passed_deliveries, only_last, kept_results, TablesStand}
+use Rattle.attempt_model.specs.Standing.{passed_deliveries, only_last, kept_results, TablesStand}
 use Rattle.attempt_tables.proofs.Tables.{same_id-same, drop-next, drop-cons-length, slot-high}
 
 -- a take: what is kept after the first was taken

@@ -11,13 +11,13 @@ use Rattle.journal_model.specs.declared.options.RunOptions.{RunOptions}
 use Rattle.journal_model.specs.declared.options.SignalDelivery.TheVariants.{Queued}
 use Rattle.journal_model.specs.Options.{replaces}
 use Rattle.journal_model.specs.History.{Step, ids_created, stands_for}
-use Rattle.journal_model.specs.Delivery.{known_results, deliveries, takes_of, passed_at_take, last_of, front, or_else, first_found, leaf_state, state_of_result}
+use Rattle.journal_model.specs.Delivery.{results_for, known_results, deliveries, takes_of, passed_at_take, last_of, front, or_else, first_found, leaf_state, state_of_result}
 use Rattle.journal_model.specs.Await.{least_from}
 use Rattle.journal_model.specs.Waiting.{pruned, pruned_children, earlier_or_later}
 use Rattle.journal_laws.proofs.Pruning.{pruned-awake, pruned-again}
 use Rattle.journal_laws.proofs.Leaving.{or-false}
 use Rattle.attempt_model.specs.Results.{Ready, Slots, ready_after, handle_state, Resolution, Awake, Asleep, resolution_of}
-use Rattle.attempt_model.specs.Standing.{results_for, TablesStand}
+use Rattle.attempt_model.specs.Standing.{TablesStand}
 use Rattle.attempt_tables.proofs.Tables.{drop-nil-length, results-append, arrive, in_front}
 
 -- trees with other leaves

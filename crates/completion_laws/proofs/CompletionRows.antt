@@ -1,9 +1,10 @@
 -- Worked rows: how often the completions of a nap have come when its second attempt is begun.
 use Rattle.std.proofs.Common.{◌≡◌, refl, length}
 use Rattle.journal_model.specs.declared.notification.NotificationId.TheVariants.{CompletionId}
+use Rattle.journal_model.specs.Delivery.{results_for}
 use Rattle.journal_model.specs.Journal.{recorded_requests, recorded_arrivals}
 use Rattle.input_laws.proofs.InputRows.{i1, second_begun}
-use Rattle.completion_laws.specs.Once.{count_of, numbers_asked, results_for}
+use Rattle.completion_laws.specs.Once.{count_of, numbers_asked}
 
 sleep-asked : count_of 1 (numbers_asked (recorded_requests second_begun i1)) ≡ 1
 sleep-asked = refl

@@ -6,7 +6,8 @@ use Rattle.journal_model.specs.declared.notification.NotificationId.TheVariants.
 use Rattle.journal_model.specs.Notification.{Arrival, same_id}
 use Rattle.journal_model.specs.Request.{Request, completions_asked}
 use Rattle.journal_model.specs.Journal.{asks_for}
-use Rattle.completion_laws.specs.Once.{count_of, numbers_asked, number_of, numbers_come, AreOnce, results_for, ComeWhenAsked, CompletionsComeWhenAsked}
+use Rattle.journal_model.specs.Delivery.{results_for}
+use Rattle.completion_laws.specs.Once.{count_of, numbers_asked, number_of, numbers_come, AreOnce, ComeWhenAsked, CompletionsComeWhenAsked}
 use Rattle.completion_laws.proofs.Once.{count-append, recorded_once}
 
 count-results : (n : ℕ) (arrivals : List Arrival) → length (results_for arrivals (CompletionId n)) ≡ count_of n (numbers_come arrivals)

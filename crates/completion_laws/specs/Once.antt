@@ -6,6 +6,7 @@ use Rattle.journal_model.specs.declared.notification.NotificationId.{Notificatio
 use Rattle.journal_model.specs.declared.notification.NotificationId.TheVariants.{CompletionId}
 use Rattle.journal_model.specs.Notification.{Text, Arrival, same_id}
 use Rattle.journal_model.specs.Request.{Request, completions_asked}
+use Rattle.journal_model.specs.Delivery.{results_for}
 use Rattle.journal_model.specs.Event.{Event}
 use Rattle.journal_model.specs.Journal.{asks_for, recorded_requests, recorded_arrivals}
 use Rattle.journal_model.specs.Cause.{IsAccepted}
@@ -36,10 +37,6 @@ pub record AreOnce (requests : List Request) (arrivals : List Arrival) : Type 0 
 -- so it is with all that is recorded of an invocation
 abbrev pub CompletionsRecordedOnce : Type 0
 CompletionsRecordedOnce = (events : List Event) (id : Text) → IsAccepted events → AreOnce (recorded_requests events id) (recorded_arrivals events id)
-
--- the results that have come for an id
-abbrev pub results_for : List Arrival → NotificationId → List NotificationResult
-results_for arrivals id = map (λ arrival. arrival.result) (filter (λ arrival. same_id arrival.id id) arrivals)
 
 -- for each number there is one result at most, and where there is one a request asks for it
 pub record ComeWhenAsked (requests : List Request) (arrivals : List Arrival) : Type 0 where

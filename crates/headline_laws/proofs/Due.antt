@@ -10,7 +10,7 @@ use Rattle.journal_model.specs.Event.{Event, Frame, Suspension}
 use Rattle.journal_model.specs.Journal.{begins, is_of, is_open, invocation_begun, requests_in, recorded_requests, recorded_arrivals}
 use Rattle.journal_model.specs.Attempt.{begins_attempt, bytes_asked, ends_live, live_attempt, is_live, input_pieces, bytes_handed, arrivals_within, arrivals_not_handed, suspension_in, or_before, suspension_of, is_woken, is_none, is_due}
 use Rattle.journal_model.specs.Cause.{Cause, own_tests, causes_of, IsAccepted}
-use Rattle.journal_model.specs.Headline.{GoesPast, NeverLate, WakesExactly, Stands, arrivals_handed}
+use Rattle.journal_model.specs.Headline.{GoesPast, NeverLate, WakesExactly, AwaitsIds, arrivals_handed}
 use Rattle.journal_laws.proofs.ObjectState.{holds-head, not-false, open_when_accepted, begun_before}
 use Rattle.journal_laws.proofs.Leaving.{and-true}
 use Rattle.waking_laws.specs.Suspended.{WaitsAll}
@@ -188,5 +188,5 @@ module _ (next : Handler) (given : Invocation) (events : List Event) (id : Text)
           let woken : is_woken (arrivals_not_handed events id) (Some suspension) ≡ true =
           sym (ap (is_woken (arrivals_not_handed events id)) is) ∙ (and-true (is_none (live_attempt events id)) (is_woken (arrivals_not_handed events id) (suspension_of events id)) rest).1 in
           subst (λ (all : List Arrival). GoesPast next given (arrivals_handed events id) all) all_is
-          (past_woken next given (arrivals_handed events id) (arrivals_not_handed events id) (recorded_requests events id) suspension w high (subst Stands w.waits (stands w.calls))
+          (past_woken next given (arrivals_handed events id) (arrivals_not_handed events id) (recorded_requests events id) suspension w high (subst AwaitsIds w.waits (stands w.calls))
           (subst (λ (all : List Arrival). list_any (λ (arrival : Arrival). same_id arrival.id cancel_id) all ≡ false) (sym all_is) none) woken)

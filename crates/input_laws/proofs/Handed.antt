@@ -2,6 +2,8 @@
 use Rattle.std.proofs.Common.{ℕ, zero, suc, ◌+◌, ◌-◌, ◌≤◌, ◌<◌, min, arith, nat_le, ◌≡◌, refl, sym, ap, ap₂, subst, ◌∙◌, Bool, true, false, true≢false, ◌||◌, ◌&&◌, if◌then◌else◌, List, [], ◌∷◌, ◌++◌, append_assoc, append-nil, length, length-append, take, map, Option, Some, None, bytes_eq, is_some}
 use Rattle.std.proofs.lemmas.Bool.{leb-true, leb-false, lt-leb}
 use Rattle.std.proofs.lemmas.List.{take-append-le}
+use Rattle.protocol_types.specs.Feature.{has_feature}
+use Rattle.protocol_types.specs.declared.feature.Feature.TheVariants.{Acknowledgement}
 use Rattle.journal_model.specs.Notification.{Text, Arrival}
 use Rattle.journal_model.specs.Value.{result_of_value}
 use Rattle.journal_model.specs.State.{StateMap}
@@ -110,7 +112,7 @@ event_count : (start : StateMap) (earlier : List Event) (id : Text) (event : Eve
     → arrivals_among (event_pieces start earlier id event entries) ≡ length (arrivals_in (entries_added start earlier id event entries))
 event_count start earlier id (Event.Take other attempt (Frame.RunOutcome n value true)) entries =
     by_tests (entries_after start earlier id (Event.Take other attempt (Frame.RunOutcome n value true)) entries) (completion n (result_of_value value))
-    (nat_le 7 (version_of earlier id)) (bytes_eq other id)
+    (has_feature (version_of earlier id) Acknowledgement) (bytes_eq other id)
   where
     by_tests : (all : List Entry) (arrival : Arrival) (a b : Bool)
         → arrivals_among (later_pieces all (if a && b then Some n else None) (arrivals_in (if b || false then Arrived arrival ∷ [] else [])))
@@ -169,7 +171,7 @@ other_asks _ id e = refl
 
 pub other_answers : (version : ℕ) (event : Event) (id : Text) → is_of id event ≡ false → acknowledged version id event ≡ None
 other_answers version (Event.Take other attempt (Frame.RunOutcome completion value true)) id e =
-    ap (λ (b : Bool). if nat_le 7 version && b then Some completion else None) e ∙ neither (nat_le 7 version)
+    ap (λ (b : Bool). if has_feature version Acknowledgement && b then Some completion else None) e ∙ neither (has_feature version Acknowledgement)
   where
     neither : (b : Bool) → ◌≡◌ {A = Option ℕ} (if b && false then Some completion else None) None
     neither true = refl

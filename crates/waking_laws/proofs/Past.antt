@@ -1,7 +1,8 @@
 -- A suspension is awake under later arrivals where the run over all of them goes past its await, and under the premises of exactness only there.
 use Rattle.std.proofs.Common.{ℕ, suc, ◌+◌, ◌<◌, arith, ◌≡◌, refl, sym, ap, ap₂, subst, ◌∙◌, inr, Bool, true, false, true≢false, ◌&&◌, ◌||◌, if◌then◌else◌, List, [], ◌∷◌, ◌++◌, length, Option, Some, None, is_some}
 use Rattle.std.proofs.lemmas.Bool.{ltb-true, leb-true}
-use Rattle.protocol_types.specs.Feature.{lacks_feature, has_feature}
+use Rattle.protocol_types.specs.Version.{version_number}
+use Rattle.protocol_types.specs.Feature.{first_version, lacks_feature, has_feature}
 use Rattle.protocol_types.specs.declared.feature.Feature.TheVariants as features
 use Rattle.std.specs.List.{find, list_any}
 use Rattle.journal_model.specs.declared.notification.NotificationId.{NotificationId}
@@ -125,8 +126,9 @@ woken_by version tree (ForAny ids) tells later awake = any_come later ids (tells
 -- no version both has a feature and lacks it
 not_both : (version : ℕ) → lacks_feature version features.AwaitTree ≡ true → has_feature version features.AwaitTree ≡ true → ⊥
 not_both version lacks has =
-    let low = ltb-true version 7 lacks in
-    let high = leb-true 7 version has in
+    let first : ℕ = version_number (first_version features.AwaitTree) in
+    let low = ltb-true version first lacks in
+    let high = leb-true first version has in
     omega (arith, low, high)
 
 pub awake_by : (version : ℕ) (tree : AwaitTree (Option NotificationId)) (suspension : Suspension) → Tells version tree (Some suspension) → has_feature version features.AwaitTree ≡ true → all_stand tree ≡ true → (later : List Arrival)
