@@ -14,12 +14,7 @@ same_ids : (a b : NotificationId) → same_id a b ≡ true → a ≡ b
 same_ids (CompletionId n) (CompletionId m) e = ap CompletionId (eqb-true n m e)
 same_ids (SignalId n) (SignalId m) e = ap SignalId (eqb-true n m e)
 same_ids (SignalName s) (SignalName t) e = ap SignalName ((bytes_eq-Decides s t).0 e)
-same_ids (CompletionId n) (SignalId m) e = cc
-same_ids (CompletionId n) (SignalName t) e = cc
-same_ids (SignalId n) (CompletionId m) e = cc
-same_ids (SignalId n) (SignalName t) e = cc
-same_ids (SignalName s) (CompletionId m) e = cc
-same_ids (SignalName s) (SignalId m) e = cc
+same_ids _ _ e = cc
 
 none_first : (results : List NotificationResult) → first_of results ≡ None → drop 1 results ≡ results
 none_first [] e = refl
