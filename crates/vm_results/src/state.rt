@@ -1,0 +1,125 @@
+// What has come, and what handles stand for.
+ghost use Rattle.std.specs.Prelude.{◌≡◌, ◌+◌, ◌^◌, ◌≤◌, ◌↔◌, [], length, is_some, IfOk, OnOk, OnErr, IsErrOf};
+ghost use Rattle.attempt_model.specs.Results.{waiting_for};
+ghost use Rattle.vm_results.specs.Views.{results_of, ready_of, slots_of};
+ghost use Rattle.vm_results.specs.Calls.{no_results, with_queued, with_ready, with_handle, after_take};
+ghost use Rattle.vm_results.specs.declared.state.CreateHandleError.TheVariants.{HandlesExhausted, OutOfMemory};
+
+use crate::ready::ReadyNotifications;
+use crate::slots::{Slots, first_for, next_handle, take_for};
+use journal_model::{
+    Notification, NotificationHandle, NotificationId, NotificationResult, SignalDelivery,
+};
+use std::alloc::{AllocError, AllocFailed, Global};
+use std::collections::VecDeque;
+
+/// What has come of an invocation's notifications, and what its handles stand for.
+///
+/// A notification that comes waits in line until an await looks at it: before that it is not completed, and not taken. Handle 1
+/// stands for the cancellation always; those that are made count from 17.
+#[derive(Debug, Drop)]
+pub struct AsyncResultsState {
+    signal_delivery: SignalDelivery,
+    line: VecDeque<Notification>,
+    ready: ReadyNotifications,
+    slots: Slots,
+}
+
+/// Why no handle was made.
+#[derive(Clone, Copy, Debug, PartialEq, Eq)]
+pub enum CreateHandleError {
+    /// The number of the next one has more than 32 bits.
+    HandlesExhausted,
+    OutOfMemory,
+}
+
+impl<T: Drop> From<AllocFailed<T>> for CreateHandleError {
+    ghost from_gives = { λ _ error. error ≡ OutOfMemory };
+
+    fn from(_refused: AllocFailed<T>) -> CreateHandleError {
+        CreateHandleError::OutOfMemory
+    }
+}
+
+impl AsyncResultsState {
+    /// Nothing has come, and no handle was made.
+    pub fn new(alloc: Global, signal_delivery: SignalDelivery) -> AsyncResultsState
+        ensures { results_of result ≡ no_results signal_delivery }
+    {
+        AsyncResultsState {
+            signal_delivery,
+            line: VecDeque::new(alloc),
+            ready: ReadyNotifications::new(alloc),
+            slots: Vec::new(alloc),
+        }
+    }
+
+    /// One more has come: it waits in line, until an await looks at it.
+    pub fn enqueue(&mut self, notification: Notification) -> Result<(), AllocError>
+        ensures ok { OnOk result (results_of self.new ≡ with_queued notification (results_of self.old)) }
+        ensures err { OnErr result (results_of self.new ≡ results_of self.old) }
+    {
+        self.line.push_back(notification)?;
+        Ok(())
+    }
+
+    /// One is known at once, as the value of a key that was read before: no await has to look at it.
+    pub fn insert_ready(&mut self, notification: Notification) -> Result<(), AllocError>
+        ensures ok { OnOk result (results_of self.new ≡ with_ready notification (results_of self.old)) }
+        ensures err { OnErr result (results_of self.new ≡ results_of self.old) }
+    {
+        match self.ready.push(self.signal_delivery, notification) {
+            Ok(()) => Ok(()),
+            Err(refused) => {
+                drop(refused);
+                Err(AllocError)
+            }
+        }
+    }
+
+    /// Makes the next handle, for this id.
+    pub fn create_handle_mapping(
+        &mut self,
+        id: NotificationId,
+    ) -> Result<NotificationHandle, CreateHandleError>
+        ensures handle { IfOk result (λ handle. handle ≡ 17 + length (slots_of self.old)) }
+        ensures ok { OnOk result (results_of self.new ≡ with_handle id (results_of self.old)) }
+        ensures exhausted { IsErrOf result HandlesExhausted ↔ (2 ^ 32 ≤ 17 + length (slots_of self.old)) }
+        ensures err { OnErr result (results_of self.new ≡ results_of self.old) }
+    {
+        let Some(number) = next_handle(self.slots.len()) else {
+            return Err(CreateHandleError::HandlesExhausted);
+        };
+        self.slots.push(Some(id))?;
+        Ok(NotificationHandle::new(number))
+    }
+
+    /// Whether a notification waits for the handle.
+    pub fn is_handle_completed(&self, handle: NotificationHandle) -> bool
+        ensures { result ≡ is_some (waiting_for (slots_of self.now) (ready_of self.now) handle) }
+    {
+        first_for(self.slots.as_slice(), &self.ready, handle).is_some()
+    }
+
+    /// Takes the first notification that waits for the handle, which then stands for nothing. The handle of cancellations
+    /// stands for them always.
+    pub fn take_handle(&mut self, handle: NotificationHandle) -> Option<NotificationResult>
+        ensures value { result ≡ waiting_for (slots_of self.old) (ready_of self.old) handle }
+        ensures rest { results_of self.new ≡ after_take handle result (results_of self.old) }
+    {
+        take_for(&mut self.slots, &mut self.ready, handle)
+    }
+
+    /// A copy of the first notification that waits for the handle.
+    pub fn copy_handle(
+        &self,
+        handle: NotificationHandle,
+    ) -> Result<Option<NotificationResult>, AllocError>
+        ensures { IfOk result (λ copy. copy ≡ waiting_for (slots_of self.now) (ready_of self.now) handle) }
+    {
+        match first_for(self.slots.as_slice(), &self.ready, handle) {
+            Some(result) => Ok(Some(result.clone()?)),
+            None => Ok(None),
+        }
+    }
+}
