@@ -1,0 +1,138 @@
+// Which command of the journal an attempt is at, and which ids are next.
+ghost use Rattle.std.specs.Prelude.{◌≡◌, ◌+◌, ◌-◌, ◌^◌, ◌<◌, ◌≤◌, ◌↔◌, ◌-ℤ◌, pos, IsErr, IfOk, OnOk, OnErr};
+ghost use Rattle.vm_context.specs.Journal.{no_commands, more_commands, after_command, after_completions, after_signal, after_skip};
+
+use crate::IdsExhausted;
+use bytes::ByteStr;
+use protocol_types::MessageType;
+use std::marker::Model;
+
+/// Counts an attempt's commands, and the ids of its completions and of its awakeables' signals.
+///
+/// The index of a command counts from 0, and is -1 before the first; completions count from 1. Signals count from 17, since
+/// those up to 16 are reserved.
+#[derive(Debug, Drop)]
+pub struct Journal {
+    commands: u64,
+    /// The ids that were taken last.
+    last_completion: u32,
+    last_signal: u32,
+    last_type: MessageType,
+    last_name: ByteStr,
+}
+
+impl Model for Journal {
+    ghost use Rattle.std.specs.Prelude.{◌+◌, ◌^◌, ◌<◌};
+    ghost use Rattle.vm_context.specs.Journal.{JournalCounts};
+
+    ghost Value = { JournalCounts };
+
+    ghost view = { λ journal. record {
+      commands = journal.commands;
+      completions = journal.last_completion + 1;
+      signals = journal.last_signal + 1;
+      last_type = journal.last_type;
+      last_name = journal.last_name;
+    } };
+
+    ghost invariant = { λ journal. journal.commands < 2 ^ 63 };
+}
+
+// So many commands, and so many more.
+fn count_more(commands: u64, more: u32) -> u64
+    ensures { result ≡ more_commands commands more }
+{
+    commands
+        .saturating_add(u64::from(more))
+        .min(i64::MAX as u64)
+}
+
+// The id behind this one.
+fn id_behind(last: u32) -> Result<u32, IdsExhausted>
+    ensures id { IfOk result (λ id. id ≡ last + 1) }
+    ensures exhausted { IsErr result ↔ (2 ^ 32 ≤ last + 1) }
+{
+    last.checked_add(1).ok_or(IdsExhausted)
+}
+
+impl Journal {
+    /// Before the first command.
+    pub fn new() -> Journal
+        ensures { result ≡ no_commands }
+    {
+        Journal {
+            commands: 0,
+            last_completion: 0,
+            last_signal: 16,
+            last_type: MessageType::Start,
+            last_name: ByteStr::new(),
+        }
+    }
+
+    /// The index of the last command, and -1 before the first. Past the greatest of 63 bits it stays there.
+    pub fn command_index(&self) -> i64
+        ensures { result ≡ pos self.now.commands -ℤ pos 1 }
+    {
+        self.commands as i64 - 1
+    }
+
+    /// A command of this type and name is asked for. What is no command is told in errors, and not counted.
+    pub fn transition(&mut self, ty: MessageType, name: ByteStr)
+        ensures { self.new ≡ after_command ty name self.old }
+    {
+        if ty.is_command() {
+            self.commands = count_more(self.commands, 1);
+        }
+        self.last_type = ty;
+        self.last_name = name;
+    }
+
+    /// Takes the next completion id.
+    pub fn next_completion_notification_id(&mut self) -> Result<u32, IdsExhausted>
+        ensures id { IfOk result (λ id. id ≡ self.old.completions) }
+        ensures ok { OnOk result (self.new ≡ after_completions 1 self.old) }
+        ensures exhausted { IsErr result ↔ (2 ^ 32 ≤ self.old.completions) }
+        ensures err { OnErr result (self.new ≡ self.old) }
+    {
+        let id = id_behind(self.last_completion)?;
+        self.last_completion = id;
+        Ok(id)
+    }
+
+    /// Takes the next two completion ids, or none where there are not two.
+    pub fn next_two_completion_notification_ids(&mut self) -> Result<(u32, u32), IdsExhausted>
+        ensures ids { IfOk result (λ ids. (ids.0 ≡ self.old.completions) × (ids.1 ≡ self.old.completions + 1)) }
+        ensures ok { OnOk result (self.new ≡ after_completions 2 self.old) }
+        ensures exhausted { IsErr result ↔ (2 ^ 32 ≤ self.old.completions + 1) }
+        ensures err { OnErr result (self.new ≡ self.old) }
+    {
+        let first = id_behind(self.last_completion)?;
+        let second = id_behind(first)?;
+        self.last_completion = second;
+        Ok((first, second))
+    }
+
+    /// Takes the next id of an awakeable's signal.
+    pub fn next_signal_notification_id(&mut self) -> Result<u32, IdsExhausted>
+        ensures id { IfOk result (λ id. id ≡ self.old.signals) }
+        ensures ok { OnOk result (self.new ≡ after_signal self.old) }
+        ensures exhausted { IsErr result ↔ (2 ^ 32 ≤ self.old.signals) }
+        ensures err { OnErr result (self.new ≡ self.old) }
+    {
+        let id = id_behind(self.last_signal)?;
+        self.last_signal = id;
+        Ok(id)
+    }
+
+    /// Goes past so many recorded commands that are not matched. The ids that follow were taken by none of them, since a
+    /// command takes two completions at most; where there are no such ids, none is left.
+    pub fn skip_to(&mut self, skipped: u32)
+        ensures { self.new ≡ after_skip skipped self.old }
+    {
+        self.commands = count_more(self.commands, skipped);
+        self.last_completion = self
+            .last_completion
+            .saturating_add(skipped)
+            .saturating_add(skipped);
+    }
+}
