@@ -5,7 +5,6 @@ ghost use Rattle.invocation_vm.specs.View.{fresh};
 ghost use Rattle.invocation_vm.specs.Attempt.{Advances, Announced, Feeds, IsUnread, OnlyReads, ReadsSome, Sends, Turns};
 
 use crate::failure::AttemptFailure;
-use vm_types::VMOptions;
 use crate::preflight::{have_start, read_input};
 use crate::progress::{Progress, Turn, carry_out};
 use bytes::Bytes;
@@ -14,6 +13,7 @@ use protocol_records::StartMessage;
 use protocol_stream::Decoder;
 use std::alloc::{AllocError, Global};
 use std::marker::Model;
+use vm_types::VMOptions;
 
 /// A handler at work on an invocation: what came, what it was answered, and what is to go out.
 #[derive(Drop)]

@@ -11,7 +11,6 @@ ghost use Rattle.invocation_vm.specs.Preflight.{TakesNext, ReadsPayload, ReadsRe
 ghost use Rattle.invocation_vm.specs.Reads.{HasStart, HasInput};
 
 use crate::failure::AttemptFailure;
-use vm_types::VMOptions;
 use bytes::{ByteStr, Bytes};
 use journal_model::{Header, Input};
 use protocol_records::{InputCommandMessage, StartMessage, Value};
@@ -20,6 +19,7 @@ use protocol_types::Feature;
 use protocol_wire::{DecodeError, Record, decode};
 use sequence::Sequence;
 use std::alloc::{AllocError, Global};
+use vm_types::VMOptions;
 
 // Takes the next message; `None` where it has not come whole.
 fn next_message(decoder: &mut Decoder) -> Result<Option<RawMessage>, AttemptFailure>

@@ -12,7 +12,6 @@ ghost use Rattle.invocation_vm.specs.Standing.{Tallies, CarriesOut, HasCause};
 
 use crate::commands::{write_awaiting_on, write_end, write_output, write_sleep};
 use crate::failure::{AttemptFailure, CallRefusal};
-use vm_types::{AwaitingOnPolicy, VMOptions};
 use crate::output::Output;
 use bytes::ByteStr;
 use journal_model::{
@@ -22,6 +21,7 @@ use journal_model::{
 use protocol_types::Feature;
 use sequence::Sequence;
 use std::alloc::{AllocError, Global};
+use vm_types::{AwaitingOnPolicy, VMOptions};
 
 /// What a turn of an attempt came to.
 #[derive(Clone, Copy, Debug, PartialEq, Eq)]
