@@ -31,7 +31,7 @@ use Rattle.attempt_calls.proofs.CallKinds.{no_child-await}
 use Rattle.attempt_calls.proofs.Ids.{both-true, first-true, second-true, is_in}
 use Rattle.attempt_laws.proofs.Apart.{own-run, IsApart, apart}
 
-abbrev gives : ℕ → List Request → Bool
+abbrev pub gives : ℕ → List Request → Bool
 gives n requests = list_any (gives_id n) requests
 
 -- a child that a step brings is given by a request of the step
@@ -96,7 +96,7 @@ or-right : (a b : Bool) → b ≡ true → (a || b) ≡ true
 or-right true b e = refl
 or-right false b e = e
 
-any-append : {A : Type 0} (test : A → Bool) (xs ys : List A) → list_any test (xs ++ ys) ≡ (list_any test xs || list_any test ys)
+pub any-append : {A : Type 0} (test : A → Bool) (xs ys : List A) → list_any test (xs ++ ys) ≡ (list_any test xs || list_any test ys)
 any-append test [] ys = refl
 any-append test (x ∷ xs) ys = by_first (test x) (any-append test xs ys)
   where
@@ -124,7 +124,7 @@ tracked-given cancellation (step ∷ earlier) all n e =
     by_either false f before g = or-right (gives n (requests_of earlier)) (gives n step.requests) (all.0 n g)
 
 -- and what gives an invocation id is asked for
-given-asked : (n : ℕ) (requests : List Request) → gives n requests ≡ true → list_any (asks_for n) requests ≡ true
+pub given-asked : (n : ℕ) (requests : List Request) → gives n requests ≡ true → list_any (asks_for n) requests ≡ true
 given-asked n [] e = cc
 given-asked n (request ∷ requests) e = by_first (gives_id n request) refl e (given-asked n requests)
   where
@@ -139,11 +139,11 @@ given-asked n (request ∷ requests) e = by_first (gives_id n request) refl e (g
     by_first false f g later = or-right (asks_for n request) (list_any (asks_for n) requests) (later g)
 
 -- what holds of all in a list
-all-front : {A : Type 0} (test : A → Bool) (xs ys : List A) → list_all test (xs ++ ys) ≡ true → list_all test xs ≡ true
+pub all-front : {A : Type 0} (test : A → Bool) (xs ys : List A) → list_all test (xs ++ ys) ≡ true → list_all test xs ≡ true
 all-front test [] ys e = refl
 all-front test (x ∷ xs) ys e = both-true (test x) (list_all test xs) (first-true (test x) (list_all test (xs ++ ys)) e) (all-front test xs ys (second-true (test x) (list_all test (xs ++ ys)) e))
 
-all-both : {A : Type 0} (test : A → Bool) (xs ys : List A) → list_all test xs ≡ true → list_all test ys ≡ true → list_all test (xs ++ ys) ≡ true
+pub all-both : {A : Type 0} (test : A → Bool) (xs ys : List A) → list_all test xs ≡ true → list_all test ys ≡ true → list_all test (xs ++ ys) ≡ true
 all-both test [] ys e f = f
 all-both test (x ∷ xs) ys e f = both-true (test x) (list_all test (xs ++ ys)) (first-true (test x) (list_all test xs) e) (all-both test xs ys (second-true (test x) (list_all test xs) e) f)
 
@@ -179,7 +179,7 @@ all-in-front options steps arrivals place id test r all f = by_replaced (replace
         (all-drop test (passed_at_take (ids_created steps) arrivals id steps) (deliveries steps arrivals place id) all) g
     by_replaced false g = all-get test (deliveries steps arrivals place id) (takes_of steps id) r all g
 
-no-results : (xs : List NotificationResult) → length xs ≡ 0 → xs ≡ []
+pub no-results : (xs : List NotificationResult) → length xs ≡ 0 → xs ≡ []
 no-results [] e = refl
 no-results (x ∷ xs) e = cc
 

@@ -23,7 +23,7 @@ pub count-append : (n : ℕ) (xs ys : List ℕ) → count_of n (xs ++ ys) ≡ co
 count-append n [] ys = omega arith
 count-append n (x ∷ xs) ys = let later = count-append n xs ys in omega arith
 
-asked-append : (xs ys : List Request) → numbers_asked (xs ++ ys) ≡ numbers_asked xs ++ numbers_asked ys
+pub asked-append : (xs ys : List Request) → numbers_asked (xs ++ ys) ≡ numbers_asked xs ++ numbers_asked ys
 asked-append [] ys = refl
 asked-append (x ∷ xs) ys = ap (λ (rest : List ℕ). completions_asked x ++ rest) (asked-append xs ys) ∙ sym (append_assoc (completions_asked x) (numbers_asked xs) (numbers_asked ys))
 
@@ -33,7 +33,7 @@ come-append (x ∷ xs) ys = ap (λ (rest : List ℕ). number_of x.id ++ rest) (c
 
 -- ---- numbers that ascend
 
-ascend-above : (n last : ℕ) (ns : List ℕ) → do_ascend last ns ≡ true → n ≤ last → count_of n ns ≡ 0
+pub ascend-above : (n last : ℕ) (ns : List ℕ) → do_ascend last ns ≡ true → n ≤ last → count_of n ns ≡ 0
 ascend-above n last [] e low = refl
 ascend-above n last (m ∷ ns) e low =
     let (here, rest) = and-true (nat_lt last m) (do_ascend m ns) e in
@@ -45,7 +45,7 @@ ascend-above n last (m ∷ ns) e low =
     by_test true f above later = let same : m ≡ n = eqb-true m n f in absurd (omega arith)
     by_test false f above later = omega arith
 
-ascend-once : (n last : ℕ) (ns : List ℕ) → do_ascend last ns ≡ true → count_of n ns ≤ 1
+pub ascend-once : (n last : ℕ) (ns : List ℕ) → do_ascend last ns ≡ true → count_of n ns ≤ 1
 ascend-once n last [] e = omega arith
 ascend-once n last (m ∷ ns) e =
     let (here, rest) = and-true (nat_lt last m) (do_ascend m ns) e in
@@ -58,7 +58,7 @@ ascend-once n last (m ∷ ns) e =
         omega arith
     by_test false f rest low = omega arith
 
-below-greatest : (n : ℕ) (ns : List ℕ) → 0 < count_of n ns → n ≤ greatest ns
+pub below-greatest : (n : ℕ) (ns : List ℕ) → 0 < count_of n ns → n ≤ greatest ns
 below-greatest n [] some = absurd (omega arith)
 below-greatest n (m ∷ ns) some = by_test (m == n) refl some (below-greatest n ns)
   where
@@ -93,7 +93,7 @@ awaited-none n (arrival ∷ arrivals) e = by_id arrival.id (λ f. awaited-none n
     by_id (SignalId m) later e = later e
     by_id (SignalName name) later e = later e
 
-asked-any : (n : ℕ) (ns : List ℕ) → list_any (λ m. m == n) ns ≡ true → 1 ≤ count_of n ns
+pub asked-any : (n : ℕ) (ns : List ℕ) → list_any (λ m. m == n) ns ≡ true → 1 ≤ count_of n ns
 asked-any n [] e = absurd (true≢false (sym e))
 asked-any n (m ∷ ns) e = by_test (m == n) e (asked-any n ns)
   where
@@ -101,17 +101,25 @@ asked-any n (m ∷ ns) e = by_test (m == n) e (asked-any n ns)
     by_test true e later = omega arith
     by_test false e later = let rest = later e in omega arith
 
-asking-some : (n : ℕ) (requests : List Request) → is_some (find (asks_for n) requests) ≡ true → 1 ≤ count_of n (numbers_asked requests)
-asking-some n [] e = absurd (true≢false (sym e))
-asking-some n (request ∷ requests) e = by_test (asks_for n request) refl e (asking-some n requests)
+pub asked-some : (n : ℕ) (requests : List Request) → list_any (asks_for n) requests ≡ true → 1 ≤ count_of n (numbers_asked requests)
+asked-some n [] e = absurd (true≢false (sym e))
+asked-some n (request ∷ requests) e = by_test (asks_for n request) refl e (asked-some n requests)
   where
     sum : count_of n (completions_asked request ++ numbers_asked requests) ≡ count_of n (completions_asked request) + count_of n (numbers_asked requests)
     sum = count-append n (completions_asked request) (numbers_asked requests)
 
-    by_test : (b : Bool) → asks_for n request ≡ b → is_some (if b then Some request else find (asks_for n) requests) ≡ true
-        → (is_some (find (asks_for n) requests) ≡ true → 1 ≤ count_of n (numbers_asked requests)) → 1 ≤ count_of n (completions_asked request ++ numbers_asked requests)
+    by_test : (b : Bool) → asks_for n request ≡ b → (b || list_any (asks_for n) requests) ≡ true
+        → (list_any (asks_for n) requests ≡ true → 1 ≤ count_of n (numbers_asked requests)) → 1 ≤ count_of n (completions_asked request ++ numbers_asked requests)
     by_test true f e later = let own = asked-any n (completions_asked request) f in let all = sum in omega arith
     by_test false f e later = let rest = later e in let all = sum in omega arith
+
+found-any : (test : Request → Bool) (requests : List Request) → is_some (find test requests) ≡ list_any test requests
+found-any test [] = refl
+found-any test (request ∷ requests) = by_test (test request) (found-any test requests)
+  where
+    by_test : (b : Bool) → is_some (find test requests) ≡ list_any test requests → is_some (if b then Some request else find test requests) ≡ (b || list_any test requests)
+    by_test true later = refl
+    by_test false later = later
 
 open_parts : (entries : List Entry) (n : ℕ) → is_some (open_request entries n) ≡ true
     → (count_of n (numbers_come (arrivals_in entries)) ≡ 0) × (1 ≤ count_of n (numbers_asked (requests_in entries)))
@@ -120,7 +128,8 @@ open_parts entries n e = by_test (list_any (completes n) (arrivals_in entries)) 
     by_test : (b : Bool) → list_any (completes n) (arrivals_in entries) ≡ b → is_some (if not b then request_asking entries n else None) ≡ true
         → (count_of n (numbers_come (arrivals_in entries)) ≡ 0) × (1 ≤ count_of n (numbers_asked (requests_in entries)))
     by_test true f e = absurd (true≢false (sym e))
-    by_test false f e = (awaited-none n (arrivals_in entries) f, asking-some n (requests_in entries) e)
+    by_test false f e =
+        (awaited-none n (arrivals_in entries) f, asked-some n (requests_in entries) (sym (found-any (asks_for n) (requests_in entries)) ∙ e))
 
 -- ---- more entries
 
@@ -170,7 +179,7 @@ once_one entries n once e m =
 
 -- ---- a tick
 
-abbrev numbers_of : List (ℕ × ℕ) → List ℕ
+abbrev pub numbers_of : List (ℕ × ℕ) → List ℕ
 numbers_of [] = []
 numbers_of (sleep ∷ sleeps) = sleep.1 ∷ numbers_of sleeps
 
@@ -219,32 +228,40 @@ over_awaited entries now m (sleep ∷ sleeps) e = by_test (is_over entries now s
     by_test false f later = later
     by_test true f later = by_number (sleep.1 == m) refl f later
 
-numbers-append : (m : ℕ) (xs ys : List (ℕ × ℕ)) → count_of m (numbers_of (xs ++ ys)) ≡ count_of m (numbers_of xs) + count_of m (numbers_of ys)
+pub numbers-append : (m : ℕ) (xs ys : List (ℕ × ℕ)) → count_of m (numbers_of (xs ++ ys)) ≡ count_of m (numbers_of xs) + count_of m (numbers_of ys)
 numbers-append m [] ys = omega arith
 numbers-append m (x ∷ xs) ys = let later = numbers-append m xs ys in omega arith
 
-slept_asked : (m : ℕ) (requests : List Request) → count_of m (numbers_of (sleeps_in requests)) ≤ count_of m (numbers_asked requests)
+pub slept_one : (m : ℕ) (request : Request) → count_of m (numbers_of (sleep_in request)) ≤ count_of m (completions_asked request)
+slept_one m (Request.Sleep moment n name) = omega arith
+slept_one m request = omega arith
+
+pub slept_asked : (m : ℕ) (requests : List Request) → count_of m (numbers_of (sleeps_in requests)) ≤ count_of m (numbers_asked requests)
 slept_asked m [] = omega arith
 slept_asked m (request ∷ requests) =
     let a = numbers-append m (sleep_in request) (sleeps_in requests) in
     let b = count-append m (completions_asked request) (numbers_asked requests) in
     let later = slept_asked m requests in
-    let own = one_slept request in
+    let own = slept_one m request in
     omega arith
-  where
-    one_slept : (request : Request) → count_of m (numbers_of (sleep_in request)) ≤ count_of m (completions_asked request)
-    one_slept (Request.Sleep moment n name) = omega arith
-    one_slept request = omega arith
+
+-- a tick ends sleeps that were asked for
+pub slept_few : (entries : List Entry) (now m : ℕ) → count_of m (numbers_come (slept entries now)) ≤ count_of m (numbers_of (sleeps_in (requests_in entries)))
+slept_few entries now m =
+    let all = sorted_by_moment (sleeps_in (requests_in entries)) in
+    let a = come_of m (filter (is_over entries now) all) in
+    let b = filtered m (is_over entries now) all in
+    let c = sorted m (sleeps_in (requests_in entries)) in
+    omega (arith, a, b, c)
 
 once_slept : (entries : List Entry) (now : ℕ) → AreOnce (requests_in entries) (arrivals_in entries) → (m : ℕ)
     → count_of m (numbers_come (arrivals_in entries)) + count_of m (numbers_come (slept entries now)) ≤ count_of m (numbers_asked (requests_in entries))
 once_slept entries now once m =
     let all = sorted_by_moment (sleeps_in (requests_in entries)) in
     let a = come_of m (filter (is_over entries now) all) in
-    let b = filtered m (is_over entries now) all in
-    let c = sorted m (sleeps_in (requests_in entries)) in
-    let d = slept_asked m (requests_in entries) in
-    by_awaited (list_any (completes m) (arrivals_in entries)) refl (omega (arith, a, b, c, d)) (λ e. a ∙ over_awaited entries now m all e) (once.come m)
+    let b = slept_few entries now m in
+    let c = slept_asked m (requests_in entries) in
+    by_awaited (list_any (completes m) (arrivals_in entries)) refl (omega (arith, b, c)) (λ e. a ∙ over_awaited entries now m all e) (once.come m)
   where
     by_awaited : (b : Bool) → list_any (completes m) (arrivals_in entries) ≡ b
         → count_of m (numbers_come (slept entries now)) ≤ count_of m (numbers_asked (requests_in entries))
@@ -256,7 +273,7 @@ once_slept entries now once m =
 
 -- ---- one more event
 
-arrivals_arrived : (arrivals : List Arrival) → arrivals_in (map Arrived arrivals) ≡ arrivals
+pub arrivals_arrived : (arrivals : List Arrival) → arrivals_in (map Arrived arrivals) ≡ arrivals
 arrivals_arrived [] = refl
 arrivals_arrived (arrival ∷ arrivals) = ap (λ (rest : List Arrival). arrival ∷ rest) (arrivals_arrived arrivals)
 
@@ -265,7 +282,7 @@ requests_arrived [] = refl
 requests_arrived (arrival ∷ arrivals) = requests_arrived arrivals
 
 -- a read that the store answers is answered under the number that it asked for
-read_asked : (m : ℕ) (state : StateMap) (request : Request) → count_of m (numbers_come (read_answer state request)) ≤ count_of m (completions_asked request)
+pub read_asked : (m : ℕ) (state : StateMap) (request : Request) → count_of m (numbers_come (read_answer state request)) ≤ count_of m (completions_asked request)
 read_asked m state (Request.GetLazyState key n name) = omega arith
 read_asked m state (Request.GetLazyStateKeys n name) = omega arith
 read_asked m state request = omega arith

@@ -10,7 +10,7 @@ use Rattle.journal_model.specs.Delivery.{results_for}
 use Rattle.completion_laws.specs.Once.{count_of, numbers_asked, number_of, numbers_come, AreOnce, ComeWhenAsked, CompletionsComeWhenAsked}
 use Rattle.completion_laws.proofs.Once.{count-append, recorded_once}
 
-count-results : (n : ℕ) (arrivals : List Arrival) → length (results_for arrivals (CompletionId n)) ≡ count_of n (numbers_come arrivals)
+pub count-results : (n : ℕ) (arrivals : List Arrival) → length (results_for arrivals (CompletionId n)) ≡ count_of n (numbers_come arrivals)
 count-results n [] = refl
 count-results n (arrival ∷ arrivals) = by_id arrival.id (count-results n arrivals)
   where

@@ -58,14 +58,14 @@ text_filter test (entry ∷ entries) all = by_test (test entry) (text_filter tes
     by_test true later = (all.0, later)
     by_test false later = later
 
-text_change : (request : Request) (entries : StateMap) → list_all is_utf8 (keys_of request) ≡ true → HasTextKeys entries → HasTextKeys (state_change request entries)
+pub text_change : (request : Request) (entries : StateMap) → list_all is_utf8 (keys_of request) ≡ true → HasTextKeys entries → HasTextKeys (state_change request entries)
 text_change (Request.SetState key value name) entries e all = text_put key value entries (and-true (is_utf8 key) true e).0 all
 text_change (Request.ClearState key name) entries e all = text_filter (λ entry. not (eq_by_cmp bytes_cmp key entry.0)) entries all
 text_change (Request.ClearAllState name) entries e all = tt
 text_change request entries e all = all
 
 -- the key of a request that was recorded is text
-text_asked : (earlier : List Event) (id : Text) (attempt : ℕ) (request : Request) → causes_of earlier (Event.Take id attempt (Frame.Command request)) ≡ [] → list_all is_utf8 (keys_of request) ≡ true
+pub text_asked : (earlier : List Event) (id : Text) (attempt : ℕ) (request : Request) → causes_of earlier (Event.Take id attempt (Frame.Command request)) ≡ [] → list_all is_utf8 (keys_of request) ≡ true
 text_asked earlier id attempt request causes =
     not-false (list_all is_utf8 (keys_of request))
     (holds-head (tail_of (tail_of tests))

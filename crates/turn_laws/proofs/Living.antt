@@ -86,11 +86,25 @@ turn_sends next given id events held read unread asked written reads whole write
     by_written frames (ends over) whole =
         unclosed (Frame.End ∷ []) (writes_send next given (arrivals_read events id read) false asked (Frame.End ∷ []) (ends over))
 
-requests_sent-append : (xs ys : List Frame) → requests_sent (xs ++ ys) ≡ requests_sent xs ++ requests_sent ys
+pub requests_sent-append : (xs ys : List Frame) → requests_sent (xs ++ ys) ≡ requests_sent xs ++ requests_sent ys
 requests_sent-append [] ys = refl
 requests_sent-append (x ∷ xs) ys = ap (λ (rest : List Request). request_sent x ++ rest) (requests_sent-append xs ys) ∙ sym (append_assoc (request_sent x) (requests_sent xs) (requests_sent ys))
 
 -- ---- a turn
+
+-- the attempt reads messages of which it holds all bytes
+pub reads_messages : (events : List Event) (id : Text) (held held' : Bytes) (read unread some still : List InputMessage) → unread ≡ some ++ still → held ≡ input_bytes (map piece_of some) ++ held'
+    → HasReadMessages events id held read unread → HasReadMessages events id held' (read ++ some) still
+reads_messages events id held held' read unread some still parts bytes reads = record {
+  all =
+      subst (λ (all : List InputMessage). IsInput events id all)
+      (ap (λ (rest : List InputMessage). read ++ rest) parts ∙ sym (append_assoc read some still)) reads.all;
+  bytes =
+      append_cancel_left (input_bytes (map piece_of some)) (held' ++ input_left events id) (input_bytes (map piece_of still))
+      (sym (append_assoc (input_bytes (map piece_of some)) held' (input_left events id)) ∙ ap (λ (all : Bytes). all ++ input_left events id) (sym bytes)
+      ∙ reads.bytes ∙ ap (λ (all : List InputMessage). input_bytes (map piece_of all)) parts
+      ∙ ap input_bytes (pieces-append some still) ∙ bytes_more (map piece_of some) (map piece_of still));
+}
 
 module _ (next : Handler) (given : Invocation) (id : Text) (events : List Event) (coming : List Frame) (held held' : Bytes) (read unread : List InputMessage) (calls : ℕ)
     (left written : List Request) (sent : List Frame) (live : IsLive next given id events coming held read unread calls left written)
@@ -99,14 +113,7 @@ module _ (next : Handler) (given : Invocation) (id : Text) (events : List Event)
   all_messages = ap (λ (rest : List InputMessage). read ++ rest) turn.parts ∙ sym (append_assoc read turn.some turn.still)
 
   now_read : HasReadMessages events id held' (read ++ turn.some) turn.still
-  now_read = record {
-    all = subst (λ (all : List InputMessage). IsInput events id all) all_messages live.input.all;
-    bytes =
-        append_cancel_left (input_bytes (map piece_of turn.some)) (held' ++ input_left events id) (input_bytes (map piece_of turn.still))
-        (sym (append_assoc (input_bytes (map piece_of turn.some)) held' (input_left events id)) ∙ ap (λ (bytes : Bytes). bytes ++ input_left events id) (sym turn.bytes)
-        ∙ live.input.bytes ∙ ap (λ (all : List InputMessage). input_bytes (map piece_of all)) turn.parts
-        ∙ ap input_bytes (pieces-append turn.some turn.still) ∙ bytes_more (map piece_of turn.some) (map piece_of turn.still));
-  }
+  now_read = reads_messages events id held held' read unread turn.some turn.still turn.parts turn.bytes live.input
 
   pub turn_follows : FollowsSo next given id events coming → FollowsSo next given id events (coming ++ sent)
   turn_follows f = record {

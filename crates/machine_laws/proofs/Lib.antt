@@ -1,0 +1,6 @@
+mod Asking
+mod Recording
+mod Texts
+mod Living
+mod Going
+mod LivingRows

@@ -1,0 +1,4 @@
+pub mod Reading
+pub mod Turning
+pub mod Beginning
+mod PositionRows
