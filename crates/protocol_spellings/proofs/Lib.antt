@@ -1,3 +1,5 @@
+pub mod Back
 pub mod Fields
 pub mod Requests
 pub mod Notifications
+pub mod Told

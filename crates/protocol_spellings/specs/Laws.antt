@@ -1,10 +1,12 @@
 -- The canonical payloads are those that the definitions give.
-use Rattle.std.specs.Prelude.{◌≡◌, ℕ}
+use Rattle.std.specs.Prelude.{◌≡◌, ℕ, Some}
 use Rattle.journal_model.specs.Notification.{Arrival}
 use Rattle.journal_model.specs.declared.notification.NotificationId.{NotificationId}
 use Rattle.journal_model.specs.AwaitTree.{AwaitTree}
 use Rattle.journal_model.specs.Request.{Request}
 use Rattle.journal_model.specs.Spelling.{request_payload, notification_payload, acknowledgement_payload, suspension_payload}
+use Rattle.protocol_spellings.specs.Commands.{CommandRecord, command_record}
+use Rattle.protocol_spellings.specs.Requests.{request_told}
 use Rattle.protocol_spellings.specs.Payloads.{record_payload, notification_record_payload, acknowledgement_record_payload, suspension_record_payload}
 
 abbrev pub RequestsSpelled : Type 0
@@ -18,3 +20,11 @@ AcknowledgementsSpelled = (completion : ℕ) → acknowledgement_record_payload 
 
 abbrev pub SuspensionsSpelled : Type 0
 SuspensionsSpelled = (tree : AwaitTree NotificationId) → suspension_record_payload tree ≡ suspension_payload tree
+
+-- the record of a request stands for it
+abbrev pub RequestsTold : Type 0
+RequestsTold = (request : Request) → request_told (command_record request) ≡ Some request
+
+-- a record that stands for a request is that request's record: nothing of it is lost
+abbrev pub RecordsTold : Type 0
+RecordsTold = (one : CommandRecord) (request : Request) → request_told one ≡ Some request → command_record request ≡ one

@@ -1,3 +1,5 @@
-pub mod Records
-pub mod Payloads
+pub mod Commands
 pub mod Laws
+pub mod Payloads
+pub mod Records
+pub mod Requests

@@ -35,10 +35,11 @@ use Rattle.journal_model.specs.Spelling.{request_payload}
 use Rattle.protocol_types.specs.declared.message_type.MessageType.{MessageType}
 use Rattle.protocol_types.specs.declared.message_type.MessageType.TheVariants as types
 use Rattle.protocol_stream.specs.Frame.{message_of}
-use Rattle.protocol_stream.specs.Records.{value_record, pair_record, pair_told, failure_record, result_record, output_record, sleep_record}
+use Rattle.protocol_stream.specs.Records.{value_record, pair_record, failure_record, result_record, output_record, sleep_record}
 use Rattle.protocol_stream.proofs.RecordSpellings.{sleeps_spelled, outputs_spelled}
 use Rattle.store_frames.specs.Meaning.{unless_faulty, command_or_broken, frame_of}
-use Rattle.store_frames.specs.Requests.{request_of_sleep, request_of_output, value_put_out}
+use Rattle.protocol_spellings.specs.Requests.{request_of_sleep, request_of_output}
+use Rattle.protocol_spellings.proofs.Told.{output_told}
 use Rattle.invocation_vm.specs.Progress.{HasShortCode}
 use Rattle.invocation_vm.specs.Frames.{FitsFrame}
 use Rattle.invocation_vm.proofs.Sizes.{SizeHolds, number_holds, bytes_hold, optional_holds, repeated_hold, fields_are, small_as}
@@ -148,14 +149,6 @@ output_back value name short fits =
       result = result i;
     }
 
-pairs_told : (pairs : List (Text × Text)) → map pair_told (map pair_record pairs) ≡ pairs
-pairs_told [] = refl
-pairs_told (pair ∷ pairs) = λ i. pair ∷ pairs_told pairs i
-
-put_out : (value : NonEmptyValue) → value_put_out (result_record value) ≡ value
-put_out (NonEmptyValue.Success content) = refl
-put_out (NonEmptyValue.Failure one) = λ i. NonEmptyValue.Failure (record one { metadata = pairs_told one.metadata i })
-
 -- ---- frames
 
 -- a payload that is read as a frame is that frame, or faulty
@@ -173,7 +166,7 @@ means version (Asks (Request.Output value name)) fits =
     let payload : List ℕ = request_payload (Request.Output value name) in
     unless (payload_fault LEVELS records.OutputCommand payload) (command_or_broken (request_of_output (output_command_of LEVELS (fields payload)))) (Frame.Command (Request.Output value name))
     (ap (λ (m : OutputCommandMessage). command_or_broken (request_of_output m)) (output_back value name fits.0 fits.1)
-    ∙ ap (λ (v : NonEmptyValue). Frame.Command (Request.Output v name)) (put_out value))
+    ∙ ap (λ (v : NonEmptyValue). Frame.Command (Request.Output v name)) (output_told value))
 means version (Asks _) fits = absurd fits.0
 means version (Tells payload) fits = unless (payload_fault LEVELS records.AwaitingOn payload) Frame.AwaitingOn Frame.AwaitingOn refl
 means version Ends fits = unless (payload_fault LEVELS records.End []) Frame.End Frame.End refl

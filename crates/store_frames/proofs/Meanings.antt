@@ -32,7 +32,8 @@ use Rattle.store_frames.specs.declared.frame.ErrorBehavior.TheVariants as behavi
 use Rattle.store_frames.specs.declared.frame.AttemptFrame.{AttemptFrame}
 use Rattle.store_frames.specs.declared.frame.AttemptFrame.TheVariants as answers
 use Rattle.store_frames.specs.Kind.{kind_of, record_of}
-use Rattle.store_frames.specs.Requests.{request_of_sleep, request_of_call, request_of_output, suspension_of_tree, suspension_of_lists, behavior_numbered}
+use Rattle.protocol_spellings.specs.Requests.{request_of_sleep, request_of_call, request_of_output}
+use Rattle.store_frames.specs.Requests.{suspension_of_tree, suspension_of_lists, behavior_numbered}
 use Rattle.store_frames.specs.Meaning.{unless_faulty, read_as, command_or_broken, error_frame, suspension_frame, other_frame, frame_by, frame_of}
 use Rattle.store_frames.specs.Told.{told_unless_faulty, told_as, told_sleep, told_call, told_output, told_tree, told_lists, told_number, told_error, told_suspension, told_other, told_by}
 use Rattle.store_frames.specs.Answer.{IsFrame, behavior_meant}

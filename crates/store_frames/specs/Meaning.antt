@@ -25,7 +25,8 @@ use Rattle.protocol_types.specs.Feature.{lacks_feature}
 use Rattle.store_frames.specs.declared.kind.FrameKind.{FrameKind}
 use Rattle.store_frames.specs.declared.kind.FrameKind.TheVariants as kinds
 use Rattle.store_frames.specs.Kind.{kind_of, record_of}
-use Rattle.store_frames.specs.Requests.{request_of_sleep, request_of_call, request_of_output, suspension_of_tree, suspension_of_lists, behavior_in}
+use Rattle.protocol_spellings.specs.Requests.{request_of_sleep, request_of_call, request_of_output}
+use Rattle.store_frames.specs.Requests.{suspension_of_tree, suspension_of_lists, behavior_in}
 
 -- a payload with which something is wrong is no more than that
 abbrev pub unless_faulty : Option Fault → Frame → Frame

@@ -1,5 +1,5 @@
 -- An output that was read of a message is one that a message can hold.
-use Rattle.std.proofs.Common.{◌≡◌, refl, sym, ap, subst, ◌∙◌, ℕ, nat_lt, Bool, true, false, map, List, [], ◌∷◌, Option, Some, None, option_map}
+use Rattle.std.proofs.Common.{◌≡◌, refl, sym, ap, subst, ◌∙◌, ℕ, nat_lt, Bool, true, false, List, Option, Some, None, option_map}
 use Rattle.journal_model.specs.Notification.{Text}
 use Rattle.journal_model.specs.declared.value.NonEmptyValue.{NonEmptyValue}
 use Rattle.journal_model.specs.Request.{Request}
@@ -11,10 +11,8 @@ use Rattle.protocol_wire.specs.declared.check.Fault.{Fault}
 use Rattle.protocol_wire.specs.declared.check.Fault.TheVariants.{BadPayload, TooDeep}
 use Rattle.protocol_wire.specs.Check.{payload_fault}
 use Rattle.protocol_wire.specs.Fields.{fields}
-use Rattle.protocol_records.specs.declared.failure.FailureMetadata.{FailureMetadata}
 use Rattle.protocol_records.specs.declared.output_command.OutputCommandMessage.{OutputCommandMessage}
 use Rattle.protocol_records.specs.declared.output_command.OutputCommandResult.{OutputCommandResult}
-use Rattle.protocol_records.specs.declared.output_command.OutputCommandResult.TheVariants as results
 use Rattle.protocol_records.specs.OutputCommand.{OutputCommandFits, output_command_of}
 use Rattle.protocol_records.specs.SleepCommand.{sleep_command_of}
 use Rattle.protocol_records.specs.Suspension.{suspension_of}
@@ -22,13 +20,15 @@ use Rattle.protocol_records.specs.SuspensionV6.{suspension_v6_of}
 use Rattle.protocol_calls.specs.Fields.{call_command_of}
 use Rattle.protocol_controls.specs.Error.{error_of}
 use Rattle.protocol_stream.specs.Header.{message_type}
-use Rattle.protocol_stream.specs.Records.{output_record, pair_record, pair_told, result_record}
+use Rattle.protocol_stream.specs.Records.{output_record}
 use Rattle.protocol_types.specs.declared.message_type.MessageType.{MessageType}
 use Rattle.store_frames.specs.declared.kind.FrameKind.{FrameKind}
 use Rattle.store_frames.specs.declared.kind.FrameKind.TheVariants as kinds
 use Rattle.store_frames.specs.Kind.{kind_of, record_of}
 use Rattle.store_frames.specs.Meaning.{command_or_broken, error_frame, frame_by, other_frame, suspension_frame, unless_faulty}
-use Rattle.store_frames.specs.Requests.{request_of_call, request_of_output, request_of_sleep, suspension_of_lists, suspension_of_tree, value_put_out}
+use Rattle.protocol_spellings.specs.Requests.{request_of_call, request_of_output, request_of_sleep, value_put_out}
+use Rattle.protocol_spellings.proofs.Back.{result_back}
+use Rattle.store_frames.specs.Requests.{suspension_of_lists, suspension_of_tree}
 use Rattle.store_frames.specs.Read.{IsRead}
 use Rattle.protocol_laws.specs.Fits.{output_command_fits}
 
@@ -39,15 +39,6 @@ IsHeld _ = Unit {0}
 
 -- ---- a record of what an output's record says is that record
 
-pairs_again : (pairs : List FailureMetadata) → map pair_record (map pair_told pairs) ≡ pairs
-pairs_again [] = refl
-pairs_again (pair ∷ pairs) = λ i. pair ∷ pairs_again pairs i
-
-result_again : (result : OutputCommandResult) → result_record (value_put_out result) ≡ result
-result_again (results.Value value) = refl
-result_again (results.Failure failure) =
-    λ i. results.Failure (record { code = failure.code; message = failure.message; metadata = pairs_again failure.metadata i })
-
 held_output : (one : OutputCommandMessage) (o : Option OutputCommandResult) (value : NonEmptyValue) (name : Text) → OutputCommandFits LEVELS one → one.result ≡ o
     → command_or_broken (option_map (λ (result : OutputCommandResult). Request.Output (value_put_out result) one.name) o) ≡ Frame.Command (Request.Output value name)
     → OutputCommandFits LEVELS (output_record value name)
@@ -55,7 +46,7 @@ held_output one None value name fits is e = cc
 held_output one (Some result) value name fits is e =
     let put : value_put_out result ≡ value = cc in
     let named : one.name ≡ name = cc in
-    let same : one ≡ output_record (value_put_out result) one.name = λ i. record { name = one.name; result = (is ∙ ap Some (sym (result_again result))) i } in
+    let same : one ≡ output_record (value_put_out result) one.name = λ i. record { name = one.name; result = (is ∙ ap Some (sym (result_back result))) i } in
     subst (OutputCommandFits LEVELS) (same ∙ (λ i. output_record (put i) (named i))) fits
 
 -- ---- no other frame is an output

@@ -26,7 +26,8 @@ use Rattle.protocol_stream.specs.Header.{message_type}
 use Rattle.store_frames.specs.declared.kind.FrameKind.{FrameKind}
 use Rattle.store_frames.specs.declared.kind.FrameKind.TheVariants as kinds
 use Rattle.store_frames.specs.Kind.{kind_of, record_of}
-use Rattle.store_frames.specs.Requests.{request_of_sleep, request_of_call, request_of_output, suspension_of_tree, suspension_of_lists}
+use Rattle.protocol_spellings.specs.Requests.{request_of_sleep, request_of_call, request_of_output}
+use Rattle.store_frames.specs.Requests.{suspension_of_tree, suspension_of_lists}
 use Rattle.store_frames.specs.Meaning.{unless_faulty, read_as, command_or_broken, error_frame, suspension_frame, other_frame, frame_by}
 use Rattle.store_tables.specs.declared.row.Write.{Write}
 use Rattle.store_model.specs.Writes.{state_write, state_writes}

@@ -1,0 +1,5 @@
+pub mod HeaderEquality
+pub mod Meanings
+pub mod Meant
+pub mod Popping
+pub mod Recorded

@@ -1,0 +1,15 @@
+//! What recorded commands ask, when one of them is the command that a call makes, and taking the next one.
+//!
+//! A frame of a journal is a request where its payload can be read and has what each request of its kind has. `Command` is what
+//! the records of all commands that calls make have in common.
+#![tactic(auto)]
+
+mod command;
+mod commands;
+pub mod laws;
+mod pop;
+mod replay_error;
+
+pub use command::Command;
+pub use pop::pop_journal_entry;
+pub use replay_error::ReplayError;
