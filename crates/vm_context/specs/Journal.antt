@@ -1,9 +1,12 @@
--- What is counted of an attempt's commands and ids.
-use Rattle.std.specs.Prelude.{ℕ, ◌+◌, ◌-◌, ◌*◌, ◌^◌, min, if◌then◌else◌, []}
+-- What is counted of an attempt's commands and ids, and how a command is told in an error.
+use Rattle.std.specs.Prelude.{ℕ, ◌+◌, ◌-◌, ◌*◌, ◌^◌, min, Bool, true, false, if◌then◌else◌, List, [], ◌∷◌, Option, Some, None}
 use Rattle.journal_model.specs.Notification.{Text}
 use Rattle.protocol_types.specs.declared.message_type.MessageType.{MessageType}
 use Rattle.protocol_types.specs.declared.message_type.MessageType.TheVariants.{Start}
 use Rattle.protocol_types.specs.MessageType.{is_command}
+use Rattle.protocol_stream.specs.CommandType.{message_type_of}
+use Rattle.protocol_errors.specs.declared.metadata.CommandMetadata.{CommandMetadata}
+use Rattle.protocol_differences.specs.declared.relationship.CommandRelationship.{CommandRelationship}
 
 pub record JournalCounts : Type 0 where
   -- how many commands there were
@@ -43,3 +46,30 @@ after_skip skipped journal = record journal {
   commands = more_commands journal.commands skipped;
   completions = min (journal.completions + 2 * skipped) (2 ^ 32);
 }
+
+-- the index of the last command, 0 where there was none, and the one behind it, as 32 bits hold them
+abbrev pub last_index : JournalCounts → ℕ
+last_index journal = min (journal.commands - 1) (2 ^ 32 - 1)
+
+abbrev pub next_index : JournalCounts → ℕ
+next_index journal = min ((journal.commands - 1) + 1) (2 ^ 32 - 1)
+
+-- an empty name is told as none
+abbrev pub name_told : Text → Option Text
+name_told [] = None
+name_told (byte ∷ bytes) = Some (byte ∷ bytes)
+
+-- the command that an error is about
+abbrev pub command_told : JournalCounts → CommandRelationship → CommandMetadata
+command_told journal CommandRelationship.Last = record { index = last_index journal; ty = journal.last_type; name = name_told journal.last_name }
+command_told journal (CommandRelationship.Next ty name) = record { index = next_index journal; ty = message_type_of ty; name = name }
+command_told journal (CommandRelationship.Specific index ty name) = record { index = index; ty = message_type_of ty; name = name }
+
+-- whether a name is copied for it
+abbrev pub has_name : Text → Bool
+has_name [] = false
+has_name (byte ∷ bytes) = true
+
+abbrev pub copies_name : JournalCounts → CommandRelationship → Bool
+copies_name journal CommandRelationship.Last = has_name journal.last_name
+copies_name journal _ = false

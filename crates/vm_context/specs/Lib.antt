@@ -1,1 +1,4 @@
+pub mod Eager
+pub mod Following
 pub mod Journal
+pub mod Output

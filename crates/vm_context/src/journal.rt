@@ -1,10 +1,14 @@
 // Which command of the journal an attempt is at, and which ids are next.
-ghost use Rattle.std.specs.Prelude.{◌≡◌, ◌+◌, ◌-◌, ◌^◌, ◌<◌, ◌≤◌, ◌↔◌, ◌-ℤ◌, pos, IsErr, IfOk, OnOk, OnErr};
-ghost use Rattle.vm_context.specs.Journal.{no_commands, more_commands, after_command, after_completions, after_signal, after_skip};
+ghost use Rattle.std.specs.Prelude.{◌≡◌, ◌+◌, ◌-◌, ◌^◌, ◌<◌, ◌≤◌, ◌↔◌, ◌-ℤ◌, pos, min, true, IsErr, IfOk, OnOk, OnErr};
+ghost use Rattle.vm_context.specs.Journal.{no_commands, more_commands, after_command, after_completions, after_signal, after_skip, name_told, has_name, command_told, copies_name};
+ghost use Rattle.protocol_differences.specs.declared.relationship.CommandRelationship.TheVariants as related;
 
 use crate::IdsExhausted;
 use bytes::ByteStr;
-use protocol_types::MessageType;
+use protocol_differences::CommandRelationship;
+use protocol_errors::CommandMetadata;
+use protocol_stream::MessageType;
+use std::alloc::AllocError;
 use std::marker::Model;
 
 /// Counts an attempt's commands, and the ids of its completions and of its awakeables' signals.
@@ -45,6 +49,24 @@ fn count_more(commands: u64, more: u32) -> u64
     commands
         .saturating_add(u64::from(more))
         .min(i64::MAX as u64)
+}
+
+// An index, or the greatest that 32 bits hold.
+fn to_index(index: u64) -> u32
+    ensures { result ≡ min index (2 ^ 32 - 1) }
+{
+    u32::try_from(index).unwrap_or(u32::MAX)
+}
+
+// A copy of a name that is not empty.
+fn copy_name(name: &ByteStr) -> Result<Option<ByteStr>, AllocError>
+    ensures told { IfOk result (λ told. told ≡ name_told name.now) }
+    ensures memory { OnErr result (has_name name.now ≡ true) }
+{
+    if name.is_empty() {
+        return Ok(None);
+    }
+    Ok(Some(name.clone()?))
 }
 
 // The id behind this one.
@@ -134,5 +156,44 @@ impl Journal {
             .last_completion
             .saturating_add(skipped)
             .saturating_add(skipped);
+    }
+
+    /// The command that an error is about. Memory is asked for the copy of the last one's name alone.
+    pub fn resolve_related_command(
+        &self,
+        relationship: CommandRelationship,
+    ) -> Result<CommandMetadata, AllocError>
+        ensures told { IfOk result (λ told. told ≡ command_told self.now relationship) }
+        ensures memory { OnErr result (copies_name self.now relationship ≡ true) }
+    {
+        match relationship {
+            CommandRelationship::Last => self.last_command_metadata(),
+            CommandRelationship::Next { ty, name } => Ok(CommandMetadata {
+                index: to_index(self.commands.saturating_sub(1) + 1),
+                ty: ty.into(),
+                name,
+            }),
+            CommandRelationship::Specific {
+                command_index,
+                ty,
+                name,
+            } => Ok(CommandMetadata {
+                index: command_index,
+                ty: ty.into(),
+                name,
+            }),
+        }
+    }
+
+    /// The last command, as an error names it: index 0 and type `Start` where there was none.
+    pub fn last_command_metadata(&self) -> Result<CommandMetadata, AllocError>
+        ensures told { IfOk result (λ told. told ≡ command_told self.now related.Last) }
+        ensures memory { OnErr result (has_name self.now.last_name ≡ true) }
+    {
+        Ok(CommandMetadata {
+            index: to_index(self.commands.saturating_sub(1)),
+            ty: self.last_type,
+            name: copy_name(&self.last_name)?,
+        })
     }
 }

@@ -1,0 +1,5 @@
+pub mod Entries
+pub mod Keeping
+pub mod Rows
+pub mod Sending
+pub mod Telling

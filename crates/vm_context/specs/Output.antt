@@ -1,0 +1,21 @@
+-- What an attempt has written and what of it was not taken.
+use Rattle.std.specs.Prelude.{ℕ, Bool, if◌then◌else◌, List, [], ◌++◌, flat_map}
+use Rattle.protocol_types.specs.declared.version.Version.{Version}
+
+-- frames, one behind the other
+abbrev pub joined : List (List ℕ) → List ℕ
+joined frames = flat_map (λ frame. frame) frames
+
+pub record Written : Type 0 where
+  pub version : Version
+  -- what waits to be taken, the first byte first
+  pub bytes : List ℕ
+  pub is_closed : Bool
+
+-- with this frame behind what waits; behind the end nothing is written
+abbrev pub with_frame : List ℕ → Written → Written
+with_frame frame written = if written.is_closed then written else record written { bytes = written.bytes ++ frame }
+
+-- nothing waits
+abbrev pub all_taken : Written → Written
+all_taken written = record written { bytes = [] }
