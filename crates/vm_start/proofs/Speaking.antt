@@ -1,0 +1,15 @@
+-- What a content type says, where there is one.
+use Rattle.std.proofs.Common.{ℕ, List}
+use Rattle.std.specs.Prelude.{Some, Result, Ok, Err}
+use Rattle.protocol_types.specs.declared.version.Version.{Version}
+use Rattle.vm_start.specs.declared.negotiation.NegotiationError.{NegotiationError}
+use Rattle.vm_start.specs.declared.negotiation.NegotiationError.TheVariants.{UnreadableHeader, MissingContentType, UnknownContentType, UnsupportedVersion, OutOfMemory}
+use Rattle.vm_start.specs.Negotiation.{Negotiates, Speaks}
+
+pub speaks_so : {E : Type 0} (text : List ℕ) (result : Result Version (NegotiationError E)) → Speaks text result → Negotiates (Some text) result
+speaks_so text (Ok version) says = says
+speaks_so text (Err (UnreadableHeader error)) says = tt
+speaks_so text (Err MissingContentType) says = absurd says
+speaks_so text (Err (UnknownContentType error)) says = says
+speaks_so text (Err (UnsupportedVersion version)) says = says
+speaks_so text (Err OutOfMemory) says = tt

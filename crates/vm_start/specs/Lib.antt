@@ -1,0 +1,2 @@
+pub mod Negotiation
+pub mod Starts
