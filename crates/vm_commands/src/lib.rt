@@ -6,10 +6,14 @@
 
 mod command;
 mod commands;
+mod eager_read;
 pub mod laws;
 mod pop;
 mod replay_error;
+mod state_read;
 
 pub use command::Command;
+pub use eager_read::EagerRead;
 pub use pop::pop_journal_entry;
 pub use replay_error::ReplayError;
+pub use state_read::{StateRead, StateReadError, pop_state_read};
