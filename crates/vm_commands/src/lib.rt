@@ -1,7 +1,8 @@
 //! What recorded commands ask, when one of them is the command that a call makes, and taking the next one.
 //!
 //! A frame of a journal is a request where its payload can be read and has what each request of its kind has. `Command` is what
-//! the records of all commands that calls make have in common.
+//! the records of all commands that calls make have in common. A read of an object's state is taken as it is recorded, by
+//! `pop_state_read`.
 #![tactic(auto)]
 
 mod command;
