@@ -12,6 +12,7 @@ mod frames;
 mod messages;
 mod operands;
 mod records;
+mod replay;
 mod stream;
 mod typed_errors;
 
@@ -31,6 +32,7 @@ fn answer_to(alloc: Global, file: &str, operation: &str, operands: &[&str]) -> O
         "awaits" => awaits::answer(alloc, operation, operands),
         "frames" => frames::answer(alloc, operation, operands),
         "errors" => errors::answer(alloc, operation, operands),
+        "replay" => replay::answer(alloc, operation, operands),
         "typed_errors" => typed_errors::answer(alloc, operation, operands),
         _ => None,
     }

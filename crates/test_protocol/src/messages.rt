@@ -20,7 +20,7 @@ use journal_protocol::{
 use std::alloc::Global;
 
 /// The message at the front of these bytes.
-fn first_message(alloc: Global, frame: &str) -> Option<RawMessage> {
+pub fn first_message(alloc: Global, frame: &str) -> Option<RawMessage> {
     let frame = bytes(alloc, frame)?;
     let mut decoder = Decoder::new(alloc);
     decoder.push(frame.as_slice()).ok()?;

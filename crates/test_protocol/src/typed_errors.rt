@@ -21,7 +21,8 @@ use journal_protocol::{
 use std::alloc::Global;
 use std::fmt;
 
-fn error<E: WithInvocationErrorCode + fmt::Display + Drop>(
+/// The code and the text of an error.
+pub fn error<E: WithInvocationErrorCode + fmt::Display + Drop>(
     alloc: Global,
     error: E,
 ) -> Option<String> {

@@ -1,3 +1,4 @@
 pub mod Comparing
 pub mod Popping
 pub mod Recording
+pub mod Retelling

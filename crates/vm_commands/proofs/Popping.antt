@@ -63,7 +63,7 @@ first_taken t of erased index ignoring made old next answer first takes = subst 
 
 -- ---- what it says of requests
 
-not_true : (b : Bool) → (b ≡ true → ⊥) → b ≡ false
+pub not_true : (b : Bool) → (b ≡ true → ⊥) → b ≡ false
 not_true true never = absurd (never refl)
 not_true false never = refl
 
@@ -71,23 +71,23 @@ abbrev answered : Commands → List Request → Bool → Option PutState
 answered left written matched = if matched then Some (record { left = left; written = written }) else None
 
 -- the next one that is left is matched, or it is not
-put_matches : (ignoring : Bool) (found : Option Request) (made : Request) (left : Commands) (written : List Request) → is_recorded ignoring found made ≡ true
+pub put_matches : (ignoring : Bool) (found : Option Request) (made : Request) (left : Commands) (written : List Request) → is_recorded ignoring found made ≡ true
     → put_one (header_equal ignoring) made (found ∷ left) written ≡ Some (record { left = left; written = written })
 put_matches ignoring None made left written h = cc
 put_matches ignoring (Some recorded) made left written h = ap (answered left written) h
 
-put_differs : (ignoring : Bool) (found : Option Request) (made : Request) (left : Commands) (written : List Request) → is_recorded ignoring found made ≡ false
+pub put_differs : (ignoring : Bool) (found : Option Request) (made : Request) (left : Commands) (written : List Request) → is_recorded ignoring found made ≡ false
     → put_one (header_equal ignoring) made (found ∷ left) written ≡ None
 put_differs ignoring None made left written h = refl
 put_differs ignoring (Some recorded) made left written h = ap (answered left written) h
 
 -- a message that was read is the request of its record
-read_as : {M : Type 0} {t : RecordType} {of : ℕ → List Field → M} {parts : M → List Part} {erased : Bool → M → M} {request_of : M → Option Request}
+pub read_as : {M : Type 0} {t : RecordType} {of : ℕ → List Field → M} {parts : M → List Part} {erased : Bool → M → M} {request_of : M → Option Request}
     → MeansRequests t of parts erased request_of → (m : RawMessage) (one : M) → HasItsType t m → IsRead LEVELS t of m.payload one → command_of m ≡ request_of one
 read_as {request_of = request_of} means m one its read = means.meant m its ∙ (λ i. unless_wrong (read.sound i) (request_of ((sym read.value) i)))
 
 -- a message that cannot be read is no request
-never_read : {M : Type 0} {t : RecordType} {of : ℕ → List Field → M} {parts : M → List Part} {erased : Bool → M → M} {request_of : M → Option Request}
+pub never_read : {M : Type 0} {t : RecordType} {of : ℕ → List Field → M} {parts : M → List Part} {erased : Bool → M → M} {request_of : M → Option Request}
     → MeansRequests t of parts erased request_of → (m : RawMessage) (fault : Fault) → HasItsType t m → payload_fault LEVELS t m.payload ≡ Some fault → command_of m ≡ None
 never_read {of = of} {request_of = request_of} means m fault its wrong = means.meant m its ∙ ap (λ (o : Option Fault). unless_wrong o (request_of (of LEVELS (fields m.payload)))) wrong
 
@@ -103,7 +103,7 @@ other_differs means index ignoring expected m wanted actual told other made e (S
     other.other (other.is_there ∙ sym (keeps_types m recorded is) ∙ compares_types ignoring recorded made h ∙ sym same))
 
 -- what was taken leaves
-matches_first : {M : Type 0} {t : RecordType} {of : ℕ → List Field → M} {parts : M → List Part} {erased : Bool → M → M} {request_of : M → Option Request}
+pub matches_first : {M : Type 0} {t : RecordType} {of : ℕ → List Field → M} {parts : M → List Part} {erased : Bool → M → M} {request_of : M → Option Request}
     → MeansRequests t of parts erased request_of → (index : ℤ) (ignoring : Bool) (expected : M) (m : RawMessage) (left : List RawMessage) (answer : Result M (ReplayError M))
     → TakesAs t of erased index ignoring expected (Some m) answer
     → (made : Request) (written : List Request) → request_of expected ≡ Some made → Matches ignoring made written (m ∷ left) answer left

@@ -3,3 +3,5 @@ pub mod Meanings
 pub mod Meant
 pub mod Popping
 pub mod Recorded
+pub mod Retold
+pub mod StateReads

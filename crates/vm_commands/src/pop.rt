@@ -12,7 +12,7 @@ use std::alloc::Global;
 use std::collections::VecDeque;
 
 // The first message leaves, if there is one.
-fn take_first(commands: &mut VecDeque<RawMessage>) -> Option<RawMessage>
+pub(crate) fn take_first(commands: &mut VecDeque<RawMessage>) -> Option<RawMessage>
     ensures first { result ≡ next_of commands.old.items }
     ensures left { commands.new.items ≡ drop 1 commands.old.items }
 {
@@ -20,7 +20,7 @@ fn take_first(commands: &mut VecDeque<RawMessage>) -> Option<RawMessage>
 }
 
 // Want of memory has a name of its own.
-fn unread<M>(error: DecodingError) -> ReplayError<M>
+pub(crate) fn unread<M>(error: DecodingError) -> ReplayError<M>
     ensures { result ≡ unread_as error }
 {
     match error {
@@ -30,7 +30,7 @@ fn unread<M>(error: DecodingError) -> ReplayError<M>
 }
 
 // The recorded command, where it has the header of the call's.
-fn compare<M: Command>(
+pub(crate) fn compare<M: Command>(
     command_index: i64,
     recorded: M,
     expected: M,
@@ -47,7 +47,7 @@ fn compare<M: Command>(
 
 // The message as the command that a call makes.
 #[tactic(auto, using(crate::proofs::Popping::compares_next))]
-fn take_next<M: Command>(
+pub(crate) fn take_next<M: Command>(
     alloc: Global,
     next: Option<RawMessage>,
     command_index: i64,
