@@ -1,14 +1,11 @@
--- How a state is seen: how signals are delivered, what no await has looked at, what waits to be taken, and what handles stand for.
+-- How what waits to be taken is seen.
 use Rattle.std.specs.Prelude.{List, [], ◌∷◌, Option, Some, None, nat_eq, bytes_eq}
 use Rattle.std.specs.declared.collections.VecDeque.{VecDeque}
 use Rattle.indexmap.specs.IndexMap.{get}
 use Rattle.journal_model.specs.declared.notification.NotificationId.TheVariants.{CompletionId, SignalId, SignalName}
 use Rattle.journal_model.specs.declared.notification.NotificationResult.{NotificationResult}
-use Rattle.journal_model.specs.declared.options.SignalDelivery.{SignalDelivery}
-use Rattle.journal_model.specs.Notification.{Arrival}
-use Rattle.attempt_model.specs.Results.{Ready, Slots}
+use Rattle.attempt_model.specs.Results.{Ready}
 use Rattle.vm_results.specs.declared.ready.ReadyNotifications.{ReadyNotifications}
-use Rattle.vm_results.specs.declared.state.AsyncResultsState.{AsyncResultsState}
 
 abbrev pub listed : Option NotificationResult → List NotificationResult
 listed None = []
@@ -26,25 +23,3 @@ ready_in ready (SignalName name) = items_of (get bytes_eq ready.names name)
 
 abbrev pub none_ready : Ready
 none_ready id = []
-
-pub record AsyncResults : Type 0 where
-  pub delivery : SignalDelivery
-  -- what no await has looked at, in its order
-  pub queue : List Arrival
-  pub ready : Ready
-  pub slots : Slots
-
-abbrev pub delivery_of : AsyncResultsState → SignalDelivery
-delivery_of state = state.signal_delivery
-
-abbrev pub queue_of : AsyncResultsState → List Arrival
-queue_of state = state.line.items
-
-abbrev pub ready_of : AsyncResultsState → Ready
-ready_of state = ready_in state.ready
-
-abbrev pub slots_of : AsyncResultsState → Slots
-slots_of state = state.slots.items
-
-abbrev pub results_of : AsyncResultsState → AsyncResults
-results_of state = record { delivery = delivery_of state; queue = queue_of state; ready = ready_of state; slots = slots_of state }

@@ -1,13 +1,11 @@
-//! What has come of an invocation's notifications, what handles stand for, and whether what is awaited has come.
+//! What has come of an invocation's notifications and waits to be taken, and what handles stand for.
 //!
-//! Contracts see a state as four things, by `results_of`: how signals are delivered, the line of notifications that no await has
-//! looked at, what waits to be taken of each id, and what each handle stands for. What each call answers and leaves is said by
-//! the definitions of an attempt over these.
+//! Contracts see what waits as a function of ids, by `ready_in`, and what handles stand for as the list of it. What each call
+//! answers and leaves is said by the definitions of an attempt over these.
 #![tactic(auto)]
 
 mod ready;
 mod slots;
-mod state;
 
 pub use ready::ReadyNotifications;
-pub use state::{AsyncResultsState, CreateHandleError};
+pub use slots::{Slots, first_for, id_for, next_handle, state_for, take_for};

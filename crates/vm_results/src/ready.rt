@@ -133,7 +133,7 @@ fn take_delivery<K: Eq + Hash + Drop>(
 
 impl ReadyNotifications {
     /// Nothing waits.
-    pub(crate) fn new(alloc: Global) -> ReadyNotifications
+    pub fn new(alloc: Global) -> ReadyNotifications
         ensures { ready_in result ≡ none_ready }
     {
         ReadyNotifications {
@@ -145,7 +145,7 @@ impl ReadyNotifications {
     }
 
     /// The first that waits of this id.
-    pub(crate) fn first(&self, id: &NotificationId) -> Option<&NotificationResult>
+    pub fn first(&self, id: &NotificationId) -> Option<&NotificationResult>
         ensures { option_copied result ≡ first_of (ready_in self.now id.now) }
     {
         match id {
@@ -156,7 +156,7 @@ impl ReadyNotifications {
     }
 
     /// One more waits. Where there is no memory for it, it is given back.
-    pub(crate) fn push(
+    pub fn push(
         &mut self,
         delivery: SignalDelivery,
         notification: Notification,
@@ -195,7 +195,7 @@ impl ReadyNotifications {
     }
 
     /// The first that waits of this id is taken.
-    pub(crate) fn take(&mut self, id: &NotificationId) -> Option<NotificationResult>
+    pub fn take(&mut self, id: &NotificationId) -> Option<NotificationResult>
         ensures value { result ≡ first_of (ready_in self.old id.now) }
         ensures rest { ready_in self.new ≡ ready_without_first (ready_in self.old) (Some id.now) }
     {

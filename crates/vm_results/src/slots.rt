@@ -1,15 +1,18 @@
 // What handles stand for, and what waits for them.
-ghost use Rattle.std.specs.Prelude.{◌≡◌, ℕ, ◌+◌, ◌-◌, ◌^◌, ◌<◌, length, nat_lt, slice_get, None, if◌then◌else◌, SomeIff};
+ghost use Rattle.std.specs.Prelude.{◌≡◌, ℕ, ◌+◌, ◌-◌, ◌^◌, ◌<◌, length, nat_lt, slice_get, None, if◌then◌else◌, SomeIff, option_map};
 ghost use Rattle.std.specs.Option.{option_copied};
-ghost use Rattle.attempt_model.specs.Results.{slot_in, waiting_for};
+ghost use Rattle.protocol_trees.specs.Shape.{state_meant};
+ghost use Rattle.protocol_trees.specs.Future.{id_meant};
+ghost use Rattle.attempt_model.specs.Results.{slot_in, slot_of, waiting_for, handle_state};
 ghost use Rattle.vm_results.specs.Calls.{ready_left, slots_left};
 ghost use Rattle.vm_results.specs.Views.{ready_in};
 
 use crate::ready::ReadyNotifications;
 use journal_model::{NotificationHandle, NotificationId, NotificationResult};
+use protocol_trees::{AwaitState, NotificationIdRef};
 
 /// By handle from 17 on, what it stands for.
-pub(crate) type Slots = Vec<Option<NotificationId>>;
+pub type Slots = Vec<Option<NotificationId>>;
 
 // The number of the handle of cancellations, and of the signal that it stands for.
 const CANCEL: u32 = 1;
@@ -18,7 +21,7 @@ const CANCEL: u32 = 1;
 const FIRST_HANDLE: u32 = 17;
 
 /// The number of the handle behind so many.
-pub(crate) fn next_handle(count: usize) -> Option<u32>
+pub fn next_handle(count: usize) -> Option<u32>
     ensures { SomeIff result (17 + count < 2 ^ 32) (17 + count) }
 {
     match u32::try_from(count) {
@@ -40,8 +43,29 @@ fn slot(slots: &[Option<NotificationId>], handle: u32) -> Option<&NotificationId
     }
 }
 
+/// What a handle stands for.
+pub fn id_for(
+    slots: &[Option<NotificationId>],
+    handle: NotificationHandle,
+) -> Option<NotificationIdRef<'_>>
+    ensures { option_map id_meant result ≡ slot_of slots.now handle }
+{
+    let handle = handle.number();
+    if handle == CANCEL {
+        return Some(NotificationIdRef::SignalId(CANCEL));
+    }
+    match slot(slots, handle) {
+        None => None,
+        Some(NotificationId::CompletionId(number)) => Some(NotificationIdRef::CompletionId(
+            *number,
+        )),
+        Some(NotificationId::SignalId(number)) => Some(NotificationIdRef::SignalId(*number)),
+        Some(NotificationId::SignalName(name)) => Some(NotificationIdRef::SignalName(name)),
+    }
+}
+
 /// The first notification that waits for a handle.
-pub(crate) fn first_for<'a>(
+pub fn first_for<'a>(
     slots: &[Option<NotificationId>],
     ready: &'a ReadyNotifications,
     handle: NotificationHandle,
@@ -58,8 +82,23 @@ pub(crate) fn first_for<'a>(
     }
 }
 
+/// What a handle has come to: a leaf that stands for nothing stays pending.
+pub fn state_for(
+    slots: &[Option<NotificationId>],
+    ready: &ReadyNotifications,
+    handle: NotificationHandle,
+) -> AwaitState
+    ensures { state_meant result ≡ handle_state slots.now (ready_in ready.now) handle }
+{
+    match first_for(slots, ready, handle) {
+        None => AwaitState::Pending,
+        Some(NotificationResult::Failure(_)) => AwaitState::Failed,
+        Some(_) => AwaitState::Succeeded,
+    }
+}
+
 /// Takes the first notification that waits for a handle, which then stands for nothing, but that of cancellations.
-pub(crate) fn take_for(
+pub fn take_for(
     slots: &mut Slots,
     ready: &mut ReadyNotifications,
     handle: NotificationHandle,

@@ -1,5 +1,5 @@
-use Rattle.vm_results.proofs.Seen.{seen_same}
-use Rattle.vm_results.proofs.state.AsyncResultsState.new.Goals as goal
+use Rattle.vm_awaits.proofs.Seen.{seen_same}
+use Rattle.vm_awaits.proofs.state.AsyncResultsState.new.Goals as goal
 
 pub returns : goal.returns
 returns c = seen_same c.args.signal_delivery _ _ _ _ _ _ c.new.ensures.items c.new-2.ensures c.new-3.ensures.items

@@ -1,17 +1,24 @@
 // What has come, and what handles stand for.
 ghost use Rattle.std.specs.Prelude.{◌≡◌, ◌+◌, ◌^◌, ◌≤◌, ◌↔◌, [], length, is_some, IfOk, OnOk, OnErr, IsErrOf};
-ghost use Rattle.attempt_model.specs.Results.{waiting_for};
-ghost use Rattle.vm_results.specs.Views.{results_of, ready_of, slots_of};
-ghost use Rattle.vm_results.specs.Calls.{no_results, with_queued, with_ready, with_handle, after_take};
-ghost use Rattle.vm_results.specs.declared.state.CreateHandleError.TheVariants.{HandlesExhausted, OutOfMemory};
+ghost use Rattle.journal_model.specs.Future.{tree_of};
+ghost use Rattle.journal_model.specs.Waiting.{only_leaves};
+ghost use Rattle.protocol_stream.specs.Records.{future_record};
+ghost use Rattle.attempt_model.specs.Results.{waiting_for, slot_of, resolution_of};
+ghost use Rattle.vm_awaits.specs.Views.{results_of, delivery_of, queue_of, ready_of, slots_of};
+ghost use Rattle.vm_awaits.specs.Calls.{no_results, with_queued, with_ready, with_handle, after_take};
+ghost use Rattle.vm_awaits.specs.Resolving.{resolution_as, line_left, StopsMidway};
+ghost use Rattle.vm_awaits.specs.declared.state.CreateHandleError.TheVariants.{HandlesExhausted, OutOfMemory};
 
-use crate::ready::ReadyNotifications;
-use crate::slots::{Slots, first_for, next_handle, take_for};
+use crate::records::record_of;
+use crate::resolving::{ResolveFutureResult, resolve};
 use journal_model::{
     Notification, NotificationHandle, NotificationId, NotificationResult, SignalDelivery,
+    UnresolvedFuture,
 };
+use protocol_records::Future;
 use std::alloc::{AllocError, AllocFailed, Global};
 use std::collections::VecDeque;
+use vm_results::{ReadyNotifications, Slots, first_for, next_handle, take_for};
 
 /// What has come of an invocation's notifications, and what its handles stand for.
 ///
@@ -121,5 +128,39 @@ impl AsyncResultsState {
             Some(result) => Ok(Some(result.clone()?)),
             None => Ok(None),
         }
+    }
+
+    /// Looks at what stands in line, one notification a step, until the future is awake. Where it stays asleep, this is what it
+    /// still waits for: what was completed of it is left out, also where a later notification replaced what completed it.
+    ///
+    /// Where memory runs out, what was looked at stays looked at.
+    pub fn try_resolve_future(
+        &mut self,
+        future: UnresolvedFuture,
+    ) -> Result<ResolveFutureResult, AllocError>
+        ensures resolved { IfOk result (λ answer. resolution_of (delivery_of self.old) (slots_of self.old) (tree_of future) (queue_of self.old) (ready_of self.old)
+            ≡ resolution_as (queue_of self.new) (ready_of self.new) answer) }
+        ensures left { IfOk result (λ answer. queue_of self.new ≡ line_left (queue_of self.new) answer) }
+        ensures delivery { delivery_of self.new ≡ delivery_of self.old }
+        ensures slots { slots_of self.new ≡ slots_of self.old }
+        ensures err { OnErr result (StopsMidway (delivery_of self.old) (slots_of self.old) (tree_of future) (queue_of self.old) (ready_of self.old) (queue_of self.new) (ready_of self.new)) }
+    {
+        let alloc = *self.slots.allocator();
+        resolve(
+            alloc,
+            self.signal_delivery,
+            self.slots.as_slice(),
+            &mut self.line,
+            &mut self.ready,
+            future,
+        )
+    }
+
+    /// What a future waits for, as a record over the ids that its handles stand for; a handle that stands for nothing is left
+    /// out. Its bytes are those that the definitions give to what a suspension, or an await that waits, tells.
+    pub fn resolve_unresolved_future(&self, future: &UnresolvedFuture) -> Result<Future, AllocError>
+        ensures { IfOk result (λ told. told ≡ future_record (only_leaves (slot_of (slots_of self.now)) (tree_of future.now))) }
+    {
+        record_of(*self.slots.allocator(), self.slots.as_slice(), future)
     }
 }

@@ -3,7 +3,7 @@ use Rattle.std.proofs.Common.{◌≡◌, refl, List}
 use Rattle.journal_model.specs.Notification.{Arrival}
 use Rattle.journal_model.specs.declared.options.SignalDelivery.{SignalDelivery}
 use Rattle.attempt_model.specs.Results.{Ready, Slots}
-use Rattle.vm_results.specs.Views.{AsyncResults}
+use Rattle.vm_awaits.specs.Views.{AsyncResults}
 
 abbrev pub seen : SignalDelivery → List Arrival → Ready → Slots → AsyncResults
 seen delivery queue ready slots = record { delivery = delivery; queue = queue; ready = ready; slots = slots }

@@ -1,0 +1,64 @@
+-- Steps of looking for an awaited tree.
+use Rattle.std.proofs.Common.{◌≡◌, refl, sym, ap, ◌∙◌, ℕ, true, false, List, [], ◌∷◌, ◌++◌, append_assoc, Result, Ok, Err, OnErr}
+use Rattle.journal_model.specs.Notification.{Arrival}
+use Rattle.journal_model.specs.AwaitTree.{AwaitTree, is_awake}
+use Rattle.journal_model.specs.Waiting.{pruned}
+use Rattle.journal_model.specs.declared.options.SignalDelivery.{SignalDelivery}
+use Rattle.attempt_model.specs.Results.{Ready, Slots, handle_state, ready_after, ready_after_all, Awake, Asleep, resolution_of}
+use Rattle.vm_awaits.specs.Resolving.{OnTheWay, StopsMidway}
+
+module _ (delivery : SignalDelivery) (slots : Slots) where
+  pub awake_now : (tree : AwaitTree ℕ) (queue : List Arrival) (ready : Ready) → is_awake tree (handle_state slots ready) ≡ true → resolution_of delivery slots tree queue ready ≡ Awake queue ready
+  awake_now tree [] ready awake = rw awake refl
+  awake_now tree (arrival ∷ queue) ready awake = rw awake refl
+
+  pub asleep_at_end : (tree : AwaitTree ℕ) (ready : Ready) → is_awake tree (handle_state slots ready) ≡ false → resolution_of delivery slots tree [] ready ≡ Asleep (pruned tree (handle_state slots ready)) ready
+  asleep_at_end tree ready asleep = rw asleep refl
+
+  asleep_goes_on : (tree : AwaitTree ℕ) (arrival : Arrival) (queue : List Arrival) (ready : Ready) → is_awake tree (handle_state slots ready) ≡ false
+      → resolution_of delivery slots tree (arrival ∷ queue) ready ≡ resolution_of delivery slots (pruned tree (handle_state slots ready)) queue (ready_after delivery ready arrival)
+  asleep_goes_on tree arrival queue ready asleep = rw asleep refl
+
+  ready_after_last : (ready : Ready) (arrivals : List Arrival) (arrival : Arrival) → ready_after_all delivery ready (arrivals ++ arrival ∷ []) ≡ ready_after delivery (ready_after_all delivery ready arrivals) arrival
+  ready_after_last ready [] arrival = refl
+  ready_after_last ready (first ∷ arrivals) arrival = ready_after_last (ready_after delivery ready first) arrivals arrival
+
+  -- nothing is looked at yet
+  pub at_start : (tree : AwaitTree ℕ) (queue : List Arrival) (ready : Ready) → OnTheWay delivery slots tree queue ready tree queue ready
+  at_start tree queue ready = record { looked = []; queue_is = refl; ready_is = refl; same = refl }
+
+  -- one more is looked at
+  pub one_on : (tree : AwaitTree ℕ) (queue : List Arrival) (ready : Ready) (left less : AwaitTree ℕ) (arrival : Arrival) (others behind rest : List Arrival) (waiting after : Ready)
+      → OnTheWay delivery slots tree queue ready left others waiting → is_awake left (handle_state slots waiting) ≡ false
+      → others ≡ arrival ∷ behind → rest ≡ behind → less ≡ pruned left (handle_state slots waiting) → after ≡ ready_after delivery waiting arrival
+      → OnTheWay delivery slots tree queue ready less rest after
+  one_on tree queue ready left less arrival others behind rest waiting after way asleep front same_rest is_less is_after =
+      rw (same_rest, is_less, is_after) (record {
+        looked = way.looked ++ arrival ∷ [];
+        queue_is = way.queue_is ∙ ap (λ (xs : List Arrival). way.looked ++ xs) front ∙ sym (append_assoc way.looked (arrival ∷ []) behind);
+        ready_is = ap (λ (r : Ready). ready_after delivery r arrival) way.ready_is ∙ sym (ready_after_last ready way.looked arrival);
+        same = sym (asleep_goes_on left arrival behind waiting asleep) ∙ ap (λ (xs : List Arrival). resolution_of delivery slots left xs waiting) (sym front) ∙ way.same;
+      })
+
+  -- a tree that is awake on the way
+  pub awake_on_the_way : (tree : AwaitTree ℕ) (queue : List Arrival) (ready : Ready) (left : AwaitTree ℕ) (others : List Arrival) (waiting : Ready)
+      → OnTheWay delivery slots tree queue ready left others waiting → is_awake left (handle_state slots waiting) ≡ true → resolution_of delivery slots tree queue ready ≡ Awake others waiting
+  awake_on_the_way tree queue ready left others waiting way awake = sym way.same ∙ awake_now left others waiting awake
+
+  -- a tree that is not, when none is left to look at
+  pub asleep_on_the_way : (tree : AwaitTree ℕ) (queue : List Arrival) (ready : Ready) (left less : AwaitTree ℕ) (others : List Arrival) (waiting : Ready)
+      → OnTheWay delivery slots tree queue ready left others waiting → is_awake left (handle_state slots waiting) ≡ false → others ≡ [] → less ≡ pruned left (handle_state slots waiting)
+      → resolution_of delivery slots tree queue ready ≡ Asleep less waiting
+  asleep_on_the_way tree queue ready left less others waiting way asleep none is_less =
+      sym way.same ∙ ap (λ (xs : List Arrival). resolution_of delivery slots left xs waiting) none ∙ asleep_at_end left waiting asleep ∙ ap (λ (t : AwaitTree ℕ). Asleep t waiting) (sym is_less)
+
+  -- nothing was looked at
+  pub still_on : (tree : AwaitTree ℕ) (queue : List Arrival) (ready : Ready) (left : AwaitTree ℕ) (others rest : List Arrival) (waiting after : Ready)
+      → OnTheWay delivery slots tree queue ready left others waiting → rest ≡ others → after ≡ waiting → OnTheWay delivery slots tree queue ready left rest after
+  still_on tree queue ready left others rest waiting after way same_rest same_ready = rw (same_rest, same_ready) way
+
+  -- it stops where it is
+  pub stops : {A E : Type 0} (result : Result A E) (tree : AwaitTree ℕ) (queue : List Arrival) (ready : Ready) (left : AwaitTree ℕ) (others : List Arrival) (waiting : Ready)
+      → OnTheWay delivery slots tree queue ready left others waiting → OnErr result (StopsMidway delivery slots tree queue ready others waiting)
+  stops (Ok answer) tree queue ready left others waiting way = tt
+  stops (Err why) tree queue ready left others waiting way = (left, way)

@@ -1,0 +1,72 @@
+-- Worked rows: the records of trees, as their combinator, completions, signals, names, and the records in them.
+use Rattle.std.proofs.Common.{◌≡◌, refl, ℕ, List, [], ◌∷◌, map, Some, None, codes}
+use Rattle.journal_model.specs.declared.notification.NotificationId.TheVariants.{CompletionId, SignalId, SignalName}
+use Rattle.journal_model.specs.AwaitTree as Trees
+use Rattle.journal_model.specs.AwaitTree.{AwaitTree, Single}
+use Rattle.journal_model.specs.Future.{node}
+use Rattle.journal_model.specs.Waiting.{only_leaves}
+use Rattle.protocol_records.specs.declared.future.CombinatorType.{CombinatorType}
+use Rattle.protocol_records.specs.declared.future.CombinatorType.TheVariants.{Unknown, FirstCompleted, AllCompleted, FirstSucceededOrAllFailed, AllSucceededOrFirstFailed}
+use Rattle.protocol_records.specs.declared.future.Future.{Future}
+use Rattle.protocol_stream.specs.Records.{future_node, future_record}
+use Rattle.attempt_model.specs.Results.{Slots, slot_of}
+
+-- completions 1 to 3, signals 5 and 17, signal foo, and a handle whose notification was taken
+abbrev slots : Slots
+slots = Some (CompletionId 1) ∷ Some (CompletionId 2) ∷ Some (CompletionId 3) ∷ Some (SignalId 5) ∷ Some (SignalId 17) ∷ Some (SignalName (codes "foo")) ∷ None ∷ []
+
+abbrev c1 : AwaitTree ℕ
+c1 = Single 17
+
+abbrev c2 : AwaitTree ℕ
+c2 = Single 18
+
+abbrev c3 : AwaitTree ℕ
+c3 = Single 19
+
+abbrev s5 : AwaitTree ℕ
+s5 = Single 20
+
+abbrev s17 : AwaitTree ℕ
+s17 = Single 21
+
+abbrev foo : AwaitTree ℕ
+foo = Single 22
+
+abbrev taken : AwaitTree ℕ
+taken = Single 23
+
+record Row : Type 0 where
+  tree : AwaitTree ℕ
+  told : Future
+
+abbrev tells : AwaitTree ℕ → CombinatorType → List ℕ → List ℕ → List (List ℕ) → List Future → Row
+tells tree combinator completions signals names nested = record { tree = tree; told = future_node completions signals names nested combinator }
+
+-- a record of completions alone, with these in it
+abbrev over : CombinatorType → List ℕ → List Future → Future
+over combinator completions nested = future_node completions [] [] nested combinator
+
+abbrev table : List Row
+table =
+    tells c1 FirstCompleted (1 ∷ []) [] [] [] ∷
+    tells s17 FirstCompleted [] (17 ∷ []) [] [] ∷
+    tells foo FirstCompleted [] [] (codes "foo" ∷ []) [] ∷
+    tells (node Trees.FirstCompleted (c1 ∷ c2 ∷ [])) FirstCompleted (1 ∷ 2 ∷ []) [] [] [] ∷
+    tells (node Trees.FirstCompleted (c1 ∷ s5 ∷ [])) FirstCompleted (1 ∷ []) (5 ∷ []) [] [] ∷
+    tells (node Trees.AllCompleted (c1 ∷ c2 ∷ [])) AllCompleted (1 ∷ 2 ∷ []) [] [] [] ∷
+    tells (node Trees.FirstSucceededOrAllFailed (c1 ∷ c2 ∷ [])) FirstSucceededOrAllFailed (1 ∷ 2 ∷ []) [] [] [] ∷
+    tells (node Trees.AllSucceededOrFirstFailed (c1 ∷ c2 ∷ [])) AllSucceededOrFirstFailed (1 ∷ 2 ∷ []) [] [] [] ∷
+    tells (node Trees.Unknown (c1 ∷ s5 ∷ [])) Unknown (1 ∷ []) (5 ∷ []) [] [] ∷
+    tells (node Trees.FirstCompleted (c1 ∷ node Trees.AllCompleted (c2 ∷ c3 ∷ []) ∷ [])) FirstCompleted (1 ∷ []) [] [] (over AllCompleted (2 ∷ 3 ∷ []) [] ∷ []) ∷
+    tells (node Trees.FirstCompleted (node Trees.Unknown (c1 ∷ c2 ∷ []) ∷ c3 ∷ [])) FirstCompleted (3 ∷ []) [] [] (over Unknown (1 ∷ 2 ∷ []) [] ∷ []) ∷
+    tells (node Trees.FirstCompleted (node Trees.Unknown (node Trees.AllCompleted (c1 ∷ c2 ∷ []) ∷ []) ∷ c3 ∷ [])) FirstCompleted (3 ∷ []) [] [] (over Unknown [] (over AllCompleted (1 ∷ 2 ∷ []) [] ∷ []) ∷ []) ∷
+    tells (node Trees.Unknown (node Trees.FirstSucceededOrAllFailed (c1 ∷ c2 ∷ []) ∷ s5 ∷ [])) Unknown [] (5 ∷ []) [] (over FirstSucceededOrAllFailed (1 ∷ 2 ∷ []) [] ∷ []) ∷
+    tells (node Trees.AllCompleted (c1 ∷ node Trees.Unknown (s17 ∷ []) ∷ [])) AllCompleted (1 ∷ []) [] [] (future_node [] (17 ∷ []) [] [] Unknown ∷ []) ∷
+    -- a handle that stands for nothing is left out; the handle of cancellations stands for signal 1
+    tells taken FirstCompleted [] [] [] [] ∷
+    tells (node Trees.FirstCompleted (node Trees.AllCompleted (taken ∷ foo ∷ []) ∷ Single 1 ∷ [])) FirstCompleted [] (1 ∷ []) [] (future_node [] [] (codes "foo" ∷ []) [] AllCompleted ∷ []) ∷
+    []
+
+rows_stand : map (λ row. future_record (only_leaves (slot_of slots) row.tree)) table ≡ map (λ row. row.told) table
+rows_stand = refl

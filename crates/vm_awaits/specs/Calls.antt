@@ -1,0 +1,31 @@
+-- What each call leaves.
+use Rattle.std.specs.Prelude.{ℕ, [], ◌∷◌, ◌++◌, Option, Some}
+use Rattle.journal_model.specs.declared.notification.NotificationId.{NotificationId}
+use Rattle.journal_model.specs.declared.notification.NotificationResult.{NotificationResult}
+use Rattle.journal_model.specs.declared.options.SignalDelivery.{SignalDelivery}
+use Rattle.journal_model.specs.Notification.{Arrival}
+use Rattle.attempt_model.specs.Results.{ready_after}
+use Rattle.vm_results.specs.Views.{none_ready}
+use Rattle.vm_results.specs.Calls.{ready_left, slots_left}
+use Rattle.vm_awaits.specs.Views.{AsyncResults}
+
+-- nothing has come, and no handle was made
+abbrev pub no_results : SignalDelivery → AsyncResults
+no_results delivery = record { delivery = delivery; queue = []; ready = none_ready; slots = [] }
+
+-- one more waits in line
+abbrev pub with_queued : Arrival → AsyncResults → AsyncResults
+with_queued arrival results = record results { queue = results.queue ++ arrival ∷ [] }
+
+-- one more is looked at
+abbrev pub with_ready : Arrival → AsyncResults → AsyncResults
+with_ready arrival results = record results { ready = ready_after results.delivery results.ready arrival }
+
+-- one more handle
+abbrev pub with_handle : NotificationId → AsyncResults → AsyncResults
+with_handle id results = record results { slots = results.slots ++ Some id ∷ [] }
+
+-- what waited for a handle is taken
+abbrev pub after_take : ℕ → Option NotificationResult → AsyncResults → AsyncResults
+after_take handle taken results =
+    record results { ready = ready_left handle taken results.slots results.ready; slots = slots_left handle taken results.slots }

@@ -1,0 +1,5 @@
+pub mod Views
+pub mod Calls
+pub mod Trees
+pub mod Resolving
+pub mod Records
