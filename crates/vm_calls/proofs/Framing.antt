@@ -55,11 +55,13 @@ writes_request t parts request (Ok u) old new typed spells long wrote = wrote �
     open_bytes version fits =
         ap spelled (command_message t version parts request typed spells)
         ∙ spelled-frame_bytes (request_type request) (request_payload request) (ltb-true _ _ (numbered request)) fits
+
     by_order : (version : Version) (b : Bool) → ltb (length (request_payload request)) (2 ^ 32) ≡ b
         → (2 ^ 32 ≤ length (plain_message t version parts).payload → ⊥) → spelled (plain_message t version parts) ≡ request_frame request
     by_order version true e short = open_bytes version (ltb-true _ _ e)
     by_order version false e short =
         absurd (short (subst (λ (payload : List ℕ). 2 ^ 32 ≤ length payload) (sym spells) (ltb-false _ _ e)))
+
     same_bytes : (o : Written) → (◌≡◌ {A = Result (Unit {0}) EncodingError} (Ok u) (Err PayloadTooLong)) ↔ ((o.is_closed ≡ false) × (2 ^ 32 ≤ length (plain_message t o.version parts).payload))
         → with_frame (spelled (plain_message t o.version parts)) o ≡ with_frame (request_frame request) o
     same_bytes (record { version = version; bytes = bytes; is_closed = true }) h = refl
