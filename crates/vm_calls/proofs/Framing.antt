@@ -1,6 +1,6 @@
 -- What is written of a command is the frame of its request.
-use Rattle.std.proofs.Common.{◌≡◌, ◌≤◌, ◌<◌, ◌^◌, ◌↔◌, ℕ, Bool, true, false, ltb, not, List, ◌++◌, length, Option, Some, None, Result, Ok, Err, OnOk, refl, sym, ap, ◌∙◌, subst}
-use Rattle.std.proofs.lemmas.Bool.{ltb-true, ltb-false}
+use Rattle.std.proofs.Common.{◌≡◌, ◌≤◌, ◌<◌, ◌^◌, ◌↔◌, ℕ, Bool, true, false, ltb, not, inl, inr, List, ◌++◌, length, Option, Some, None, Result, Ok, Err, OnOk, refl, sym, ap, ◌∙◌, subst}
+use Rattle.std.proofs.lemmas.Bool.{ltb-true, cases_Bool, cases_lt}
 use Rattle.protocol_table.specs.declared.table.RecordType.{RecordType}
 use Rattle.protocol_wire.specs.Parts.{Part, payload_of}
 use Rattle.journal_model.specs.Request.{Request}
@@ -18,7 +18,6 @@ use Rattle.protocol_stream.proofs.Spellings.{spelled-frame_bytes}
 use Rattle.protocol_messages.specs.RecordMessage.{type_of_record}
 use Rattle.protocol_messages.specs.Encoded.{is_before_7, payload_message, record_message, type_or_end, plain_message}
 use Rattle.vm_context.specs.Output.{Written, with_frame}
-use Rattle.vm_calls.specs.Putting.{IsTooLong}
 
 -- no command requests an acknowledgement
 never_acked : (request : Request) → allows_ack (request_type request) ≡ false
@@ -42,33 +41,29 @@ command_message t version parts request typed spells =
     ∙ ap (λ (payload : List ℕ). payload_message (request_type request) version payload) spells
     ∙ asked_by (request_type request) (not (is_before_7 version)) (request_payload request) (never_acked request)
 
+behind_end : (one other : List ℕ) (old : Written) → old.is_closed ≡ true → with_frame one old ≡ with_frame other old
+behind_end one other old closed =
+    ap (λ (b : Bool). if b then old else record old { bytes = old.bytes ++ one }) closed
+    ∙ sym (ap (λ (b : Bool). if b then old else record old { bytes = old.bytes ++ other }) closed)
+
+frame_is : (message : RawMessage) (request : Request) → message ≡ message_of (request_type request) (request_payload request) → length (request_payload request) < 2 ^ 32
+    → spelled message ≡ request_frame request
+frame_is message request is fits = ap spelled is ∙ spelled-frame_bytes (request_type request) (request_payload request) (ltb-true _ _ (numbered request)) fits
+
 -- where it fits, its bytes are the request's frame; behind the end nothing is written of any
-pub writes_request : (t : RecordType) (parts : List Part) (request : Request) (result : Result (Unit {0}) EncodingError) (old new : Written)
-    → type_of_record t ≡ Some (request_type request) → payload_of parts ≡ request_payload request
-    → (result ≡ Err PayloadTooLong) ↔ ((old.is_closed ≡ false) × (2 ^ 32 ≤ length (plain_message t old.version parts).payload))
-    → OnOk result (new ≡ with_frame (spelled (plain_message t old.version parts)) old)
+pub writes_request : (result : Result (Unit {0}) EncodingError) (old new : Written) (message : RawMessage) (request : Request)
+    → message ≡ message_of (request_type request) (request_payload request)
+    → OnOk result (new ≡ with_frame (spelled message) old)
+    → ((result ≡ Err PayloadTooLong) ↔ ((old.is_closed ≡ false) × (2 ^ 32 ≤ length message.payload)))
     → OnOk result (new ≡ with_frame (request_frame request) old)
-writes_request t parts request (Err error) old new typed spells long wrote = tt
-writes_request t parts request (Ok u) old new typed spells long wrote = wrote ∙ same_bytes old long
-  where
-    open_bytes : (version : Version) (fits : length (request_payload request) < 2 ^ 32) → spelled (plain_message t version parts) ≡ request_frame request
-    open_bytes version fits =
-        ap spelled (command_message t version parts request typed spells)
-        ∙ spelled-frame_bytes (request_type request) (request_payload request) (ltb-true _ _ (numbered request)) fits
-
-    by_order : (version : Version) (b : Bool) → ltb (length (request_payload request)) (2 ^ 32) ≡ b
-        → (2 ^ 32 ≤ length (plain_message t version parts).payload → ⊥) → spelled (plain_message t version parts) ≡ request_frame request
-    by_order version true e short = open_bytes version (ltb-true _ _ e)
-    by_order version false e short =
-        absurd (short (subst (λ (payload : List ℕ). 2 ^ 32 ≤ length payload) (sym spells) (ltb-false _ _ e)))
-
-    same_bytes : (o : Written) → (◌≡◌ {A = Result (Unit {0}) EncodingError} (Ok u) (Err PayloadTooLong)) ↔ ((o.is_closed ≡ false) × (2 ^ 32 ≤ length (plain_message t o.version parts).payload))
-        → with_frame (spelled (plain_message t o.version parts)) o ≡ with_frame (request_frame request) o
-    same_bytes (record { version = version; bytes = bytes; is_closed = true }) h = refl
-    same_bytes (record { version = version; bytes = bytes; is_closed = false }) h =
-        ap (λ (frame : List ℕ). with_frame frame (record { version = version; bytes = bytes; is_closed = false }))
-        (by_order version _ refl (λ l. let was : ◌≡◌ {A = Result (Unit {0}) EncodingError} (Ok u) (Err PayloadTooLong) = h.1 (refl, l) in cc))
-
-pub too_long_request : (t : RecordType) (version : Version) (parts : List Part) (request : Request) → payload_of parts ≡ request_payload request
-    → length (plain_message t version parts).payload ≡ length (request_payload request)
-too_long_request t version parts request spells = ap length spells
+writes_request (Ok u) old new message request is sent long =
+    elim (cases_Bool old.is_closed) [
+      | inl closed ↦ sent ∙ behind_end (spelled message) (request_frame request) old closed
+      | inr before ↦
+          let fits : length message.payload < 2 ^ 32 = elim (cases_lt (length message.payload) (2 ^ 32)) [
+            | inl lt ↦ lt
+            | inr ge ↦ let wrong = long.1 (before, ge) in cc wrong
+          ] in
+          sent ∙ ap (λ (frame : List ℕ). with_frame frame old) (frame_is message request is (subst (λ (one : RawMessage). length one.payload < 2 ^ 32) is fits))
+    ]
+writes_request (Err error) old new message request is sent long = tt

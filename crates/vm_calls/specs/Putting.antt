@@ -1,16 +1,14 @@
 -- One request is matched with the next recorded command, or its frame is written.
-use Rattle.std.specs.Prelude.{◌≡◌, ◌≤◌, ◌^◌, ℕ, ℤ, Bool, true, false, List, [], ◌∷◌, ◌++◌, length, Option, Some, None, Result, Ok, Err}
+use Rattle.std.specs.Prelude.{◌≡◌, ◌≤◌, ◌^◌, ℕ, ℤ, Bool, true, false, List, [], length, Option, Some, None, Result, Ok, Err}
 use Rattle.protocol_table.specs.declared.table.RecordType.{RecordType}
 use Rattle.protocol_wire.specs.Wire.{Field}
 use Rattle.journal_model.specs.Request.{Request}
 use Rattle.journal_model.specs.Spelling.{request_frame, request_payload}
-use Rattle.attempt_model.specs.Requests.{PutState, put_one}
+use Rattle.attempt_model.specs.Requests.{put_one}
 use Rattle.protocol_stream.specs.declared.decoder.RawMessage.{RawMessage}
-use Rattle.protocol_stream.specs.declared.encoder.EncodingError.{EncodingError}
 use Rattle.protocol_stream.specs.declared.encoder.EncodingError.TheVariants as unsent
 use Rattle.protocol_errors.specs.Code.{internal}
 use Rattle.vm_context.specs.Output.{Written, with_frame}
-use Rattle.vm_commands.specs.declared.replay_error.ReplayError.{ReplayError}
 use Rattle.vm_commands.specs.declared.replay_error.ReplayError.TheVariants as unmatched
 use Rattle.vm_commands.specs.HeaderEquality.{header_equal}
 use Rattle.vm_commands.specs.Popping.{next_of, TakesAs, replay_code, difference_text}

@@ -1,5 +1,5 @@
 // One command is matched with the next that is recorded, or written.
-ghost use Rattle.std.specs.Prelude.{◌≡◌, ◌≤◌, ◌^◌, ◌↔◌, Some, false, length, OnOk, OnErr, IsErrOf};
+ghost use Rattle.std.specs.Prelude.{List, ◌≡◌, ◌≤◌, ◌^◌, ◌↔◌, Some, false, length, OnOk, OnErr, IsErrOf};
 ghost use Rattle.journal_model.specs.Request.{Request};
 ghost use Rattle.journal_model.specs.Spelling.{request_frame};
 ghost use Rattle.protocol_stream.specs.declared.encoder.EncodingError.TheVariants.{PayloadTooLong};
