@@ -13,7 +13,7 @@ use Rattle.journal_model.specs.Delivery.{front, or_else}
 use Rattle.journal_model.specs.Await.{last_taken, child_result}
 use Rattle.attempt_model.specs.Children.{Child, new_child, child_with_value, is_id, may_take}
 use Rattle.attempt_model.specs.Standing.{child_after, is_id_if_known}
-use Rattle.attempt_tables.proofs.Tables.{same_id-same}
+use Rattle.journal_model.proofs.Ids.{same_id-same}
 
 pub both-true : (a b : Bool) → a ≡ true → b ≡ true → (a && b) ≡ true
 both-true true true e f = refl

@@ -6,18 +6,14 @@ use Rattle.journal_model.specs.declared.notification.NotificationResult.{Notific
 use Rattle.journal_model.specs.Notification.{Bytes, Text}
 use Rattle.journal_model.specs.declared.call.Call.{Call}
 use Rattle.journal_model.specs.Request.{Request}
-use Rattle.journal_model.specs.State.{StateMap, StartState, state_after, state_change, knows_key, knows_all_keys, known_value, known_keys, value_at, state_keys, decides_key, clears_all, IsOrdered}
+use Rattle.journal_model.specs.State.{StateMap, StartState, state_after, knows_key, knows_all_keys, known_value, known_keys, value_at, state_keys, decides_key, clears_all, IsOrdered}
 use Rattle.journal_model.specs.History.{Step, requests_of, next_completion}
 use Rattle.journal_model.specs.Delivery.{known_result, value_or_void}
 use Rattle.journal_model.specs.Run.{Invocation, requests_to, name_or_empty}
-use Rattle.journal_laws.proofs.Applying.{state_after-twice}
+use Rattle.journal_laws.proofs.Applying.{state_after-append, state_after-twice}
 use Rattle.attempt_model.specs.Requests.{Commands, read_value, read_keys, fresh_value, fresh_keys, requests_by}
 use Rattle.attempt_model.specs.Standing.{RequestsStand, IsShown, whole_state, same_state}
 use Rattle.attempt_model.proofs.Requests.{Agrees}
-
-state_after-append : (xs ys : List Request) (entries : StateMap) → state_after (xs ++ ys) entries ≡ state_after ys (state_after xs entries)
-state_after-append [] ys entries = refl
-state_after-append (x ∷ xs) ys entries = state_after-append xs ys (state_change x entries)
 
 -- behind the journal the state is that of the run
 module _ (given shown : StartState) (journal done written : List Request) (is : done ≡ journal ++ written) (shows : IsShown given journal shown) where

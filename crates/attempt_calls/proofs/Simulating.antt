@@ -6,13 +6,13 @@ use Rattle.journal_model.specs.declared.call.Call.{Call}
 use Rattle.journal_model.specs.Request.{Request}
 use Rattle.journal_model.specs.Refusal.{Refusal, refusal_of}
 use Rattle.journal_model.specs.History.{Step, requests_of, next_completion, next_signal}
-use Rattle.journal_model.specs.Run.{Handler, Invocation, Progress, GoesOn, run, run_requests}
+use Rattle.journal_model.specs.Run.{Handler, Invocation, Progress, GoesOn, run, run_requests, BeginsRun}
 use Rattle.journal_model.proofs.Continuing.{after_call-refused}
 use Rattle.attempt_calls.proofs.Answering as Answering
 use Rattle.attempt_calls.proofs.Awaiting as Awaiting
 use Rattle.attempt_model.specs.Machine.{Machine, Reply, Work, ToAwait, ToEnd, ToTake, ToLook, ToMake, work_of, reply_to_work, reply_unless_refused, reply_to, StopsMidway}
 use Rattle.attempt_model.specs.Requests.{Commands, PutState, put_all}
-use Rattle.attempt_model.specs.Standing.{TablesStand, RequestsStand, Reached, IsShown, children_of, is_id_if_known, Stands, Fits, next_call, AnswersNext, RepliesAsRun, IsReflexive, AreReflexive, BeginsRun}
+use Rattle.attempt_model.specs.Standing.{TablesStand, RequestsStand, Reached, IsShown, children_of, is_id_if_known, Stands, Fits, next_call, AnswersNext, RepliesAsRun, IsReflexive, AreReflexive}
 use Rattle.attempt_model.proofs.Requests.{Agrees, Puts, put, agree}
 use Rattle.attempt_calls.proofs.CallKinds.{inv-take, inv-look, inv-await, inv-end}
 

@@ -20,7 +20,7 @@ use Rattle.journal_model.specs.Await.{awaited_ids, is_awake_at, is_cancelled_at,
 use Rattle.journal_model.specs.declared.options.ImplicitCancellationOption.{ImplicitCancellationOption}
 use Rattle.journal_model.specs.State.{StartState, state_after, IsOrdered}
 use Rattle.journal_model.specs.Waiting.{pruned}
-use Rattle.journal_model.specs.Run.{Handler, Invocation, GoesOn, Waits, RefusedCall, Ended, run, run_requests, IsBeginning}
+use Rattle.journal_model.specs.Run.{Handler, Invocation, GoesOn, Waits, RefusedCall, Ended, run, run_requests, IsBeginning, BeginsRun}
 use Rattle.attempt_model.specs.Children.{Child, is_id}
 use Rattle.attempt_model.specs.Machine.{Machine, machine_at_start, with_arrival, Mismatch, UncompletedInReplay, EndInReplay, KeysNotText, ChildNotId, Refused, Reply, Answered, AwaitsTree, AwaitsChild, Finished, FailedBy, reply_to, StopsMidway}
 use Rattle.attempt_model.specs.Requests.{Commands, PutState}
@@ -206,11 +206,6 @@ abbrev pub Simulates : Type 0
 Simulates = (same_header : Call → Request → Request → Bool) (handler : Handler) (given : Invocation) (journal : List Request) (arrivals : List Arrival) (calls : ℕ) (m : Machine)
     → AreReflexive same_header → Fits handler given journal arrivals → (stands : Stands handler given journal arrivals calls m)
     → RepliesAsRun handler given journal arrivals calls (reply_to same_header given m (next_call handler given stands.steps))
-
--- requests that are a beginning of the run's, over so many calls
-pub record BeginsRun (handler : Handler) (given : Invocation) (arrivals : List Arrival) (requests : List Request) : Type 0 where
-  pub calls : ℕ
-  pub beginning : IsBeginning requests (run_requests handler given arrivals calls)
 
 -- where a call is stopped midway, what was recorded and what was written are a beginning of the run's requests
 abbrev pub StopsWithRun : Type 0

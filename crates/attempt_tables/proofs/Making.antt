@@ -14,7 +14,8 @@ use Rattle.journal_model.specs.Delivery.{results_for, known_results, known_resul
 use Rattle.journal_model.proofs.Handles.{takes-more, id_of_handle-old, none-takes}
 use Rattle.attempt_model.specs.Results.{Ready, Slots, ready_after, slot_in, slot_of}
 use Rattle.attempt_model.specs.Standing.{passed_deliveries, only_last, kept_results, untaken_results, TablesStand}
-use Rattle.attempt_tables.proofs.Tables.{same_id-same, results-append, get-front, get-back, length-some, slot-some, slot-high, id-high}
+use Rattle.journal_model.proofs.Ids.{same_id-same}
+use Rattle.attempt_tables.proofs.Tables.{results-append, get-front, get-back, length-some, slot-some, slot-high, id-high}
 
 -- a step that makes handles for these ids, and takes nothing
 pub record Creates (steps : List Step) (step : Step) (ids : List NotificationId) : Type 0 where

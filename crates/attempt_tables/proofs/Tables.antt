@@ -1,9 +1,7 @@
 -- What has come and what handles stand for, one arrival on; lists of what handles stand for.
 use Rattle.std.proofs.Common.{◌≡◌, refl, sym, ap, ap₂, ◌∙◌, ℕ, zero, suc, ◌+◌, ◌-◌, ◌≤◌, ◌<◌, ◌==◌, nat_lt, arith, Bool, true, false, if◌then◌else◌, List, [], ◌∷◌, ◌++◌, append_assoc, append-nil, length, length-append, take, drop, map, filter, slice_get, Option, Some, None, option_and_then, eqb-true}
 use Rattle.std.proofs.lemmas.Bool.{ltb-true}
-use Rattle.std.proofs.lemmas.Slice.Eq.{bytes_eq-Decides}
 use Rattle.journal_model.specs.declared.notification.NotificationId.{NotificationId}
-use Rattle.journal_model.specs.declared.notification.NotificationId.TheVariants.{CompletionId, SignalId, SignalName}
 use Rattle.journal_model.specs.declared.notification.NotificationResult.{NotificationResult}
 use Rattle.journal_model.specs.Notification.{same_id, Arrival, cancel_id}
 use Rattle.journal_model.specs.declared.options.RunOptions.{RunOptions}
@@ -13,18 +11,6 @@ use Rattle.journal_model.specs.Delivery.{results_for, known_results, deliveries,
 use Rattle.journal_model.proofs.Extension.{deliveries-more, passed_at_take-more}
 use Rattle.attempt_model.specs.Results.{Ready, Slots, ready_after, first_of, slot_in, slot_of, waiting_for}
 use Rattle.attempt_model.specs.Standing.{passed_deliveries, only_last, kept_results, untaken_results, TablesStand}
-
--- ids that are the same are equal
-pub same_id-same : (a b : NotificationId) → same_id a b ≡ true → a ≡ b
-same_id-same (CompletionId n) (CompletionId m) e = ap CompletionId (eqb-true n m e)
-same_id-same (SignalId n) (SignalId m) e = ap SignalId (eqb-true n m e)
-same_id-same (SignalName s) (SignalName t) e = ap SignalName ((bytes_eq-Decides s t).0 e)
-same_id-same (CompletionId n) (SignalId m) e = cc
-same_id-same (CompletionId n) (SignalName t) e = cc
-same_id-same (SignalId n) (CompletionId m) e = cc
-same_id-same (SignalId n) (SignalName t) e = cc
-same_id-same (SignalName s) (CompletionId m) e = cc
-same_id-same (SignalName s) (SignalId m) e = cc
 
 -- the first of what waits to be taken is in front
 last-first : (results : List NotificationResult) → last_of results ≡ first_of (only_last results)

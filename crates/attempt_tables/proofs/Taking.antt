@@ -11,7 +11,8 @@ use Rattle.journal_model.specs.History.{Step, ids_of, ids_created, stands_for, t
 use Rattle.journal_model.specs.Delivery.{results_for, known_results, known_result, deliveries, taken_is, takes_of, count_taken, passed_at_take}
 use Rattle.attempt_model.specs.Results.{Ready, Slots, first_of, slot_in, slot_of, ready_without_first, slots_without}
 use Rattle.attempt_model.specs.Standing.{passed_deliveries, only_last, kept_results, TablesStand}
-use Rattle.attempt_tables.proofs.Tables.{same_id-same, drop-next, drop-cons-length, slot-high}
+use Rattle.journal_model.proofs.Ids.{same_id-same}
+use Rattle.attempt_tables.proofs.Tables.{drop-next, drop-cons-length, slot-high}
 
 -- a take: what is kept after the first was taken
 one-kept : (results : List NotificationResult) (r : NotificationResult) (rest : List NotificationResult) → only_last results ≡ r ∷ rest → rest ≡ []

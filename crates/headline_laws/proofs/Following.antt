@@ -10,10 +10,9 @@ use Rattle.journal_model.specs.Event.{Event, Frame}
 use Rattle.journal_model.specs.Journal.{Entry, is_of, is_tick, begins, version_of, closes, frame_of, frames_of, is_open, requests_in, arrivals_in, recorded_requests, recorded_arrivals, recorded_answer, answer_at_close, Closing, closing_frame, closing_of}
 use Rattle.journal_model.specs.Attempt.{arrivals_within, input_pieces, bytes_handed}
 use Rattle.journal_model.specs.Cause.{causes_of, IsAccepted}
-use Rattle.journal_model.specs.Run.{Handler, Invocation, Ended}
+use Rattle.journal_model.specs.Run.{Handler, Invocation, Ended, BeginsRun}
 use Rattle.journal_model.specs.Headline.{IsWholeRun, IsRunAnswer, arrivals_handed}
 use Rattle.journal_laws.proofs.ObjectState.{open_when_accepted}
-use Rattle.run_laws.specs.Position.{BeginsRun}
 use Rattle.headline_laws.specs.Taken.{TakesOfRun, AllOfRun}
 use Rattle.run_laws.proofs.Extending.{begins-more, ended-more}
 use Rattle.input_laws.proofs.Events.{added_by, requests_now, arrivals_now, no_request, one_request, nothing_added, entries_first, not_begun, no_frames, closing_now, open_unclosed, frames_other, frames_own, is_end, not_by_end}

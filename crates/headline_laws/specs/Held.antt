@@ -4,9 +4,8 @@ use Rattle.journal_model.specs.Notification.{Text}
 use Rattle.journal_model.specs.Event.{Suspension, Event}
 use Rattle.journal_model.specs.Journal.{recorded_requests, recorded_arrivals, recorded_answer, Closing, closing_of}
 use Rattle.journal_model.specs.Attempt.{live_attempt, suspension_of}
-use Rattle.journal_model.specs.Run.{Handler, Invocation}
+use Rattle.journal_model.specs.Run.{Handler, Invocation, BeginsRun}
 use Rattle.journal_model.specs.Headline.{IsWholeAlong, IsRunAnswer, arrivals_handed}
-use Rattle.run_laws.specs.Position.{BeginsRun}
 use Rattle.waking_laws.specs.Suspended.{WaitsAll}
 
 -- a suspended attempt is over, and the run waits over what it was handed for what its suspension tells

@@ -2,11 +2,10 @@
 use Rattle.std.specs.Prelude.{◌≡◌, List, [], ◌∷◌, ◌++◌}
 use Rattle.journal_model.specs.Notification.{Text, Arrival}
 use Rattle.journal_model.specs.Request.{Request}
-use Rattle.journal_model.specs.Run.{Handler, Invocation, Ended}
+use Rattle.journal_model.specs.Run.{Handler, Invocation, Ended, BeginsRun}
 use Rattle.journal_model.specs.Event.{Event, Frame}
 use Rattle.journal_model.specs.Journal.{recorded_requests}
 use Rattle.journal_model.specs.Headline.{IsWholeRun, arrivals_handed}
-use Rattle.run_laws.specs.Position.{BeginsRun}
 use Rattle.waking_laws.specs.Suspended.{WaitsAll}
 
 -- what a frame has to be that is taken after these requests, of an attempt that was handed these arrivals

@@ -27,7 +27,7 @@ use Rattle.protocol_stream.proofs.RecordSpellings.{starts_spelled, inputs_spelle
 use Rattle.protocol_types.specs.Feature.{lacks_feature}
 use Rattle.protocol_types.specs.declared.feature.Feature.TheVariants.{RandomSeed, Scope}
 use Rattle.vm_types.specs.declared.options.VMOptions.{VMOptions}
-use Rattle.invocation_vm.specs.Preflight.{input_given, where_scoped}
+use Rattle.vm_input.specs.Input.{input_given, where_scoped}
 use Rattle.invocation_vm.proofs.Sizes.{number_holds, bool_holds, bytes_hold, optional_holds, repeated_hold, fields_are, small_as}
 use Rattle.invocation_vm.specs.First.{first_payload, second_payload, FitsFrames, given_by}
 

@@ -17,7 +17,8 @@ use Rattle.protocol_types.proofs.Types.{names_read_back}
 use Rattle.vm_types.specs.declared.options.VMOptions.{VMOptions}
 use Rattle.invocation_vm.specs.declared.failure.AttemptFailure.{AttemptFailure}
 use Rattle.invocation_vm.specs.First.{first_payload, second_payload, FitsFrames, AreToRead, CannotRead}
-use Rattle.invocation_vm.specs.Preflight.{ReadsRecord, StartFails, input_given}
+use Rattle.vm_input.specs.Input.{input_given}
+use Rattle.invocation_vm.specs.Preflight.{ReadsRecord, StartFails}
 use Rattle.invocation_vm.specs.Reads.{HasStart, HasInput}
 use Rattle.invocation_vm.proofs.Frames.{ReadsFirst, reads_first}
 use Rattle.invocation_vm.proofs.Reading.{start_read, input_read, input_is}

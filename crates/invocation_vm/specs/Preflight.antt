@@ -1,21 +1,15 @@
 -- What is read before the handler is asked: the start and the input.
-use Rattle.std.specs.Prelude.{◌≡◌, ◌≢◌, ◌<◌, ℕ, nat_lt, if◌then◌else◌, List, [], map, Option, Some, None, Result, Ok, Err, IsSome}
-use Rattle.journal_model.specs.declared.handler.Input.{Input}
+use Rattle.std.specs.Prelude.{◌≡◌, ◌≢◌, ◌<◌, ℕ, List, Option, Some, None, Result, Ok, Err, IsSome}
 use Rattle.protocol_types.specs.declared.message_type.MessageType.{MessageType}
 use Rattle.protocol_stream.specs.declared.decoder.RawMessage.{RawMessage}
 use Rattle.protocol_stream.specs.Header.{message_type}
-use Rattle.protocol_stream.specs.Records.{header_told}
 use Rattle.protocol_stream.specs.Item.{item_at, unknown, message}
 use Rattle.protocol_wire.specs.Wire.{Field}
 use Rattle.protocol_wire.specs.Check.{payload_fault}
 use Rattle.protocol_wire.specs.Decodes.{IsRead}
 use Rattle.protocol_wire.specs.declared.record.TheConstants.{LEVELS}
 use Rattle.protocol_table.specs.declared.table.RecordType.{RecordType}
-use Rattle.protocol_records.specs.declared.value.Value.{Value}
 use Rattle.protocol_records.specs.declared.start.StartMessage.{StartMessage}
-use Rattle.protocol_records.specs.declared.input_command.InputCommandMessage.{InputCommandMessage}
-use Rattle.protocol_types.specs.Feature.{lacks_feature}
-use Rattle.protocol_types.specs.declared.feature.Feature.TheVariants.{RandomSeed, Scope}
 use Rattle.invocation_vm.specs.declared.failure.AttemptFailure.{AttemptFailure}
 
 -- a message stands at the front, and is taken
@@ -66,29 +60,3 @@ abbrev pub StartFails : StartMessage → AttemptFailure → Type 0
 StartFails start AttemptFailure.KnownEntriesIsZero = start.known_entries ≡ 0
 StartFails start AttemptFailure.ReplayNotCarriedOut = 1 < start.known_entries
 StartFails start _ = ⊥
-
--- an absent value is read as empty
-abbrev pub content_of : Option Value → List ℕ
-content_of None = []
-content_of (Some value) = value.content
-
--- before the version that brings scopes there is no scope, limit key or idempotency key
-abbrev pub where_scoped : ℕ → Option (List ℕ) → Option (List ℕ)
-where_scoped version text = if lacks_feature version Scope then None else text
-
--- before the version that brings one the seed is that of the options
-abbrev pub random_seed : ℕ → ℕ → ℕ → ℕ
-random_seed version fallback seed = if lacks_feature version RandomSeed then fallback else seed
-
--- what a handler is given
-abbrev pub input_given : ℕ → ℕ → StartMessage → InputCommandMessage → Input
-input_given version fallback_random_seed start command = record {
-  invocation_id = start.debug_id;
-  key = start.key;
-  random_seed = random_seed version fallback_random_seed start.random_seed;
-  headers = map header_told command.headers;
-  input = content_of command.value;
-  scope = where_scoped version start.scope;
-  limit_key = where_scoped version start.limit_key;
-  idempotency_key = where_scoped version start.idempotency_key;
-}

@@ -4,11 +4,12 @@ use Rattle.std.specs.List.{list_any, find, cons_option}
 use Rattle.std.proofs.lemmas.Slice.Eq.{bytes_eq-Decides}
 use Rattle.journal_model.specs.Notification.{Text, Arrival}
 use Rattle.journal_model.specs.Request.{Request}
-use Rattle.journal_model.specs.State.{StateMap, state_after, state_change}
+use Rattle.journal_model.specs.State.{StateMap, state_after}
 use Rattle.journal_model.specs.declared.invocation.NewInvocation.{NewInvocation}
 use Rattle.journal_model.specs.Event.{Frame, Event}
 use Rattle.journal_model.specs.Journal.{Entry, Recorded, Arrived, is_text, is_of, is_tick, invoked_by, invocation_begun, closes, frame_of, frames_of, is_open, is_busy, request_of_frame, object_of, requests_for, object_state, starting_state, requests_in, slept, read_answer, entries_of_event, entries_added, entries_from, recorded_requests}
 use Rattle.journal_model.specs.Cause.{Cause, Tests, those_that_hold, open_tests, own_tests, causes_of, IsAccepted}
+use Rattle.journal_laws.proofs.Applying.{state_after-append}
 
 -- no cause holds of tests none of which holds
 holds-none : (b : Bool) (cause : Cause) (tests : Tests) → those_that_hold ((b, cause) ∷ tests) ≡ [] → (b ≡ false) × (those_that_hold tests ≡ [])
@@ -236,10 +237,6 @@ requests_in-append (Arrived arrival ∷ xs) ys = requests_in-append xs ys
 requests_in-arrived : (arrivals : List Arrival) → requests_in (map Arrived arrivals) ≡ []
 requests_in-arrived [] = refl
 requests_in-arrived (arrival ∷ arrivals) = requests_in-arrived arrivals
-
-state_after-append : (xs ys : List Request) (entries : StateMap) → state_after (xs ++ ys) entries ≡ state_after ys (state_after xs entries)
-state_after-append [] ys entries = refl
-state_after-append (x ∷ xs) ys entries = state_after-append xs ys (state_change x entries)
 
 -- the requests among the entries that an event of the invocation adds are those of its frame
 pub requests_of_event : (start : StateMap) (entries : List Entry) (event : Event) → requests_in (entries_of_event start entries event) ≡ request_of_frame (frame_of event)

@@ -7,12 +7,11 @@ use Rattle.journal_model.specs.declared.options.RunOptions.{RunOptions}
 use Rattle.journal_model.specs.declared.value.NonEmptyValue.{NonEmptyValue}
 use Rattle.journal_model.specs.Notification.{Text, Arrival}
 use Rattle.journal_model.specs.Request.{Request}
-use Rattle.journal_model.specs.Run.{Handler, Invocation, run_requests}
+use Rattle.journal_model.specs.Run.{Handler, Invocation, run_requests, BeginsRun}
 use Rattle.journal_model.specs.Event.{Event, Frame}
 use Rattle.journal_model.specs.Journal.{Entry, entries_of, recorded_requests, recorded_arrivals}
 use Rattle.journal_model.specs.Attempt.{is_input_closed}
 use Rattle.journal_model.specs.Cause.{IsAccepted}
-use Rattle.run_laws.specs.Position.{BeginsRun}
 use Rattle.run_laws.proofs.Extending.{begins-less, begins-more}
 use Rattle.input_laws.specs.Message.{InputMessage, CarriesInput, CarriesRequest, CarriesArrival, CarriesOutcome, arrivals_carried, requests_carried}
 use Rattle.input_laws.proofs.News.{requests_carried-append}

@@ -7,13 +7,12 @@ use Rattle.journal_model.specs.declared.options.RunOptions.{RunOptions}
 use Rattle.journal_model.specs.declared.options.SignalDelivery.TheVariants.{Queued}
 use Rattle.journal_model.specs.Notification.{Bytes, Text, Arrival}
 use Rattle.journal_model.specs.Request.{Request}
-use Rattle.journal_model.specs.Run.{Handler, Invocation}
+use Rattle.journal_model.specs.Run.{Handler, Invocation, BeginsRun}
 use Rattle.journal_model.specs.Event.{Event, Frame}
 use Rattle.journal_model.specs.Journal.{begins, invocation_begun, starting_state, entries_of, recorded_requests, recorded_arrivals}
 use Rattle.journal_model.specs.Attempt.{begins_attempt, bytes_asked, input_bytes, input_left, is_input_closed, arrivals_within}
 use Rattle.journal_model.specs.Cause.{IsAccepted}
 use Rattle.journal_model.specs.Headline.{run_of}
-use Rattle.run_laws.specs.Position.{BeginsRun}
 use Rattle.input_laws.specs.Message.{InputMessage, piece_of, arrivals_carried, requests_carried, IsBroughtBy}
 use Rattle.completion_laws.specs.Once.{ComeWhenAsked}
 use Rattle.headline_laws.specs.Held.{Holds}

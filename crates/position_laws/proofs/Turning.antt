@@ -12,10 +12,9 @@ use Rattle.journal_model.specs.Request.{Request}
 use Rattle.journal_model.specs.Refusal.{Refusal, refusal_of}
 use Rattle.journal_model.specs.History.{requests_of, stands_for}
 use Rattle.journal_model.specs.Await.{awaited_tree}
-use Rattle.journal_model.specs.Run.{Handler, Invocation, Progress, run, run_requests, IsBeginning}
+use Rattle.journal_model.specs.Run.{Handler, Invocation, Progress, run, run_requests, IsBeginning, BeginsRun}
 use Rattle.journal_model.specs.Event.{Suspension, Frame}
 use Rattle.journal_model.specs.Attempt.{arrivals_within}
-use Rattle.run_laws.specs.Position.{BeginsRun}
 use Rattle.waking_laws.specs.Suspended.{Tells, WaitsAll}
 use Rattle.waking_laws.proofs.Awaits.{awaits_tell, children_tell}
 use Rattle.input_laws.specs.Message.{InputMessage, piece_of, arrivals_carried, requests_carried}

@@ -7,11 +7,10 @@ use Rattle.journal_model.specs.Notification.{Bytes, Text}
 use Rattle.journal_model.specs.State.{StateMap, StartState, state_after}
 use Rattle.journal_model.specs.Spelling.{frame_bytes}
 use Rattle.journal_model.specs.Start.{start_payload, start_payload_of}
-use Rattle.journal_model.specs.Run.{Handler, Invocation}
+use Rattle.journal_model.specs.Run.{Handler, Invocation, BeginsRun}
 use Rattle.journal_model.specs.Event.{Event}
 use Rattle.journal_model.specs.Journal.{starting_state}
 use Rattle.journal_model.specs.Headline.{run_of, shown_state}
-use Rattle.run_laws.specs.Position.{BeginsRun}
 use Rattle.input_laws.specs.Message.{InputMessage, arrivals_carried, requests_carried}
 use Rattle.attempt_model.specs.Standing.{IsShown}
 use Rattle.turn_laws.specs.Begun.{journal_after, BegunWith}

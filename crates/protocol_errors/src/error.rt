@@ -107,6 +107,14 @@ impl Error {
         self
     }
 
+    /// The error, upon which this becomes of the invocation.
+    pub fn with_behavior(mut self, behavior: ErrorBehavior) -> Error
+        ensures { result ≡ record self { behavior = behavior } }
+    {
+        self.behavior = behavior;
+        self
+    }
+
     /// The error, about this command.
     pub fn with_related_command_metadata(mut self, command: CommandMetadata) -> Error
         ensures { result ≡ record self { related_command = Some command } }

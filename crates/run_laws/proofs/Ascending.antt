@@ -12,10 +12,9 @@ use Rattle.journal_model.specs.Refusal.{Refusal, refusal_of}
 use Rattle.journal_model.specs.State.{knows_key, knows_all_keys, known_value, known_keys}
 use Rattle.journal_model.specs.History.{Step, answers_of, requests_of, completions_of, next_completion}
 use Rattle.journal_model.specs.Await.{AwaitOutcome, WaitsFor, WokenAt, CancelledAt, cancel_request, cancel_requests, child_result, outcome_from, cancellation_outcome, awake_place, awaited_ids, is_cancelled_at, children_place, tracked_children}
-use Rattle.journal_model.specs.Run.{Handler, Invocation, Progress, Ending, GoesOn, Kind, Awaits, Ends, Answers, kind_of, name_or_empty, requests_to, after_await, carried_out, unless_refused, continued_by, run}
+use Rattle.journal_model.specs.Run.{Handler, Invocation, Progress, Ending, GoesOn, Kind, Awaits, Ends, Answers, kind_of, name_or_empty, requests_to, after_await, carried_out, unless_refused, continued_by, run, BeginsRun}
 use Rattle.journal_model.specs.Cause.{do_ascend, greatest, last_completion}
 use Rattle.journal_laws.proofs.Leaving.{and-true}
-use Rattle.run_laws.specs.Position.{BeginsRun}
 
 abbrev pub ascends : ℕ → List Request → Bool
 ascends last [] = true

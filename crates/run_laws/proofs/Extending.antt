@@ -2,11 +2,10 @@
 use Rattle.std.proofs.Common.{◌≡◌, refl, sym, ap, subst, ◌∙◌, ℕ, List, ◌++◌, append_assoc}
 use Rattle.journal_model.specs.Notification.{Arrival}
 use Rattle.journal_model.specs.Request.{Request}
-use Rattle.journal_model.specs.Run.{Handler, Invocation, Progress, Ending, GoesOn, Waits, Ended, run, run_requests, IsBeginning}
+use Rattle.journal_model.specs.Run.{Handler, Invocation, Progress, Ending, GoesOn, Waits, Ended, run, run_requests, IsBeginning, BeginsRun}
 use Rattle.journal_model.specs.History.{requests_of}
 use Rattle.journal_model.specs.Headline.{IsWholeRun}
 use Rattle.journal_model.proofs.Extension.{requests-more, run-same}
-use Rattle.run_laws.specs.Position.{BeginsRun}
 
 pub beginning-trans : (a b c : List Request) → IsBeginning a b → IsBeginning b c → IsBeginning a c
 beginning-trans a b c (more, e) (rest, f) =

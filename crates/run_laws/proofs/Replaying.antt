@@ -3,9 +3,9 @@ use Rattle.std.proofs.Common.{ℕ, zero, suc, ◌≤◌, ◌<◌, arith, ◌≡�
 use Rattle.std.proofs.lemmas.List.{append_cancel_left}
 use Rattle.journal_model.specs.Notification.{Arrival}
 use Rattle.journal_model.specs.Request.{Request}
-use Rattle.journal_model.specs.Run.{Handler, Invocation, run_requests, IsBeginning, Progress}
+use Rattle.journal_model.specs.Run.{Handler, Invocation, run_requests, IsBeginning, Progress, BeginsRun}
 use Rattle.journal_model.proofs.Continuing.{run_requests-beginning}
-use Rattle.run_laws.specs.Position.{BeginsRun, IsAtCall}
+use Rattle.run_laws.specs.Position.{IsAtCall}
 use Rattle.journal_model.specs.History.{requests_of}
 use Rattle.run_laws.proofs.Extending.{going-same}
 

@@ -10,10 +10,10 @@ use Rattle.journal_model.specs.declared.invocation.StateMode.{StateMode}
 use Rattle.journal_model.specs.Notification.{Text, Arrival}
 use Rattle.journal_model.specs.Request.{Request}
 use Rattle.journal_model.specs.Journal.{completion}
-use Rattle.journal_model.specs.Run.{Invocation}
+use Rattle.journal_model.specs.Run.{Invocation, BeginsRun}
 use Rattle.journal_model.specs.Headline.{run_of}
 use Rattle.built_in_handlers.specs.Handlers
-use Rattle.run_laws.specs.Position.{BeginsRun, IsAtCall}
+use Rattle.run_laws.specs.Position.{IsAtCall}
 
 abbrev pub i1 : Text
 i1 = codes "i1"

@@ -5,8 +5,8 @@ use Rattle.journal_model.specs.Notification.{Arrival}
 use Rattle.journal_model.specs.AwaitTree.{AwaitTree}
 use Rattle.journal_model.specs.Request.{Request, completions_asked}
 use Rattle.journal_model.specs.Cause.{do_ascend, last_completion}
-use Rattle.journal_model.specs.Run.{Handler, Invocation, Waits, run, run_requests, IsBeginning}
-use Rattle.run_laws.specs.Position.{BeginsRun, IsAtCall}
+use Rattle.journal_model.specs.Run.{Handler, Invocation, Waits, run, run_requests, IsBeginning, BeginsRun}
+use Rattle.run_laws.specs.Position.{IsAtCall}
 
 -- a run that does not wait is the same over more arrivals
 abbrev pub RunsStay : Type 0

@@ -2,12 +2,7 @@
 use Rattle.std.specs.Prelude.{◌≡◌, ℕ, List, ◌++◌}
 use Rattle.journal_model.specs.Notification.{Arrival}
 use Rattle.journal_model.specs.Request.{Request}
-use Rattle.journal_model.specs.Run.{Handler, Invocation, run, run_requests, IsBeginning, GoesOn}
-
--- requests that are the first of the run over these arrivals
-pub record BeginsRun (next : Handler) (given : Invocation) (arrivals : List Arrival) (requests : List Request) : Type 0 where
-  pub calls : ℕ
-  pub beginning : IsBeginning requests (run_requests next given arrivals calls)
+use Rattle.journal_model.specs.Run.{Handler, Invocation, GoesOn, run, run_requests}
 
 -- so many calls of the run were answered. What the attempt was handed of requests and what it has written, one behind the other, are
 -- those of the run so far, and behind them what is left of the journal to be replayed

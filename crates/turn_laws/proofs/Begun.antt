@@ -11,13 +11,12 @@ use Rattle.journal_model.specs.State.{StateMap, state_after}
 use Rattle.journal_model.specs.Spelling.{frame_bytes}
 use Rattle.journal_model.specs.Start.{attempts_since_entry, since_first, start_payload_of, start_payload_for, start_payload}
 use Rattle.journal_model.specs.Request.{Request}
-use Rattle.journal_model.specs.Run.{Handler, Invocation}
+use Rattle.journal_model.specs.Run.{Handler, Invocation, BeginsRun}
 use Rattle.journal_model.specs.Event.{Event, Frame}
 use Rattle.journal_model.specs.Journal.{Entry, begins, invoked_by, invocation_begun, is_open, entries_of, object_state, starting_state, recorded_requests, recorded_arrivals}
 use Rattle.journal_model.specs.Attempt.{begins_attempt}
 use Rattle.journal_model.specs.Cause.{IsAccepted}
 use Rattle.journal_laws.proofs.ObjectState.{find-passes, state_of_open, open_when_accepted}
-use Rattle.run_laws.specs.Position.{BeginsRun}
 use Rattle.input_laws.specs.Message.{InputMessage, CarriesInput, CarriesRequest, CarriesArrival, CarriesOutcome, arrivals_carried, requests_carried, message_of, IsBroughtBy}
 use Rattle.input_laws.proofs.Events.{added_by, entries_now, itself}
 use Rattle.input_laws.proofs.Telling.{entries_arrivals, entries_requests}

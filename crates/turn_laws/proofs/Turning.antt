@@ -3,9 +3,9 @@ use Rattle.std.proofs.Common.{sym, subst, ◌∙◌, inl, inr, ℕ, Bool, List, 
 use Rattle.std.specs.List.{AllByRecursion}
 use Rattle.journal_model.specs.Notification.{Arrival}
 use Rattle.journal_model.specs.Request.{Request}
-use Rattle.journal_model.specs.Run.{Handler, Invocation, run_requests}
+use Rattle.journal_model.specs.Run.{Handler, Invocation, run_requests, BeginsRun}
 use Rattle.journal_model.specs.Event.{Frame}
-use Rattle.run_laws.specs.Position.{BeginsRun, IsAtCall}
+use Rattle.run_laws.specs.Position.{IsAtCall}
 use Rattle.turn_laws.specs.Sending.{requests_sent, SendsOfRun}
 use Rattle.turn_laws.specs.Turning.{IsNote, WritesOfRun, nothing, answers, notes, fails, suspends, ends}
 use Rattle.run_laws.proofs.Extending.{begins-less}

@@ -9,13 +9,13 @@ use Rattle.journal_model.specs.Notification.{Bytes, Text}
 use Rattle.journal_model.specs.Request.{Request}
 use Rattle.journal_model.specs.declared.invocation.NewInvocation.{NewInvocation}
 use Rattle.journal_model.specs.declared.options.RunOptions.{RunOptions}
-use Rattle.journal_model.specs.Run.{Handler, Invocation}
+use Rattle.journal_model.specs.Run.{Handler, Invocation, BeginsRun}
 use Rattle.journal_model.specs.Event.{Suspension, Event, Frame}
 use Rattle.journal_model.specs.Journal.{begins, invocation_begun, starting_state, entries_of, recorded_requests}
 use Rattle.journal_model.specs.Attempt.{Piece, begins_attempt, bytes_asked, is_input_closed, input_left, arrivals_within}
 use Rattle.journal_model.specs.Cause.{causes_of, IsAccepted}
 use Rattle.journal_model.specs.Headline.{run_of, Headline, NeverLate, WakesExactly, arrivals_handed}
-use Rattle.run_laws.specs.Position.{BeginsRun, IsAtCall}
+use Rattle.run_laws.specs.Position.{IsAtCall}
 use Rattle.input_laws.specs.Reading.{HasReadPieces, arrivals_read}
 use Rattle.input_laws.specs.Message.{InputMessage, CarriesInput, arrivals_carried, requests_carried, IsBroughtBy}
 use Rattle.completion_laws.specs.Once.{ComeWhenAsked}

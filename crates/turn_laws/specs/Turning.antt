@@ -3,10 +3,10 @@ use Rattle.std.specs.Prelude.{◌≡◌, ◌⊎◌, ℕ, Bool, true, List, [], �
 use Rattle.std.specs.List.{AllByRecursion}
 use Rattle.journal_model.specs.Notification.{Arrival}
 use Rattle.journal_model.specs.Request.{Request}
-use Rattle.journal_model.specs.Run.{Handler, Invocation, Ended}
+use Rattle.journal_model.specs.Run.{Handler, Invocation, Ended, BeginsRun}
 use Rattle.journal_model.specs.Event.{Suspension, Frame}
 use Rattle.journal_model.specs.Headline.{IsWholeRun}
-use Rattle.run_laws.specs.Position.{BeginsRun, IsAtCall}
+use Rattle.run_laws.specs.Position.{IsAtCall}
 use Rattle.waking_laws.specs.Suspended.{WaitsAll}
 
 -- a frame that says nothing of requests

@@ -1,5 +1,5 @@
 -- Worked rows: the records of trees, as their combinator, completions, signals, names, and the records in them.
-use Rattle.std.proofs.Common.{◌≡◌, refl, ℕ, List, [], ◌∷◌, map, Some, None, codes}
+use Rattle.std.proofs.Common.{◌≡◌, refl, ℕ, ◌+◌, List, [], ◌∷◌, map, Some, None, codes}
 use Rattle.journal_model.specs.declared.notification.NotificationId.TheVariants.{CompletionId, SignalId, SignalName}
 use Rattle.journal_model.specs.AwaitTree as Trees
 use Rattle.journal_model.specs.AwaitTree.{AwaitTree, Single}
@@ -15,20 +15,15 @@ use Rattle.attempt_model.specs.Results.{Slots, slot_of}
 abbrev slots : Slots
 slots = Some (CompletionId 1) ∷ Some (CompletionId 2) ∷ Some (CompletionId 3) ∷ Some (SignalId 5) ∷ Some (SignalId 17) ∷ Some (SignalName (codes "foo")) ∷ None ∷ []
 
-abbrev c1 : AwaitTree ℕ
-c1 = Single 17
-
-abbrev c2 : AwaitTree ℕ
-c2 = Single 18
-
-abbrev c3 : AwaitTree ℕ
-c3 = Single 19
-
 abbrev s5 : AwaitTree ℕ
 s5 = Single 20
 
 abbrev s17 : AwaitTree ℕ
 s17 = Single 21
+
+-- a completion, by its number
+abbrev c : ℕ → AwaitTree ℕ
+c id = Single (16 + id)
 
 abbrev foo : AwaitTree ℕ
 foo = Single 22
@@ -49,20 +44,20 @@ over combinator completions nested = future_node completions [] [] nested combin
 
 abbrev table : List Row
 table =
-    tells c1 FirstCompleted (1 ∷ []) [] [] [] ∷
+    tells (c 1) FirstCompleted (1 ∷ []) [] [] [] ∷
     tells s17 FirstCompleted [] (17 ∷ []) [] [] ∷
     tells foo FirstCompleted [] [] (codes "foo" ∷ []) [] ∷
-    tells (node Trees.FirstCompleted (c1 ∷ c2 ∷ [])) FirstCompleted (1 ∷ 2 ∷ []) [] [] [] ∷
-    tells (node Trees.FirstCompleted (c1 ∷ s5 ∷ [])) FirstCompleted (1 ∷ []) (5 ∷ []) [] [] ∷
-    tells (node Trees.AllCompleted (c1 ∷ c2 ∷ [])) AllCompleted (1 ∷ 2 ∷ []) [] [] [] ∷
-    tells (node Trees.FirstSucceededOrAllFailed (c1 ∷ c2 ∷ [])) FirstSucceededOrAllFailed (1 ∷ 2 ∷ []) [] [] [] ∷
-    tells (node Trees.AllSucceededOrFirstFailed (c1 ∷ c2 ∷ [])) AllSucceededOrFirstFailed (1 ∷ 2 ∷ []) [] [] [] ∷
-    tells (node Trees.Unknown (c1 ∷ s5 ∷ [])) Unknown (1 ∷ []) (5 ∷ []) [] [] ∷
-    tells (node Trees.FirstCompleted (c1 ∷ node Trees.AllCompleted (c2 ∷ c3 ∷ []) ∷ [])) FirstCompleted (1 ∷ []) [] [] (over AllCompleted (2 ∷ 3 ∷ []) [] ∷ []) ∷
-    tells (node Trees.FirstCompleted (node Trees.Unknown (c1 ∷ c2 ∷ []) ∷ c3 ∷ [])) FirstCompleted (3 ∷ []) [] [] (over Unknown (1 ∷ 2 ∷ []) [] ∷ []) ∷
-    tells (node Trees.FirstCompleted (node Trees.Unknown (node Trees.AllCompleted (c1 ∷ c2 ∷ []) ∷ []) ∷ c3 ∷ [])) FirstCompleted (3 ∷ []) [] [] (over Unknown [] (over AllCompleted (1 ∷ 2 ∷ []) [] ∷ []) ∷ []) ∷
-    tells (node Trees.Unknown (node Trees.FirstSucceededOrAllFailed (c1 ∷ c2 ∷ []) ∷ s5 ∷ [])) Unknown [] (5 ∷ []) [] (over FirstSucceededOrAllFailed (1 ∷ 2 ∷ []) [] ∷ []) ∷
-    tells (node Trees.AllCompleted (c1 ∷ node Trees.Unknown (s17 ∷ []) ∷ [])) AllCompleted (1 ∷ []) [] [] (future_node [] (17 ∷ []) [] [] Unknown ∷ []) ∷
+    tells (node Trees.FirstCompleted (c 1 ∷ c 2 ∷ [])) FirstCompleted (1 ∷ 2 ∷ []) [] [] [] ∷
+    tells (node Trees.FirstCompleted (c 1 ∷ s5 ∷ [])) FirstCompleted (1 ∷ []) (5 ∷ []) [] [] ∷
+    tells (node Trees.AllCompleted (c 1 ∷ c 2 ∷ [])) AllCompleted (1 ∷ 2 ∷ []) [] [] [] ∷
+    tells (node Trees.FirstSucceededOrAllFailed (c 1 ∷ c 2 ∷ [])) FirstSucceededOrAllFailed (1 ∷ 2 ∷ []) [] [] [] ∷
+    tells (node Trees.AllSucceededOrFirstFailed (c 1 ∷ c 2 ∷ [])) AllSucceededOrFirstFailed (1 ∷ 2 ∷ []) [] [] [] ∷
+    tells (node Trees.Unknown (c 1 ∷ s5 ∷ [])) Unknown (1 ∷ []) (5 ∷ []) [] [] ∷
+    tells (node Trees.FirstCompleted (c 1 ∷ node Trees.AllCompleted (c 2 ∷ c 3 ∷ []) ∷ [])) FirstCompleted (1 ∷ []) [] [] (over AllCompleted (2 ∷ 3 ∷ []) [] ∷ []) ∷
+    tells (node Trees.FirstCompleted (node Trees.Unknown (c 1 ∷ c 2 ∷ []) ∷ c 3 ∷ [])) FirstCompleted (3 ∷ []) [] [] (over Unknown (1 ∷ 2 ∷ []) [] ∷ []) ∷
+    tells (node Trees.FirstCompleted (node Trees.Unknown (node Trees.AllCompleted (c 1 ∷ c 2 ∷ []) ∷ []) ∷ c 3 ∷ [])) FirstCompleted (3 ∷ []) [] [] (over Unknown [] (over AllCompleted (1 ∷ 2 ∷ []) [] ∷ []) ∷ []) ∷
+    tells (node Trees.Unknown (node Trees.FirstSucceededOrAllFailed (c 1 ∷ c 2 ∷ []) ∷ s5 ∷ [])) Unknown [] (5 ∷ []) [] (over FirstSucceededOrAllFailed (1 ∷ 2 ∷ []) [] ∷ []) ∷
+    tells (node Trees.AllCompleted (c 1 ∷ node Trees.Unknown (s17 ∷ []) ∷ [])) AllCompleted (1 ∷ []) [] [] (future_node [] (17 ∷ []) [] [] Unknown ∷ []) ∷
     -- a handle that stands for nothing is left out; the handle of cancellations stands for signal 1
     tells taken FirstCompleted [] [] [] [] ∷
     tells (node Trees.FirstCompleted (node Trees.AllCompleted (taken ∷ foo ∷ []) ∷ Single 1 ∷ [])) FirstCompleted [] (1 ∷ []) [] (future_node [] [] (codes "foo" ∷ []) [] AllCompleted ∷ []) ∷

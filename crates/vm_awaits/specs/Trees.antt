@@ -14,6 +14,7 @@ abbrev pub combinator_meant : Combinator → Trees.Combinator
 combinator_meant combinators.Unknown = Trees.Unknown
 combinator_meant combinators.FirstCompleted = Trees.FirstCompleted
 combinator_meant combinators.AllCompleted = Trees.AllCompleted
+-- these two ask how a child has ended, and not only whether it has
 combinator_meant combinators.FirstSucceededOrAllFailed = Trees.FirstSucceededOrAllFailed
 combinator_meant combinators.AllSucceededOrFirstFailed = Trees.AllSucceededOrFirstFailed
 

@@ -1,6 +1,4 @@
-//! The transitions of the invocation machine.
-//!
-//! A call's request is matched with the next recorded command, or written. `put` is this one step for every command.
+//! The one step of every command: `put` matches a call's request with the next recorded command, or writes it.
 #![tactic(auto)]
 
 mod put_error;

@@ -85,14 +85,14 @@ impl EagerRead for GetEagerStateKeysCommandMessage {
 
     ghost takes_over = { keys_retold };
 
-    fn take_known(&mut self) -> Option<StateKeys> {
-        self.value.take()
-    }
-
     fn asking(lazy: GetLazyStateKeysCommandMessage) -> GetEagerStateKeysCommandMessage {
         GetEagerStateKeysCommandMessage {
             name: lazy.name,
             value: None,
         }
+    }
+
+    fn take_known(&mut self) -> Option<StateKeys> {
+        self.value.take()
     }
 }

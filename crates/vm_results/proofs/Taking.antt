@@ -2,19 +2,12 @@
 use Rattle.std.proofs.Common.{◌≡◌, refl, sym, ap, ◌∙◌, ℕ, ◌-◌, ◌<◌, ◌==◌, nat_lt, Bool, true, false, if◌then◌else◌, List, [], ◌∷◌, drop, length, slice_get, Option, Some, None, eqb-true}
 use Rattle.std.proofs.Math.Path.{fun_ext}
 use Rattle.std.proofs.lemmas.Option.{slice_get_within}
-use Rattle.std.proofs.lemmas.Slice.Eq.{bytes_eq-Decides}
 use Rattle.journal_model.specs.declared.notification.NotificationId.{NotificationId}
-use Rattle.journal_model.specs.declared.notification.NotificationId.TheVariants.{CompletionId, SignalId, SignalName}
 use Rattle.journal_model.specs.declared.notification.NotificationResult.{NotificationResult}
 use Rattle.journal_model.specs.Notification.{same_id, cancel_id}
+use Rattle.journal_model.proofs.Ids.{same_id-same}
 use Rattle.attempt_model.specs.Results.{Ready, Slots, first_of, slot_in, slot_of, ready_without_first}
 use Rattle.vm_results.specs.Calls.{ready_left}
-
-same_ids : (a b : NotificationId) → same_id a b ≡ true → a ≡ b
-same_ids (CompletionId n) (CompletionId m) e = ap CompletionId (eqb-true n m e)
-same_ids (SignalId n) (SignalId m) e = ap SignalId (eqb-true n m e)
-same_ids (SignalName s) (SignalName t) e = ap SignalName ((bytes_eq-Decides s t).0 e)
-same_ids _ _ e = cc
 
 none_first : (results : List NotificationResult) → first_of results ≡ None → drop 1 results ≡ results
 none_first [] e = refl
@@ -25,7 +18,7 @@ nothing_goes : (ready : Ready) (id : NotificationId) → first_of (ready id) ≡
 nothing_goes ready id none = fun_ext (λ other. by_test other (same_id id other) refl)
   where
     by_test : (other : NotificationId) (b : Bool) → same_id id other ≡ b → (if b then drop 1 (ready other) else ready other) ≡ ready other
-    by_test other true e = none_first (ready other) (ap (λ (q : NotificationId). first_of (ready q)) (sym (same_ids id other e)) ∙ none)
+    by_test other true e = none_first (ready other) (ap (λ (q : NotificationId). first_of (ready q)) (sym (same_id-same id other e)) ∙ none)
     by_test other false e = refl
 
 pub ready_taken : (handle : ℕ) (slots : Slots) (ready : Ready) (id : NotificationId) (taken : Option NotificationResult) (left : Ready)

@@ -21,22 +21,6 @@ pub enum StartError {
     OutOfMemory,
 }
 
-impl From<AllocError> for StartError {
-    ghost from_gives = { λ _ error. error ≡ OutOfMemory };
-
-    fn from(_refused: AllocError) -> StartError {
-        StartError::OutOfMemory
-    }
-}
-
-impl<T: Drop> From<AllocFailed<T>> for StartError {
-    ghost from_gives = { λ _ error. error ≡ OutOfMemory };
-
-    fn from(_refused: AllocFailed<T>) -> StartError {
-        StartError::OutOfMemory
-    }
-}
-
 /// Prints the error that it holds.
 impl fmt::Display for StartError {
     ghost output = { start_text };
@@ -47,6 +31,14 @@ impl fmt::Display for StartError {
             StartError::KnownEntriesIsZero => write!(f, "{KNOWN_ENTRIES_IS_ZERO}"),
             StartError::OutOfMemory => write!(f, "out of memory"),
         }
+    }
+}
+
+impl From<AllocError> for StartError {
+    ghost from_gives = { λ _ error. error ≡ OutOfMemory };
+
+    fn from(_refused: AllocError) -> StartError {
+        StartError::OutOfMemory
     }
 }
 
@@ -62,5 +54,13 @@ impl WithInvocationErrorCode for StartError {
             StartError::KnownEntriesIsZero => KNOWN_ENTRIES_IS_ZERO.code(),
             StartError::OutOfMemory => codes::INTERNAL,
         }
+    }
+}
+
+impl<T: Drop> From<AllocFailed<T>> for StartError {
+    ghost from_gives = { λ _ error. error ≡ OutOfMemory };
+
+    fn from(_refused: AllocFailed<T>) -> StartError {
+        StartError::OutOfMemory
     }
 }

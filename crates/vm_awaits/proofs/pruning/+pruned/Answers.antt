@@ -9,8 +9,7 @@ use Rattle.vm_awaits.proofs.pruning.+pruned.Goals.{then-not-is_future_completed+
 
 pub pruned-requires : goal.pruned-requires
 pruned-requires t c =
-    let smaller = child_is_smaller (combinator_meant c.in-Node.combinator) c.args.future.now c.in-Node.children.now c.loop-child.child-index c.child-item.result c.in-Node.ensures c.loop-child-test.true c.child-item.is in
-    (omega (arith, smaller, c.decreases), tt)
+    (omega (arith, child_is_smaller (combinator_meant c.in-Node.combinator) c.args.future.now c.in-Node.children.now c.loop-child.child-index c.child-item.result c.in-Node.ensures c.loop-child-test.true c.child-item.is, c.decreases), tt)
 
 pub loop-child-preserved : goal.loop-child-preserved
 loop-child-preserved t c =

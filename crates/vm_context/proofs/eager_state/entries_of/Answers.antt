@@ -15,9 +15,9 @@ loop-key-init c =
 
 pub loop-key-preserved : goal.loop-key-preserved
 loop-key-preserved c =
-    let inv = c.loop-key.invariant in
     let left = into_iter_items c.loop-key.key-iterator in
     let rest = into_iter_items c.next.new.self in
+    let inv = c.loop-key.invariant in
     let steps = c.in-Some.ensures.steps in
     record {
       sized = one_less left rest (c.in-Some.key, c.in-Some.value) (into_iter_len c.loop-key.key-iterator) (into_iter_len c.next.new.self) inv.sized steps.0 steps.1;

@@ -7,7 +7,6 @@ returns-then-not-is_known-clause-ok c = rw (← c.self.view_is)
     (answer_ignored _ c.self.inside.in_flight.keys c.self.inside.ready.entries c.args.id.number c.args.value c.is_known.result c.is_known.ensures c.if-not-is_known.true)
 
 pub returns-in_err-answer-clause-memory : goal.returns-in_err-answer-clause-memory
--- OPEN: not checked in this form
 returns-in_err-answer-clause-memory c =
     let p = err_from_is_err_and c.from_residual.result c.from_residual.ensures.1 in
     rw (p.1, ← c.self.view_is)
