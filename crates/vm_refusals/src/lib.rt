@@ -1,0 +1,11 @@
+//! Which calls are refused before anything is looked at, by the version of the protocol and their arguments alone: the first
+//! refusal of each, its code and its text.
+#![tactic(auto)]
+
+mod refusal;
+mod refusal_error;
+mod tests_of_calls;
+
+pub use refusal::CallRefusal;
+pub use refusal_error::RefusalError;
+pub use tests_of_calls::{refuse_attach, refuse_moment, refuse_target, refuse_value, to_millis};
