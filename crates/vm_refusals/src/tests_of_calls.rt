@@ -57,7 +57,7 @@ fn is_unsupported(version: u32, text: &Option<ByteStr>) -> bool
     text.is_some() && Feature::Scope.is_later_than(version)
 }
 
-/// Why a call, which has no moment, or a send to this target is refused, if it is.
+/// Why a call or a send is refused, if it is. A call has no moment, and neither has a send at once.
 pub fn refuse_target(
     version: u32,
     target: &Target,
