@@ -1,1 +1,4 @@
 pub mod Framing
+pub mod Settling
+pub mod Making
+pub mod Calls

@@ -1,8 +1,17 @@
-//! The one step of every command: `put` matches a call's request with the next recorded command, or writes it.
+//! How the commands of calls are made.
+//!
+//! `put` is the one step of every command: it matches a call's request with the next recorded command, or writes it. `Active` is
+//! what an attempt keeps while calls are made of it; the calls are its methods, and each says that it does what the attempt
+//! without bytes does.
 #![tactic(auto)]
 
+mod active;
+mod call_error;
 mod put_error;
 mod putting;
+mod sleeping;
 
+pub use active::Active;
+pub use call_error::{CallError, NumberError};
 pub use put_error::PutError;
 pub use putting::put;

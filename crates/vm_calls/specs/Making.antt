@@ -1,0 +1,82 @@
+-- What a call does that puts one command: what it answers, and why it fails.
+use Rattle.std.specs.Prelude.{◌≡◌, ◌≤◌, ◌^◌, ℕ, Bool, false, List, [], ◌∷◌, ◌++◌, length, None, Result, Ok, Err}
+use Rattle.journal_model.specs.declared.notification.NotificationId.TheVariants.{CompletionId}
+use Rattle.journal_model.specs.Notification.{Text}
+use Rattle.journal_model.specs.declared.call.Call.{Call}
+use Rattle.journal_model.specs.declared.call.Answer.{Answer}
+use Rattle.journal_model.specs.Request.{Request}
+use Rattle.journal_model.specs.Refusal.{refusal_of}
+use Rattle.journal_model.specs.Spelling.{request_payload}
+use Rattle.journal_model.specs.History.{completions_of, signals_of, ids_of}
+use Rattle.journal_model.specs.Delivery.{known_result}
+use Rattle.journal_model.specs.Await.{child_of}
+use Rattle.journal_model.specs.Run.{Invocation}
+use Rattle.attempt_model.specs.Requests.{requests_by, answer_by}
+use Rattle.attempt_model.specs.Machine.{Machine, Answered, FailedBy, Mismatch, work_of, ToMake, reply_to}
+use Rattle.protocol_types.specs.declared.message_type.MessageType.{MessageType}
+use Rattle.protocol_stream.specs.declared.encoder.EncodingError.TheVariants as unsent
+use Rattle.vm_context.specs.Following.{changes_state}
+use Rattle.vm_commands.specs.HeaderEquality.{same_header}
+use Rattle.vm_commands.specs.declared.replay_error.ReplayError.TheVariants as unmatched
+use Rattle.vm_calls.specs.declared.active.Active.{Active}
+use Rattle.vm_calls.specs.declared.call_error.CallError.{CallError}
+use Rattle.vm_calls.specs.declared.call_error.CallError.TheVariants.{Number, Put, OutOfMemory}
+use Rattle.vm_calls.specs.declared.call_error.NumberError.TheVariants as numbers
+use Rattle.vm_calls.specs.declared.put_error.PutError.TheVariants.{Replay, Encoding}
+use Rattle.vm_calls.specs.Active.{Sees, asking, LacksCompletion, TakesCompletion, writes_frames}
+
+module _ (checks_off : Bool) (given : Invocation) (m : Machine) (call : Call) where
+  -- The call is answered as the abstract machine answers it, which is seen afterwards; written are exactly the frames of the
+  -- requests by which it has written more.
+  pub record Replies (answer : Answer) (old new : Active) : Type 0 where
+    pub machine : Machine
+    pub replies : reply_to (same_header checks_off) given m call ≡ Answered answer machine
+    pub sees : Sees given new machine
+    pub more : List Request
+    pub written : machine.written ≡ m.written ++ more
+    pub frames : new.output ≡ writes_frames more old.output
+
+  -- the call's one request is longer than a frame can be
+  pub record IsLong : Type 0 where
+    pub request : Request
+    pub requests : requests_by m.start m.done m.left m.completions call ≡ request ∷ []
+    pub long : 2 ^ 32 ≤ length (request_payload request)
+
+  -- Why it fails: no number is left; the abstract machine fails; its request, which would be written, is too long; or memory
+  -- was refused.
+  abbrev pub FailsAs : {M : Type 0} → (old : Active) → CallError M → Type 0
+  FailsAs old (Number numbers.IdsExhausted) = LacksCompletion old
+  FailsAs old (Number numbers.OutOfMemory) = Unit {0}
+  FailsAs old (Put (Replay (unmatched.Unavailable error))) = ⊥
+  FailsAs old (Put (Replay (unmatched.Decoding error))) = reply_to (same_header checks_off) given m call ≡ FailedBy Mismatch
+  FailsAs old (Put (Replay (unmatched.Mismatch error))) = reply_to (same_header checks_off) given m call ≡ FailedBy Mismatch
+  FailsAs old (Put (Replay unmatched.OutOfMemory)) = Unit {0}
+  FailsAs old (Put (Encoding unsent.PayloadTooLong)) = (m.left ≡ []) × IsLong
+  FailsAs old (Put (Encoding unsent.OutOfMemory)) = Unit {0}
+  FailsAs old OutOfMemory = Unit {0}
+
+  -- what such a call does, where it makes its answer of what it takes
+  abbrev pub Makes : {M Taken : Type 0} → (Taken → Answer) → (old : Active) → Result Taken (CallError M) → (new : Active) → Type 0
+  Makes answer old (Ok taken) new = Replies (answer taken) old new
+  Makes answer old (Err error) new = FailsAs old error × (new.output ≡ old.output)
+
+-- a call that takes one completion id and a handle for it, and puts one request, which changes nothing of the state
+pub record CompletesOne (given : Invocation) (m : Machine) (call : Call) (request : Request) : Type 0 where
+  pub refused : refusal_of given.version call ≡ None
+  pub work : work_of call ≡ ToMake
+  pub requests : requests_by m.start m.done m.left m.completions call ≡ request ∷ []
+  pub completions : completions_of call ≡ 1
+  pub signals : signals_of call ≡ 0
+  pub ids : ids_of m.completions m.signals call ≡ CompletionId m.completions ∷ []
+  pub known : known_result m.completions (request ∷ []) ≡ []
+  pub children : child_of given.options.implicit_cancellation m.completions call ≡ []
+  pub keeps : changes_state request ≡ false
+  pub answer : (id : Text) (handle signal : ℕ) → answer_by id handle signal call ≡ Answer.Handle handle
+
+-- the machine's call has begun: its completion was taken, and this handle stands for it
+pub record HasBegun (given : Invocation) (m : Machine) (handle : ℕ) (old begun : Active) : Type 0 where
+  pub sees : Sees given old m
+  pub ty : MessageType
+  pub name : Text
+  pub id : ℕ
+  pub takes : TakesCompletion (id, handle) (asking ty name old) begun

@@ -1,0 +1,156 @@
+// What an attempt keeps while calls are made of it, and the steps that each call is made of.
+ghost use Rattle.std.specs.Prelude.{◌≡◌, ◌↔◌, ◌||◌, Bool, List, Some, OnOk, OnErr, IfOk, IfErr};
+ghost use Rattle.journal_model.specs.Request.{Request};
+ghost use Rattle.journal_model.specs.declared.call.Call.{Call};
+ghost use Rattle.journal_model.specs.declared.call.Answer.{Answer};
+ghost use Rattle.journal_model.specs.Run.{Invocation};
+ghost use Rattle.attempt_model.specs.Machine.{Machine};
+ghost use Rattle.vm_commands.specs.HeaderEquality.{is_unstable};
+ghost use Rattle.vm_calls.specs.Active.{left_of, still_replays, asking, TellsSame, IsAtCommand, IsSettled, TakesCompletion, LacksCompletion, PutsIn};
+ghost use Rattle.vm_calls.specs.Making.{CompletesOne, HasBegun, Makes};
+ghost use Rattle.vm_awaits.specs.declared.state.CreateHandleError.TheVariants.{HandlesExhausted};
+ghost use Rattle.vm_calls.specs.declared.call_error.NumberError.TheVariants.{IdsExhausted};
+
+use crate::{CallError, NumberError, PutError, put};
+use bytes::ByteStr;
+use journal_model::{NotificationHandle, NotificationId};
+use protocol_stream::RawMessage;
+use protocol_types::MessageType;
+use std::alloc::{AllocError, Global};
+use std::collections::VecDeque;
+use vm_awaits::{AsyncResultsState, CreateHandleError};
+use vm_commands::Command;
+use vm_context::{EagerState, Journal, Output};
+
+/// What an attempt keeps while calls are made of it, from the last of the entries that its start has announced on.
+#[derive(Debug, Drop)]
+pub struct Active {
+    /// Whether recorded commands are left, which the next calls have to match.
+    pub is_replaying: bool,
+    /// The recorded commands that are left, the next one first.
+    pub commands: VecDeque<RawMessage>,
+    pub results: AsyncResultsState,
+    pub state: EagerState,
+    pub journal: Journal,
+    pub output: Output,
+}
+
+fn number_error(error: CreateHandleError) -> NumberError
+    ensures { (result ≡ IdsExhausted) ↔ (error ≡ HandlesExhausted) }
+{
+    match error {
+        CreateHandleError::HandlesExhausted => NumberError::IdsExhausted,
+        CreateHandleError::OutOfMemory => NumberError::OutOfMemory,
+    }
+}
+
+// An attempt replays until the last recorded command is matched.
+fn still_replays(is_replaying: bool, commands: &VecDeque<RawMessage>) -> bool
+    ensures { result ≡ still_replays is_replaying commands.now.items }
+{
+    is_replaying && !commands.is_empty()
+}
+
+impl Active {
+    // A command of this type and name is asked for: errors that follow tell it. Answers a copy of the name.
+    fn ask(&mut self, ty: MessageType, name: ByteStr) -> Result<ByteStr, AllocError>
+        ensures copy { IfOk result (λ copy. copy ≡ name) }
+        ensures journal { self.new ≡ asking ty name self.old }
+    {
+        let copy: Result<ByteStr, AllocError> = name.clone();
+        self.journal.transition(ty, name);
+        copy
+    }
+
+    // Takes the next completion id, and the handle that stands for it.
+    fn next_completion(&mut self) -> Result<(u32, NotificationHandle), NumberError>
+        ensures ok { IfOk result (λ made. TakesCompletion made self.old self.new) }
+        ensures err { IfErr result (λ error. error ≡ IdsExhausted → LacksCompletion self.old) }
+        ensures output { self.new.output ≡ self.old.output }
+        ensures told { TellsSame self.old.journal self.new.journal }
+    {
+        let Ok(id) = self.journal.next_completion_notification_id() else {
+            return Err(NumberError::IdsExhausted);
+        };
+        match self
+            .results
+            .create_handle_mapping(NotificationId::CompletionId(id))
+        {
+            Ok(handle) => Ok((id, handle)),
+            Err(error) => Err(number_error(error)),
+        }
+    }
+
+    /// Begins a call of one completion, whose command is of this type and name: takes the completion's id and the handle that
+    /// stands for it. Answers a copy of the name beside the two.
+    pub(crate) fn begin(
+        &mut self,
+        ty: MessageType,
+        name: ByteStr,
+    ) -> Result<(ByteStr, u32, NotificationHandle), NumberError>
+        ensures name { IfOk result (λ taken. taken.0 ≡ name) }
+        ensures taken { IfOk result (λ taken. TakesCompletion (taken.1, taken.2) (asking ty name self.old) self.new) }
+        ensures err { IfErr result (λ error. error ≡ IdsExhausted → LacksCompletion self.old) }
+        ensures output { self.new.output ≡ self.old.output }
+        ensures told { IsAtCommand ty name self.old.journal self.new.journal }
+    {
+        let copy = self.ask(ty, name);
+        let (id, handle) = self.next_completion()?;
+        match copy {
+            Ok(name) => Ok((name, id, handle)),
+            Err(_) => Err(NumberError::OutOfMemory),
+        }
+    }
+
+    /// Matches a call's command with the next recorded one, or writes it. Where the last recorded one was matched, the attempt
+    /// replays no more.
+    pub fn put<M: Command>(
+        &mut self,
+        alloc: Global,
+        command: M,
+        ignore_payload_equality: bool,
+    ) -> Result<M, PutError<M>>
+        ensures put { (request : Request) (written : List Request) → M.request_of command ≡ Some request → IsSettled self.old
+            → PutsIn ignore_payload_equality request written self.old result self.new }
+        ensures journal { self.new.journal ≡ self.old.journal }
+    {
+        let index = self.journal.command_index();
+        match put(
+            alloc,
+            self.is_replaying,
+            &mut self.commands,
+            &mut self.output,
+            index,
+            command,
+            ignore_payload_equality,
+        ) {
+            Ok(stands) => {
+                self.is_replaying = still_replays(self.is_replaying, &self.commands);
+                Ok(stands)
+            }
+            Err(error) => Err(error),
+        }
+    }
+
+    /// Puts the command of a call that has begun, and answers the handle of its completion.
+    pub(crate) fn put_completable<M: Command>(
+        &mut self,
+        alloc: Global,
+        command: M,
+        ignore_payload_equality: bool,
+        handle: NotificationHandle,
+    ) -> Result<NotificationHandle, CallError<M>>
+        ensures makes { (checks_off : Bool) (given : Invocation) (m : Machine) (call : Call) (request : Request) (old : Active) → M.request_of command ≡ Some request
+            → CompletesOne given m call request → ignore_payload_equality ≡ (checks_off || is_unstable call) → HasBegun given m handle old self.old
+            → Makes checks_off given m call (λ handle. Answer.Handle handle) old result self.new }
+        ensures journal { self.new.journal ≡ self.old.journal }
+    {
+        match self.put(alloc, command, ignore_payload_equality) {
+            Ok(stands) => {
+                drop(stands);
+                Ok(handle)
+            }
+            Err(error) => Err(CallError::Put(error)),
+        }
+    }
+}
