@@ -16,9 +16,11 @@ abbrev pub refusal_meant : CallRefusal → Refusal
 refusal_meant CallRefusal.EmptyIdempotencyKey = Refusal.EmptyIdempotencyKey
 refusal_meant CallRefusal.EmptyScope = Refusal.EmptyScope
 refusal_meant CallRefusal.EmptyLimitKey = Refusal.EmptyLimitKey
+-- what the version lacks
 refusal_meant CallRefusal.UnsupportedScope = Refusal.UnsupportedScope
 refusal_meant CallRefusal.UnsupportedLimitKey = Refusal.UnsupportedLimitKey
 refusal_meant CallRefusal.UnsupportedFailureMetadata = Refusal.UnsupportedFailureMetadata
+-- what the arguments pass
 refusal_meant CallRefusal.OutOfBoundsDuration = Refusal.OutOfBoundsDuration
 
 -- what needs a later version is not supported; the rest is an error of the caller
@@ -26,9 +28,11 @@ abbrev pub refusal_code : CallRefusal → ℕ
 refusal_code CallRefusal.EmptyIdempotencyKey = fixed_code fixed.EmptyIdempotencyKey
 refusal_code CallRefusal.EmptyScope = fixed_code fixed.EmptyScope
 refusal_code CallRefusal.EmptyLimitKey = fixed_code fixed.EmptyLimitKey
+-- what the version lacks
 refusal_code CallRefusal.UnsupportedScope = unsupported_feature
 refusal_code CallRefusal.UnsupportedLimitKey = unsupported_feature
 refusal_code CallRefusal.UnsupportedFailureMetadata = unsupported_feature
+-- what the arguments pass
 refusal_code CallRefusal.OutOfBoundsDuration = internal
 
 -- ---- what the errors print

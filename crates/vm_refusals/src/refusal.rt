@@ -4,16 +4,19 @@ use protocol_errors::{InvocationErrorCode, WithInvocationErrorCode, codes};
 /// Why a call is refused before anything is looked at: by the version of the protocol and its arguments alone.
 #[derive(Debug, Clone, Copy, PartialEq, Eq)]
 pub enum CallRefusal {
+    /// An idempotency key is given, and is empty.
     EmptyIdempotencyKey,
+    /// A scope is given, and is empty.
     EmptyScope,
+    /// A limit key is given, and is empty.
     EmptyLimitKey,
-    /// A scope before version 7.
+    /// A scope is given in a version that has none.
     UnsupportedScope,
-    /// A limit key before version 7.
+    /// A limit key is given in a version that has none.
     UnsupportedLimitKey,
-    /// Metadata of a failure before version 6.
+    /// A failure carries metadata in a version whose failures have none.
     UnsupportedFailureMetadata,
-    /// A moment past the milliseconds that 64 bits hold.
+    /// 64 bits do not hold a moment's milliseconds.
     OutOfBoundsDuration,
 }
 

@@ -1,6 +1,6 @@
 // The first refusal of a call.
 ghost use Rattle.std.specs.Prelude.{◌≡◌, ◌≤◌, ◌^◌, ◌↔◌, ◌&&◌, is_some, option_map, IfOk, IfErr, IsErr};
-ghost use Rattle.journal_model.specs.Refusal.{is_given_empty, milliseconds, first_refusal, moment_tests, target_tests, scope_tests, attach_tests, value_tests, send_tests};
+ghost use Rattle.journal_model.specs.Refusal.{is_given_empty, has_pairs, milliseconds, first_refusal, moment_tests, target_tests, scope_tests, attach_tests, value_tests, send_tests};
 ghost use Rattle.protocol_types.specs.Feature.{lacks_feature};
 ghost use Rattle.protocol_types.specs.declared.feature.Feature.{Feature};
 ghost use Rattle.vm_refusals.specs.Refusals.{refusal_meant};
@@ -8,7 +8,7 @@ ghost use Rattle.vm_refusals.specs.declared.refusal.CallRefusal.TheVariants.{Out
 
 use crate::CallRefusal;
 use bytes::ByteStr;
-use journal_model::{AttachInvocationTarget, Moment, NonEmptyValue, Target};
+use journal_model::{AttachInvocationTarget, Moment, NonEmptyValue, Target, TerminalFailure};
 use protocol_types::Feature;
 
 /// A moment in whole milliseconds, where 64 bits hold them.
@@ -107,15 +107,22 @@ pub fn refuse_attach(version: u32, target: &AttachInvocationTarget) -> Option<Ca
     }
 }
 
+// Whether a failure has metadata in a version that has none.
+fn has_unsupported_metadata(version: u32, failure: &TerminalFailure) -> bool
+    ensures { result ≡ (has_pairs failure.now.metadata && lacks_feature version Feature.FailureMetadata) }
+{
+    !failure.metadata.is_empty() && Feature::FailureMetadata.is_later_than(version)
+}
+
 /// Why a call that hands in this value is refused, if it is.
 pub fn refuse_value(version: u32, value: &NonEmptyValue) -> Option<CallRefusal>
     ensures { option_map refusal_meant result ≡ first_refusal (value_tests version value.now) }
 {
-    match value {
-        NonEmptyValue::Failure(failure)
-            if Feature::FailureMetadata.is_later_than(version) && !failure.metadata.is_empty() => {
-            Some(CallRefusal::UnsupportedFailureMetadata)
-        }
-        _ => None,
+    let NonEmptyValue::Failure(failure) = value else {
+        return None;
+    };
+    if has_unsupported_metadata(version, failure) {
+        return Some(CallRefusal::UnsupportedFailureMetadata);
     }
+    None
 }
