@@ -1,4 +1,4 @@
-//! The records: those of commands, and all others.
+//! The records.
 pub use journal_protocol::messages::{
     AttachInvocationCommandMessage, AwaitingOnMessage, CallCommandMessage,
     ClearAllStateCommandMessage, ClearStateCommandMessage, CompleteAwakeableCommandMessage,
