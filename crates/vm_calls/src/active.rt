@@ -35,7 +35,7 @@ pub struct Active {
     pub output: Output,
 }
 
-fn number_error(error: CreateHandleError) -> NumberError
+pub(crate) fn number_error(error: CreateHandleError) -> NumberError
     ensures { (result ≡ IdsExhausted) ↔ (error ≡ HandlesExhausted) }
 {
     match error {

@@ -1,0 +1,17 @@
+use Rattle.std.proofs.Common.{ap, ◌∙◌, ℕ}
+use Rattle.journal_model.specs.declared.notification.NotificationId.TheVariants.{SignalId}
+use Rattle.vm_context.specs.Journal.{JournalCounts}
+use Rattle.vm_awaits.specs.Views.{results_of}
+use Rattle.vm_awaits.specs.Calls.{with_handle}
+use Rattle.vm_calls.proofs.active.Active.next_signal.Goals as goal
+
+pub returns-in-Ok-create_handle_mapping-clause-ok : goal.returns-in-Ok-create_handle_mapping-clause-ok
+returns-in-Ok-create_handle_mapping-clause-ok c =
+    let old = c.args.self.now in
+    let made = c.in-Ok-create_handle_mapping.ensures in
+    record {
+      id = c.in-Ok.ensures.id;
+      handle = made.handle;
+      results = made.ok ∙ ap (λ (n : ℕ). with_handle (SignalId n) (results_of old.results)) c.in-Ok.ensures.id;
+      others = ap (λ (counts : JournalCounts). record old { journal = counts; results = c.create_handle_mapping.new.self }) c.in-Ok.ensures.ok;
+    }

@@ -1,0 +1,68 @@
+// The calls that make a handle and put no command.
+ghost use Rattle.std.specs.Prelude.{◌≡◌, Bool, IfOk, IfErr};
+ghost use Rattle.journal_model.specs.declared.call.Call.{Call};
+ghost use Rattle.journal_model.specs.declared.call.Answer.{Answer};
+ghost use Rattle.journal_model.specs.Run.{Invocation};
+ghost use Rattle.attempt_model.specs.Machine.{Machine};
+ghost use Rattle.vm_calls.specs.Active.{Sees};
+ghost use Rattle.vm_calls.specs.Handles.{LacksHandle, LacksSignal, TakesSignal, MakesHandle};
+ghost use Rattle.vm_calls.specs.declared.call_error.NumberError.TheVariants.{IdsExhausted};
+
+use crate::active::number_error;
+use crate::{Active, NumberError};
+use bytes::{ByteStr, Bytes};
+use journal_model::{NotificationHandle, NotificationId};
+use std::alloc::Global;
+use vm_awakeables::awakeable_id;
+use vm_types::AwakeableHandle;
+
+impl Active {
+    // Takes the next number of an awakeable's signal, and the handle that stands for it.
+    fn next_signal(&mut self) -> Result<(u32, NotificationHandle), NumberError>
+        ensures ok { IfOk result (λ made. TakesSignal made self.old self.new) }
+        ensures err { IfErr result (λ error. error ≡ IdsExhausted → LacksSignal self.old) }
+        ensures output { self.new.output ≡ self.old.output }
+    {
+        let Ok(id) = self.journal.next_signal_notification_id() else {
+            return Err(NumberError::IdsExhausted);
+        };
+        match self
+            .results
+            .create_handle_mapping(NotificationId::SignalId(id))
+        {
+            Ok(handle) => Ok((id, handle)),
+            Err(error) => Err(number_error(error)),
+        }
+    }
+
+    /// The handle of a signal of this name. Nothing is recorded of it.
+    pub fn create_signal_handle(&mut self, name: ByteStr) -> Result<NotificationHandle, NumberError>
+        ensures { (checks_off : Bool) (given : Invocation) (m : Machine) → Sees given self.old m
+            → MakesHandle checks_off given m (Call.Signal name) (λ handle. Answer.Handle handle) LacksHandle self.old result self.new }
+    {
+        match self
+            .results
+            .create_handle_mapping(NotificationId::SignalName(name))
+        {
+            Ok(handle) => Ok(handle),
+            Err(error) => Err(number_error(error)),
+        }
+    }
+
+    /// A signal that the outside completes by the text that names it: the invocation's id and the signal's number. Nothing is
+    /// recorded of it.
+    pub fn awakeable(
+        &mut self,
+        alloc: Global,
+        invocation_id: &Bytes,
+    ) -> Result<AwakeableHandle, NumberError>
+        ensures { (checks_off : Bool) (given : Invocation) (m : Machine) → given.input.invocation_id ≡ invocation_id.now → Sees given self.old m
+            → MakesHandle checks_off given m Call.Awakeable (λ made. Answer.Awakeable made.id made.handle) LacksSignal self.old result self.new }
+    {
+        let (signal, handle) = self.next_signal()?;
+        match awakeable_id(alloc, invocation_id, signal) {
+            Ok(id) => Ok(AwakeableHandle { id, handle }),
+            Err(_) => Err(NumberError::OutOfMemory),
+        }
+    }
+}
