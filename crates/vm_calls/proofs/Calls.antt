@@ -28,14 +28,16 @@ pub sleep_completes : (given : Invocation) (m : Machine) (name : Text) (wake_up 
     → refusal_of given.version (Call.Sleep name wake_up now) ≡ None → copy ≡ name → milliseconds wake_up ≡ time → id ≡ m.completions
     → CompletesOne given m (Call.Sleep name wake_up now) (Request.Sleep time id copy)
 sleep_completes given m name wake_up now copy time id refused copied millis taken = record {
-  refused = refused;
-  work = refl;
-  requests = λ i. Request.Sleep (millis i) (sym taken i) (sym copied i) ∷ [];
+  asks = record {
+    refused = refused;
+    work = refl;
+    requests = λ i. Request.Sleep (millis i) (sym taken i) (sym copied i) ∷ [];
+    children = sleep_brings_none name wake_up now given.options.implicit_cancellation m.completions;
+  };
   completions = refl;
   signals = refl;
   ids = refl;
   known = refl;
-  children = sleep_brings_none name wake_up now given.options.implicit_cancellation m.completions;
   keeps = refl;
   answer = λ text handle signal. refl;
 }

@@ -30,7 +30,7 @@ use Rattle.vm_calls.specs.declared.put_error.PutError.{PutError}
 use Rattle.vm_calls.specs.declared.put_error.PutError.TheVariants.{Replay, Encoding}
 use Rattle.vm_calls.specs.declared.call_error.CallError.TheVariants.{Put}
 use Rattle.vm_calls.specs.Active.{Sees, IsSettled, left_of, has_left, asking, writes_frames, TakesCompletion, PutsOne, PutsIn}
-use Rattle.vm_calls.specs.Making.{Replies, FailsAs, CompletesOne, HasBegun}
+use Rattle.vm_calls.specs.Making.{Replies, FailsAs, AsksOne, IsReady, CompletesOne, HasBegun}
 
 -- ---- the abstract machine, where one request is put
 
@@ -47,13 +47,10 @@ replied same given m call request put refused work requests puts =
     ∙ ap (λ (rs : List Request). reply_to_make (same call) given m call rs (put_all (same call) rs (record { left = m.left; written = m.written }))) requests
     ∙ ap (λ (o : Option PutState). reply_to_make (same call) given m call (request ∷ []) o) (only_one (same call) (put_one (same call) request m.left m.written) ∙ puts)
 
--- ---- what is kept, where the steps were made
+-- ---- a call of which all is done but that its request is put
 
-more_signals : (n more : ℕ) → more ≡ 0 → n ≡ n + more
-more_signals n more none = omega (arith, none)
-
-module _ (checks_off ignoring : Bool) (given : Invocation) (m : Machine) (call : Call) (request : Request) (one : CompletesOne given m call request) (ignores : ignoring ≡ (checks_off || is_unstable call))
-    (old : Active) (sees : Sees given old m) where
+module _ (checks_off ignoring : Bool) (given : Invocation) (m : Machine) (call : Call) (request : Request) (asks : AsksOne given m call request) (ignores : ignoring ≡ (checks_off || is_unstable call))
+    (old mid : Active) (ready : IsReady given m call request old mid) where
   -- a machine that put the request, with what it has put then
   abbrev machine_with : PutState → Machine
   machine_with put = record {
@@ -69,88 +66,89 @@ module _ (checks_off ignoring : Bool) (given : Invocation) (m : Machine) (call :
     children = m.children ++ map new_child (child_of given.options.implicit_cancellation m.completions call);
   }
 
-  put_as : (left : Commands) (put : Option PutState) → left ≡ m.left → put_one (header_equal ignoring) request left m.written ≡ put → put_one (same_header checks_off call) request m.left m.written ≡ put
-  put_as left put same puts =
-      ap (λ (b : Bool). put_one (header_equal b) request m.left m.written) (sym ignores) ∙ ap (λ (l : Commands). put_one (header_equal ignoring) request l m.written) (sym same) ∙ puts
+  put_as : (put : Option PutState) → put_one (header_equal ignoring) request (left_of mid) m.written ≡ put → put_one (same_header checks_off call) request m.left m.written ≡ put
+  put_as put puts =
+      ap (λ (b : Bool). put_one (header_equal b) request m.left m.written) (sym ignores) ∙ ap (λ (l : Commands). put_one (header_equal ignoring) request l m.written) (sym ready.left) ∙ puts
 
-  module _ (ty : MessageType) (name : Text) (made : ℕ × ℕ) (mid : Active) (takes : TakesCompletion made (asking ty name old) mid) where
-    left_before : left_of mid ≡ m.left
-    left_before = ap (λ (a : Active). left_of a) takes.others ∙ sees.left
+  settled_then : IsSettled mid
+  settled_then = record { replaying = ready.replaying ∙ ap has_left (sym ready.left); opened = ready.opened }
 
-    same_output : mid.output ≡ old.output
-    same_output = ap (λ (a : Active). a.output) takes.others
+  -- it is not put: the abstract machine fails so too
+  mismatches : put_one (header_equal ignoring) request (left_of mid) m.written ≡ None → reply_to (same_header checks_off) given m call ≡ FailedBy Mismatch
+  mismatches none = replied (same_header checks_off) given m call request None asks.refused asks.work asks.requests (put_as None none)
 
-    handle_is : made.1 ≡ next_slot m
-    handle_is = takes.handle ∙ ap (λ (r : AsyncResults). 17 + length r.slots) sees.results
+  fails_as : {M : Type 0} (error : PutError M) (new : Active) → PutsIn ignoring request m.written mid (Err error) new → FailsAs checks_off given m call old (Put error) × (new.output ≡ old.output)
+  fails_as (Replay (unmatched.Unavailable error)) new puts = absurd puts.0
+  fails_as (Replay (unmatched.Decoding error)) new puts = (mismatches puts.0, puts.1 ∙ ready.output)
+  fails_as (Replay (unmatched.Mismatch error)) new puts = (mismatches puts.0, puts.1 ∙ ready.output)
+  fails_as (Replay unmatched.OutOfMemory) new puts = (tt, puts.1 ∙ ready.output)
+  fails_as (Encoding unsent.PayloadTooLong) new puts = ((sym ready.left ∙ puts.0.0, record { request = request; requests = asks.requests; long = puts.0.1 }), puts.1 ∙ ready.output)
+  fails_as (Encoding unsent.OutOfMemory) new puts = (tt, puts.1 ∙ ready.output)
 
-    counted : old.journal.completions ≡ m.completions
-    counted = sees.completions
+  pub put_fails_as : {M : Type 0} (error : PutError M) (new : Active) → (IsSettled mid → PutsIn ignoring request m.written mid (Err error) new) → FailsAs checks_off given m call old (Put error) × (new.output ≡ old.output)
+  put_fails_as error new puts = fails_as error new (puts settled_then)
 
-    results_are : results_of mid.results ≡ record { delivery = given.options.signal_delivery; queue = m.queue; ready = m.ready; slots = m.slots ++ Some (CompletionId m.completions) ∷ [] }
-    results_are =
-        takes.results ∙ ap (λ (n : ℕ). with_handle (CompletionId n) (results_of old.results)) counted ∙ ap (λ (r : AsyncResults). with_handle (CompletionId m.completions) r) sees.results
-
-    results_as : results_of mid.results ≡ record {
-      delivery = given.options.signal_delivery;
-      queue = m.queue;
-      ready = ready_after_all given.options.signal_delivery m.ready (known_result m.completions (request ∷ []));
-      slots = m.slots ++ map Some (ids_of m.completions m.signals call);
+  module _ (answer : Answer) (answered : answer_by given.input.invocation_id (next_slot m) m.signals call ≡ answer) (new : Active) where
+    sees_then : (puts : PutsOne ignoring request m.written mid new) → Sees given new (machine_with puts.put)
+    sees_then puts = record {
+      left = puts.left;
+      replaying = puts.settled.replaying ∙ ap has_left puts.left;
+      results = ap (λ (a : Active). results_of a.results) puts.others ∙ ready.results;
+      state = subst (λ (state : KnownState). KnowsState state m.start (m.done ++ request ∷ [])) (sym (ap (λ (a : Active). a.state) puts.others)) ready.state;
+      completions = ap (λ (a : Active). a.journal.completions) puts.others ∙ ready.completions;
+      signals = ap (λ (a : Active). a.journal.signals) puts.others ∙ ready.signals;
+      opened = puts.settled.opened;
+      children = ap (λ (cs : List Child). cs ++ map new_child (child_of given.options.implicit_cancellation m.completions call)) ready.children ∙ ap (λ (ids : List ℕ). map new_child ids) asks.children;
     }
-    results_as = results_are ∙ (λ i. record {
+
+    pub put_answers : (IsSettled mid → PutsOne ignoring request m.written mid new) → Replies checks_off given m call answer old new
+    put_answers put_then =
+        let puts : PutsOne ignoring request m.written mid new = put_then settled_then in
+        record {
+          machine = machine_with puts.put;
+          replies = replied (same_header checks_off) given m call request (Some puts.put) asks.refused asks.work asks.requests (put_as (Some puts.put) puts.puts)
+              ∙ ap (λ (a : Answer). Answered a (machine_with puts.put)) answered;
+          sees = sees_then puts;
+          more = puts.more;
+          written = puts.requests;
+          frames = puts.frames ∙ ap (λ (w : Written). writes_frames puts.more w) ready.output;
+        }
+
+-- ---- calls of one completion
+
+no_more : (n more : ℕ) → more ≡ 0 → n ≡ n + more
+no_more n more none = omega (arith, none)
+
+module _ (given : Invocation) (m : Machine) (call : Call) (request : Request) (one : CompletesOne given m call request) (handle : ℕ) (old mid : Active) (begun : HasBegun given m handle old mid) where
+  handle_is : answer_by given.input.invocation_id (next_slot m) m.signals call ≡ Answer.Handle handle
+  handle_is = one.answer given.input.invocation_id (next_slot m) m.signals ∙ ap Answer.Handle (sym (begun.takes.handle ∙ ap (λ (r : AsyncResults). 17 + length r.slots) begun.sees.results))
+
+  results_are : results_of mid.results ≡ record { delivery = given.options.signal_delivery; queue = m.queue; ready = m.ready; slots = m.slots ++ Some (CompletionId m.completions) ∷ [] }
+  results_are = begun.takes.results
+      ∙ ap (λ (n : ℕ). with_handle (CompletionId n) (results_of old.results)) begun.sees.completions ∙ ap (λ (r : AsyncResults). with_handle (CompletionId m.completions) r) begun.sees.results
+
+  pub one_is_ready : IsReady given m call request old mid
+  one_is_ready = record {
+    left = ap (λ (a : Active). left_of a) begun.takes.others ∙ begun.sees.left;
+    replaying = ap (λ (a : Active). a.is_replaying) begun.takes.others ∙ begun.sees.replaying;
+    results = results_are ∙ (λ i. record {
       delivery = given.options.signal_delivery;
       queue = m.queue;
       ready = ready_after_all given.options.signal_delivery m.ready (sym one.known i);
       slots = m.slots ++ map Some (sym one.ids i);
-    })
+    });
+    state = subst (λ (state : KnownState). KnowsState state m.start (m.done ++ request ∷ [])) (sym (ap (λ (a : Active). a.state) begun.takes.others))
+        (others_keep old.state m.start m.done request one.keeps begun.sees.state);
+    completions = ap (λ (a : Active). a.journal.completions) begun.takes.others ∙ ap (λ (n : ℕ). n + 1) begun.sees.completions ∙ ap (λ (n : ℕ). m.completions + n) (sym one.completions);
+    signals = ap (λ (a : Active). a.journal.signals) begun.takes.others ∙ begun.sees.signals ∙ no_more m.signals (signals_of call) one.signals;
+    opened = ap (λ (a : Active). a.output.is_closed) begun.takes.others ∙ begun.sees.opened;
+    children = begun.sees.children;
+    output = ap (λ (a : Active). a.output) begun.takes.others;
+  }
 
-    settled_then : IsSettled mid
-    settled_then = record {
-      replaying = ap (λ (a : Active). a.is_replaying) takes.others ∙ sees.replaying ∙ ap has_left (sym left_before);
-      opened = ap (λ (a : Active). a.output.is_closed) takes.others ∙ sees.opened;
-    }
+  module _ (checks_off ignoring : Bool) (ignores : ignoring ≡ (checks_off || is_unstable call)) (new : Active) where
+    pub fails : {M : Type 0} (error : PutError M) → (IsSettled mid → PutsIn ignoring request m.written mid (Err error) new) → FailsAs checks_off given m call old (Put error) × (new.output ≡ old.output)
+    fails error puts = put_fails_as checks_off ignoring given m call request one.asks ignores old mid one_is_ready error new puts
 
-    -- it is not put: the abstract machine fails so too
-    mismatches : put_one (header_equal ignoring) request (left_of mid) m.written ≡ None → reply_to (same_header checks_off) given m call ≡ FailedBy Mismatch
-    mismatches none = replied (same_header checks_off) given m call request None one.refused one.work one.requests (put_as (left_of mid) None left_before none)
-
-    none_left : left_of mid ≡ [] → m.left ≡ []
-    none_left none = sym left_before ∙ none
-
-    fails_as : {M : Type 0} (error : PutError M) (new : Active) → PutsIn ignoring request m.written mid (Err error) new → FailsAs checks_off given m call old (Put error) × (new.output ≡ old.output)
-    fails_as (Replay (unmatched.Unavailable error)) new puts = absurd puts.0
-    fails_as (Replay (unmatched.Decoding error)) new puts = (mismatches puts.0, puts.1 ∙ same_output)
-    fails_as (Replay (unmatched.Mismatch error)) new puts = (mismatches puts.0, puts.1 ∙ same_output)
-    fails_as (Replay unmatched.OutOfMemory) new puts = (tt, puts.1 ∙ same_output)
-    fails_as (Encoding unsent.PayloadTooLong) new puts = ((none_left puts.0.0, record { request = request; requests = one.requests; long = puts.0.1 }), puts.1 ∙ same_output)
-    fails_as (Encoding unsent.OutOfMemory) new puts = (tt, puts.1 ∙ same_output)
-
-    module _ (new : Active) (puts : PutsOne ignoring request m.written mid new) where
-      sees_then : Sees given new (machine_with puts.put)
-      sees_then = record {
-        left = puts.left;
-        replaying = puts.settled.replaying ∙ ap has_left puts.left;
-        results = ap (λ (a : Active). results_of a.results) puts.others ∙ results_as;
-        state = subst (λ (state : KnownState). KnowsState state m.start (m.done ++ request ∷ [])) (sym (ap (λ (a : Active). a.state) (puts.others) ∙ ap (λ (a : Active). a.state) takes.others))
-            (others_keep old.state m.start m.done request one.keeps sees.state);
-        completions = ap (λ (a : Active). a.journal.completions) puts.others ∙ ap (λ (a : Active). a.journal.completions) takes.others ∙ ap (λ (n : ℕ). n + 1) counted ∙ ap (λ (n : ℕ). m.completions + n) (sym one.completions);
-        signals = ap (λ (a : Active). a.journal.signals) puts.others ∙ ap (λ (a : Active). a.journal.signals) takes.others ∙ sees.signals ∙ more_signals m.signals (signals_of call) one.signals;
-        opened = puts.settled.opened;
-        children = ap (λ (cs : List Child). cs ++ map new_child (child_of given.options.implicit_cancellation m.completions call)) sees.children ∙ ap (λ (ids : List ℕ). map new_child ids) one.children;
-      }
-
-      answers : Replies checks_off given m call (Answer.Handle made.1) old new
-      answers = record {
-        machine = machine_with puts.put;
-        replies = replied (same_header checks_off) given m call request (Some puts.put) one.refused one.work one.requests (put_as (left_of mid) (Some puts.put) left_before puts.puts)
-            ∙ ap (λ (answer : Answer). Answered answer (machine_with puts.put)) (one.answer given.input.invocation_id (next_slot m) m.signals ∙ ap Answer.Handle (sym handle_is));
-        sees = sees_then;
-        more = puts.more;
-        written = puts.requests;
-        frames = puts.frames ∙ ap (λ (w : Written). writes_frames puts.more w) same_output;
-      }
-
-    pub fails : {M : Type 0} (error : PutError M) (new : Active) → (IsSettled mid → PutsIn ignoring request m.written mid (Err error) new) → FailsAs checks_off given m call old (Put error) × (new.output ≡ old.output)
-    fails error new puts = fails_as error new (puts settled_then)
-
-    pub completes : (new : Active) → (IsSettled mid → PutsOne ignoring request m.written mid new) → Replies checks_off given m call (Answer.Handle made.1) old new
-    completes new puts = answers new (puts settled_then)
+    pub completes : (IsSettled mid → PutsOne ignoring request m.written mid new) → Replies checks_off given m call (Answer.Handle handle) old new
+    completes puts = put_answers checks_off ignoring given m call request one.asks ignores old mid one_is_ready (Answer.Handle handle) handle_is new puts

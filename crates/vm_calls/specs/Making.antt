@@ -1,5 +1,5 @@
 -- What a call does that puts one command: what it answers, and why it fails.
-use Rattle.std.specs.Prelude.{◌≡◌, ◌≤◌, ◌^◌, ℕ, Bool, false, List, [], ◌∷◌, ◌++◌, length, None, Result, Ok, Err}
+use Rattle.std.specs.Prelude.{◌≡◌, ◌≤◌, ◌^◌, ◌+◌, ℕ, suc, Bool, false, List, [], ◌∷◌, ◌++◌, length, map, Some, None, Result, Ok, Err}
 use Rattle.journal_model.specs.declared.notification.NotificationId.TheVariants.{CompletionId}
 use Rattle.journal_model.specs.Notification.{Text}
 use Rattle.journal_model.specs.declared.call.Call.{Call}
@@ -12,10 +12,12 @@ use Rattle.journal_model.specs.Delivery.{known_result}
 use Rattle.journal_model.specs.Await.{child_of}
 use Rattle.journal_model.specs.Run.{Invocation}
 use Rattle.attempt_model.specs.Requests.{requests_by, answer_by}
+use Rattle.attempt_model.specs.Results.{ready_after_all}
 use Rattle.attempt_model.specs.Machine.{Machine, Answered, FailedBy, Mismatch, work_of, ToMake, reply_to}
 use Rattle.protocol_types.specs.declared.message_type.MessageType.{MessageType}
 use Rattle.protocol_stream.specs.declared.encoder.EncodingError.TheVariants as unsent
-use Rattle.vm_context.specs.Following.{changes_state}
+use Rattle.vm_awaits.specs.Views.{results_of}
+use Rattle.vm_context.specs.Following.{KnowsState, changes_state}
 use Rattle.vm_commands.specs.HeaderEquality.{same_header}
 use Rattle.vm_commands.specs.declared.replay_error.ReplayError.TheVariants as unmatched
 use Rattle.vm_calls.specs.declared.active.Active.{Active}
@@ -23,7 +25,7 @@ use Rattle.vm_calls.specs.declared.call_error.CallError.{CallError}
 use Rattle.vm_calls.specs.declared.call_error.CallError.TheVariants.{Number, Put, OutOfMemory}
 use Rattle.vm_calls.specs.declared.call_error.NumberError.TheVariants as numbers
 use Rattle.vm_calls.specs.declared.put_error.PutError.TheVariants.{Replay, Encoding}
-use Rattle.vm_calls.specs.Active.{Sees, asking, LacksCompletion, TakesCompletion, writes_frames}
+use Rattle.vm_calls.specs.Active.{Sees, has_left, left_of, asking, LacksCompletion, TakesCompletion, writes_frames}
 
 module _ (checks_off : Bool) (given : Invocation) (m : Machine) (call : Call) where
   -- The call is answered as the abstract machine answers it, which is seen afterwards; written are exactly the frames of the
@@ -60,18 +62,49 @@ module _ (checks_off : Bool) (given : Invocation) (m : Machine) (call : Call) wh
   Makes answer old (Ok taken) new = Replies (answer taken) old new
   Makes answer old (Err error) new = FailsAs old error × (new.output ≡ old.output)
 
--- a call that takes one completion id and a handle for it, and puts one request, which changes nothing of the state
-pub record CompletesOne (given : Invocation) (m : Machine) (call : Call) (request : Request) : Type 0 where
+-- a call that puts this one request, and brings no child
+pub record AsksOne (given : Invocation) (m : Machine) (call : Call) (request : Request) : Type 0 where
   pub refused : refusal_of given.version call ≡ None
   pub work : work_of call ≡ ToMake
   pub requests : requests_by m.start m.done m.left m.completions call ≡ request ∷ []
+  pub children : child_of given.options.implicit_cancellation m.completions call ≡ []
+
+-- all of such a call is done but that its request is put
+pub record IsReady (given : Invocation) (m : Machine) (call : Call) (request : Request) (old ready : Active) : Type 0 where
+  pub left : left_of ready ≡ m.left
+  pub replaying : ready.is_replaying ≡ has_left m.left
+  pub results : results_of ready.results ≡ record {
+    delivery = given.options.signal_delivery;
+    queue = m.queue;
+    ready = ready_after_all given.options.signal_delivery m.ready (known_result m.completions (request ∷ []));
+    slots = m.slots ++ map Some (ids_of m.completions m.signals call);
+  }
+  pub state : KnowsState ready.state m.start (m.done ++ request ∷ [])
+  pub completions : ready.journal.completions ≡ m.completions + completions_of call
+  pub signals : ready.journal.signals ≡ m.signals + signals_of call
+  pub opened : ready.output.is_closed ≡ false
+  pub children : m.children ≡ []
+  pub output : ready.output ≡ old.output
+
+-- a call that takes one completion id and a handle for it, and puts one request, which changes nothing of the state
+pub record CompletesOne (given : Invocation) (m : Machine) (call : Call) (request : Request) : Type 0 where
+  pub asks : AsksOne given m call request
   pub completions : completions_of call ≡ 1
   pub signals : signals_of call ≡ 0
   pub ids : ids_of m.completions m.signals call ≡ CompletionId m.completions ∷ []
   pub known : known_result m.completions (request ∷ []) ≡ []
-  pub children : child_of given.options.implicit_cancellation m.completions call ≡ []
   pub keeps : changes_state request ≡ false
   pub answer : (id : Text) (handle signal : ℕ) → answer_by id handle signal call ≡ Answer.Handle handle
+
+-- a call that takes two of them
+pub record CompletesTwo (given : Invocation) (m : Machine) (call : Call) (request : Request) : Type 0 where
+  pub asks : AsksOne given m call request
+  pub completions : completions_of call ≡ 2
+  pub signals : signals_of call ≡ 0
+  pub ids : ids_of m.completions m.signals call ≡ CompletionId m.completions ∷ CompletionId (suc m.completions) ∷ []
+  pub known : known_result m.completions (request ∷ []) ≡ []
+  pub keeps : changes_state request ≡ false
+  pub answer : (id : Text) (handle signal : ℕ) → answer_by id handle signal call ≡ Answer.Handles handle (suc handle)
 
 -- the machine's call has begun: its completion was taken, and this handle stands for it
 pub record HasBegun (given : Invocation) (m : Machine) (handle : ℕ) (old begun : Active) : Type 0 where

@@ -4,11 +4,9 @@ use Rattle.vm_calls.proofs.active.Active.put_completable.Goals as goal
 pub returns-in-Ok-clause-makes : goal.returns-in-Ok-clause-makes
 returns-in-Ok-clause-makes g c =
     λ checks_off given m call request old h one ignores begun.
-    completes checks_off c.args.ignore_payload_equality given m call request one ignores old begun.sees begun.ty begun.name (begun.id, c.args.handle) c.args.self.now begun.takes
-    c.put.new.self (c.in-Ok.ensures.put request m.written h)
+    completes given m call request one c.args.handle old c.args.self.now begun checks_off c.args.ignore_payload_equality ignores c.put.new.self (c.in-Ok.ensures.put request m.written h)
 
 pub returns-in-Err-clause-makes : goal.returns-in-Err-clause-makes
 returns-in-Err-clause-makes g c =
     λ checks_off given m call request old h one ignores begun.
-    fails checks_off c.args.ignore_payload_equality given m call request one ignores old begun.sees begun.ty begun.name (begun.id, c.args.handle) c.args.self.now begun.takes
-    c.in-Err.error c.put.new.self (c.in-Err.ensures.put request m.written h)
+    fails given m call request one c.args.handle old c.args.self.now begun checks_off c.args.ignore_payload_equality ignores c.put.new.self c.in-Err.error (c.in-Err.ensures.put request m.written h)
