@@ -3,3 +3,4 @@ pub mod Settling
 pub mod Making
 pub mod Calls
 pub mod Handling
+pub mod Pairing

@@ -116,7 +116,7 @@ module _ (checks_off ignoring : Bool) (given : Invocation) (m : Machine) (call :
 
 -- ---- calls of one completion
 
-no_more : (n more : ℕ) → more ≡ 0 → n ≡ n + more
+pub no_more : (n more : ℕ) → more ≡ 0 → n ≡ n + more
 no_more n more none = omega (arith, none)
 
 module _ (given : Invocation) (m : Machine) (call : Call) (request : Request) (one : CompletesOne given m call request) (handle : ℕ) (old mid : Active) (begun : HasBegun given m handle old mid) where

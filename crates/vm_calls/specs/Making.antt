@@ -25,7 +25,7 @@ use Rattle.vm_calls.specs.declared.call_error.CallError.{CallError}
 use Rattle.vm_calls.specs.declared.call_error.CallError.TheVariants.{Number, Put, OutOfMemory}
 use Rattle.vm_calls.specs.declared.call_error.NumberError.TheVariants as numbers
 use Rattle.vm_calls.specs.declared.put_error.PutError.TheVariants.{Replay, Encoding}
-use Rattle.vm_calls.specs.Active.{Sees, has_left, left_of, asking, LacksCompletion, TakesCompletion, writes_frames}
+use Rattle.vm_calls.specs.Active.{Sees, has_left, left_of, asking, LacksCompletions, TakesCompletion, TakesTwo, writes_frames}
 
 module _ (checks_off : Bool) (given : Invocation) (m : Machine) (call : Call) where
   -- The call is answered as the abstract machine answers it, which is seen afterwards; written are exactly the frames of the
@@ -47,7 +47,7 @@ module _ (checks_off : Bool) (given : Invocation) (m : Machine) (call : Call) wh
   -- Why it fails: no number is left; the abstract machine fails; its request, which would be written, is too long; or memory
   -- was refused.
   abbrev pub FailsAs : {M : Type 0} → (old : Active) → CallError M → Type 0
-  FailsAs old (Number numbers.IdsExhausted) = LacksCompletion old
+  FailsAs old (Number numbers.IdsExhausted) = LacksCompletions (completions_of call) old
   FailsAs old (Number numbers.OutOfMemory) = Unit {0}
   FailsAs old (Put (Replay (unmatched.Unavailable error))) = ⊥
   FailsAs old (Put (Replay (unmatched.Decoding error))) = reply_to (same_header checks_off) given m call ≡ FailedBy Mismatch
@@ -101,7 +101,7 @@ pub record CompletesTwo (given : Invocation) (m : Machine) (call : Call) (reques
   pub asks : AsksOne given m call request
   pub completions : completions_of call ≡ 2
   pub signals : signals_of call ≡ 0
-  pub ids : ids_of m.completions m.signals call ≡ CompletionId m.completions ∷ CompletionId (suc m.completions) ∷ []
+  pub ids : ids_of m.completions m.signals call ≡ CompletionId m.completions ∷ CompletionId (m.completions + 1) ∷ []
   pub known : known_result m.completions (request ∷ []) ≡ []
   pub keeps : changes_state request ≡ false
   pub answer : (id : Text) (handle signal : ℕ) → answer_by id handle signal call ≡ Answer.Handles handle (suc handle)
@@ -113,3 +113,12 @@ pub record HasBegun (given : Invocation) (m : Machine) (handle : ℕ) (old begun
   pub name : Text
   pub id : ℕ
   pub takes : TakesCompletion (id, handle) (asking ty name old) begun
+
+-- the machine's call has begun: two completions were taken, and these handles stand for them
+pub record HasBegunTwo (given : Invocation) (m : Machine) (handles : ℕ × ℕ) (old begun : Active) : Type 0 where
+  pub sees : Sees given old m
+  pub ty : MessageType
+  pub name : Text
+  pub first : ℕ
+  pub second : ℕ
+  pub takes : TakesTwo first second handles (asking ty name old) begun

@@ -6,7 +6,7 @@ ghost use Rattle.journal_model.specs.declared.call.Answer.{Answer};
 ghost use Rattle.journal_model.specs.Run.{Invocation};
 ghost use Rattle.attempt_model.specs.Machine.{Machine};
 ghost use Rattle.vm_commands.specs.HeaderEquality.{is_unstable};
-ghost use Rattle.vm_calls.specs.Active.{left_of, still_replays, asking, TellsSame, IsAtCommand, IsSettled, TakesCompletion, LacksCompletion, PutsIn};
+ghost use Rattle.vm_calls.specs.Active.{left_of, still_replays, asking, TellsSame, IsAtCommand, IsSettled, TakesCompletion, LacksCompletions, PutsIn};
 ghost use Rattle.vm_calls.specs.Making.{CompletesOne, HasBegun, Makes};
 ghost use Rattle.vm_awaits.specs.declared.state.CreateHandleError.TheVariants.{HandlesExhausted};
 ghost use Rattle.vm_calls.specs.declared.call_error.NumberError.TheVariants.{IdsExhausted};
@@ -53,7 +53,7 @@ fn still_replays(is_replaying: bool, commands: &VecDeque<RawMessage>) -> bool
 
 impl Active {
     // A command of this type and name is asked for: errors that follow tell it. Answers a copy of the name.
-    fn ask(&mut self, ty: MessageType, name: ByteStr) -> Result<ByteStr, AllocError>
+    pub(crate) fn ask(&mut self, ty: MessageType, name: ByteStr) -> Result<ByteStr, AllocError>
         ensures copy { IfOk result (λ copy. copy ≡ name) }
         ensures journal { self.new ≡ asking ty name self.old }
     {
@@ -65,7 +65,7 @@ impl Active {
     // Takes the next completion id, and the handle that stands for it.
     fn next_completion(&mut self) -> Result<(u32, NotificationHandle), NumberError>
         ensures ok { IfOk result (λ made. TakesCompletion made self.old self.new) }
-        ensures err { IfErr result (λ error. error ≡ IdsExhausted → LacksCompletion self.old) }
+        ensures err { IfErr result (λ error. error ≡ IdsExhausted → LacksCompletions 1 self.old) }
         ensures output { self.new.output ≡ self.old.output }
         ensures told { TellsSame self.old.journal self.new.journal }
     {
@@ -90,7 +90,7 @@ impl Active {
     ) -> Result<(ByteStr, u32, NotificationHandle), NumberError>
         ensures name { IfOk result (λ taken. taken.0 ≡ name) }
         ensures taken { IfOk result (λ taken. TakesCompletion (taken.1, taken.2) (asking ty name self.old) self.new) }
-        ensures err { IfErr result (λ error. error ≡ IdsExhausted → LacksCompletion self.old) }
+        ensures err { IfErr result (λ error. error ≡ IdsExhausted → LacksCompletions 1 self.old) }
         ensures output { self.new.output ≡ self.old.output }
         ensures told { IsAtCommand ty name self.old.journal self.new.journal }
     {

@@ -7,6 +7,7 @@
 
 mod active;
 mod call_error;
+mod calling;
 mod handles;
 mod put_error;
 mod putting;

@@ -1,0 +1,78 @@
+-- A call that takes two completion ids and puts one request does what the abstract machine does.
+use Rattle.std.proofs.Common.{◌≡◌, ◌+◌, ◌∷◌, ◌++◌, ℕ, suc, Bool, ◌||◌, List, [], append_assoc, length, map, Option, Some, None, Result, Ok, Err, refl, sym, ap, ◌∙◌, subst, arith}
+use Rattle.journal_model.specs.declared.notification.NotificationId.{NotificationId}
+use Rattle.journal_model.specs.declared.notification.NotificationId.TheVariants.{CompletionId}
+use Rattle.journal_model.specs.declared.call.Call.{Call}
+use Rattle.journal_model.specs.declared.call.Answer.{Answer}
+use Rattle.journal_model.specs.Request.{Request}
+use Rattle.journal_model.specs.History.{completions_of, signals_of, ids_of}
+use Rattle.journal_model.specs.Delivery.{known_result}
+use Rattle.journal_model.specs.Run.{Invocation}
+use Rattle.attempt_model.specs.Requests.{answer_by}
+use Rattle.attempt_model.specs.Results.{Slots, ready_after_all}
+use Rattle.attempt_model.specs.Machine.{Machine, next_slot}
+use Rattle.vm_awaits.specs.Views.{AsyncResults, results_of, slots_of}
+use Rattle.vm_awaits.specs.Calls.{with_handle}
+use Rattle.vm_context.specs.Journal.{JournalCounts}
+use Rattle.vm_context.specs.Eager.{KnownState}
+use Rattle.vm_context.specs.Following.{KnowsState}
+use Rattle.vm_context.proofs.Keeping.{others_keep}
+use Rattle.vm_commands.specs.HeaderEquality.{is_unstable}
+use Rattle.vm_calls.specs.declared.active.Active.{Active}
+use Rattle.vm_calls.specs.declared.put_error.PutError.{PutError}
+use Rattle.vm_calls.specs.declared.call_error.CallError.TheVariants.{Put}
+use Rattle.vm_calls.specs.Active.{Sees, IsSettled, left_of, PutsOne, PutsIn}
+use Rattle.vm_calls.specs.Making.{Replies, FailsAs, IsReady, CompletesTwo, HasBegunTwo}
+use Rattle.vm_calls.proofs.Making.{no_more, put_answers, put_fails_as}
+
+one_longer : (slots : Slots) (slot : Option NotificationId) → length (slots ++ slot ∷ []) ≡ suc (length slots)
+one_longer [] slot = refl
+one_longer (first ∷ slots) slot = ap suc (one_longer slots slot)
+
+pub next_behind : (slots : Slots) (slot : Option NotificationId) → 17 + length (slots ++ slot ∷ []) ≡ suc (17 + length slots)
+next_behind slots slot = let h : length (slots ++ slot ∷ []) ≡ suc (length slots) = one_longer slots slot in omega (arith, h)
+
+module _ (given : Invocation) (m : Machine) (call : Call) (request : Request) (two : CompletesTwo given m call request) (handles : ℕ × ℕ) (old mid : Active) (begun : HasBegunTwo given m handles old mid) where
+  first_is : handles.0 ≡ next_slot m
+  first_is = begun.takes.first_handle ∙ ap (λ (r : AsyncResults). 17 + length r.slots) begun.sees.results
+
+  second_is : handles.1 ≡ suc (next_slot m)
+  second_is = begun.takes.second_handle ∙ ap (λ (r : AsyncResults). suc (17 + length r.slots)) begun.sees.results
+
+  handles_are : answer_by given.input.invocation_id (next_slot m) m.signals call ≡ Answer.Handles handles.0 handles.1
+  handles_are = two.answer given.input.invocation_id (next_slot m) m.signals ∙ (λ i. Answer.Handles (sym first_is i) (sym second_is i))
+
+  abbrev with_slots : Slots → AsyncResults
+  with_slots slots = record { delivery = given.options.signal_delivery; queue = m.queue; ready = m.ready; slots = slots }
+
+  results_are : results_of mid.results ≡ with_slots (m.slots ++ Some (CompletionId m.completions) ∷ Some (CompletionId (m.completions + 1)) ∷ [])
+  results_are = begun.takes.results
+      ∙ ap (λ (n : ℕ). with_handle (CompletionId (n + 1)) (with_handle (CompletionId n) (results_of old.results))) begun.sees.completions
+      ∙ ap (λ (r : AsyncResults). with_handle (CompletionId (m.completions + 1)) (with_handle (CompletionId m.completions) r)) begun.sees.results
+      ∙ ap with_slots (append_assoc m.slots (Some (CompletionId m.completions) ∷ []) (Some (CompletionId (m.completions + 1)) ∷ []))
+
+  two_is_ready : IsReady given m call request old mid
+  two_is_ready = record {
+    left = ap (λ (a : Active). left_of a) begun.takes.others ∙ begun.sees.left;
+    replaying = ap (λ (a : Active). a.is_replaying) begun.takes.others ∙ begun.sees.replaying;
+    results = results_are ∙ (λ i. record {
+      delivery = given.options.signal_delivery;
+      queue = m.queue;
+      ready = ready_after_all given.options.signal_delivery m.ready (sym two.known i);
+      slots = m.slots ++ map Some (sym two.ids i);
+    });
+    state = subst (λ (state : KnownState). KnowsState state m.start (m.done ++ request ∷ [])) (sym (ap (λ (a : Active). a.state) begun.takes.others))
+        (others_keep old.state m.start m.done request two.keeps begun.sees.state);
+    completions = ap (λ (a : Active). a.journal.completions) begun.takes.others ∙ ap (λ (n : ℕ). n + 2) begun.sees.completions ∙ ap (λ (n : ℕ). m.completions + n) (sym two.completions);
+    signals = ap (λ (a : Active). a.journal.signals) begun.takes.others ∙ begun.sees.signals ∙ no_more m.signals (signals_of call) two.signals;
+    opened = ap (λ (a : Active). a.output.is_closed) begun.takes.others ∙ begun.sees.opened;
+    children = begun.sees.children;
+    output = ap (λ (a : Active). a.output) begun.takes.others;
+  }
+
+  module _ (checks_off ignoring : Bool) (ignores : ignoring ≡ (checks_off || is_unstable call)) (new : Active) where
+    pub both_fail : {M : Type 0} (error : PutError M) → (IsSettled mid → PutsIn ignoring request m.written mid (Err error) new) → FailsAs checks_off given m call old (Put error) × (new.output ≡ old.output)
+    both_fail error puts = put_fails_as checks_off ignoring given m call request two.asks ignores old mid two_is_ready error new puts
+
+    pub both_complete : (IsSettled mid → PutsOne ignoring request m.written mid new) → Replies checks_off given m call (Answer.Handles handles.0 handles.1) old new
+    both_complete puts = put_answers checks_off ignoring given m call request two.asks ignores old mid two_is_ready (Answer.Handles handles.0 handles.1) handles_are new puts

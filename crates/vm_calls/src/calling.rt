@@ -1,0 +1,105 @@
+// A call of another handler, which takes two completions.
+ghost use Rattle.std.specs.Prelude.{◌≡◌, ◌+◌, ◌<◌, ◌^◌, ◌||◌, Bool, Option, Some, None, [], length, IfOk, IfErr, OnErr};
+ghost use Rattle.journal_model.specs.declared.call.Call.{Call};
+ghost use Rattle.journal_model.specs.declared.call.Answer.{Answer};
+ghost use Rattle.journal_model.specs.declared.notification.NotificationId.TheVariants.{CompletionId};
+ghost use Rattle.journal_model.specs.Request.{Request};
+ghost use Rattle.journal_model.specs.Run.{Invocation};
+ghost use Rattle.attempt_model.specs.Machine.{Machine};
+ghost use Rattle.vm_awaits.specs.Views.{results_of, slots_of};
+ghost use Rattle.vm_awaits.specs.Calls.{with_handle};
+ghost use Rattle.vm_commands.specs.HeaderEquality.{is_unstable};
+ghost use Rattle.vm_calls.specs.Active.{asking, IsAtCommand, TellsSame, LacksCompletions, TakesTwo};
+ghost use Rattle.vm_calls.specs.Making.{CompletesTwo, HasBegunTwo, Makes};
+ghost use Rattle.vm_calls.specs.declared.call_error.NumberError.TheVariants.{IdsExhausted};
+
+use crate::active::number_error;
+use crate::{Active, CallError, NumberError};
+use bytes::ByteStr;
+use journal_model::{NotificationHandle, NotificationId};
+use protocol_types::MessageType;
+use std::alloc::Global;
+use vm_awaits::AsyncResultsState;
+use vm_commands::Command;
+use vm_types::CallHandle;
+
+// The next handle, for this completion.
+fn completion_handle(
+    results: &mut AsyncResultsState,
+    id: u32,
+) -> Result<NotificationHandle, NumberError>
+    ensures handle { IfOk result (λ handle. handle ≡ 17 + length (slots_of results.old)) }
+    ensures made { IfOk result (λ handle. results_of results.new ≡ with_handle (CompletionId id) (results_of results.old)) }
+    ensures err { IfErr result (λ error. error ≡ IdsExhausted → 2 ^ 32 < 17 + length (slots_of results.old) + 1) }
+{
+    match results.create_handle_mapping(NotificationId::CompletionId(id)) {
+        Ok(handle) => Ok(handle),
+        Err(error) => Err(number_error(error)),
+    }
+}
+
+impl Active {
+    // Takes the next two completion ids, and the handles that stand for them.
+    fn next_two(&mut self) -> Result<(u32, u32, CallHandle), NumberError>
+        ensures ok { IfOk result (λ made. TakesTwo made.0 made.1
+            (made.2.invocation_id_notification_handle, made.2.call_notification_handle) self.old self.new) }
+        ensures err { IfErr result (λ error. error ≡ IdsExhausted → LacksCompletions 2 self.old) }
+        ensures output { self.new.output ≡ self.old.output }
+        ensures told { TellsSame self.old.journal self.new.journal }
+    {
+        let Ok((first, second)) = self.journal.next_two_completion_notification_ids() else {
+            return Err(NumberError::IdsExhausted);
+        };
+        let invocation_id_notification_handle = completion_handle(&mut self.results, first)?;
+        let call_notification_handle = completion_handle(&mut self.results, second)?;
+        let handles = CallHandle {
+            invocation_id_notification_handle,
+            call_notification_handle,
+        };
+        Ok((first, second, handles))
+    }
+
+    // Begins a call of two completions: as `begin`.
+    fn begin_two(
+        &mut self,
+        ty: MessageType,
+        name: ByteStr,
+    ) -> Result<(ByteStr, u32, u32, CallHandle), NumberError>
+        ensures name { IfOk result (λ taken. taken.0 ≡ name) }
+        ensures taken { IfOk result (λ taken. TakesTwo taken.1 taken.2
+            (taken.3.invocation_id_notification_handle, taken.3.call_notification_handle) (asking ty name self.old) self.new) }
+        ensures err { IfErr result (λ error. error ≡ IdsExhausted → LacksCompletions 2 self.old) }
+        ensures output { self.new.output ≡ self.old.output }
+        ensures told { IsAtCommand ty name self.old.journal self.new.journal }
+    {
+        let copy = self.ask(ty, name);
+        let (first, second, handles) = self.next_two()?;
+        match copy {
+            Ok(name) => Ok((name, first, second, handles)),
+            Err(_) => Err(NumberError::OutOfMemory),
+        }
+    }
+
+    // Puts the command of a call that has begun, and answers the handles of its completions.
+    fn put_call<M: Command>(
+        &mut self,
+        alloc: Global,
+        command: M,
+        ignore_payload_equality: bool,
+        handles: CallHandle,
+    ) -> Result<CallHandle, CallError<M>>
+        ensures makes { (checks_off : Bool) (given : Invocation) (m : Machine) (call : Call) (request : Request) (old : Active) → M.request_of command ≡ Some request
+            → CompletesTwo given m call request → ignore_payload_equality ≡ (checks_off || is_unstable call)
+            → HasBegunTwo given m (handles.invocation_id_notification_handle, handles.call_notification_handle) old self.old
+            → Makes checks_off given m call (λ made. Answer.Handles made.invocation_id_notification_handle made.call_notification_handle) old result self.new }
+        ensures journal { self.new.journal ≡ self.old.journal }
+    {
+        match self.put(alloc, command, ignore_payload_equality) {
+            Ok(stands) => {
+                drop(stands);
+                Ok(handles)
+            }
+            Err(error) => Err(CallError::Put(error)),
+        }
+    }
+}
