@@ -1,24 +1,29 @@
 // A call of another handler, which takes two completions.
-ghost use Rattle.std.specs.Prelude.{◌≡◌, ◌+◌, ◌<◌, ◌^◌, ◌||◌, Bool, Option, Some, None, [], length, IfOk, IfErr, OnErr};
+ghost use Rattle.std.specs.Prelude.{◌≡◌, ◌+◌, ◌<◌, ◌^◌, ◌||◌, Bool, Option, Some, None, [], length, IfOk, IfErr, OnErr, unwrap_or};
 ghost use Rattle.journal_model.specs.declared.call.Call.{Call};
 ghost use Rattle.journal_model.specs.declared.call.Answer.{Answer};
 ghost use Rattle.journal_model.specs.declared.notification.NotificationId.TheVariants.{CompletionId};
 ghost use Rattle.journal_model.specs.Request.{Request};
-ghost use Rattle.journal_model.specs.Run.{Invocation};
+ghost use Rattle.journal_model.specs.Run.{Invocation, call_record, name_or_empty};
+ghost use Rattle.journal_model.specs.Refusal.{refusal_of};
+ghost use Rattle.journal_model.specs.Await.{child_of};
+ghost use Rattle.protocol_spellings.specs.Requests.{request_of_call};
 ghost use Rattle.attempt_model.specs.Machine.{Machine};
 ghost use Rattle.vm_awaits.specs.Views.{results_of, slots_of};
 ghost use Rattle.vm_awaits.specs.Calls.{with_handle};
 ghost use Rattle.vm_commands.specs.HeaderEquality.{is_unstable};
-ghost use Rattle.vm_calls.specs.Active.{asking, IsAtCommand, TellsSame, LacksCompletions, TakesTwo};
+ghost use Rattle.vm_calls.specs.Active.{Sees, asking, IsAtCommand, TellsSame, LacksCompletions, TakesTwo};
 ghost use Rattle.vm_calls.specs.Making.{CompletesTwo, HasBegunTwo, Makes};
 ghost use Rattle.vm_calls.specs.declared.call_error.NumberError.TheVariants.{IdsExhausted};
 
 use crate::active::number_error;
 use crate::{Active, CallError, NumberError};
-use bytes::ByteStr;
-use journal_model::{NotificationHandle, NotificationId};
+use bytes::{ByteStr, Bytes};
+use journal_model::{NotificationHandle, NotificationId, PayloadOptions, Target};
+use protocol_calls::CallCommandMessage;
+use protocol_stream::to_header_records;
 use protocol_types::MessageType;
-use std::alloc::Global;
+use std::alloc::{AllocError, Global};
 use vm_awaits::AsyncResultsState;
 use vm_commands::Command;
 use vm_types::CallHandle;
@@ -35,6 +40,62 @@ fn completion_handle(
     match results.create_handle_mapping(NotificationId::CompletionId(id)) {
         Ok(handle) => Ok(handle),
         Err(error) => Err(number_error(error)),
+    }
+}
+
+/// A text, or an empty one where none is given.
+pub(crate) fn or_empty(text: Option<ByteStr>) -> ByteStr
+    ensures { result ≡ unwrap_or text [] }
+{
+    match text {
+        Some(text) => text,
+        None => ByteStr::new(),
+    }
+}
+
+/// Whether payloads are not compared: by the machine's option, or the call's.
+pub(crate) fn ignores_payload(checks_off: bool, options: PayloadOptions) -> bool
+    ensures { result ≡ (checks_off || options.unstable_serialization) }
+{
+    checks_off || options.unstable_serialization
+}
+
+// The command of a call with these two completions.
+fn to_call_command(
+    alloc: Global,
+    target: Target,
+    parameter: Bytes,
+    invocation_id_notification_idx: u32,
+    result_completion_id: u32,
+    name: ByteStr,
+) -> Result<CallCommandMessage, AllocError>
+    ensures { IfOk result (λ command. request_of_call command
+        ≡ Request.CallService (call_record target parameter) invocation_id_notification_idx result_completion_id name) }
+{
+    let Target {
+        service,
+        handler,
+        key,
+        idempotency_key,
+        scope,
+        limit_key,
+        headers,
+    } = target;
+    match to_header_records(alloc, headers) {
+        Ok(headers) => Ok(CallCommandMessage {
+            service_name: service,
+            handler_name: handler,
+            parameter,
+            headers,
+            key: or_empty(key),
+            idempotency_key,
+            scope,
+            limit_key,
+            invocation_id_notification_idx,
+            result_completion_id,
+            name,
+        }),
+        Err(error) => Err(error),
     }
 }
 
@@ -101,5 +162,32 @@ impl Active {
             }
             Err(error) => Err(CallError::Put(error)),
         }
+    }
+
+    /// Calls another handler: of the two notifications the first tells the invocation's id, the second brings its answer.
+    ///
+    /// Whether the target is refused is to be asked before, by `vm_refusals::refuse_target`. No cancellation is passed on to it.
+    pub fn call(
+        &mut self,
+        alloc: Global,
+        checks_off: bool,
+        target: Target,
+        parameter: Bytes,
+        name: Option<ByteStr>,
+        options: PayloadOptions,
+    ) -> Result<CallHandle, CallError<CallCommandMessage>>
+        ensures made { (given : Invocation) (m : Machine) → refusal_of given.version (Call.Call target parameter name options) ≡ None
+            → child_of given.options.implicit_cancellation m.completions (Call.Call target parameter name options) ≡ [] → Sees given self.old m
+            → Makes checks_off given m (Call.Call target parameter name options)
+            (λ made. Answer.Handles made.invocation_id_notification_handle made.call_notification_handle) self.old result self.new }
+        ensures told { IsAtCommand MessageType.CallCommand (name_or_empty name) self.old.journal self.new.journal }
+    {
+        let (name, first, second, handles) = self.begin_two(
+            MessageType::CallCommand,
+            or_empty(name),
+        )?;
+        let command = to_call_command(alloc, target, parameter, first, second, name)?;
+        let ignore = ignores_payload(checks_off, options);
+        self.put_call(alloc, command, ignore, handles)
     }
 }
