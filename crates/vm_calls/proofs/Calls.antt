@@ -32,12 +32,14 @@ pub unchecked : (checks_off : Bool) → checks_off ≡ (checks_off || false)
 unchecked true = refl
 unchecked false = refl
 
-sleep_brings_none : (name : Text) (wake_up : Moment) (now : Option Moment) (cancellation : ImplicitCancellationOption) (n : ℕ) → child_of cancellation n (Call.Sleep name wake_up now) ≡ []
-sleep_brings_none name wake_up now Disabled n = refl
-sleep_brings_none name wake_up now (Enabled true true) n = refl
-sleep_brings_none name wake_up now (Enabled true false) n = refl
-sleep_brings_none name wake_up now (Enabled false true) n = refl
-sleep_brings_none name wake_up now (Enabled false false) n = refl
+-- a call brings no child, whatever is tracked
+pub brings_none : (call : Call) (n : ℕ) → child_of Disabled n call ≡ [] → child_of (Enabled true true) n call ≡ [] → child_of (Enabled true false) n call ≡ []
+    → child_of (Enabled false true) n call ≡ [] → child_of (Enabled false false) n call ≡ [] → (cancellation : ImplicitCancellationOption) → child_of cancellation n call ≡ []
+brings_none call n none both calls sends neither Disabled = none
+brings_none call n none both calls sends neither (Enabled true true) = both
+brings_none call n none both calls sends neither (Enabled true false) = calls
+brings_none call n none both calls sends neither (Enabled false true) = sends
+brings_none call n none both calls sends neither (Enabled false false) = neither
 
 pub sleep_completes : (given : Invocation) (m : Machine) (name : Text) (wake_up : Moment) (now : Option Moment) (copy : Text) (time id : ℕ)
     → refusal_of given.version (Call.Sleep name wake_up now) ≡ None → copy ≡ name → milliseconds wake_up ≡ time → id ≡ m.completions
@@ -47,7 +49,7 @@ sleep_completes given m name wake_up now copy time id refused copied millis take
     refused = refused;
     work = refl;
     requests = λ i. Request.Sleep (millis i) (sym taken i) (sym copied i) ∷ [];
-    children = sleep_brings_none name wake_up now given.options.implicit_cancellation m.completions;
+    children = brings_none (Call.Sleep name wake_up now) m.completions refl refl refl refl refl given.options.implicit_cancellation;
   };
   completions = refl;
   signals = refl;

@@ -2,8 +2,6 @@
 use Rattle.std.proofs.Common.{◌≡◌, ◌+◌, ◌∷◌, ◌++◌, ℕ, Bool, true, false, List, [], append-nil, length, map, Option, Some, None, refl, sym, ap, ◌∙◌, subst, arith}
 use Rattle.journal_model.specs.declared.notification.NotificationId.{NotificationId}
 use Rattle.journal_model.specs.declared.notification.NotificationId.TheVariants.{SignalId, SignalName}
-use Rattle.journal_model.specs.declared.options.ImplicitCancellationOption.{ImplicitCancellationOption}
-use Rattle.journal_model.specs.declared.options.ImplicitCancellationOption.TheVariants.{Disabled, Enabled}
 use Rattle.journal_model.specs.Notification.{Text}
 use Rattle.journal_model.specs.declared.call.Call.{Call}
 use Rattle.journal_model.specs.declared.call.Answer.{Answer}
@@ -25,7 +23,8 @@ use Rattle.vm_commands.specs.HeaderEquality.{same_header}
 use Rattle.vm_calls.specs.declared.active.Active.{Active}
 use Rattle.vm_calls.specs.Active.{Sees, left_of, writes_frames}
 use Rattle.vm_calls.specs.Making.{Replies}
-use Rattle.vm_calls.specs.Handles.{HandlesOne, TakesSignal}
+use Rattle.vm_calls.specs.Handles.{HandlesOne}
+use Rattle.vm_calls.proofs.Calls.{brings_none}
 
 pub as_many : (n more : ℕ) → more ≡ 0 → n ≡ n + more
 as_many n more none = omega (arith, none)
@@ -93,38 +92,8 @@ slot_is given old m sees = ap (λ (r : AsyncResults). 17 + length r.slots) sees.
 
 -- ---- the two calls
 
-signal_brings_none : (name : Text) (cancellation : ImplicitCancellationOption) (n : ℕ) → child_of cancellation n (Call.Signal name) ≡ []
-signal_brings_none name Disabled n = refl
-signal_brings_none name (Enabled true true) n = refl
-signal_brings_none name (Enabled true false) n = refl
-signal_brings_none name (Enabled false true) n = refl
-signal_brings_none name (Enabled false false) n = refl
-
-awakeable_brings_none : (cancellation : ImplicitCancellationOption) (n : ℕ) → child_of cancellation n Call.Awakeable ≡ []
-awakeable_brings_none Disabled n = refl
-awakeable_brings_none (Enabled true true) n = refl
-awakeable_brings_none (Enabled true false) n = refl
-awakeable_brings_none (Enabled false true) n = refl
-awakeable_brings_none (Enabled false false) n = refl
-
 pub signal_handles : (given : Invocation) (m : Machine) (name : Text) → HandlesOne given m (Call.Signal name) (SignalName name) 0
-signal_handles given m name = record {
-  refused = refl;
-  work = refl;
-  requests = refl;
-  completions = refl;
-  signals = refl;
-  ids = refl;
-  children = signal_brings_none name given.options.implicit_cancellation m.completions;
-}
+signal_handles given m name = record { refused = refl; work = refl; requests = refl; completions = refl; signals = refl; ids = refl; children = brings_none (Call.Signal name) m.completions refl refl refl refl refl given.options.implicit_cancellation }
 
 pub awakeable_handles : (given : Invocation) (m : Machine) → HandlesOne given m Call.Awakeable (SignalId m.signals) 1
-awakeable_handles given m = record {
-  refused = refl;
-  work = refl;
-  requests = refl;
-  completions = refl;
-  signals = refl;
-  ids = refl;
-  children = awakeable_brings_none given.options.implicit_cancellation m.completions;
-}
+awakeable_handles given m = record { refused = refl; work = refl; requests = refl; completions = refl; signals = refl; ids = refl; children = brings_none Call.Awakeable m.completions refl refl refl refl refl given.options.implicit_cancellation }

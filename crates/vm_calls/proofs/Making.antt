@@ -1,5 +1,5 @@
 -- A call that takes one completion id and puts one request does what the abstract machine does.
-use Rattle.std.proofs.Common.{◌≡◌, ◌+◌, ◌∷◌, ◌++◌, ℕ, Bool, ◌||◌, List, [], length, map, Option, Some, None, option_and_then, Result, Ok, Err, refl, sym, ap, ◌∙◌, subst, arith}
+use Rattle.std.proofs.Common.{◌≡◌, ◌+◌, ◌∷◌, ◌++◌, ℕ, Bool, false, ◌||◌, List, [], length, map, Option, Some, None, option_and_then, Result, Ok, Err, refl, sym, ap, ◌∙◌, subst, arith}
 use Rattle.journal_model.specs.declared.notification.NotificationId.{NotificationId}
 use Rattle.journal_model.specs.declared.notification.NotificationId.TheVariants.{CompletionId}
 use Rattle.journal_model.specs.Notification.{Arrival, Text}
@@ -20,7 +20,8 @@ use Rattle.protocol_stream.specs.declared.encoder.EncodingError.TheVariants as u
 use Rattle.vm_awaits.specs.Views.{AsyncResults, results_of, slots_of}
 use Rattle.vm_awaits.specs.Calls.{with_handle}
 use Rattle.vm_context.specs.Eager.{KnownState}
-use Rattle.vm_context.specs.Following.{KnowsState}
+use Rattle.vm_context.specs.Journal.{after_command, after_completions}
+use Rattle.vm_context.specs.Following.{KnowsState, changes_state}
 use Rattle.vm_context.specs.Output.{Written}
 use Rattle.vm_context.proofs.Keeping.{others_keep}
 use Rattle.vm_commands.specs.declared.replay_error.ReplayError.TheVariants as unmatched
@@ -114,10 +115,35 @@ module _ (checks_off ignoring : Bool) (given : Invocation) (m : Machine) (call :
           frames = puts.frames ∙ ap (λ (w : Written). writes_frames puts.more w) ready.output;
         }
 
--- ---- calls of one completion
+-- ---- numbers were taken
 
 pub no_more : (n more : ℕ) → more ≡ 0 → n ≡ n + more
 no_more n more none = omega (arith, none)
+
+-- where so many completions were taken, and handles that stand for these ids, nothing is left but to put the request
+pub is_ready : (given : Invocation) (m : Machine) (call : Call) (request : Request) (old : Active) → Sees given old m → (ty : MessageType) (name : Text) (taken : ℕ) (ids : List NotificationId)
+    → changes_state request ≡ false → known_result m.completions (request ∷ []) ≡ [] → ids_of m.completions m.signals call ≡ ids → completions_of call ≡ taken → signals_of call ≡ 0
+    → (mid : Active) → mid ≡ record old { journal = after_completions taken (after_command ty name old.journal); results = mid.results }
+    → results_of mid.results ≡ record { delivery = given.options.signal_delivery; queue = m.queue; ready = m.ready; slots = m.slots ++ map Some ids }
+    → IsReady given m call request old mid
+is_ready given m call request old sees ty name taken ids keeps known named counts none mid others results = record {
+  left = ap (λ (a : Active). left_of a) others ∙ sees.left;
+  replaying = ap (λ (a : Active). a.is_replaying) others ∙ sees.replaying;
+  results = results ∙ (λ i. record {
+    delivery = given.options.signal_delivery;
+    queue = m.queue;
+    ready = ready_after_all given.options.signal_delivery m.ready (sym known i);
+    slots = m.slots ++ map Some (sym named i);
+  });
+  state = subst (λ (state : KnownState). KnowsState state m.start (m.done ++ request ∷ [])) (sym (ap (λ (a : Active). a.state) others)) (others_keep old.state m.start m.done request keeps sees.state);
+  completions = ap (λ (a : Active). a.journal.completions) others ∙ ap (λ (n : ℕ). n + taken) sees.completions ∙ ap (λ (n : ℕ). m.completions + n) (sym counts);
+  signals = ap (λ (a : Active). a.journal.signals) others ∙ sees.signals ∙ no_more m.signals (signals_of call) none;
+  opened = ap (λ (a : Active). a.output.is_closed) others ∙ sees.opened;
+  children = sees.children;
+  output = ap (λ (a : Active). a.output) others;
+}
+
+-- ---- calls of one completion
 
 module _ (given : Invocation) (m : Machine) (call : Call) (request : Request) (one : CompletesOne given m call request) (handle : ℕ) (old mid : Active) (begun : HasBegun given m handle old mid) where
   handle_is : answer_by given.input.invocation_id (next_slot m) m.signals call ≡ Answer.Handle handle
@@ -128,23 +154,7 @@ module _ (given : Invocation) (m : Machine) (call : Call) (request : Request) (o
       ∙ ap (λ (n : ℕ). with_handle (CompletionId n) (results_of old.results)) begun.sees.completions ∙ ap (λ (r : AsyncResults). with_handle (CompletionId m.completions) r) begun.sees.results
 
   pub one_is_ready : IsReady given m call request old mid
-  one_is_ready = record {
-    left = ap (λ (a : Active). left_of a) begun.takes.others ∙ begun.sees.left;
-    replaying = ap (λ (a : Active). a.is_replaying) begun.takes.others ∙ begun.sees.replaying;
-    results = results_are ∙ (λ i. record {
-      delivery = given.options.signal_delivery;
-      queue = m.queue;
-      ready = ready_after_all given.options.signal_delivery m.ready (sym one.known i);
-      slots = m.slots ++ map Some (sym one.ids i);
-    });
-    state = subst (λ (state : KnownState). KnowsState state m.start (m.done ++ request ∷ [])) (sym (ap (λ (a : Active). a.state) begun.takes.others))
-        (others_keep old.state m.start m.done request one.keeps begun.sees.state);
-    completions = ap (λ (a : Active). a.journal.completions) begun.takes.others ∙ ap (λ (n : ℕ). n + 1) begun.sees.completions ∙ ap (λ (n : ℕ). m.completions + n) (sym one.completions);
-    signals = ap (λ (a : Active). a.journal.signals) begun.takes.others ∙ begun.sees.signals ∙ no_more m.signals (signals_of call) one.signals;
-    opened = ap (λ (a : Active). a.output.is_closed) begun.takes.others ∙ begun.sees.opened;
-    children = begun.sees.children;
-    output = ap (λ (a : Active). a.output) begun.takes.others;
-  }
+  one_is_ready = is_ready given m call request old begun.sees begun.ty begun.name 1 (CompletionId m.completions ∷ []) one.keeps one.known one.ids one.completions one.signals mid begun.takes.others results_are
 
   module _ (checks_off ignoring : Bool) (ignores : ignoring ≡ (checks_off || is_unstable call)) (new : Active) where
     pub fails : {M : Type 0} (error : PutError M) → (IsSettled mid → PutsIn ignoring request m.written mid (Err error) new) → FailsAs checks_off given m call old (Put error) × (new.output ≡ old.output)

@@ -23,7 +23,7 @@ use Rattle.vm_calls.specs.declared.put_error.PutError.{PutError}
 use Rattle.vm_calls.specs.declared.call_error.CallError.TheVariants.{Put}
 use Rattle.vm_calls.specs.Active.{Sees, IsSettled, left_of, PutsOne, PutsIn}
 use Rattle.vm_calls.specs.Making.{Replies, FailsAs, IsReady, CompletesTwo, HasBegunTwo}
-use Rattle.vm_calls.proofs.Making.{no_more, put_answers, put_fails_as}
+use Rattle.vm_calls.proofs.Making.{is_ready, put_answers, put_fails_as}
 
 one_longer : (slots : Slots) (slot : Option NotificationId) → length (slots ++ slot ∷ []) ≡ suc (length slots)
 one_longer [] slot = refl
@@ -52,23 +52,8 @@ module _ (given : Invocation) (m : Machine) (call : Call) (request : Request) (t
       ∙ ap with_slots (append_assoc m.slots (Some (CompletionId m.completions) ∷ []) (Some (CompletionId (m.completions + 1)) ∷ []))
 
   two_is_ready : IsReady given m call request old mid
-  two_is_ready = record {
-    left = ap (λ (a : Active). left_of a) begun.takes.others ∙ begun.sees.left;
-    replaying = ap (λ (a : Active). a.is_replaying) begun.takes.others ∙ begun.sees.replaying;
-    results = results_are ∙ (λ i. record {
-      delivery = given.options.signal_delivery;
-      queue = m.queue;
-      ready = ready_after_all given.options.signal_delivery m.ready (sym two.known i);
-      slots = m.slots ++ map Some (sym two.ids i);
-    });
-    state = subst (λ (state : KnownState). KnowsState state m.start (m.done ++ request ∷ [])) (sym (ap (λ (a : Active). a.state) begun.takes.others))
-        (others_keep old.state m.start m.done request two.keeps begun.sees.state);
-    completions = ap (λ (a : Active). a.journal.completions) begun.takes.others ∙ ap (λ (n : ℕ). n + 2) begun.sees.completions ∙ ap (λ (n : ℕ). m.completions + n) (sym two.completions);
-    signals = ap (λ (a : Active). a.journal.signals) begun.takes.others ∙ begun.sees.signals ∙ no_more m.signals (signals_of call) two.signals;
-    opened = ap (λ (a : Active). a.output.is_closed) begun.takes.others ∙ begun.sees.opened;
-    children = begun.sees.children;
-    output = ap (λ (a : Active). a.output) begun.takes.others;
-  }
+  two_is_ready = is_ready given m call request old begun.sees begun.ty begun.name 2 (CompletionId m.completions ∷ CompletionId (m.completions + 1) ∷ [])
+      two.keeps two.known two.ids two.completions two.signals mid begun.takes.others results_are
 
   module _ (checks_off ignoring : Bool) (ignores : ignoring ≡ (checks_off || is_unstable call)) (new : Active) where
     pub both_fail : {M : Type 0} (error : PutError M) → (IsSettled mid → PutsIn ignoring request m.written mid (Err error) new) → FailsAs checks_off given m call old (Put error) × (new.output ≡ old.output)

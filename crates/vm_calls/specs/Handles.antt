@@ -1,5 +1,5 @@
 -- What a call does that makes a handle and puts no request.
-use Rattle.std.specs.Prelude.{◌≡◌, ◌≤◌, ◌+◌, ◌^◌, ◌⊎◌, ℕ, List, [], ◌∷◌, length, None, Bool, Result, Ok, Err}
+use Rattle.std.specs.Prelude.{◌≡◌, ◌≤◌, ◌<◌, ◌+◌, ◌^◌, ◌⊎◌, ℕ, List, [], ◌∷◌, length, None, Bool, Result, Ok, Err}
 use Rattle.journal_model.specs.declared.notification.NotificationId.{NotificationId}
 use Rattle.journal_model.specs.declared.notification.NotificationId.TheVariants.{SignalId}
 use Rattle.journal_model.specs.declared.call.Call.{Call}
@@ -20,7 +20,7 @@ use Rattle.vm_calls.specs.Making.{Replies}
 
 -- no handle is left
 abbrev pub LacksHandle : Active → Type 0
-LacksHandle old = 2 ^ 32 ≤ 17 + length (slots_of old.results)
+LacksHandle old = 2 ^ 32 < 17 + length (slots_of old.results) + 1
 
 -- no number of a signal is left, or no handle
 abbrev pub LacksSignal : Active → Type 0

@@ -1,5 +1,5 @@
 // What an attempt keeps while calls are made of it, and the steps that each call is made of.
-ghost use Rattle.std.specs.Prelude.{◌≡◌, ◌↔◌, ◌||◌, Bool, List, Some, OnOk, OnErr, IfOk, IfErr};
+ghost use Rattle.std.specs.Prelude.{◌≡◌, ◌+◌, ◌<◌, ◌^◌, ◌↔◌, ◌||◌, Bool, List, Some, OnOk, OnErr, IfOk, IfErr, length};
 ghost use Rattle.journal_model.specs.Request.{Request};
 ghost use Rattle.journal_model.specs.declared.call.Call.{Call};
 ghost use Rattle.journal_model.specs.declared.call.Answer.{Answer};
@@ -8,6 +8,8 @@ ghost use Rattle.attempt_model.specs.Machine.{Machine};
 ghost use Rattle.vm_commands.specs.HeaderEquality.{is_unstable};
 ghost use Rattle.vm_calls.specs.Active.{left_of, still_replays, asking, TellsSame, IsAtCommand, IsSettled, TakesCompletion, LacksCompletions, PutsIn};
 ghost use Rattle.vm_calls.specs.Making.{CompletesOne, HasBegun, Makes};
+ghost use Rattle.vm_awaits.specs.Views.{results_of, slots_of};
+ghost use Rattle.vm_awaits.specs.Calls.{with_handle};
 ghost use Rattle.vm_awaits.specs.declared.state.CreateHandleError.TheVariants.{HandlesExhausted};
 ghost use Rattle.vm_calls.specs.declared.call_error.NumberError.TheVariants.{IdsExhausted};
 
@@ -35,12 +37,27 @@ pub struct Active {
     pub output: Output,
 }
 
-pub(crate) fn number_error(error: CreateHandleError) -> NumberError
+fn number_error(error: CreateHandleError) -> NumberError
     ensures { (result ≡ IdsExhausted) ↔ (error ≡ HandlesExhausted) }
 {
     match error {
         CreateHandleError::HandlesExhausted => NumberError::IdsExhausted,
         CreateHandleError::OutOfMemory => NumberError::OutOfMemory,
+    }
+}
+
+/// The next handle, for this id.
+pub(crate) fn handle_for(
+    results: &mut AsyncResultsState,
+    id: NotificationId,
+) -> Result<NotificationHandle, NumberError>
+    ensures handle { IfOk result (λ handle. handle ≡ 17 + length (slots_of results.old)) }
+    ensures made { IfOk result (λ handle. results_of results.new ≡ with_handle id (results_of results.old)) }
+    ensures err { IfErr result (λ error. error ≡ IdsExhausted → 2 ^ 32 < 17 + length (slots_of results.old) + 1) }
+{
+    match results.create_handle_mapping(id) {
+        Ok(handle) => Ok(handle),
+        Err(error) => Err(number_error(error)),
     }
 }
 
@@ -72,13 +89,8 @@ impl Active {
         let Ok(id) = self.journal.next_completion_notification_id() else {
             return Err(NumberError::IdsExhausted);
         };
-        match self
-            .results
-            .create_handle_mapping(NotificationId::CompletionId(id))
-        {
-            Ok(handle) => Ok((id, handle)),
-            Err(error) => Err(number_error(error)),
-        }
+        let handle = handle_for(&mut self.results, NotificationId::CompletionId(id))?;
+        Ok((id, handle))
     }
 
     /// Begins a call of one completion, whose command is of this type and name: takes the completion's id and the handle that
@@ -146,10 +158,7 @@ impl Active {
         ensures journal { self.new.journal ≡ self.old.journal }
     {
         match self.put(alloc, command, ignore_payload_equality) {
-            Ok(stands) => {
-                drop(stands);
-                Ok(handle)
-            }
+            Ok(_) => Ok(handle),
             Err(error) => Err(CallError::Put(error)),
         }
     }

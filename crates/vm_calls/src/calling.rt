@@ -1,47 +1,28 @@
 // A call of another handler, which takes two completions.
-ghost use Rattle.std.specs.Prelude.{◌≡◌, ◌+◌, ◌<◌, ◌^◌, ◌||◌, Bool, Option, Some, None, [], length, IfOk, IfErr, OnErr, unwrap_or};
+ghost use Rattle.std.specs.Prelude.{◌≡◌, ◌||◌, Bool, Some, None, [], IfOk, IfErr, unwrap_or};
+ghost use Rattle.journal_model.specs.Refusal.{refusal_of};
 ghost use Rattle.journal_model.specs.declared.call.Call.{Call};
 ghost use Rattle.journal_model.specs.declared.call.Answer.{Answer};
-ghost use Rattle.journal_model.specs.declared.notification.NotificationId.TheVariants.{CompletionId};
+ghost use Rattle.attempt_model.specs.Machine.{Machine};
 ghost use Rattle.journal_model.specs.Request.{Request};
 ghost use Rattle.journal_model.specs.Run.{Invocation, call_record, name_or_empty};
-ghost use Rattle.journal_model.specs.Refusal.{refusal_of};
 ghost use Rattle.journal_model.specs.Await.{child_of};
 ghost use Rattle.protocol_spellings.specs.Requests.{request_of_call};
-ghost use Rattle.attempt_model.specs.Machine.{Machine};
-ghost use Rattle.vm_awaits.specs.Views.{results_of, slots_of};
-ghost use Rattle.vm_awaits.specs.Calls.{with_handle};
 ghost use Rattle.vm_commands.specs.HeaderEquality.{is_unstable};
 ghost use Rattle.vm_calls.specs.Active.{Sees, asking, IsAtCommand, TellsSame, LacksCompletions, TakesTwo};
 ghost use Rattle.vm_calls.specs.Making.{CompletesTwo, HasBegunTwo, Makes};
 ghost use Rattle.vm_calls.specs.declared.call_error.NumberError.TheVariants.{IdsExhausted};
 
-use crate::active::number_error;
+use crate::active::handle_for;
 use crate::{Active, CallError, NumberError};
 use bytes::{ByteStr, Bytes};
-use journal_model::{NotificationHandle, NotificationId, PayloadOptions, Target};
+use journal_model::{NotificationId, PayloadOptions, Target};
 use protocol_calls::CallCommandMessage;
 use protocol_stream::to_header_records;
 use protocol_types::MessageType;
 use std::alloc::{AllocError, Global};
-use vm_awaits::AsyncResultsState;
 use vm_commands::Command;
 use vm_types::CallHandle;
-
-// The next handle, for this completion.
-fn completion_handle(
-    results: &mut AsyncResultsState,
-    id: u32,
-) -> Result<NotificationHandle, NumberError>
-    ensures handle { IfOk result (λ handle. handle ≡ 17 + length (slots_of results.old)) }
-    ensures made { IfOk result (λ handle. results_of results.new ≡ with_handle (CompletionId id) (results_of results.old)) }
-    ensures err { IfErr result (λ error. error ≡ IdsExhausted → 2 ^ 32 < 17 + length (slots_of results.old) + 1) }
-{
-    match results.create_handle_mapping(NotificationId::CompletionId(id)) {
-        Ok(handle) => Ok(handle),
-        Err(error) => Err(number_error(error)),
-    }
-}
 
 /// A text, or an empty one where none is given.
 pub(crate) fn or_empty(text: Option<ByteStr>) -> ByteStr
@@ -111,8 +92,14 @@ impl Active {
         let Ok((first, second)) = self.journal.next_two_completion_notification_ids() else {
             return Err(NumberError::IdsExhausted);
         };
-        let invocation_id_notification_handle = completion_handle(&mut self.results, first)?;
-        let call_notification_handle = completion_handle(&mut self.results, second)?;
+        let invocation_id_notification_handle = handle_for(
+            &mut self.results,
+            NotificationId::CompletionId(first),
+        )?;
+        let call_notification_handle = handle_for(
+            &mut self.results,
+            NotificationId::CompletionId(second),
+        )?;
         let handles = CallHandle {
             invocation_id_notification_handle,
             call_notification_handle,
@@ -126,12 +113,12 @@ impl Active {
         ty: MessageType,
         name: ByteStr,
     ) -> Result<(ByteStr, u32, u32, CallHandle), NumberError>
+        ensures told { IsAtCommand ty name self.old.journal self.new.journal }
         ensures name { IfOk result (λ taken. taken.0 ≡ name) }
         ensures taken { IfOk result (λ taken. TakesTwo taken.1 taken.2
             (taken.3.invocation_id_notification_handle, taken.3.call_notification_handle) (asking ty name self.old) self.new) }
         ensures err { IfErr result (λ error. error ≡ IdsExhausted → LacksCompletions 2 self.old) }
         ensures output { self.new.output ≡ self.old.output }
-        ensures told { IsAtCommand ty name self.old.journal self.new.journal }
     {
         let copy = self.ask(ty, name);
         let (first, second, handles) = self.next_two()?;
@@ -144,22 +131,19 @@ impl Active {
     // Puts the command of a call that has begun, and answers the handles of its completions.
     fn put_call<M: Command>(
         &mut self,
+        handles: CallHandle,
         alloc: Global,
         command: M,
-        ignore_payload_equality: bool,
-        handles: CallHandle,
+        ignore: bool,
     ) -> Result<CallHandle, CallError<M>>
         ensures makes { (checks_off : Bool) (given : Invocation) (m : Machine) (call : Call) (request : Request) (old : Active) → M.request_of command ≡ Some request
-            → CompletesTwo given m call request → ignore_payload_equality ≡ (checks_off || is_unstable call)
+            → CompletesTwo given m call request → ignore ≡ (checks_off || is_unstable call)
             → HasBegunTwo given m (handles.invocation_id_notification_handle, handles.call_notification_handle) old self.old
             → Makes checks_off given m call (λ made. Answer.Handles made.invocation_id_notification_handle made.call_notification_handle) old result self.new }
         ensures journal { self.new.journal ≡ self.old.journal }
     {
-        match self.put(alloc, command, ignore_payload_equality) {
-            Ok(stands) => {
-                drop(stands);
-                Ok(handles)
-            }
+        match self.put(alloc, command, ignore) {
+            Ok(_) => Ok(handles),
             Err(error) => Err(CallError::Put(error)),
         }
     }
@@ -188,6 +172,6 @@ impl Active {
         )?;
         let command = to_call_command(alloc, target, parameter, first, second, name)?;
         let ignore = ignores_payload(checks_off, options);
-        self.put_call(alloc, command, ignore, handles)
+        self.put_call(handles, alloc, command, ignore)
     }
 }

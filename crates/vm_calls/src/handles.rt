@@ -8,7 +8,7 @@ ghost use Rattle.vm_calls.specs.Active.{Sees};
 ghost use Rattle.vm_calls.specs.Handles.{LacksHandle, LacksSignal, TakesSignal, MakesHandle};
 ghost use Rattle.vm_calls.specs.declared.call_error.NumberError.TheVariants.{IdsExhausted};
 
-use crate::active::number_error;
+use crate::active::handle_for;
 use crate::{Active, NumberError};
 use bytes::{ByteStr, Bytes};
 use journal_model::{NotificationHandle, NotificationId};
@@ -26,13 +26,8 @@ impl Active {
         let Ok(id) = self.journal.next_signal_notification_id() else {
             return Err(NumberError::IdsExhausted);
         };
-        match self
-            .results
-            .create_handle_mapping(NotificationId::SignalId(id))
-        {
-            Ok(handle) => Ok((id, handle)),
-            Err(error) => Err(number_error(error)),
-        }
+        let handle = handle_for(&mut self.results, NotificationId::SignalId(id))?;
+        Ok((id, handle))
     }
 
     /// The handle of a signal of this name. Nothing is recorded of it.
@@ -40,12 +35,9 @@ impl Active {
         ensures { (checks_off : Bool) (given : Invocation) (m : Machine) → Sees given self.old m
             → MakesHandle checks_off given m (Call.Signal name) (λ handle. Answer.Handle handle) LacksHandle self.old result self.new }
     {
-        match self
-            .results
-            .create_handle_mapping(NotificationId::SignalName(name))
-        {
+        match handle_for(&mut self.results, NotificationId::SignalName(name)) {
             Ok(handle) => Ok(handle),
-            Err(error) => Err(number_error(error)),
+            Err(error) => Err(error),
         }
     }
 

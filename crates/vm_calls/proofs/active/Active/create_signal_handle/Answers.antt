@@ -8,5 +8,5 @@ pub returns-in-Ok : goal.returns-in-Ok
 returns-in-Ok c =
     λ checks_off given m sees.
     let old = c.args.self.now in
-    handles checks_off given m _ (SignalName c.args.name) 0 (signal_handles given m c.args.name) old sees _ c.in-Ok.ensures.ok refl (as_many old.journal.signals 0 refl) refl
+    handles checks_off given m _ (SignalName c.args.name) 0 (signal_handles given m c.args.name) old sees _ c.in-Ok.ensures.made refl (as_many old.journal.signals 0 refl) refl
     (Answer.Handle c.in-Ok.handle) (ap Answer.Handle (sym (c.in-Ok.ensures.handle ∙ slot_is given old m sees)))

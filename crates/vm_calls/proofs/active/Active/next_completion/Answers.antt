@@ -5,12 +5,12 @@ use Rattle.vm_awaits.specs.Views.{results_of}
 use Rattle.vm_awaits.specs.Calls.{with_handle}
 use Rattle.vm_calls.proofs.active.Active.next_completion.Goals as goal
 
-pub returns-in-Ok-create_handle_mapping-clause-ok : goal.returns-in-Ok-create_handle_mapping-clause-ok
-returns-in-Ok-create_handle_mapping-clause-ok c =
+pub returns-clause-ok : goal.returns-clause-ok
+returns-clause-ok c =
     let old = c.args.self.now in
     record {
       id = c.in-Ok.ensures.id;
-      handle = c.in-Ok-create_handle_mapping.ensures.handle;
-      results = c.in-Ok-create_handle_mapping.ensures.ok ∙ ap (λ (n : ℕ). with_handle (CompletionId n) (results_of old.results)) c.in-Ok.ensures.id;
-      others = ap (λ (journal : JournalCounts). record old { journal = journal; results = c.create_handle_mapping.new.self }) c.in-Ok.ensures.ok;
+      handle = c.in_ok-handle.ensures.handle;
+      results = c.in_ok-handle.ensures.made ∙ ap (λ (n : ℕ). with_handle (CompletionId n) (results_of old.results)) c.in-Ok.ensures.id;
+      others = ap (λ (journal : JournalCounts). record old { journal = journal; results = c.handle_for.new.results }) c.in-Ok.ensures.ok;
     }

@@ -5,13 +5,13 @@ use Rattle.vm_awaits.specs.Views.{results_of}
 use Rattle.vm_awaits.specs.Calls.{with_handle}
 use Rattle.vm_calls.proofs.active.Active.next_signal.Goals as goal
 
-pub returns-in-Ok-create_handle_mapping-clause-ok : goal.returns-in-Ok-create_handle_mapping-clause-ok
-returns-in-Ok-create_handle_mapping-clause-ok c =
+pub returns-clause-ok : goal.returns-clause-ok
+returns-clause-ok c =
     let old = c.args.self.now in
-    let made = c.in-Ok-create_handle_mapping.ensures in
+    let made = c.in_ok-handle.ensures in
     record {
       id = c.in-Ok.ensures.id;
       handle = made.handle;
-      results = made.ok ∙ ap (λ (n : ℕ). with_handle (SignalId n) (results_of old.results)) c.in-Ok.ensures.id;
-      others = ap (λ (counts : JournalCounts). record old { journal = counts; results = c.create_handle_mapping.new.self }) c.in-Ok.ensures.ok;
+      results = made.made ∙ ap (λ (n : ℕ). with_handle (SignalId n) (results_of old.results)) c.in-Ok.ensures.id;
+      others = ap (λ (counts : JournalCounts). record old { journal = counts; results = c.handle_for.new.results }) c.in-Ok.ensures.ok;
     }

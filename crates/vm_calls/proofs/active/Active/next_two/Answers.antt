@@ -19,5 +19,5 @@ returns-clause-ok c =
       second_handle = second.handle ∙ ap (λ (r : AsyncResults). 17 + length r.slots) first.made ∙ next_behind (slots_of old.results) (Some (CompletionId c.in-Ok.first));
       results = second.made ∙ ap (λ (r : AsyncResults). with_handle (CompletionId c.in-Ok.second) r) first.made
           ∙ (λ i. with_handle (CompletionId (ids.1 i)) (with_handle (CompletionId (ids.0 i)) (results_of old.results)));
-      others = ap (λ (counts : JournalCounts). record old { journal = counts; results = c.completion_handle-2.new.results }) c.in-Ok.ensures.ok;
+      others = ap (λ (counts : JournalCounts). record old { journal = counts; results = c.handle_for-2.new.results }) c.in-Ok.ensures.ok;
     }
