@@ -158,7 +158,10 @@ impl Active {
         ensures journal { self.new.journal ≡ self.old.journal }
     {
         match self.put(alloc, command, ignore_payload_equality) {
-            Ok(_) => Ok(handle),
+            Ok(stands) => {
+                drop(stands);
+                Ok(handle)
+            }
             Err(error) => Err(CallError::Put(error)),
         }
     }
