@@ -1,3 +1,4 @@
 pub mod Putting
 pub mod Active
 pub mod Making
+pub mod Doing

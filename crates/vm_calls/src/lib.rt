@@ -7,6 +7,7 @@
 
 mod active;
 mod call_error;
+mod effects;
 mod put_error;
 mod putting;
 mod sleeping;
