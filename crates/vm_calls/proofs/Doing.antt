@@ -1,6 +1,7 @@
 -- A call that takes no number, puts one request and is answered at once does what the abstract machine does.
-use Rattle.std.proofs.Common.{◌≡◌, ◌+◌, ◌∷◌, ◌++◌, append-nil, ℕ, Bool, ◌||◌, List, [], map, Option, Some, None, Result, Ok, Err, refl, sym, ap, ◌∙◌, subst, arith}
+use Rattle.std.proofs.Common.{◌≡◌, ◌+◌, ◌∷◌, ◌++◌, append-nil, ℕ, Bool, false, ◌||◌, List, [], map, Option, Some, None, Result, Ok, Err, refl, sym, ap, ◌∙◌, subst, arith}
 use Rattle.journal_model.specs.declared.notification.NotificationId.{NotificationId}
+use Rattle.journal_model.specs.Notification.{Text}
 use Rattle.journal_model.specs.declared.call.Call.{Call}
 use Rattle.journal_model.specs.declared.call.Answer.{Answer}
 use Rattle.journal_model.specs.Request.{Request}
@@ -12,18 +13,20 @@ use Rattle.attempt_model.specs.Children.{Child, new_child}
 use Rattle.attempt_model.specs.Requests.{Commands, PutState, put_one}
 use Rattle.attempt_model.specs.Results.{ready_after_all}
 use Rattle.attempt_model.specs.Machine.{Machine, Answered, FailedBy, Mismatch, next_slot, reply_to}
+use Rattle.protocol_types.specs.declared.message_type.MessageType.{MessageType}
 use Rattle.protocol_stream.specs.declared.encoder.EncodingError.TheVariants as unsent
 use Rattle.vm_awaits.specs.Views.{results_of}
 use Rattle.vm_context.specs.Eager.{KnownState}
-use Rattle.vm_context.specs.Following.{KnowsState}
+use Rattle.vm_context.specs.Following.{KnowsState, Follows, changes_state}
 use Rattle.vm_context.specs.Output.{Written}
+use Rattle.vm_context.proofs.Keeping.{others_keep}
 use Rattle.vm_commands.specs.declared.replay_error.ReplayError.TheVariants as unmatched
 use Rattle.vm_commands.specs.HeaderEquality.{same_header, header_equal, is_unstable}
 use Rattle.vm_calls.specs.declared.active.Active.{Active}
 use Rattle.vm_calls.specs.declared.put_error.PutError.{PutError}
 use Rattle.vm_calls.specs.declared.put_error.PutError.TheVariants.{Replay, Encoding}
 use Rattle.vm_calls.specs.declared.call_error.CallError.TheVariants.{Put}
-use Rattle.vm_calls.specs.Active.{Sees, IsSettled, left_of, has_left, writes_frames, PutsOne, PutsIn}
+use Rattle.vm_calls.specs.Active.{Sees, IsSettled, left_of, has_left, asking, writes_frames, PutsOne, PutsIn}
 use Rattle.vm_calls.specs.Making.{Replies, FailsAs}
 use Rattle.vm_calls.specs.Doing.{DoesOne, HasAsked}
 use Rattle.vm_calls.proofs.Making.{replied}
@@ -121,3 +124,29 @@ module _ (checks_off ignoring : Bool) (given : Invocation) (m : Machine) (call :
 
   pub does : (new : Active) → (IsSettled asked → PutsOne ignoring request m.written asked new) → Replies checks_off given m call Answer.Done old new
   does new puts = answers new (puts settled_then)
+
+-- ---- what is known of the state once the call is asked for
+
+module _ (given : Invocation) (m : Machine) (old asked : Active) (sees : Sees given old m) (ty : MessageType) (name : Text) (asks : asked ≡ asking ty name old) where
+  knows_still : KnowsState asked.state m.start m.done
+  knows_still = subst (λ (state : KnownState). KnowsState state m.start m.done) (sym (ap (λ (a : Active). a.state) asks)) sees.state
+
+  -- what was known follows the request
+  pub asks_to_change : (request : Text → Request) (copy : Text) (state : KnownState) → Follows request asked.state state → HasAsked given m (request copy) old (record asked { state = state })
+  asks_to_change request copy state follows = record {
+    sees = sees;
+    ty = ty;
+    name = name;
+    others = ap (λ (a : Active). record a { state = state }) asks;
+    knows = follows m.start m.done copy knows_still;
+  }
+
+  -- the request changes nothing of it
+  pub asks_to_keep : (request : Request) → changes_state request ≡ false → HasAsked given m request old asked
+  asks_to_keep request keeps = record {
+    sees = sees;
+    ty = ty;
+    name = name;
+    others = asks ∙ ap (λ (state : KnownState). record (asking ty name old) { state = state }) (sym (ap (λ (a : Active). a.state) asks));
+    knows = others_keep asked.state m.start m.done request keeps knows_still;
+  }

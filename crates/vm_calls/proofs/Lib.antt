@@ -3,3 +3,4 @@ pub mod Settling
 pub mod Making
 pub mod Calls
 pub mod Doing
+pub mod DoneCalls

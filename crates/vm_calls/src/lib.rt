@@ -11,6 +11,8 @@ mod effects;
 mod put_error;
 mod putting;
 mod sleeping;
+mod state_writes;
+mod telling;
 
 pub use active::Active;
 pub use call_error::{CallError, NumberError};
