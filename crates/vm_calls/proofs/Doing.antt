@@ -1,5 +1,5 @@
 -- A call that takes no number, puts one request and is answered at once does what the abstract machine does.
-use Rattle.std.proofs.Common.{◌≡◌, ◌+◌, ◌∷◌, ◌++◌, append-nil, ℕ, Bool, false, ◌||◌, List, [], map, Option, Some, None, Result, Ok, Err, refl, sym, ap, ◌∙◌, subst, arith}
+use Rattle.std.proofs.Common.{◌≡◌, ◌+◌, ◌∷◌, ◌++◌, append-nil, ℕ, Bool, false, ◌||◌, List, [], map, Option, Some, None, Err, sym, ap, ◌∙◌, subst, arith}
 use Rattle.journal_model.specs.declared.notification.NotificationId.{NotificationId}
 use Rattle.journal_model.specs.Notification.{Text}
 use Rattle.journal_model.specs.declared.call.Call.{Call}
