@@ -4,3 +4,5 @@ pub mod Making
 pub mod Calls
 pub mod Handling
 pub mod Pairing
+pub mod Doing
+pub mod DoneCalls

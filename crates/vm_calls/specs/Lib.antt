@@ -2,3 +2,4 @@ pub mod Putting
 pub mod Active
 pub mod Making
 pub mod Handles
+pub mod Doing

@@ -69,7 +69,7 @@ fn still_replays(is_replaying: bool, commands: &VecDeque<RawMessage>) -> bool
 }
 
 impl Active {
-    // A command of this type and name is asked for: errors that follow tell it. Answers a copy of the name.
+    /// A command of this type and name is asked for: errors that follow tell it. Answers a copy of the name.
     pub(crate) fn ask(&mut self, ty: MessageType, name: ByteStr) -> Result<ByteStr, AllocError>
         ensures copy { IfOk result (λ copy. copy ≡ name) }
         ensures journal { self.new ≡ asking ty name self.old }

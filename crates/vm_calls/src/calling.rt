@@ -14,6 +14,7 @@ ghost use Rattle.vm_calls.specs.Making.{CompletesTwo, HasBegunTwo, Makes};
 ghost use Rattle.vm_calls.specs.declared.call_error.NumberError.TheVariants.{IdsExhausted};
 
 use crate::active::handle_for;
+use crate::effects::ignores;
 use crate::{Active, CallError, NumberError};
 use bytes::{ByteStr, Bytes};
 use journal_model::{NotificationId, PayloadOptions, Target};
@@ -32,13 +33,6 @@ pub(crate) fn or_empty(text: Option<ByteStr>) -> ByteStr
         Some(text) => text,
         None => ByteStr::new(),
     }
-}
-
-/// Whether payloads are not compared: by the machine's option, or the call's.
-pub(crate) fn ignores_payload(checks_off: bool, options: PayloadOptions) -> bool
-    ensures { result ≡ (checks_off || options.unstable_serialization) }
-{
-    checks_off || options.unstable_serialization
 }
 
 // The command of a call with these two completions.
@@ -174,7 +168,7 @@ impl Active {
             or_empty(name),
         )?;
         let command = to_call_command(alloc, target, parameter, first, second, name)?;
-        let ignore = ignores_payload(checks_off, options);
+        let ignore = ignores(checks_off, options);
         self.put_call(handles, alloc, command, ignore)
     }
 }

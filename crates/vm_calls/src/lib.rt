@@ -8,10 +8,13 @@
 mod active;
 mod call_error;
 mod calling;
+mod effects;
 mod handles;
 mod put_error;
 mod putting;
 mod sleeping;
+mod state_writes;
+mod telling;
 
 pub use active::Active;
 pub use call_error::{CallError, NumberError};

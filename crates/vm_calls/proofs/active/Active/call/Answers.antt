@@ -11,7 +11,7 @@ returns-clause-made c =
     c.put_call.ensures.makes c.args.checks_off given m _ _ c.args.self.now refl
     (call_completes given m c.args.target c.args.parameter c.args.name c.args.options c.in_ok-name.name c.in_ok-name.first c.in_ok-name.second _ refused untracked (begun.name ∙ c.or_empty.ensures)
     (begun.taken.first_id ∙ sees.completions) (begun.taken.second_id ∙ ap (λ (n : ℕ). n + 1) sees.completions) c.in_ok-command.ensures)
-    c.ignores_payload-ignore.ensures
+    c.ignores-ignore.ensures
     (record { sees = sees; ty = CallCommand; name = c.or_empty.result; first = c.in_ok-name.first; second = c.in_ok-name.second; takes = begun.taken })
 
 pub returns-in_err-name-clause-made : goal.returns-in_err-name-clause-made

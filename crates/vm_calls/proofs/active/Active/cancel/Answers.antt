@@ -1,0 +1,15 @@
+use Rattle.std.proofs.Common.{refl, ◌∙◌}
+use Rattle.protocol_types.specs.declared.message_type.MessageType.TheVariants.{SendSignalCommand}
+use Rattle.vm_calls.proofs.Calls.{unchecked}
+use Rattle.vm_calls.proofs.Doing.{asks_to_keep}
+use Rattle.vm_calls.proofs.DoneCalls.{cancel_does}
+use Rattle.vm_calls.proofs.active.Active.cancel.Goals as goal
+
+pub returns-clause-made : goal.returns-clause-made
+returns-clause-made c =
+    λ given m sees.
+    let copy = c.in_ok-entry_name.entry_name in
+    c.put_done.ensures.makes c.args.checks_off given m _ _ c.args.self.now refl
+    (cancel_does given m c.args.target_id copy (c.in_ok-entry_name.ensures.copy ∙ c.new.ensures))
+    (unchecked c.args.checks_off)
+    (asks_to_keep given m c.args.self.now c.ask.new.self sees SendSignalCommand c.new.result c.in_ok-entry_name.ensures.journal _ refl)

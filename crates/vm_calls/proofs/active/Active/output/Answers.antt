@@ -1,0 +1,14 @@
+use Rattle.std.proofs.Common.{refl, ◌∙◌}
+use Rattle.protocol_types.specs.declared.message_type.MessageType.TheVariants.{OutputCommand}
+use Rattle.vm_calls.proofs.Doing.{asks_to_keep}
+use Rattle.vm_calls.proofs.DoneCalls.{output_does, output_requested}
+use Rattle.vm_calls.proofs.active.Active.output.Goals as goal
+
+pub returns-clause-made : goal.returns-clause-made
+returns-clause-made c =
+    λ given m refused sees.
+    let copy = c.in_ok-name.name in
+    c.put_done.ensures.makes c.args.checks_off given m _ _ c.args.self.now (output_requested c.args.value c.in_ok-carried.carried copy c.in_ok-carried.ensures)
+    (output_does given m c.args.value c.args.options copy refused (c.in_ok-name.ensures.copy ∙ c.new.ensures))
+    c.ignores.ensures
+    (asks_to_keep given m c.args.self.now c.ask.new.self sees OutputCommand c.new.result c.in_ok-name.ensures.journal _ refl)

@@ -1,0 +1,17 @@
+use Rattle.std.proofs.Common.{refl, ◌∙◌}
+use Rattle.journal_model.specs.Request.{Request}
+use Rattle.protocol_types.specs.declared.message_type.MessageType.TheVariants.{ClearAllStateCommand}
+use Rattle.vm_calls.proofs.Calls.{unchecked}
+use Rattle.vm_calls.proofs.Doing.{asks_to_change}
+use Rattle.vm_calls.proofs.DoneCalls.{clear_all_does}
+use Rattle.vm_calls.proofs.active.Active.state_clear_all.Goals as goal
+
+pub returns-clause-made : goal.returns-clause-made
+returns-clause-made c =
+    λ given m sees.
+    let copy = c.in_ok-name.name in
+    c.put_done.ensures.makes c.args.checks_off given m _ _ c.args.self.now refl
+    (clear_all_does given m c.args.name copy (c.in_ok-name.ensures.copy ∙ c.name_or_empty.ensures))
+    (unchecked c.args.checks_off)
+    (asks_to_change given m c.args.self.now c.ask.new.self sees ClearAllStateCommand c.name_or_empty.result c.in_ok-name.ensures.journal
+    Request.ClearAllState copy c.clear_all.new.self c.clear_all.ensures.knows)

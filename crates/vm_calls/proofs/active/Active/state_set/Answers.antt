@@ -1,0 +1,19 @@
+use Rattle.std.proofs.Common.{refl, sym, ◌∙◌, subst}
+use Rattle.journal_model.specs.Notification.{Bytes}
+use Rattle.journal_model.specs.Request.{Request}
+use Rattle.protocol_types.specs.declared.message_type.MessageType.TheVariants.{SetStateCommand}
+use Rattle.vm_context.specs.Following.{Follows}
+use Rattle.vm_calls.proofs.Doing.{asks_to_change}
+use Rattle.vm_calls.proofs.DoneCalls.{set_does}
+use Rattle.vm_calls.proofs.active.Active.state_set.Goals as goal
+
+pub returns-clause-made : goal.returns-clause-made
+returns-clause-made c =
+    λ given m sees.
+    let copy = c.in_ok-name.name in
+    c.put_done.ensures.makes c.args.checks_off given m _ _ c.args.self.now refl
+    (set_does given m c.args.key c.args.value c.args.name c.args.options c.into_bytes.result copy c.into_bytes.ensures.value (c.in_ok-name.ensures.copy ∙ c.name_or_empty.ensures))
+    c.ignores.ensures
+    (asks_to_change given m c.args.self.now c.ask.new.self sees SetStateCommand c.name_or_empty.result c.in_ok-name.ensures.journal
+    (Request.SetState c.into_bytes.result c.args.value) copy c.set_known.new.state
+    (subst (λ (key : Bytes). Follows (Request.SetState key c.args.value) c.ask.new.self.state c.set_known.new.state) (sym c.into_bytes.ensures.value) c.in_ok-set_known.ensures))

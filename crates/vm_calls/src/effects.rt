@@ -1,0 +1,45 @@
+// What is left of a call that takes no number once its command is made.
+ghost use Rattle.std.specs.Prelude.{◌≡◌, ◌||◌, Bool, Some};
+ghost use Rattle.journal_model.specs.Request.{Request};
+ghost use Rattle.journal_model.specs.declared.call.Call.{Call};
+ghost use Rattle.journal_model.specs.declared.call.Answer.{Answer};
+ghost use Rattle.journal_model.specs.Run.{Invocation};
+ghost use Rattle.attempt_model.specs.Machine.{Machine};
+ghost use Rattle.vm_commands.specs.HeaderEquality.{is_unstable};
+ghost use Rattle.vm_calls.specs.Making.{Makes};
+ghost use Rattle.vm_calls.specs.Doing.{DoesOne, HasAsked};
+
+use crate::{Active, CallError};
+use journal_model::PayloadOptions;
+use std::alloc::Global;
+use vm_commands::Command;
+
+/// Whether other bytes of a payload stand: where the machine's checks are off for them, or the call's options say so.
+pub(crate) fn ignores(checks_off: bool, options: PayloadOptions) -> bool
+    ensures { result ≡ (checks_off || options.unstable_serialization) }
+{
+    checks_off || options.unstable_serialization
+}
+
+impl Active {
+    /// Puts the command of a call that is answered at once. What is known of the state has been changed before.
+    pub(crate) fn put_done<M: Command>(
+        &mut self,
+        alloc: Global,
+        command: M,
+        ignore_payload_equality: bool,
+    ) -> Result<(), CallError<M>>
+        ensures makes { (checks_off : Bool) (given : Invocation) (m : Machine) (call : Call) (request : Request) (old : Active) → M.request_of command ≡ Some request
+            → DoesOne given m call request → ignore_payload_equality ≡ (checks_off || is_unstable call) → HasAsked given m request old self.old
+            → Makes checks_off given m call (λ done. Answer.Done) old result self.new }
+        ensures journal { self.new.journal ≡ self.old.journal }
+    {
+        match self.put(alloc, command, ignore_payload_equality) {
+            Ok(stands) => {
+                drop(stands);
+                Ok(())
+            }
+            Err(error) => Err(CallError::Put(error)),
+        }
+    }
+}
