@@ -1,3 +1,4 @@
+pub mod Words
 pub mod Putting
 pub mod Active
 pub mod Making

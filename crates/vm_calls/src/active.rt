@@ -1,10 +1,6 @@
 // What an attempt keeps while calls are made of it, and the steps that each call is made of.
 ghost use Rattle.std.specs.Prelude.{◌≡◌, ◌+◌, ◌<◌, ◌^◌, ◌↔◌, ◌||◌, Bool, List, Some, OnOk, OnErr, IfOk, IfErr, length};
-ghost use Rattle.journal_model.specs.Request.{Request};
-ghost use Rattle.journal_model.specs.declared.call.Call.{Call};
-ghost use Rattle.journal_model.specs.declared.call.Answer.{Answer};
-ghost use Rattle.journal_model.specs.Run.{Invocation};
-ghost use Rattle.attempt_model.specs.Machine.{Machine};
+ghost use Rattle.vm_calls.specs.Words.{Call, Answer, Request, Invocation, Machine};
 ghost use Rattle.vm_commands.specs.HeaderEquality.{is_unstable};
 ghost use Rattle.vm_calls.specs.Active.{left_of, still_replays, asking, TellsSame, IsAtCommand, IsSettled, TakesCompletion, LacksCompletions, PutsIn};
 ghost use Rattle.vm_calls.specs.Making.{CompletesOne, HasBegun, Makes};

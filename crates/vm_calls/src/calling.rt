@@ -1,11 +1,8 @@
 // A call of another handler, which takes two completions.
 ghost use Rattle.std.specs.Prelude.{◌≡◌, ◌||◌, Bool, Some, None, [], IfOk, IfErr, unwrap_or};
-ghost use Rattle.journal_model.specs.Run.{Invocation, call_record, name_or_empty};
+ghost use Rattle.vm_calls.specs.Words.{Call, Answer, Request, Invocation, Machine};
+ghost use Rattle.journal_model.specs.Run.{call_record, name_or_empty};
 ghost use Rattle.journal_model.specs.Refusal.{refusal_of};
-ghost use Rattle.journal_model.specs.declared.call.Call.{Call};
-ghost use Rattle.journal_model.specs.declared.call.Answer.{Answer};
-ghost use Rattle.attempt_model.specs.Machine.{Machine};
-ghost use Rattle.journal_model.specs.Request.{Request};
 ghost use Rattle.journal_model.specs.Await.{child_of};
 ghost use Rattle.protocol_spellings.specs.Requests.{request_of_call};
 ghost use Rattle.vm_commands.specs.HeaderEquality.{is_unstable};

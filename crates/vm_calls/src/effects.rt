@@ -1,10 +1,6 @@
 // What is left of a call that takes no number once its command is made.
 ghost use Rattle.std.specs.Prelude.{◌≡◌, ◌||◌, Bool, Some};
-ghost use Rattle.journal_model.specs.Request.{Request};
-ghost use Rattle.journal_model.specs.declared.call.Call.{Call};
-ghost use Rattle.journal_model.specs.declared.call.Answer.{Answer};
-ghost use Rattle.journal_model.specs.Run.{Invocation};
-ghost use Rattle.attempt_model.specs.Machine.{Machine};
+ghost use Rattle.vm_calls.specs.Words.{Call, Answer, Request, Invocation, Machine};
 ghost use Rattle.vm_commands.specs.HeaderEquality.{is_unstable};
 ghost use Rattle.vm_calls.specs.Making.{Makes};
 ghost use Rattle.vm_calls.specs.Doing.{DoesOne, HasAsked};

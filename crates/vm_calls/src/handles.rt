@@ -1,9 +1,6 @@
 // The calls that make a handle and put no command.
 ghost use Rattle.std.specs.Prelude.{◌≡◌, Bool, IfOk, IfErr};
-ghost use Rattle.journal_model.specs.declared.call.Call.{Call};
-ghost use Rattle.journal_model.specs.declared.call.Answer.{Answer};
-ghost use Rattle.journal_model.specs.Run.{Invocation};
-ghost use Rattle.attempt_model.specs.Machine.{Machine};
+ghost use Rattle.vm_calls.specs.Words.{Call, Answer, Invocation, Machine};
 ghost use Rattle.vm_calls.specs.Active.{Sees};
 ghost use Rattle.vm_calls.specs.Handles.{LacksHandle, LacksSignal, TakesSignal, MakesHandle};
 ghost use Rattle.vm_calls.specs.declared.call_error.NumberError.TheVariants.{IdsExhausted};

@@ -1,10 +1,7 @@
 // The calls that write and clear the object's state.
 ghost use Rattle.std.specs.Prelude.{◌≡◌, OnOk};
-ghost use Rattle.journal_model.specs.Request.{Request};
-ghost use Rattle.journal_model.specs.declared.call.Call.{Call};
-ghost use Rattle.journal_model.specs.declared.call.Answer.{Answer};
-ghost use Rattle.journal_model.specs.Run.{Invocation, name_or_empty};
-ghost use Rattle.attempt_model.specs.Machine.{Machine};
+ghost use Rattle.vm_calls.specs.Words.{Call, Answer, Request, Invocation, Machine};
+ghost use Rattle.journal_model.specs.Run.{name_or_empty};
 ghost use Rattle.protocol_types.specs.declared.message_type.MessageType.TheVariants.{SetStateCommand, ClearStateCommand, ClearAllStateCommand};
 ghost use Rattle.vm_context.specs.Following.{Follows};
 ghost use Rattle.vm_calls.specs.Active.{Sees, IsAtCommand};

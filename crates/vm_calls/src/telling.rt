@@ -1,10 +1,7 @@
 // The calls that tell something to the outside or to another invocation, and are answered at once.
 ghost use Rattle.std.specs.Prelude.{◌≡◌, [], None};
-ghost use Rattle.journal_model.specs.declared.call.Call.{Call};
-ghost use Rattle.journal_model.specs.declared.call.Answer.{Answer};
+ghost use Rattle.vm_calls.specs.Words.{Call, Answer, Invocation, Machine};
 ghost use Rattle.journal_model.specs.Refusal.{refusal_of};
-ghost use Rattle.journal_model.specs.Run.{Invocation};
-ghost use Rattle.attempt_model.specs.Machine.{Machine};
 ghost use Rattle.protocol_types.specs.declared.message_type.MessageType.TheVariants.{OutputCommand, SendSignalCommand, CompleteAwakeableCommand};
 ghost use Rattle.vm_calls.specs.Active.{Sees, IsAtCommand};
 ghost use Rattle.vm_calls.specs.Making.{Makes};
@@ -102,9 +99,9 @@ impl Active {
         value: NonEmptyValue,
         options: PayloadOptions,
     ) -> Result<(), CallError<CompleteAwakeableCommandMessage>>
+        ensures told { IsAtCommand CompleteAwakeableCommand [] self.old.journal self.new.journal }
         ensures made { (given : Invocation) (m : Machine) → refusal_of given.version (Call.CompleteAwakeable id value options) ≡ None
             → Sees given self.old m → Makes checks_off given m (Call.CompleteAwakeable id value options) (λ done. Answer.Done) self.old result self.new }
-        ensures told { IsAtCommand CompleteAwakeableCommand [] self.old.journal self.new.journal }
     {
         let name = self.ask(MessageType::CompleteAwakeableCommand, ByteStr::new())?;
         let carried = to_awakeable_result(alloc, value)?;

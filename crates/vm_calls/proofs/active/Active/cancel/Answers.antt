@@ -8,8 +8,7 @@ use Rattle.vm_calls.proofs.active.Active.cancel.Goals as goal
 pub returns-clause-made : goal.returns-clause-made
 returns-clause-made c =
     λ given m sees.
-    let copy = c.in_ok-entry_name.entry_name in
     c.put_done.ensures.makes c.args.checks_off given m _ _ c.args.self.now refl
-    (cancel_does given m c.args.target_id copy (c.in_ok-entry_name.ensures.copy ∙ c.new.ensures))
+    (cancel_does given m c.args.target_id c.in_ok-entry_name.entry_name (c.in_ok-entry_name.ensures.copy ∙ c.new.ensures))
     (unchecked c.args.checks_off)
     (asks_to_keep given m c.args.self.now c.ask.new.self sees SendSignalCommand c.new.result c.in_ok-entry_name.ensures.journal _ refl)
