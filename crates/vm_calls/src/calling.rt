@@ -127,11 +127,11 @@ impl Active {
         command: M,
         ignore: bool,
     ) -> Result<CallHandle, CallError<M>>
+        ensures journal { self.new.journal ≡ self.old.journal }
         ensures makes { (checks_off : Bool) (given : Invocation) (m : Machine) (call : Call) (request : Request) (old : Active) → M.request_of command ≡ Some request
             → CompletesTwo given m call request → ignore ≡ (checks_off || is_unstable call)
             → HasBegunTwo given m (handles.invocation_id_notification_handle, handles.call_notification_handle) old self.old
             → Makes checks_off given m call (λ made. Answer.Handles made.invocation_id_notification_handle made.call_notification_handle) old result self.new }
-        ensures journal { self.new.journal ≡ self.old.journal }
     {
         match self.put(alloc, command, ignore) {
             Err(error) => Err(CallError::Put(error)),
