@@ -5,5 +5,7 @@
 #![tactic(auto)]
 
 mod looking;
+mod taking;
 
 pub use looking::is_completed;
+pub use taking::take;
