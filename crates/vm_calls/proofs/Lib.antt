@@ -2,3 +2,4 @@ pub mod Framing
 pub mod Settling
 pub mod Making
 pub mod Calls
+pub mod MoreCalls

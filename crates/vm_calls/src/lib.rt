@@ -6,10 +6,14 @@
 #![tactic(auto)]
 
 mod active;
+mod attaching;
 mod call_error;
+mod payloads;
+mod promises;
 mod put_error;
 mod putting;
 mod sleeping;
+mod targets;
 
 pub use active::Active;
 pub use call_error::{CallError, NumberError};
