@@ -6,3 +6,4 @@ pub mod Handling
 pub mod Pairing
 pub mod Doing
 pub mod DoneCalls
+pub mod MoreCalls

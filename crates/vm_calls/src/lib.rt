@@ -6,14 +6,17 @@
 #![tactic(auto)]
 
 mod active;
+mod attaching;
 mod call_error;
 mod calling;
 mod effects;
 mod handles;
+mod promises;
 mod put_error;
 mod putting;
 mod sleeping;
 mod state_writes;
+mod targets;
 mod telling;
 
 pub use active::Active;

@@ -7,6 +7,7 @@ ghost use Rattle.vm_context.specs.Following.{Follows};
 ghost use Rattle.vm_calls.specs.Active.{Sees, IsAtCommand};
 ghost use Rattle.vm_calls.specs.Making.{Makes};
 
+use crate::calling::or_empty;
 use crate::effects::ignores;
 use crate::{Active, CallError};
 use bytes::{ByteStr, Bytes};
@@ -18,13 +19,6 @@ use protocol_records::Value;
 use protocol_types::MessageType;
 use std::alloc::{AllocError, Global};
 use vm_context::EagerState;
-
-// A name that is not given is recorded as empty.
-fn name_or_empty(name: Option<ByteStr>) -> ByteStr
-    ensures { result ≡ name_or_empty name }
-{
-    name.unwrap_or(ByteStr::new())
-}
 
 // The key has this value from now on.
 fn set_known(state: &mut EagerState, key: &ByteStr, value: &Bytes) -> Result<(), AllocError>
@@ -55,7 +49,7 @@ impl Active {
             → Makes checks_off given m (Call.StateSet key value name options) (λ done. Answer.Done) self.old result self.new }
         ensures told { IsAtCommand SetStateCommand (name_or_empty name) self.old.journal self.new.journal }
     {
-        let name = self.ask(MessageType::SetStateCommand, name_or_empty(name))?;
+        let name = self.ask(MessageType::SetStateCommand, or_empty(name))?;
         set_known(&mut self.state, &key, &value)?;
         let command = SetStateCommandMessage {
             key: key.into_bytes(),
@@ -77,7 +71,7 @@ impl Active {
             → Makes checks_off given m (Call.StateClear key name) (λ done. Answer.Done) self.old result self.new }
         ensures told { IsAtCommand ClearStateCommand (name_or_empty name) self.old.journal self.new.journal }
     {
-        let name = self.ask(MessageType::ClearStateCommand, name_or_empty(name))?;
+        let name = self.ask(MessageType::ClearStateCommand, or_empty(name))?;
         clear_known(&mut self.state, &key)?;
         let command = ClearStateCommandMessage {
             key: key.into_bytes(),
@@ -97,7 +91,7 @@ impl Active {
             → Makes checks_off given m (Call.StateClearAll name) (λ done. Answer.Done) self.old result self.new }
         ensures told { IsAtCommand ClearAllStateCommand (name_or_empty name) self.old.journal self.new.journal }
     {
-        let name = self.ask(MessageType::ClearAllStateCommand, name_or_empty(name))?;
+        let name = self.ask(MessageType::ClearAllStateCommand, or_empty(name))?;
         self.state.clear_all();
         self.put_done(alloc, ClearAllStateCommandMessage { name }, checks_off)
     }

@@ -13,8 +13,8 @@ returns-clause-made c =
     λ given m sees.
     let copy = c.in_ok-name.name in
     c.put_done.ensures.makes c.args.checks_off given m _ _ c.args.self.now refl
-    (clear_does given m c.args.key c.args.name c.into_bytes.result copy c.into_bytes.ensures.value (c.in_ok-name.ensures.copy ∙ c.name_or_empty.ensures))
+    (clear_does given m c.args.key c.args.name c.into_bytes.result copy c.into_bytes.ensures.value (c.in_ok-name.ensures.copy ∙ c.or_empty.ensures))
     (unchecked c.args.checks_off)
-    (asks_to_change given m c.args.self.now c.ask.new.self sees ClearStateCommand c.name_or_empty.result c.in_ok-name.ensures.journal
+    (asks_to_change given m c.args.self.now c.ask.new.self sees ClearStateCommand c.or_empty.result c.in_ok-name.ensures.journal
     (Request.ClearState c.into_bytes.result) copy c.clear_known.new.state
     (subst (λ (key : Bytes). Follows (Request.ClearState key) c.ask.new.self.state c.clear_known.new.state) (sym c.into_bytes.ensures.value) c.in_ok-clear_known.ensures))

@@ -11,7 +11,7 @@ returns-clause-made c =
     λ given m sees.
     let copy = c.in_ok-name.name in
     c.put_done.ensures.makes c.args.checks_off given m _ _ c.args.self.now refl
-    (clear_all_does given m c.args.name copy (c.in_ok-name.ensures.copy ∙ c.name_or_empty.ensures))
+    (clear_all_does given m c.args.name copy (c.in_ok-name.ensures.copy ∙ c.or_empty.ensures))
     (unchecked c.args.checks_off)
-    (asks_to_change given m c.args.self.now c.ask.new.self sees ClearAllStateCommand c.name_or_empty.result c.in_ok-name.ensures.journal
+    (asks_to_change given m c.args.self.now c.ask.new.self sees ClearAllStateCommand c.or_empty.result c.in_ok-name.ensures.journal
     Request.ClearAllState copy c.clear_all.new.self c.clear_all.ensures.knows)

@@ -12,8 +12,8 @@ returns-clause-made c =
     λ given m sees.
     let copy = c.in_ok-name.name in
     c.put_done.ensures.makes c.args.checks_off given m _ _ c.args.self.now refl
-    (set_does given m c.args.key c.args.value c.args.name c.args.options c.into_bytes.result copy c.into_bytes.ensures.value (c.in_ok-name.ensures.copy ∙ c.name_or_empty.ensures))
+    (set_does given m c.args.key c.args.value c.args.name c.args.options c.into_bytes.result copy c.into_bytes.ensures.value (c.in_ok-name.ensures.copy ∙ c.or_empty.ensures))
     c.ignores.ensures
-    (asks_to_change given m c.args.self.now c.ask.new.self sees SetStateCommand c.name_or_empty.result c.in_ok-name.ensures.journal
+    (asks_to_change given m c.args.self.now c.ask.new.self sees SetStateCommand c.or_empty.result c.in_ok-name.ensures.journal
     (Request.SetState c.into_bytes.result c.args.value) copy c.set_known.new.state
     (subst (λ (key : Bytes). Follows (Request.SetState key c.args.value) c.ask.new.self.state c.set_known.new.state) (sym c.into_bytes.ensures.value) c.in_ok-set_known.ensures))

@@ -1,0 +1,13 @@
+use Rattle.std.proofs.Common.{◌∙◌}
+use Rattle.protocol_types.specs.declared.message_type.MessageType.TheVariants.{CompletePromiseCommand}
+use Rattle.vm_calls.proofs.MoreCalls.{promise_completes}
+use Rattle.vm_calls.proofs.active.Active.complete_promise.Goals as goal
+
+pub returns-clause-made : goal.returns-clause-made
+returns-clause-made c =
+    λ given m refused sees.
+    let id = c.in_ok-name.ensures.taken.id ∙ sees.completions in
+    c.put_completable.ensures.makes c.args.checks_off given m _ _ c.args.self.now c.in_ok-command.ensures
+    (promise_completes given m c.args.key c.args.value c.args.options c.in_ok-name.name c.in_ok-name.id refused (c.in_ok-name.ensures.name ∙ c.new.ensures) id)
+    c.ignores-ignoring.ensures
+    (record { sees = sees; ty = CompletePromiseCommand; name = c.new.result; id = c.in_ok-name.id; takes = c.in_ok-name.ensures.taken })
