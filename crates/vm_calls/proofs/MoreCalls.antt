@@ -23,40 +23,16 @@ use Rattle.vm_calls.specs.Making.{CompletesOne}
 
 pub get_completes : (given : Invocation) (m : Machine) (key : Text) (copy : Text) (id : ℕ) → copy ≡ [] → id ≡ m.completions
     → CompletesOne given m (Call.GetPromise key) (Request.GetPromise key id copy)
-get_completes given m key copy id copied taken = record {
-  asks = record { refused = refl; work = refl; requests = λ i. Request.GetPromise key (sym taken i) (sym copied i) ∷ []; children = brings_none (Call.GetPromise key) m.completions refl refl refl refl refl given.options.implicit_cancellation };
-  completions = refl;
-  signals = refl;
-  ids = refl;
-  known = refl;
-  keeps = refl;
-  answer = λ text handle signal. refl;
-}
+get_completes given m key copy id copied taken = record { asks = record { refused = refl; work = refl; requests = λ i. Request.GetPromise key (sym taken i) (sym copied i) ∷ []; children = brings_none (Call.GetPromise key) m.completions refl refl refl refl refl given.options.implicit_cancellation }; completions = refl; signals = refl; ids = refl; known = refl; keeps = refl; answer = λ text handle signal. refl }
 
 pub peek_completes : (given : Invocation) (m : Machine) (key : Text) (copy : Text) (id : ℕ) → copy ≡ [] → id ≡ m.completions
     → CompletesOne given m (Call.PeekPromise key) (Request.PeekPromise key id copy)
-peek_completes given m key copy id copied taken = record {
-  asks = record { refused = refl; work = refl; requests = λ i. Request.PeekPromise key (sym taken i) (sym copied i) ∷ []; children = brings_none (Call.PeekPromise key) m.completions refl refl refl refl refl given.options.implicit_cancellation };
-  completions = refl;
-  signals = refl;
-  ids = refl;
-  known = refl;
-  keeps = refl;
-  answer = λ text handle signal. refl;
-}
+peek_completes given m key copy id copied taken = record { asks = record { refused = refl; work = refl; requests = λ i. Request.PeekPromise key (sym taken i) (sym copied i) ∷ []; children = brings_none (Call.PeekPromise key) m.completions refl refl refl refl refl given.options.implicit_cancellation }; completions = refl; signals = refl; ids = refl; known = refl; keeps = refl; answer = λ text handle signal. refl }
 
 pub promise_completes : (given : Invocation) (m : Machine) (key : Text) (value : NonEmptyValue) (options : PayloadOptions) (copy : Text) (id : ℕ)
     → refusal_of given.version (Call.CompletePromise key value options) ≡ None → copy ≡ [] → id ≡ m.completions
     → CompletesOne given m (Call.CompletePromise key value options) (Request.CompletePromise key value id copy)
-promise_completes given m key value options copy id refused copied taken = record {
-  asks = record { refused = refused; work = refl; requests = λ i. Request.CompletePromise key value (sym taken i) (sym copied i) ∷ []; children = brings_none (Call.CompletePromise key value options) m.completions refl refl refl refl refl given.options.implicit_cancellation };
-  completions = refl;
-  signals = refl;
-  ids = refl;
-  known = refl;
-  keeps = refl;
-  answer = λ text handle signal. refl;
-}
+promise_completes given m key value options copy id refused copied taken = record { asks = record { refused = refused; work = refl; requests = λ i. Request.CompletePromise key value (sym taken i) (sym copied i) ∷ []; children = brings_none (Call.CompletePromise key value options) m.completions refl refl refl refl refl given.options.implicit_cancellation }; completions = refl; signals = refl; ids = refl; known = refl; keeps = refl; answer = λ text handle signal. refl }
 
 completion_is : (value : NonEmptyValue) → completion_record value ≡ promise_completion value
 completion_is (NonEmptyValue.Success bytes) = refl
@@ -73,15 +49,7 @@ promise_told key value held id name is =
 
 pub attach_completes : (given : Invocation) (m : Machine) (target : AttachInvocationTarget) (copy : Text) (id : ℕ)
     → refusal_of given.version (Call.Attach target) ≡ None → copy ≡ [] → id ≡ m.completions → CompletesOne given m (Call.Attach target) (Request.AttachInvocation target id copy)
-attach_completes given m target copy id refused copied taken = record {
-  asks = record { refused = refused; work = refl; requests = λ i. Request.AttachInvocation target (sym taken i) (sym copied i) ∷ []; children = brings_none (Call.Attach target) m.completions refl refl refl refl refl given.options.implicit_cancellation };
-  completions = refl;
-  signals = refl;
-  ids = refl;
-  known = refl;
-  keeps = refl;
-  answer = λ text handle signal. refl;
-}
+attach_completes given m target copy id refused copied taken = record { asks = record { refused = refused; work = refl; requests = λ i. Request.AttachInvocation target (sym taken i) (sym copied i) ∷ []; children = brings_none (Call.Attach target) m.completions refl refl refl refl refl given.options.implicit_cancellation }; completions = refl; signals = refl; ids = refl; known = refl; keeps = refl; answer = λ text handle signal. refl }
 
 -- the command that holds its target's record is its request's
 pub attach_told : (target : AttachInvocationTarget) (held : InvocationTarget) (id : ℕ) (name : Text) → held ≡ target_record target
@@ -90,21 +58,13 @@ attach_told target held id name is =
     ap (λ (one : InvocationTarget). request_told (CommandRecord.AttachInvocation (record { target = Some one; result_completion_id = id; name = name }))) is
     ∙ requests_told (Request.AttachInvocation target id name)
 
-pub get_output_completes : (given : Invocation) (m : Machine) (target : AttachInvocationTarget) (copy : Text) (id : ℕ)
-    → refusal_of given.version (Call.GetOutput target) ≡ None → copy ≡ [] → id ≡ m.completions → CompletesOne given m (Call.GetOutput target) (Request.GetInvocationOutput target id copy)
-get_output_completes given m target copy id refused copied taken = record {
-  asks = record { refused = refused; work = refl; requests = λ i. Request.GetInvocationOutput target (sym taken i) (sym copied i) ∷ []; children = brings_none (Call.GetOutput target) m.completions refl refl refl refl refl given.options.implicit_cancellation };
-  completions = refl;
-  signals = refl;
-  ids = refl;
-  known = refl;
-  keeps = refl;
-  answer = λ text handle signal. refl;
-}
-
--- the command that holds its target's record is its request's
 pub get_output_told : (target : AttachInvocationTarget) (held : InvocationTarget) (id : ℕ) (name : Text) → held ≡ target_record target
     → request_told (CommandRecord.GetInvocationOutput (record { target = Some held; result_completion_id = id; name = name })) ≡ Some (Request.GetInvocationOutput target id name)
 get_output_told target held id name is =
-    ap (λ (one : InvocationTarget). request_told (CommandRecord.GetInvocationOutput (record { target = Some one; result_completion_id = id; name = name }))) is
-    ∙ requests_told (Request.GetInvocationOutput target id name)
+    let spelled : request_told (CommandRecord.GetInvocationOutput (record { target = Some (target_record target); result_completion_id = id; name = name })) ≡ Some (Request.GetInvocationOutput target id name) =
+    requests_told (Request.GetInvocationOutput target id name) in
+    (λ i. request_told (CommandRecord.GetInvocationOutput (record { target = Some (is i); result_completion_id = id; name = name }))) ∙ spelled
+
+pub get_output_completes : (given : Invocation) (m : Machine) (target : AttachInvocationTarget) (copy : Text) (id : ℕ)
+    → refusal_of given.version (Call.GetOutput target) ≡ None → copy ≡ [] → id ≡ m.completions → CompletesOne given m (Call.GetOutput target) (Request.GetInvocationOutput target id copy)
+get_output_completes given m target copy id refused copied taken = record { asks = record { refused = refused; work = refl; requests = λ i. Request.GetInvocationOutput target (sym taken i) (sym copied i) ∷ []; children = brings_none (Call.GetOutput target) m.completions refl refl refl refl refl given.options.implicit_cancellation }; completions = refl; signals = refl; ids = refl; known = refl; keeps = refl; answer = λ text handle signal. refl }

@@ -1,10 +1,10 @@
 // The calls that are about the answer of another invocation.
 ghost use Rattle.std.specs.Prelude.{◌≡◌, [], None};
+ghost use Rattle.vm_calls.specs.Making.{Makes};
 ghost use Rattle.vm_calls.specs.Words.{Call, Answer, Invocation, Machine};
 ghost use Rattle.journal_model.specs.Refusal.{refusal_of};
 ghost use Rattle.protocol_types.specs.declared.message_type.MessageType.TheVariants.{AttachInvocationCommand, GetInvocationOutputCommand};
 ghost use Rattle.vm_calls.specs.Active.{Sees, IsAtCommand};
-ghost use Rattle.vm_calls.specs.Making.{Makes};
 
 use crate::targets::to_invocation_target;
 use crate::{Active, CallError};
@@ -46,15 +46,15 @@ impl Active {
         checks_off: bool,
         target: AttachInvocationTarget,
     ) -> Result<NotificationHandle, CallError<GetInvocationOutputCommandMessage>>
+        ensures told { IsAtCommand GetInvocationOutputCommand [] self.old.journal self.new.journal }
         ensures made { (given : Invocation) (m : Machine) → refusal_of given.version (Call.GetOutput target) ≡ None → Sees given self.old m
             → Makes checks_off given m (Call.GetOutput target) (λ handle. Answer.Handle handle) self.old result self.new }
-        ensures told { IsAtCommand GetInvocationOutputCommand [] self.old.journal self.new.journal }
     {
-        let target = to_invocation_target(target);
         let (name, result_completion_id, handle) = self.begin(
             MessageType::GetInvocationOutputCommand,
             ByteStr::new(),
         )?;
+        let target = to_invocation_target(target);
         let command = GetInvocationOutputCommandMessage {
             target: Some(target),
             result_completion_id,

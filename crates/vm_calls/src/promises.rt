@@ -1,11 +1,11 @@
 // The calls that are about a promise.
 ghost use Rattle.std.specs.Prelude.{◌≡◌, [], Some, None, IfOk};
+ghost use Rattle.vm_calls.specs.Making.{Makes};
 ghost use Rattle.vm_calls.specs.Words.{Call, Answer, Request, Invocation, Machine};
 ghost use Rattle.journal_model.specs.Refusal.{refusal_of};
 ghost use Rattle.protocol_types.specs.declared.message_type.MessageType.TheVariants.{GetPromiseCommand, PeekPromiseCommand, CompletePromiseCommand};
 ghost use Rattle.protocol_spellings.specs.Requests.{request_of_complete_promise};
 ghost use Rattle.vm_calls.specs.Active.{Sees, IsAtCommand};
-ghost use Rattle.vm_calls.specs.Making.{Makes};
 
 use crate::effects::ignores;
 use crate::{Active, CallError};
@@ -68,18 +68,18 @@ impl Active {
         checks_off: bool,
         key: ByteStr,
     ) -> Result<NotificationHandle, CallError<PeekPromiseCommandMessage>>
+        ensures told { IsAtCommand PeekPromiseCommand [] self.old.journal self.new.journal }
         ensures made { (given : Invocation) (m : Machine) → Sees given self.old m
             → Makes checks_off given m (Call.PeekPromise key) (λ handle. Answer.Handle handle) self.old result self.new }
-        ensures told { IsAtCommand PeekPromiseCommand [] self.old.journal self.new.journal }
     {
         let (name, result_completion_id, handle) = self.begin(
             MessageType::PeekPromiseCommand,
             ByteStr::new(),
         )?;
         let command = PeekPromiseCommandMessage {
-            key,
-            result_completion_id,
             name,
+            result_completion_id,
+            key,
         };
         self.put_completable(alloc, command, checks_off, handle)
     }

@@ -7,9 +7,8 @@ use Rattle.vm_calls.proofs.active.Active.get_output.Goals as goal
 pub returns-clause-made : goal.returns-clause-made
 returns-clause-made c =
     λ given m refused sees.
-    let id = c.in_ok-name.ensures.taken.id ∙ sees.completions in
     c.put_completable.ensures.makes c.args.checks_off given m _ _ c.args.self.now
     (get_output_told c.args.target _ c.in_ok-name.result_completion_id c.in_ok-name.name c.to_invocation_target-target.ensures)
-    (get_output_completes given m c.args.target c.in_ok-name.name c.in_ok-name.result_completion_id refused (c.in_ok-name.ensures.name ∙ c.new.ensures) id)
+    (get_output_completes given m c.args.target c.in_ok-name.name c.in_ok-name.result_completion_id refused (c.in_ok-name.ensures.name ∙ c.new.ensures) (c.in_ok-name.ensures.taken.id ∙ sees.completions))
     (unchecked c.args.checks_off)
     (record { sees = sees; ty = GetInvocationOutputCommand; name = c.new.result; id = c.in_ok-name.result_completion_id; takes = c.in_ok-name.ensures.taken })

@@ -7,8 +7,7 @@ use Rattle.vm_calls.proofs.active.Active.peek_promise.Goals as goal
 pub returns-clause-made : goal.returns-clause-made
 returns-clause-made c =
     λ given m sees.
-    let id = c.in_ok-name.ensures.taken.id ∙ sees.completions in
     c.put_completable.ensures.makes c.args.checks_off given m _ _ c.args.self.now refl
-    (peek_completes given m c.args.key c.in_ok-name.name c.in_ok-name.result_completion_id (c.in_ok-name.ensures.name ∙ c.new.ensures) id)
+    (peek_completes given m c.args.key c.in_ok-name.name c.in_ok-name.result_completion_id (c.in_ok-name.ensures.name ∙ c.new.ensures) (c.in_ok-name.ensures.taken.id ∙ sees.completions))
     (unchecked c.args.checks_off)
     (record { sees = sees; ty = PeekPromiseCommand; name = c.new.result; id = c.in_ok-name.result_completion_id; takes = c.in_ok-name.ensures.taken })
