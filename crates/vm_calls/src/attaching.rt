@@ -46,9 +46,10 @@ impl Active {
         checks_off: bool,
         target: AttachInvocationTarget,
     ) -> Result<NotificationHandle, CallError<GetInvocationOutputCommandMessage>>
-        ensures told { IsAtCommand GetInvocationOutputCommand [] self.old.journal self.new.journal }
-        ensures made { (given : Invocation) (m : Machine) → refusal_of given.version (Call.GetOutput target) ≡ None → Sees given self.old m
+        ensures made { (given : Invocation) (m : Machine) → refusal_of given.version (Call.GetOutput target) ≡ None
+            → Sees given self.old m
             → Makes checks_off given m (Call.GetOutput target) (λ handle. Answer.Handle handle) self.old result self.new }
+        ensures told { IsAtCommand GetInvocationOutputCommand [] self.old.journal self.new.journal }
     {
         let (name, result_completion_id, handle) = self.begin(
             MessageType::GetInvocationOutputCommand,

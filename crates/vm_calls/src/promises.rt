@@ -49,13 +49,10 @@ impl Active {
             → Makes checks_off given m (Call.GetPromise key) (λ handle. Answer.Handle handle) self.old result self.new }
         ensures told { IsAtCommand GetPromiseCommand [] self.old.journal self.new.journal }
     {
-        let (name, result_completion_id, handle) = self.begin(
-            MessageType::GetPromiseCommand,
-            ByteStr::new(),
-        )?;
+        let (name, id, handle) = self.begin(MessageType::GetPromiseCommand, ByteStr::new())?;
         let command = GetPromiseCommandMessage {
             key,
-            result_completion_id,
+            result_completion_id: id,
             name,
         };
         self.put_completable(alloc, command, checks_off, handle)
@@ -76,12 +73,16 @@ impl Active {
             MessageType::PeekPromiseCommand,
             ByteStr::new(),
         )?;
-        let command = PeekPromiseCommandMessage {
-            name,
-            result_completion_id,
-            key,
-        };
-        self.put_completable(alloc, command, checks_off, handle)
+        self.put_completable(
+            alloc,
+            PeekPromiseCommandMessage {
+                key,
+                result_completion_id,
+                name,
+            },
+            checks_off,
+            handle,
+        )
     }
 
     /// Completes a promise: the handle's notification says whether it was completed before.

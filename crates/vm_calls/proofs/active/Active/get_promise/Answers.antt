@@ -9,6 +9,6 @@ returns-clause-made c =
     λ given m sees.
     let id = c.in_ok-name.ensures.taken.id ∙ sees.completions in
     c.put_completable.ensures.makes c.args.checks_off given m _ _ c.args.self.now refl
-    (get_completes given m c.args.key c.in_ok-name.name c.in_ok-name.result_completion_id (c.in_ok-name.ensures.name ∙ c.new.ensures) id)
+    (get_completes given m c.args.key c.in_ok-name.name c.in_ok-name.id (c.in_ok-name.ensures.name ∙ c.new.ensures) id)
     (unchecked c.args.checks_off)
-    (record { sees = sees; ty = GetPromiseCommand; name = c.new.result; id = c.in_ok-name.result_completion_id; takes = c.in_ok-name.ensures.taken })
+    (record { sees = sees; ty = GetPromiseCommand; name = c.new.result; id = c.in_ok-name.id; takes = c.in_ok-name.ensures.taken })
