@@ -1,5 +1,5 @@
 -- What each call that takes one completion asks for.
-use Rattle.std.proofs.Common.{◌≡◌, ◌+◌, ◌∷◌, ◌∙◌, ℕ, suc, Bool, true, false, ◌||◌, List, [], map, Option, Some, None, Result, Ok, Err, refl, subst, sym, ap, arith}
+use Rattle.std.proofs.Common.{◌≡◌, ◌+◌, ◌∷◌, ◌∙◌, ℕ, suc, Bool, true, false, ◌||◌, List, [], map, Option, None, Result, Err, refl, subst, sym, ap, arith}
 use Rattle.journal_model.specs.declared.options.ImplicitCancellationOption.{ImplicitCancellationOption}
 use Rattle.journal_model.specs.declared.options.ImplicitCancellationOption.TheVariants.{Disabled, Enabled}
 use Rattle.journal_model.specs.declared.notification.NotificationId.TheVariants.{CompletionId}

@@ -1,5 +1,5 @@
 -- A call that takes no number, puts one request and is answered at once does what the abstract machine does.
-use Rattle.std.proofs.Common.{◌≡◌, ◌∷◌, ◌++◌, append-nil, ℕ, Bool, false, ◌||◌, List, [], map, Some, Err, sym, ap, ◌∙◌, subst}
+use Rattle.std.proofs.Common.{◌≡◌, ◌++◌, append-nil, Bool, false, ◌||◌, List, map, Some, Err, sym, ap, ◌∙◌, subst}
 use Rattle.journal_model.specs.declared.notification.NotificationId.{NotificationId}
 use Rattle.journal_model.specs.Notification.{Text}
 use Rattle.journal_model.specs.declared.call.Call.{Call}

@@ -1,27 +1,25 @@
 -- A call that makes a handle and puts no request does what the abstract machine does.
-use Rattle.std.proofs.Common.{◌≡◌, ◌+◌, ◌∷◌, ◌++◌, ℕ, Bool, true, false, List, [], append-nil, length, map, Option, Some, None, refl, sym, ap, ◌∙◌, subst, arith}
+use Rattle.std.proofs.Common.{◌≡◌, ◌+◌, ◌++◌, ℕ, Bool, List, [], append-nil, length, map, Option, Some, refl, sym, ap, ◌∙◌, subst, arith}
 use Rattle.journal_model.specs.declared.notification.NotificationId.{NotificationId}
 use Rattle.journal_model.specs.declared.notification.NotificationId.TheVariants.{SignalId, SignalName}
 use Rattle.journal_model.specs.Notification.{Text}
 use Rattle.journal_model.specs.declared.call.Call.{Call}
 use Rattle.journal_model.specs.declared.call.Answer.{Answer}
-use Rattle.journal_model.specs.Awakeable.{awakeable_id}
 use Rattle.journal_model.specs.Refusal.{Refusal}
 use Rattle.journal_model.specs.Request.{Request}
 use Rattle.journal_model.specs.History.{completions_of, signals_of, ids_of}
 use Rattle.journal_model.specs.Await.{child_of}
 use Rattle.journal_model.specs.Run.{Invocation}
 use Rattle.attempt_model.specs.Children.{Child, new_child}
-use Rattle.attempt_model.specs.Requests.{put_all, requests_by, answer_by}
+use Rattle.attempt_model.specs.Requests.{put_all, answer_by}
 use Rattle.attempt_model.specs.Machine.{Machine, Answered, Work, next_slot, reply_to, reply_to_make, reply_to_work, reply_unless_refused}
 use Rattle.vm_awaits.specs.Views.{AsyncResults, results_of, slots_of}
 use Rattle.vm_awaits.specs.Calls.{with_handle}
 use Rattle.vm_context.specs.Eager.{KnownState}
 use Rattle.vm_context.specs.Following.{KnowsState}
-use Rattle.vm_context.specs.Output.{Written}
 use Rattle.vm_commands.specs.HeaderEquality.{same_header}
 use Rattle.vm_calls.specs.declared.active.Active.{Active}
-use Rattle.vm_calls.specs.Active.{Sees, left_of, writes_frames}
+use Rattle.vm_calls.specs.Active.{Sees, left_of}
 use Rattle.vm_calls.specs.Making.{Replies}
 use Rattle.vm_calls.specs.Handles.{HandlesOne}
 use Rattle.vm_calls.proofs.Calls.{brings_none}

@@ -1,8 +1,8 @@
 -- A call that takes one completion id and puts one request does what the abstract machine does.
-use Rattle.std.proofs.Common.{◌≡◌, ◌+◌, ◌∷◌, ◌++◌, ℕ, Bool, false, ◌||◌, List, [], length, map, Option, Some, None, option_and_then, Result, Ok, Err, refl, sym, ap, ◌∙◌, subst, arith}
+use Rattle.std.proofs.Common.{◌≡◌, ◌+◌, ◌∷◌, ◌++◌, ℕ, Bool, false, ◌||◌, List, [], length, map, Option, Some, None, option_and_then, Err, refl, sym, ap, ◌∙◌, subst, arith}
 use Rattle.journal_model.specs.declared.notification.NotificationId.{NotificationId}
 use Rattle.journal_model.specs.declared.notification.NotificationId.TheVariants.{CompletionId}
-use Rattle.journal_model.specs.Notification.{Arrival, Text}
+use Rattle.journal_model.specs.Notification.{Text}
 use Rattle.journal_model.specs.declared.call.Call.{Call}
 use Rattle.journal_model.specs.declared.call.Answer.{Answer}
 use Rattle.journal_model.specs.Refusal.{Refusal, refusal_of}
@@ -14,10 +14,10 @@ use Rattle.journal_model.specs.Run.{Invocation}
 use Rattle.attempt_model.specs.Children.{Child, new_child}
 use Rattle.attempt_model.specs.Requests.{Commands, PutState, put_one, put_all, requests_by, answer_by}
 use Rattle.attempt_model.specs.Results.{ready_after_all}
-use Rattle.attempt_model.specs.Machine.{Machine, Reply, Answered, FailedBy, Mismatch, Work, ToMake, work_of, next_slot, reply_to, reply_to_make, reply_to_work, reply_unless_refused}
+use Rattle.attempt_model.specs.Machine.{Machine, Answered, FailedBy, Mismatch, Work, ToMake, work_of, next_slot, reply_to, reply_to_make, reply_to_work, reply_unless_refused}
 use Rattle.protocol_types.specs.declared.message_type.MessageType.{MessageType}
 use Rattle.protocol_stream.specs.declared.encoder.EncodingError.TheVariants as unsent
-use Rattle.vm_awaits.specs.Views.{AsyncResults, results_of, slots_of}
+use Rattle.vm_awaits.specs.Views.{AsyncResults, results_of}
 use Rattle.vm_awaits.specs.Calls.{with_handle}
 use Rattle.vm_context.specs.Eager.{KnownState}
 use Rattle.vm_context.specs.Journal.{after_command, after_completions}
@@ -30,7 +30,7 @@ use Rattle.vm_calls.specs.declared.active.Active.{Active}
 use Rattle.vm_calls.specs.declared.put_error.PutError.{PutError}
 use Rattle.vm_calls.specs.declared.put_error.PutError.TheVariants.{Replay, Encoding}
 use Rattle.vm_calls.specs.declared.call_error.CallError.TheVariants.{Put}
-use Rattle.vm_calls.specs.Active.{Sees, IsSettled, left_of, has_left, asking, writes_frames, TakesCompletion, PutsOne, PutsIn}
+use Rattle.vm_calls.specs.Active.{Sees, IsSettled, left_of, has_left, writes_frames, PutsOne, PutsIn}
 use Rattle.vm_calls.specs.Making.{Replies, FailsAs, AsksOne, IsReady, CompletesOne, HasBegun}
 
 -- ---- the abstract machine, where one request is put

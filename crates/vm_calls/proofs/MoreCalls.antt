@@ -1,5 +1,5 @@
 -- What the calls about promises and other invocations ask for.
-use Rattle.std.proofs.Common.{◌≡◌, ◌∷◌, ℕ, Bool, true, false, List, [], Some, None, refl, sym, ap, ◌∙◌}
+use Rattle.std.proofs.Common.{◌≡◌, ◌∷◌, ℕ, [], Some, None, refl, sym, ap, ◌∙◌}
 use Rattle.journal_model.specs.declared.call.Call.{Call}
 use Rattle.journal_model.specs.declared.call.AttachInvocationTarget.{AttachInvocationTarget}
 use Rattle.journal_model.specs.declared.call.PayloadOptions.{PayloadOptions}

@@ -1,27 +1,21 @@
 -- A call that takes two completion ids and puts one request does what the abstract machine does.
-use Rattle.std.proofs.Common.{◌≡◌, ◌+◌, ◌∷◌, ◌++◌, ℕ, suc, Bool, ◌||◌, List, [], append_assoc, length, map, Option, Some, None, Result, Ok, Err, refl, sym, ap, ◌∙◌, subst, arith}
+use Rattle.std.proofs.Common.{◌≡◌, ◌+◌, ◌∷◌, ◌++◌, ℕ, suc, Bool, ◌||◌, [], append_assoc, length, Option, Some, Err, refl, sym, ap, ◌∙◌, arith}
 use Rattle.journal_model.specs.declared.notification.NotificationId.{NotificationId}
 use Rattle.journal_model.specs.declared.notification.NotificationId.TheVariants.{CompletionId}
 use Rattle.journal_model.specs.declared.call.Call.{Call}
 use Rattle.journal_model.specs.declared.call.Answer.{Answer}
 use Rattle.journal_model.specs.Request.{Request}
-use Rattle.journal_model.specs.History.{completions_of, signals_of, ids_of}
-use Rattle.journal_model.specs.Delivery.{known_result}
 use Rattle.journal_model.specs.Run.{Invocation}
 use Rattle.attempt_model.specs.Requests.{answer_by}
-use Rattle.attempt_model.specs.Results.{Slots, ready_after_all}
+use Rattle.attempt_model.specs.Results.{Slots}
 use Rattle.attempt_model.specs.Machine.{Machine, next_slot}
-use Rattle.vm_awaits.specs.Views.{AsyncResults, results_of, slots_of}
+use Rattle.vm_awaits.specs.Views.{AsyncResults, results_of}
 use Rattle.vm_awaits.specs.Calls.{with_handle}
-use Rattle.vm_context.specs.Journal.{JournalCounts}
-use Rattle.vm_context.specs.Eager.{KnownState}
-use Rattle.vm_context.specs.Following.{KnowsState}
-use Rattle.vm_context.proofs.Keeping.{others_keep}
 use Rattle.vm_commands.specs.HeaderEquality.{is_unstable}
 use Rattle.vm_calls.specs.declared.active.Active.{Active}
 use Rattle.vm_calls.specs.declared.put_error.PutError.{PutError}
 use Rattle.vm_calls.specs.declared.call_error.CallError.TheVariants.{Put}
-use Rattle.vm_calls.specs.Active.{Sees, IsSettled, left_of, PutsOne, PutsIn}
+use Rattle.vm_calls.specs.Active.{IsSettled, PutsOne, PutsIn}
 use Rattle.vm_calls.specs.Making.{Replies, FailsAs, IsReady, CompletesTwo, HasBegunTwo}
 use Rattle.vm_calls.proofs.Making.{is_ready, put_answers, put_fails_as}
 

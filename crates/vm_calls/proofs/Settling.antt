@@ -1,9 +1,9 @@
 -- A command that was put leaves an attempt settled.
-use Rattle.std.proofs.Common.{◌≡◌, ◌≤◌, ◌^◌, Bool, true, false, ℕ, if◌then◌else◌, inl, inr, List, [], ◌∷◌, ◌++◌, append-nil, length, Option, Some, None, Result, Ok, Err, refl, sym, ap, ◌∙◌, subst}
+use Rattle.std.proofs.Common.{◌≡◌, Bool, true, false, ℕ, if◌then◌else◌, inl, inr, List, [], ◌∷◌, ◌++◌, append-nil, Ok, Err, refl, sym, ap, ◌∙◌, subst}
 use Rattle.std.proofs.lemmas.Bool.{cases_Bool}
 use Rattle.journal_model.specs.Request.{Request}
-use Rattle.journal_model.specs.Spelling.{request_frame, request_payload}
-use Rattle.attempt_model.specs.Requests.{Commands, PutState, put_one}
+use Rattle.journal_model.specs.Spelling.{request_frame}
+use Rattle.attempt_model.specs.Requests.{Commands, put_one}
 use Rattle.protocol_stream.specs.declared.decoder.RawMessage.{RawMessage}
 use Rattle.protocol_stream.specs.declared.encoder.EncodingError.TheVariants as unsent
 use Rattle.vm_context.specs.Output.{Written, with_frame}
@@ -14,7 +14,7 @@ use Rattle.vm_calls.specs.declared.active.Active.{Active}
 use Rattle.vm_calls.specs.declared.put_error.PutError.{PutError}
 use Rattle.vm_calls.specs.declared.put_error.PutError.TheVariants.{Replay, Encoding}
 use Rattle.vm_calls.specs.Putting.{Puts}
-use Rattle.vm_calls.specs.Active.{has_left, left_of, still_replays, writes_frames, IsSettled, PutsOne, PutFails}
+use Rattle.vm_calls.specs.Active.{has_left, left_of, still_replays, IsSettled, PutsOne, PutFails}
 
 while_left : (messages : List RawMessage) → still_replays true messages ≡ has_left (commands_of messages)
 while_left [] = refl

@@ -1,5 +1,5 @@
 -- When what an attempt keeps is what the abstract machine keeps, and what each step of a call does to it.
-use Rattle.std.specs.Prelude.{◌≡◌, ◌≤◌, ◌<◌, ◌+◌, ◌^◌, ◌⊎◌, ℕ, suc, Bool, true, false, List, [], ◌∷◌, ◌++◌, length, Option, Some, None, Result, Ok, Err}
+use Rattle.std.specs.Prelude.{◌≡◌, ◌≤◌, ◌<◌, ◌+◌, ◌^◌, ◌⊎◌, ℕ, suc, Bool, true, false, List, [], ◌∷◌, ◌++◌, length, Some, None, Result, Ok, Err}
 use Rattle.std.specs.List.{flat_map}
 use Rattle.journal_model.specs.declared.notification.NotificationId.TheVariants.{CompletionId}
 use Rattle.journal_model.specs.Notification.{Text}
@@ -11,7 +11,7 @@ use Rattle.attempt_model.specs.Machine.{Machine}
 use Rattle.protocol_types.specs.declared.message_type.MessageType.{MessageType}
 use Rattle.protocol_stream.specs.declared.decoder.RawMessage.{RawMessage}
 use Rattle.protocol_stream.specs.declared.encoder.EncodingError.TheVariants as unsent
-use Rattle.vm_awaits.specs.Views.{AsyncResults, results_of, slots_of}
+use Rattle.vm_awaits.specs.Views.{results_of, slots_of}
 use Rattle.vm_awaits.specs.Calls.{with_handle}
 use Rattle.vm_context.specs.Journal.{JournalCounts, after_command, after_completions}
 use Rattle.vm_context.specs.Following.{KnowsState}

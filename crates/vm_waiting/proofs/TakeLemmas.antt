@@ -11,7 +11,7 @@ use Rattle.journal_model.specs.declared.call.Answer.{Answer}
 use Rattle.journal_model.specs.Value.{as_taken}
 use Rattle.journal_model.specs.Run.{Invocation}
 use Rattle.attempt_model.specs.Children.{Child, child_with_value, may_take}
-use Rattle.attempt_model.specs.Results.{Ready, Slots, slot_of, waiting_for, ready_without_first, slots_without, are_keys_text}
+use Rattle.attempt_model.specs.Results.{slot_of, waiting_for, ready_without_first, slots_without, are_keys_text}
 use Rattle.attempt_model.specs.Machine.{Machine, Answered, reply_to_take, reply_where_taken}
 use Rattle.protocol_messages.specs.declared.taken.TakeError.{TakeError}
 use Rattle.protocol_messages.specs.declared.taken.TakeError.TheVariants.{KeyNotText, OutOfMemory}

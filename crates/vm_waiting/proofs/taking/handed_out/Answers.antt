@@ -1,4 +1,4 @@
-use Rattle.std.proofs.Common.{sym, subst, ◌∙◌, Option, Some, Result, Err}
+use Rattle.std.proofs.Common.{sym, subst, Option, Err}
 use Rattle.journal_model.specs.declared.notification.NotificationResult.{NotificationResult}
 use Rattle.vm_waiting.specs.Waiting.{IsTaken}
 use Rattle.vm_waiting.proofs.TakeLemmas.{not_taken}

@@ -1,8 +1,7 @@
-use Rattle.std.proofs.Common.{◌≡◌, refl, sym, ap, subst, ◌∙◌, Option}
+use Rattle.std.proofs.Common.{refl, ap, ◌∙◌, Option}
 use Rattle.journal_model.specs.declared.notification.NotificationResult.{NotificationResult}
 use Rattle.vm_awaits.specs.Views.{results_of}
 use Rattle.vm_awaits.specs.Calls.{after_take}
-use Rattle.vm_waiting.specs.Waiting.{IsTaken}
 use Rattle.vm_waiting.proofs.TakeLemmas.{takes}
 use Rattle.vm_waiting.proofs.taking.take.Goals as goal
 

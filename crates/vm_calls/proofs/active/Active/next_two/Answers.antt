@@ -1,4 +1,4 @@
-use Rattle.std.proofs.Common.{◌≡◌, ◌+◌, ℕ, suc, Some, length, ap, ◌∙◌}
+use Rattle.std.proofs.Common.{◌+◌, Some, length, ap, ◌∙◌}
 use Rattle.journal_model.specs.declared.notification.NotificationId.TheVariants.{CompletionId}
 use Rattle.vm_awaits.specs.Views.{AsyncResults, results_of, slots_of}
 use Rattle.vm_awaits.specs.Calls.{with_handle}
