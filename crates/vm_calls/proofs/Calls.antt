@@ -1,31 +1,24 @@
 -- What each call that takes one completion asks for.
-use Rattle.std.proofs.Common.{◌≡◌, ◌+◌, ◌∷◌, ◌∙◌, ℕ, suc, Bool, true, false, ◌||◌, List, [], map, Option, None, Result, Err, refl, subst, sym, ap, arith}
+use Rattle.std.proofs.Common.{◌≡◌, ◌∷◌, ℕ, Bool, true, false, ◌||◌, [], Option, None, Result, Err, refl, subst, sym}
 use Rattle.journal_model.specs.declared.options.ImplicitCancellationOption.{ImplicitCancellationOption}
 use Rattle.journal_model.specs.declared.options.ImplicitCancellationOption.TheVariants.{Disabled, Enabled}
-use Rattle.journal_model.specs.declared.notification.NotificationId.TheVariants.{CompletionId}
 use Rattle.journal_model.specs.declared.call.Call.{Call}
 use Rattle.journal_model.specs.declared.call.Answer.{Answer}
-use Rattle.journal_model.specs.declared.call.Header.{Header}
-use Rattle.journal_model.specs.declared.call.Target.{Target}
-use Rattle.journal_model.specs.declared.call.PayloadOptions.{PayloadOptions}
 use Rattle.journal_model.specs.declared.call.Moment.{Moment}
-use Rattle.journal_model.specs.Notification.{Bytes, Text}
+use Rattle.journal_model.specs.Notification.{Text}
 use Rattle.journal_model.specs.Refusal.{milliseconds, refusal_of}
 use Rattle.journal_model.specs.Request.{Request}
 use Rattle.journal_model.specs.Await.{child_of}
 use Rattle.journal_model.specs.History.{completions_of}
-use Rattle.journal_model.specs.Delivery.{known_result}
-use Rattle.journal_model.specs.Run.{Invocation, call_record, name_or_empty}
+use Rattle.journal_model.specs.Run.{Invocation}
 use Rattle.attempt_model.specs.Machine.{Machine}
-use Rattle.protocol_stream.specs.Records.{header_told, header_record}
-use Rattle.vm_context.specs.Following.{changes_state}
 use Rattle.vm_calls.specs.declared.active.Active.{Active}
 use Rattle.vm_calls.specs.declared.call_error.CallError.{CallError}
 use Rattle.vm_calls.specs.declared.call_error.CallError.TheVariants.{Number}
 use Rattle.vm_calls.specs.declared.call_error.NumberError.{NumberError}
 use Rattle.vm_calls.specs.declared.call_error.NumberError.TheVariants.{IdsExhausted}
 use Rattle.vm_calls.specs.Active.{LacksCompletions}
-use Rattle.vm_calls.specs.Making.{CompletesOne, CompletesTwo, FailsAs, Makes}
+use Rattle.vm_calls.specs.Making.{CompletesOne, FailsAs, Makes}
 
 -- a call without options is compared as the machine's option says
 pub unchecked : (checks_off : Bool) → checks_off ≡ (checks_off || false)
@@ -45,36 +38,6 @@ pub sleep_completes : (given : Invocation) (m : Machine) (name : Text) (wake_up 
     → refusal_of given.version (Call.Sleep name wake_up now) ≡ None → copy ≡ name → milliseconds wake_up ≡ time → id ≡ m.completions
     → CompletesOne given m (Call.Sleep name wake_up now) (Request.Sleep time id copy)
 sleep_completes given m name wake_up now copy time id refused copied millis taken = record { asks = record { refused = refused; work = refl; requests = λ i. Request.Sleep (millis i) (sym taken i) (sym copied i) ∷ []; children = brings_none (Call.Sleep name wake_up now) m.completions refl refl refl refl refl given.options.implicit_cancellation }; completions = refl; signals = refl; ids = refl; known = refl; keeps = refl; answer = λ text handle signal. refl }
-
--- the records of headers tell them
-pub headers_told : (headers : List Header) → map header_told (map header_record headers) ≡ headers
-headers_told [] = refl
-headers_told (header ∷ headers) = ap (λ (hs : List Header). header ∷ hs) (headers_told headers)
-
-pub call_completes : (given : Invocation) (m : Machine) (target : Target) (parameter : Bytes) (name : Option Text) (options : PayloadOptions) (copy : Text) (first second : ℕ) (request : Request)
-    → refusal_of given.version (Call.Call target parameter name options) ≡ None → child_of given.options.implicit_cancellation m.completions (Call.Call target parameter name options) ≡ []
-    → copy ≡ name_or_empty name → first ≡ m.completions → second ≡ m.completions + 1 → request ≡ Request.CallService (call_record target parameter) first second copy
-    → CompletesTwo given m (Call.Call target parameter name options) request
-call_completes given m target parameter name options copy first second request refused untracked copied one two is =
-    let asked : request ≡ Request.CallService (call_record target parameter) m.completions (suc m.completions) (name_or_empty name) =
-    is ∙ (λ i. Request.CallService (call_record target parameter) (one i) ((two ∙ next_is m.completions) i) (copied i)) in
-    record {
-      asks = record {
-        refused = refused;
-        work = refl;
-        requests = λ i. sym asked i ∷ [];
-        children = untracked;
-      };
-      completions = refl;
-      signals = refl;
-      ids = λ i. CompletionId m.completions ∷ CompletionId (sym (next_is m.completions) i) ∷ [];
-      known = ap (λ (r : Request). known_result m.completions (r ∷ [])) asked;
-      keeps = ap changes_state asked;
-      answer = λ text handle signal. refl;
-    }
-  where
-    next_is : (n : ℕ) → n + 1 ≡ suc n
-    next_is n = omega arith
 
 -- a call for which no number was taken fails so
 pub number_fails : {M Taken : Type 0} (checks_off : Bool) (given : Invocation) (m : Machine) (call : Call) (answer : Taken → Answer) (old new : Active) (error : NumberError) (result : Result Taken (CallError M))

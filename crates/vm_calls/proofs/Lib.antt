@@ -3,7 +3,6 @@ pub mod Settling
 pub mod Making
 pub mod Calls
 pub mod Handling
-pub mod Pairing
 pub mod Doing
 pub mod DoneCalls
-pub mod MoreCalls
+pub mod PromiseCalls

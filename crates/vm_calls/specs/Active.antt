@@ -1,5 +1,5 @@
 -- When what an attempt keeps is what the abstract machine keeps, and what each step of a call does to it.
-use Rattle.std.specs.Prelude.{◌≡◌, ◌≤◌, ◌<◌, ◌+◌, ◌^◌, ◌⊎◌, ℕ, suc, Bool, true, false, List, [], ◌∷◌, ◌++◌, length, Some, None, Result, Ok, Err}
+use Rattle.std.specs.Prelude.{◌≡◌, ◌≤◌, ◌<◌, ◌+◌, ◌^◌, ◌⊎◌, ℕ, Bool, true, false, List, [], ◌∷◌, ◌++◌, length, Some, None, Result, Ok, Err}
 use Rattle.std.specs.List.{flat_map}
 use Rattle.journal_model.specs.declared.notification.NotificationId.TheVariants.{CompletionId}
 use Rattle.journal_model.specs.Notification.{Text}
@@ -77,15 +77,6 @@ pub record TakesCompletion (made : ℕ × ℕ) (old new : Active) : Type 0 where
 -- so many completion ids, or handles for them, are not left
 abbrev pub LacksCompletions : ℕ → Active → Type 0
 LacksCompletions taken old = (2 ^ 32 < old.journal.completions + taken) ⊎ (2 ^ 32 < 17 + length (slots_of old.results) + taken)
-
--- the next two are taken, and the two handles
-pub record TakesTwo (first second : ℕ) (handles : ℕ × ℕ) (old new : Active) : Type 0 where
-  pub first_id : first ≡ old.journal.completions
-  pub second_id : second ≡ old.journal.completions + 1
-  pub first_handle : handles.0 ≡ 17 + length (slots_of old.results)
-  pub second_handle : handles.1 ≡ suc (17 + length (slots_of old.results))
-  pub results : results_of new.results ≡ with_handle (CompletionId (old.journal.completions + 1)) (with_handle (CompletionId old.journal.completions) (results_of old.results))
-  pub others : new ≡ record old { journal = after_completions 2 old.journal; results = new.results }
 
 -- an attempt replays until the last recorded command is matched
 abbrev pub still_replays : Bool → List RawMessage → Bool

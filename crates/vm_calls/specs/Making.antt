@@ -1,5 +1,5 @@
 -- What a call does that puts one command: what it answers, and why it fails.
-use Rattle.std.specs.Prelude.{◌≡◌, ◌≤◌, ◌^◌, ◌+◌, ℕ, suc, Bool, false, List, [], ◌∷◌, ◌++◌, length, map, Some, None, Result, Ok, Err}
+use Rattle.std.specs.Prelude.{◌≡◌, ◌≤◌, ◌^◌, ◌+◌, ℕ, Bool, false, List, [], ◌∷◌, ◌++◌, length, map, Some, None, Result, Ok, Err}
 use Rattle.journal_model.specs.declared.notification.NotificationId.TheVariants.{CompletionId}
 use Rattle.journal_model.specs.Notification.{Text}
 use Rattle.journal_model.specs.declared.call.Call.{Call}
@@ -25,7 +25,7 @@ use Rattle.vm_calls.specs.declared.call_error.CallError.{CallError}
 use Rattle.vm_calls.specs.declared.call_error.CallError.TheVariants.{Number, Put, OutOfMemory}
 use Rattle.vm_calls.specs.declared.call_error.NumberError.TheVariants as numbers
 use Rattle.vm_calls.specs.declared.put_error.PutError.TheVariants.{Replay, Encoding}
-use Rattle.vm_calls.specs.Active.{Sees, has_left, left_of, asking, LacksCompletions, TakesCompletion, TakesTwo, writes_frames}
+use Rattle.vm_calls.specs.Active.{Sees, has_left, left_of, asking, LacksCompletions, TakesCompletion, writes_frames}
 
 module _ (checks_off : Bool) (given : Invocation) (m : Machine) (call : Call) where
   -- The call is answered as the abstract machine answers it, which is seen afterwards; written are exactly the frames of the
@@ -96,16 +96,6 @@ pub record CompletesOne (given : Invocation) (m : Machine) (call : Call) (reques
   pub keeps : changes_state request ≡ false
   pub answer : (id : Text) (handle signal : ℕ) → answer_by id handle signal call ≡ Answer.Handle handle
 
--- a call that takes two of them
-pub record CompletesTwo (given : Invocation) (m : Machine) (call : Call) (request : Request) : Type 0 where
-  pub asks : AsksOne given m call request
-  pub completions : completions_of call ≡ 2
-  pub signals : signals_of call ≡ 0
-  pub ids : ids_of m.completions m.signals call ≡ CompletionId m.completions ∷ CompletionId (m.completions + 1) ∷ []
-  pub known : known_result m.completions (request ∷ []) ≡ []
-  pub keeps : changes_state request ≡ false
-  pub answer : (id : Text) (handle signal : ℕ) → answer_by id handle signal call ≡ Answer.Handles handle (suc handle)
-
 -- the machine's call has begun: its completion was taken, and this handle stands for it
 pub record HasBegun (given : Invocation) (m : Machine) (handle : ℕ) (old begun : Active) : Type 0 where
   pub sees : Sees given old m
@@ -113,12 +103,3 @@ pub record HasBegun (given : Invocation) (m : Machine) (handle : ℕ) (old begun
   pub name : Text
   pub id : ℕ
   pub takes : TakesCompletion (id, handle) (asking ty name old) begun
-
--- the machine's call has begun: two completions were taken, and these handles stand for them
-pub record HasBegunTwo (given : Invocation) (m : Machine) (handles : ℕ × ℕ) (old begun : Active) : Type 0 where
-  pub sees : Sees given old m
-  pub ty : MessageType
-  pub name : Text
-  pub first : ℕ
-  pub second : ℕ
-  pub takes : TakesTwo first second handles (asking ty name old) begun

@@ -43,7 +43,7 @@ fn number_error(error: CreateHandleError) -> NumberError
 }
 
 /// The next handle, for this id.
-pub(crate) fn handle_for(
+pub fn handle_for(
     results: &mut AsyncResultsState,
     id: NotificationId,
 ) -> Result<NotificationHandle, NumberError>
@@ -66,7 +66,7 @@ fn still_replays(is_replaying: bool, commands: &VecDeque<RawMessage>) -> bool
 
 impl Active {
     /// A command of this type and name is asked for: errors that follow tell it. Answers a copy of the name.
-    pub(crate) fn ask(&mut self, ty: MessageType, name: ByteStr) -> Result<ByteStr, AllocError>
+    pub fn ask(&mut self, ty: MessageType, name: ByteStr) -> Result<ByteStr, AllocError>
         ensures copy { IfOk result (λ copy. copy ≡ name) }
         ensures journal { self.new ≡ asking ty name self.old }
     {
@@ -91,7 +91,7 @@ impl Active {
 
     /// Begins a call of one completion, whose command is of this type and name: takes the completion's id and the handle that
     /// stands for it. Answers a copy of the name beside the two.
-    pub(crate) fn begin(
+    pub fn begin(
         &mut self,
         ty: MessageType,
         name: ByteStr,
@@ -141,7 +141,7 @@ impl Active {
     }
 
     /// Puts the command of a call that has begun, and answers the handle of its completion.
-    pub(crate) fn put_completable<M: Command>(
+    pub fn put_completable<M: Command>(
         &mut self,
         alloc: Global,
         command: M,

@@ -6,16 +6,8 @@ ghost use Rattle.vm_calls.specs.Making.{Makes};
 ghost use Rattle.vm_calls.specs.Doing.{DoesOne, HasAsked};
 
 use crate::{Active, CallError};
-use journal_model::PayloadOptions;
 use std::alloc::Global;
 use vm_commands::Command;
-
-/// Whether other bytes of a payload stand: where the machine's checks are off for them, or the call's options say so.
-pub(crate) fn ignores(checks_off: bool, options: PayloadOptions) -> bool
-    ensures { result ≡ (checks_off || options.unstable_serialization) }
-{
-    checks_off || options.unstable_serialization
-}
 
 impl Active {
     /// Puts the command of a call that is answered at once. What is known of the state has been changed before.

@@ -5,8 +5,7 @@ ghost use Rattle.vm_calls.specs.Active.{Sees};
 ghost use Rattle.vm_calls.specs.Handles.{LacksHandle, LacksSignal, TakesSignal, MakesHandle};
 ghost use Rattle.vm_calls.specs.declared.call_error.NumberError.TheVariants.{IdsExhausted};
 
-use crate::active::handle_for;
-use crate::{Active, NumberError};
+use crate::{Active, NumberError, handle_for};
 use bytes::{ByteStr, Bytes};
 use journal_model::{NotificationHandle, NotificationId};
 use std::alloc::Global;

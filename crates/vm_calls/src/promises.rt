@@ -7,8 +7,7 @@ ghost use Rattle.protocol_types.specs.declared.message_type.MessageType.TheVaria
 ghost use Rattle.protocol_spellings.specs.Requests.{request_of_complete_promise};
 ghost use Rattle.vm_calls.specs.Active.{Sees, IsAtCommand};
 
-use crate::effects::ignores;
-use crate::{Active, CallError};
+use crate::{Active, CallError, ignores};
 use bytes::ByteStr;
 use journal_model::{NonEmptyValue, NotificationHandle, PayloadOptions};
 use protocol_commands::{

@@ -7,9 +7,7 @@ ghost use Rattle.vm_context.specs.Following.{Follows};
 ghost use Rattle.vm_calls.specs.Active.{Sees, IsAtCommand};
 ghost use Rattle.vm_calls.specs.Making.{Makes};
 
-use crate::calling::or_empty;
-use crate::effects::ignores;
-use crate::{Active, CallError};
+use crate::{Active, CallError, ignores, or_empty};
 use bytes::{ByteStr, Bytes};
 use journal_model::PayloadOptions;
 use protocol_commands::{

@@ -6,8 +6,7 @@ ghost use Rattle.protocol_types.specs.declared.message_type.MessageType.TheVaria
 ghost use Rattle.vm_calls.specs.Active.{Sees, IsAtCommand};
 ghost use Rattle.vm_calls.specs.Making.{Makes};
 
-use crate::effects::ignores;
-use crate::{Active, CallError};
+use crate::{Active, CallError, ignores};
 use bytes::ByteStr;
 use journal_model::{NonEmptyValue, PayloadOptions};
 use protocol_calls::{

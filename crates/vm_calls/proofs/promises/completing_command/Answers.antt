@@ -1,4 +1,4 @@
-use Rattle.vm_calls.proofs.MoreCalls.{promise_told}
+use Rattle.vm_calls.proofs.PromiseCalls.{promise_told}
 use Rattle.vm_calls.proofs.promises.completing_command.Goals as goal
 
 pub returns : goal.returns

@@ -1,6 +1,6 @@
 use Rattle.std.proofs.Common.{◌∙◌}
 use Rattle.protocol_types.specs.declared.message_type.MessageType.TheVariants.{CompletePromiseCommand}
-use Rattle.vm_calls.proofs.MoreCalls.{promise_completes}
+use Rattle.vm_calls.proofs.PromiseCalls.{promise_completes}
 use Rattle.vm_calls.proofs.active.Active.complete_promise.Goals as goal
 
 pub returns-clause-made : goal.returns-clause-made

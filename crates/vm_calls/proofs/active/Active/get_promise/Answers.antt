@@ -1,7 +1,7 @@
 use Rattle.std.proofs.Common.{refl, ◌∙◌}
 use Rattle.protocol_types.specs.declared.message_type.MessageType.TheVariants.{GetPromiseCommand}
 use Rattle.vm_calls.proofs.Calls.{unchecked}
-use Rattle.vm_calls.proofs.MoreCalls.{get_completes}
+use Rattle.vm_calls.proofs.PromiseCalls.{get_completes}
 use Rattle.vm_calls.proofs.active.Active.get_promise.Goals as goal
 
 pub returns-clause-made : goal.returns-clause-made

@@ -1,7 +1,7 @@
 use Rattle.std.proofs.Common.{refl, ◌∙◌}
 use Rattle.protocol_types.specs.declared.message_type.MessageType.TheVariants.{PeekPromiseCommand}
 use Rattle.vm_calls.proofs.Calls.{unchecked}
-use Rattle.vm_calls.proofs.MoreCalls.{peek_completes}
+use Rattle.vm_calls.proofs.PromiseCalls.{peek_completes}
 use Rattle.vm_calls.proofs.active.Active.peek_promise.Goals as goal
 
 pub returns-clause-made : goal.returns-clause-made

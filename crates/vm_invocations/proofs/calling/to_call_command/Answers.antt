@@ -3,8 +3,8 @@ use Rattle.journal_model.specs.Request.{Request}
 use Rattle.journal_model.specs.Run.{call_record}
 use Rattle.protocol_records.specs.declared.header.Header.{Header}
 use Rattle.protocol_stream.specs.Records.{header_told}
-use Rattle.vm_calls.proofs.Calls.{headers_told}
-use Rattle.vm_calls.proofs.calling.to_call_command.Goals as goal
+use Rattle.vm_invocations.proofs.Calls.{headers_told}
+use Rattle.vm_invocations.proofs.calling.to_call_command.Goals as goal
 
 pub returns-in-Ok : goal.returns-in-Ok
 returns-in-Ok c =

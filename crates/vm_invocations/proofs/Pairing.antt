@@ -16,8 +16,9 @@ use Rattle.vm_calls.specs.declared.active.Active.{Active}
 use Rattle.vm_calls.specs.declared.put_error.PutError.{PutError}
 use Rattle.vm_calls.specs.declared.call_error.CallError.TheVariants.{Put}
 use Rattle.vm_calls.specs.Active.{IsSettled, PutsOne, PutsIn}
-use Rattle.vm_calls.specs.Making.{Replies, FailsAs, IsReady, CompletesTwo, HasBegunTwo}
+use Rattle.vm_calls.specs.Making.{Replies, FailsAs, IsReady}
 use Rattle.vm_calls.proofs.Making.{is_ready, put_answers, put_fails_as}
+use Rattle.vm_invocations.specs.Pairing.{CompletesTwo, HasBegunTwo}
 
 one_longer : (slots : Slots) (slot : Option NotificationId) → length (slots ++ slot ∷ []) ≡ suc (length slots)
 one_longer [] slot = refl

@@ -1,14 +1,15 @@
 use Rattle.std.proofs.Common.{Err, refl, ap, ◌+◌, ◌∙◌, ℕ}
 use Rattle.protocol_types.specs.declared.message_type.MessageType.TheVariants.{CallCommand}
 use Rattle.std.proofs.lemmas.Result.{err_from_is_err_and}
-use Rattle.vm_calls.proofs.Calls.{call_completes, number_fails}
-use Rattle.vm_calls.proofs.active.Active.call.Goals as goal
+use Rattle.vm_calls.proofs.Calls.{number_fails}
+use Rattle.vm_invocations.proofs.Calls.{call_completes}
+use Rattle.vm_invocations.proofs.calling.call.Goals as goal
 
 pub returns-clause-made : goal.returns-clause-made
 returns-clause-made c =
     λ given m refused untracked sees.
     let begun = c.in_ok-name.ensures in
-    c.put_call.ensures.makes c.args.checks_off given m _ _ c.args.self.now refl
+    c.put_call.ensures.makes c.args.checks_off given m _ _ c.args.active.now refl
     (call_completes given m c.args.target c.args.parameter c.args.name c.args.options c.in_ok-name.name c.in_ok-name.first c.in_ok-name.second _ refused untracked (begun.name ∙ c.or_empty.ensures)
     (begun.taken.first_id ∙ sees.completions) (begun.taken.second_id ∙ ap (λ (n : ℕ). n + 1) sees.completions) c.in_ok-command.ensures)
     c.ignores-ignore.ensures
@@ -18,4 +19,4 @@ pub returns-in_err-name-clause-made : goal.returns-in_err-name-clause-made
 returns-in_err-name-clause-made c =
     λ given m refused untracked sees.
     let told = err_from_is_err_and c.from_residual.result c.from_residual.ensures.1 in
-    number_fails c.args.checks_off given m _ _ c.args.self.now c.begin_two.new.self c.in_err-name.field-0.0 c.from_residual.result c.in_err-name.ensures.err c.begin_two.ensures.output (told.1 ∙ ap Err told.2)
+    number_fails c.args.checks_off given m _ _ c.args.active.now c.begin_two.new.active c.in_err-name.field-0.0 c.from_residual.result c.in_err-name.ensures.err c.begin_two.ensures.output (told.1 ∙ ap Err told.2)

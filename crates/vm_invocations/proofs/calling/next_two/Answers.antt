@@ -3,12 +3,12 @@ use Rattle.journal_model.specs.declared.notification.NotificationId.TheVariants.
 use Rattle.vm_awaits.specs.Views.{AsyncResults, results_of, slots_of}
 use Rattle.vm_awaits.specs.Calls.{with_handle}
 use Rattle.vm_context.specs.Journal.{JournalCounts}
-use Rattle.vm_calls.proofs.Pairing.{next_behind}
-use Rattle.vm_calls.proofs.active.Active.next_two.Goals as goal
+use Rattle.vm_invocations.proofs.Pairing.{next_behind}
+use Rattle.vm_invocations.proofs.calling.next_two.Goals as goal
 
 pub returns-clause-ok : goal.returns-clause-ok
 returns-clause-ok c =
-    let old = c.args.self.now in
+    let old = c.args.active.now in
     let ids = c.in-Ok.ensures.ids in
     let first = c.in_ok-invocation_id_notification_handle.ensures in
     let second = c.in_ok-call_notification_handle.ensures in

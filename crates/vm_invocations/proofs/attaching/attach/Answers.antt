@@ -1,14 +1,14 @@
 use Rattle.std.proofs.Common.{◌∙◌}
 use Rattle.protocol_types.specs.declared.message_type.MessageType.TheVariants.{AttachInvocationCommand}
 use Rattle.vm_calls.proofs.Calls.{unchecked}
-use Rattle.vm_calls.proofs.MoreCalls.{attach_completes, attach_told}
-use Rattle.vm_calls.proofs.active.Active.attach.Goals as goal
+use Rattle.vm_invocations.proofs.AnswerCalls.{attach_completes, attach_told}
+use Rattle.vm_invocations.proofs.attaching.attach.Goals as goal
 
 pub returns-clause-made : goal.returns-clause-made
 returns-clause-made c =
     λ given m refused sees.
     let id = c.in_ok-name.ensures.taken.id ∙ sees.completions in
-    c.put_completable.ensures.makes c.args.checks_off given m _ _ c.args.self.now
+    c.put_completable.ensures.makes c.args.checks_off given m _ _ c.args.active.now
     (attach_told c.args.target _ c.in_ok-name.result_completion_id c.in_ok-name.name c.to_invocation_target-target.ensures)
     (attach_completes given m c.args.target c.in_ok-name.name c.in_ok-name.result_completion_id refused (c.in_ok-name.ensures.name ∙ c.new.ensures) id)
     (unchecked c.args.checks_off)

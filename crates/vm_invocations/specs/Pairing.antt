@@ -1,0 +1,48 @@
+-- What a call does that takes two completions.
+use Rattle.std.specs.Prelude.{◌≡◌, ◌+◌, ℕ, suc, false, [], ◌∷◌, length}
+use Rattle.journal_model.specs.declared.notification.NotificationId.TheVariants.{CompletionId}
+use Rattle.journal_model.specs.Notification.{Text}
+use Rattle.journal_model.specs.declared.call.Call.{Call}
+use Rattle.journal_model.specs.declared.call.Answer.{Answer}
+use Rattle.journal_model.specs.Request.{Request}
+use Rattle.journal_model.specs.History.{completions_of, signals_of, ids_of}
+use Rattle.journal_model.specs.Delivery.{known_result}
+use Rattle.journal_model.specs.Run.{Invocation}
+use Rattle.attempt_model.specs.Requests.{answer_by}
+use Rattle.attempt_model.specs.Machine.{Machine}
+use Rattle.protocol_types.specs.declared.message_type.MessageType.{MessageType}
+use Rattle.vm_awaits.specs.Views.{results_of, slots_of}
+use Rattle.vm_awaits.specs.Calls.{with_handle}
+use Rattle.vm_context.specs.Journal.{after_completions}
+use Rattle.vm_context.specs.Following.{changes_state}
+use Rattle.vm_calls.specs.declared.active.Active.{Active}
+use Rattle.vm_calls.specs.Active.{Sees, asking}
+use Rattle.vm_calls.specs.Making.{AsksOne}
+
+-- the next two completion ids are taken, and the two handles
+pub record TakesTwo (first second : ℕ) (handles : ℕ × ℕ) (old new : Active) : Type 0 where
+  pub first_id : first ≡ old.journal.completions
+  pub second_id : second ≡ old.journal.completions + 1
+  pub first_handle : handles.0 ≡ 17 + length (slots_of old.results)
+  pub second_handle : handles.1 ≡ suc (17 + length (slots_of old.results))
+  pub results : results_of new.results ≡ with_handle (CompletionId (old.journal.completions + 1)) (with_handle (CompletionId old.journal.completions) (results_of old.results))
+  pub others : new ≡ record old { journal = after_completions 2 old.journal; results = new.results }
+
+-- a call that takes two completion ids and two handles for them, and puts one request, which changes nothing of the state
+pub record CompletesTwo (given : Invocation) (m : Machine) (call : Call) (request : Request) : Type 0 where
+  pub asks : AsksOne given m call request
+  pub completions : completions_of call ≡ 2
+  pub signals : signals_of call ≡ 0
+  pub ids : ids_of m.completions m.signals call ≡ CompletionId m.completions ∷ CompletionId (m.completions + 1) ∷ []
+  pub known : known_result m.completions (request ∷ []) ≡ []
+  pub keeps : changes_state request ≡ false
+  pub answer : (id : Text) (handle signal : ℕ) → answer_by id handle signal call ≡ Answer.Handles handle (suc handle)
+
+-- the machine's call has begun: two completions were taken, and these handles stand for them
+pub record HasBegunTwo (given : Invocation) (m : Machine) (handles : ℕ × ℕ) (old begun : Active) : Type 0 where
+  pub sees : Sees given old m
+  pub ty : MessageType
+  pub name : Text
+  pub first : ℕ
+  pub second : ℕ
+  pub takes : TakesTwo first second handles (asking ty name old) begun
