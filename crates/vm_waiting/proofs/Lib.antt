@@ -1,2 +1,9 @@
 pub mod Seeing
 pub mod TakeLemmas
+pub mod AwaitLemmas
+pub mod ResolveLemmas
+pub mod MachineAwaits
+pub mod AwaitReplies
+pub mod Listing
+pub mod Sending
+pub mod TellsAsRun

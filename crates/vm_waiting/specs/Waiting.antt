@@ -1,13 +1,27 @@
 -- What a take and an await do.
-use Rattle.std.specs.Prelude.{◌≡◌, ℕ, Bool, true, false, Option, Some, None, Result, Ok, Err}
+use Rattle.std.specs.Prelude.{◌≡◌, ℕ, Bool, true, false, ◌&&◌, is_some, Option, Some, None, Result, Ok, Err}
 use Rattle.journal_model.specs.declared.notification.NotificationResult.{NotificationResult}
 use Rattle.journal_model.specs.declared.value.Value.{Value}
 use Rattle.journal_model.specs.declared.call.Call.{Call}
 use Rattle.journal_model.specs.declared.call.Answer.{Answer}
 use Rattle.journal_model.specs.Value.{as_taken}
 use Rattle.journal_model.specs.Run.{Invocation}
-use Rattle.attempt_model.specs.Results.{are_keys_text}
-use Rattle.attempt_model.specs.Machine.{Machine, Reply, Answered, FailedBy, KeysNotText, reply_to}
+use Rattle.journal_model.specs.Notification.{cancel_id}
+use Rattle.journal_model.specs.AwaitTree.{AwaitTree, Combined, FirstCompleted, no_trees}
+use Rattle.journal_model.specs.Future.{tree_of}
+use Rattle.journal_model.specs.History.{cancel_handle}
+use Rattle.journal_model.specs.Await.{ends_awaits, awaited_tree}
+use Rattle.journal_model.specs.declared.options.ImplicitCancellationOption.{ImplicitCancellationOption}
+use Rattle.attempt_model.specs.Results.{are_keys_text, waiting_for, ready_without_first, resolution_of}
+use Rattle.attempt_model.specs.Machine.{Machine, Reply, Answered, AwaitsTree, FailedBy, KeysNotText, reply_to}
+use Rattle.attempt_model.specs.Machine as faults
+use Rattle.vm_awaits.specs.Views.{AsyncResults}
+use Rattle.vm_awaits.specs.Resolving.{resolution_as, line_left}
+use Rattle.vm_awaits.specs.declared.resolving.ResolveFutureResult.{ResolveFutureResult}
+use Rattle.vm_waiting.specs.declared.awaiting.Awaited.{Awaited}
+use Rattle.vm_waiting.specs.declared.awaiting.Awaited.TheVariants.{AnyCompleted, Cancelled, Asleep}
+use Rattle.vm_waiting.specs.declared.awaiting.AwaitError.{AwaitError}
+use Rattle.vm_waiting.specs.declared.awaiting.AwaitError.TheVariants as unawaited
 use Rattle.protocol_messages.specs.declared.taken.TakeError.{TakeError}
 use Rattle.protocol_messages.specs.declared.taken.TakeError.TheVariants.{KeyNotText, OutOfMemory}
 use Rattle.vm_commands.specs.HeaderEquality.{same_header}
@@ -34,3 +48,39 @@ abbrev pub Takes : (checks_off : Bool) → Invocation → Machine → (handle : 
 Takes checks_off given m handle (Ok taken) new = Becomes given m (reply_to (same_header checks_off) given m (Call.Take handle)) (Answered (Answer.Taken taken)) new
 Takes checks_off given m handle (Err KeyNotText) new = reply_to (same_header checks_off) given m (Call.Take handle) ≡ FailedBy KeysNotText
 Takes checks_off given m handle (Err OutOfMemory) new = Unit {0}
+
+-- ---- awaits
+
+-- whether a tree waits for nothing
+abbrev pub awaits_nothing : AwaitTree ℕ → Bool
+awaits_nothing (Combined FirstCompleted no_trees) = true
+awaits_nothing _ = false
+
+-- whether a cancellation waits, and ends awaits
+abbrev pub is_cancelled_in : ImplicitCancellationOption → AsyncResults → Bool
+is_cancelled_in cancellation results = ends_awaits cancellation && is_some (waiting_for results.slots results.ready cancel_handle)
+
+-- one delivery of the cancellation is taken
+abbrev pub after_cancellation : AsyncResults → AsyncResults
+after_cancellation results = record results { ready = ready_without_first results.ready (Some cancel_id) }
+
+-- what an await answers that is awake
+abbrev pub WakesAs : ImplicitCancellationOption → AsyncResults → Awaited → AsyncResults → Type 0
+WakesAs cancellation old AnyCompleted new = (is_cancelled_in cancellation old ≡ false) × (new ≡ old)
+WakesAs cancellation old Cancelled new = (is_cancelled_in cancellation old ≡ true) × (new ≡ after_cancellation old)
+WakesAs cancellation old (Asleep left) new = ⊥
+
+-- the tree of an await is resolved
+pub record Resolves (cancellation : ImplicitCancellationOption) (tree : AwaitTree ℕ) (old : AsyncResults) (answer : ResolveFutureResult) (new : AsyncResults) : Type 0 where
+  pub resolution : resolution_of old.delivery old.slots (awaited_tree cancellation tree) old.queue old.ready ≡ resolution_as new.queue new.ready answer
+  pub queue : new.queue ≡ line_left new.queue answer
+  pub delivery : new.delivery ≡ old.delivery
+  pub slots : new.slots ≡ old.slots
+
+-- An await is answered as the abstract machine answers it. In replay one that stays asleep fails.
+abbrev pub Awaits : (checks_off : Bool) → Invocation → Machine → AwaitTree ℕ → Result Awaited AwaitError → (new : Active) → Type 0
+Awaits checks_off given m tree (Ok AnyCompleted) new = Becomes given m (reply_to (same_header checks_off) given m (Call.Await tree)) (Answered Answer.Woken) new
+Awaits checks_off given m tree (Ok Cancelled) new = Becomes given m (reply_to (same_header checks_off) given m (Call.Await tree)) (Answered Answer.Cancelled) new
+Awaits checks_off given m tree (Ok (Asleep left)) new = Becomes given m (reply_to (same_header checks_off) given m (Call.Await tree)) (AwaitsTree (tree_of left)) new
+Awaits checks_off given m tree (Err (unawaited.UncompletedInReplay left)) new = reply_to (same_header checks_off) given m (Call.Await tree) ≡ FailedBy faults.UncompletedInReplay
+Awaits checks_off given m tree (Err unawaited.OutOfMemory) new = Unit {0}

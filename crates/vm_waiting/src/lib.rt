@@ -1,11 +1,17 @@
-//! What an await, a look and a take do to an attempt.
+//! What an await, a look and a take do to an attempt, and what one writes that waits.
 //!
-//! None of them makes a command: they change what has come and what handles stand for alone. Each says that it does what the
-//! attempt without bytes does.
+//! None of them makes a command. An await, a look and a take change what has come and what handles stand for alone, and each says
+//! that it does what the attempt without bytes does. A suspension, and a message that tells what is waited for, are written by the
+//! definitions of their frames, of what is left of the awaited tree.
 #![tactic(auto)]
 
+mod awaiting;
+mod handles;
 mod looking;
+mod suspending;
 mod taking;
 
+pub use awaiting::{AwaitError, Awaited, await_future};
 pub use looking::is_completed;
+pub use suspending::{suspend, tell_awaiting_on};
 pub use taking::take;

@@ -1,0 +1,116 @@
+-- What an attempt that waits behind the journal writes: its suspension, or what it waits for while it stays.
+use Rattle.std.specs.Prelude.{◌≡◌, ◌≤◌, ◌<◌, ◌^◌, ℕ, Bool, true, false, not, ◌&&◌, ◌||◌, if◌then◌else◌, List, [], ◌++◌, length, map, Result, Ok, Err}
+use Rattle.journal_model.specs.Notification.{Bytes, Arrival}
+use Rattle.journal_model.specs.declared.notification.NotificationId.{NotificationId}
+use Rattle.journal_model.specs.AwaitTree.{AwaitTree, Single, Combined, Combinator, AwaitTrees, no_trees, and_trees}
+use Rattle.journal_model.specs.Future.{tree_of, node}
+use Rattle.journal_model.specs.Waiting.{only_leaves, still_awaited}
+use Rattle.journal_model.specs.Request.{Request}
+use Rattle.journal_model.specs.Run.{Handler, Invocation, run}
+use Rattle.journal_model.specs.Spelling.{packed_numbers, repeated_bytes, completions_in, signals_in, names_in, suspension_payload, awaiting_on_payload, frame_bytes}
+use Rattle.attempt_model.specs.Results.{slot_of}
+use Rattle.attempt_model.specs.Machine.{Machine}
+use Rattle.attempt_model.specs.Standing.{WaitsWithRun}
+use Rattle.protocol_types.specs.declared.message_type.MessageType.{MessageType}
+use Rattle.protocol_types.specs.declared.message_type.MessageType.TheVariants as messages
+use Rattle.protocol_types.specs.declared.version.Version.{Version}
+use Rattle.protocol_types.specs.declared.feature.Feature.TheVariants as features
+use Rattle.protocol_types.specs.Version.{version_number}
+use Rattle.protocol_types.specs.Feature.{has_feature, lacks_feature}
+use Rattle.protocol_stream.specs.declared.encoder.EncodingError.{EncodingError}
+use Rattle.protocol_stream.specs.declared.encoder.EncodingError.TheVariants.{PayloadTooLong, OutOfMemory}
+use Rattle.vm_types.specs.declared.options.AwaitingOnPolicy.{AwaitingOnPolicy}
+use Rattle.vm_types.specs.declared.options.AwaitingOnPolicy.TheVariants.{SendAlways, DontSendWhenExecutingRun, DontSend}
+use Rattle.vm_awaits.specs.Views.{slots_of}
+use Rattle.vm_context.specs.Output.{Written, with_frame}
+use Rattle.vm_calls.specs.declared.active.Active.{Active}
+use Rattle.vm_calls.specs.Active.{Sees}
+use Rattle.vm_waiting.specs.declared.handles.Opened.{Opened}
+use Rattle.vm_waiting.specs.declared.handles.Opened.TheVariants.{Leaf, Node}
+
+-- ---- trees
+
+-- whether there is a leaf in a tree
+abbrev mutual
+  pub has_leaf : {Leaf : Type 0} → AwaitTree Leaf → Bool
+  has_leaf (Single leaf) = true
+  has_leaf (Combined combinator children) = some_has_leaf children
+
+  pub some_has_leaf : {Leaf : Type 0} → AwaitTrees Leaf → Bool
+  some_has_leaf no_trees = false
+  some_has_leaf (and_trees tree trees) = has_leaf tree || some_has_leaf trees
+
+-- a future, opened at its root: one leaf, or a node over these children
+abbrev pub IsOpened : AwaitTree ℕ → Opened → Type 0
+IsOpened tree Leaf = has_leaf tree ≡ true
+IsOpened tree (Node children) = (combinator : Combinator) × (tree ≡ node combinator (map tree_of children.now))
+
+-- a tree over the ids that its handles stand for; a handle that stands for none is left out
+abbrev pub over_ids : Active → AwaitTree ℕ → AwaitTree NotificationId
+over_ids active tree = only_leaves (slot_of (slots_of active.results)) tree
+
+-- Where the abstract machine stands to a run that waits with this tree, those ids are what the run still waits for.
+abbrev pub TellsAsRun : AwaitTree ℕ → Active → Type 0
+TellsAsRun tree active = (handler : Handler) (given : Invocation) (journal : List Request) (arrivals : List Arrival) (calls : ℕ) (m : Machine)
+    → Sees given active m → (waits : WaitsWithRun handler given journal arrivals calls tree m)
+    → over_ids active tree ≡ still_awaited given.options (run handler given arrivals calls).steps arrivals waits.ids
+
+module _ {Leaf : Type 0} (own : AwaitTrees NotificationId → List Leaf) where
+  -- the leaves of one kind of the nodes below, the own ones of each first
+  abbrev pub below : AwaitTrees NotificationId → List Leaf
+  below no_trees = []
+  below (and_trees (Single leaf) trees) = below trees
+  below (and_trees (Combined combinator children) trees) = (own children ++ below children) ++ below trees
+
+  -- the leaves of one kind of a tree, in this order
+  abbrev pub listed : AwaitTree NotificationId → List Leaf
+  listed (Single leaf) = own (and_trees (Single leaf) no_trees)
+  listed (Combined combinator children) = own children ++ below children
+
+-- ---- payloads
+
+-- before version 7 a suspension is a list of the tree's ids for each kind of them
+abbrev pub lists_payload : AwaitTree NotificationId → Bytes
+lists_payload tree = packed_numbers 1 (listed completions_in tree) ++ (packed_numbers 2 (listed signals_in tree) ++ repeated_bytes 3 (listed names_in tree))
+
+abbrev pub suspension_payload_in : Version → AwaitTree NotificationId → Bytes
+suspension_payload_in version tree = if lacks_feature (version_number version) features.AwaitTree then lists_payload tree else suspension_payload tree
+
+-- ---- frames
+
+-- One frame is written, whole or not at all; behind the end nothing is.
+abbrev pub Writes : MessageType → (payload : Bytes) → (old : Written) → Result (Unit {0}) EncodingError → (new : Written) → Type 0
+Writes ty payload old (Ok done) new = (old.is_closed ≡ false → length payload < 2 ^ 32) × (new ≡ with_frame (frame_bytes ty payload) old)
+Writes ty payload old (Err PayloadTooLong) new = (2 ^ 32 ≤ length payload) × (new ≡ old)
+Writes ty payload old (Err OutOfMemory) new = new ≡ old
+
+-- a suspension is written, and the output ends with it
+pub record IsSuspended (tree : AwaitTree ℕ) (old new : Active) : Type 0 where
+  pub fits : old.output.is_closed ≡ false → length (suspension_payload_in old.output.version (over_ids old tree)) < 2 ^ 32
+  pub suspended : new ≡ record old {
+    output = record (with_frame (frame_bytes messages.Suspension (suspension_payload_in old.output.version (over_ids old tree))) old.output) { is_closed = true };
+  }
+
+-- or nothing is written
+abbrev pub Suspends : AwaitTree ℕ → (old : Active) → Result (Unit {0}) EncodingError → (new : Active) → Type 0
+Suspends tree old (Ok done) new = IsSuspended tree old new
+Suspends tree old (Err PayloadTooLong) new = (2 ^ 32 ≤ length (suspension_payload_in old.output.version (over_ids old tree))) × (new ≡ old)
+Suspends tree old (Err OutOfMemory) new = new ≡ old
+
+-- ---- while it stays
+
+-- whether a policy lets it be told
+abbrev pub allows_telling : AwaitingOnPolicy → (executes_run : Bool) → Bool
+allows_telling SendAlways executes_run = true
+allows_telling DontSendWhenExecutingRun executes_run = not executes_run
+allows_telling DontSend executes_run = false
+
+-- from version 7 on it is told, of a tree with a handle in it, where the policy lets it
+abbrev pub tells_awaiting : Version → AwaitingOnPolicy → (executes_run : Bool) → AwaitTree ℕ → Bool
+tells_awaiting version policy executes_run tree = has_feature (version_number version) features.AwaitTree && (allows_telling policy executes_run && has_leaf tree)
+
+-- Exactly where it is to be told a frame is written; else nothing is done, which cannot fail.
+abbrev pub TellsIf : (told : Bool) → AwaitTree ℕ → (old : Active) → Result (Unit {0}) EncodingError → (new : Active) → Type 0
+TellsIf true tree old result new = Writes messages.AwaitingOn (awaiting_on_payload (over_ids old tree) false) old.output result new.output × (new ≡ record old { output = new.output })
+TellsIf false tree old (Ok done) new = new ≡ old
+TellsIf false tree old (Err error) new = ⊥

@@ -1,0 +1,132 @@
+// What an attempt that waits behind the journal writes.
+ghost use Rattle.std.specs.Prelude.{◌≡◌, true, false, IfOk, IfErr};
+ghost use Rattle.journal_model.specs.declared.notification.NotificationId.{NotificationId};
+ghost use Rattle.journal_model.specs.AwaitTree.{AwaitTree};
+ghost use Rattle.journal_model.specs.Future.{tree_of};
+ghost use Rattle.journal_model.specs.Waiting.{only_leaves};
+ghost use Rattle.journal_model.specs.Spelling.{awaiting_on_payload};
+ghost use Rattle.attempt_model.specs.Results.{slot_of};
+ghost use Rattle.protocol_stream.specs.Records.{future_record};
+ghost use Rattle.protocol_stream.specs.declared.encoder.EncodingError.TheVariants.{OutOfMemory};
+ghost use Rattle.protocol_types.specs.declared.message_type.MessageType.TheVariants.{Suspension, AwaitingOn};
+ghost use Rattle.vm_awaits.specs.Views.{slots_of};
+ghost use Rattle.vm_waiting.specs.Suspending.{suspension_payload_in, Writes, Suspends, TellsAsRun, allows_telling, tells_awaiting, TellsIf};
+
+use crate::handles::has_handle;
+use journal_model::UnresolvedFuture;
+use protocol_records::{AwaitingOnMessage, Future, SuspensionMessage};
+use protocol_stream::{EncodingError, Feature, Version};
+use std::alloc::Global;
+use vm_awaits::AsyncResultsState;
+use vm_calls::Active;
+use vm_context::Output;
+use vm_types::AwaitingOnPolicy;
+
+// What a future waits for, as a record over ids.
+fn record_of(results: &AsyncResultsState, future: UnresolvedFuture) -> Result<Future, EncodingError>
+    ensures told { IfOk result (λ told. told ≡ future_record (only_leaves (slot_of (slots_of results.now)) (tree_of future))) }
+    ensures memory { IfErr result (λ error. error ≡ OutOfMemory) }
+{
+    let told = results.resolve_unresolved_future(&future);
+    drop(future);
+    match told {
+        Ok(told) => Ok(told),
+        Err(_) => Err(EncodingError::OutOfMemory),
+    }
+}
+
+fn write_suspension(
+    output: &mut Output,
+    alloc: Global,
+    awaiting_on: Future,
+) -> Result<(), EncodingError>
+    ensures { (tree : AwaitTree NotificationId) → awaiting_on ≡ future_record tree
+        → Writes Suspension (suspension_payload_in output.old.version tree) output.old result output.new }
+{
+    let message = SuspensionMessage {
+        awaiting_on: Some(awaiting_on),
+    };
+    let sent = output.send(alloc, &message);
+    drop(message);
+    sent
+}
+
+fn write_awaiting_on(output: &mut Output, alloc: Global, told: Future) -> Result<(), EncodingError>
+    ensures { (tree : AwaitTree NotificationId) → told ≡ future_record tree
+        → Writes AwaitingOn (awaiting_on_payload tree false) output.old result output.new }
+{
+    let message = AwaitingOnMessage {
+        awaiting_on: Some(told),
+        executing_side_effects: false,
+    };
+    let sent = output.send(alloc, &message);
+    drop(message);
+    sent
+}
+
+/// Suspends the attempt: writes what is left of what it awaits, and ends the output.
+///
+/// Where it cannot be written the attempt stays as it was.
+pub fn suspend(
+    active: &mut Active,
+    alloc: Global,
+    left: UnresolvedFuture,
+) -> Result<(), EncodingError>
+    ensures suspends { Suspends (tree_of left) active.old result active.new }
+    ensures run { TellsAsRun (tree_of left) active.old }
+{
+    let awaiting_on = record_of(&active.results, left)?;
+    write_suspension(&mut active.output, alloc, awaiting_on)?;
+    active.output.send_eof();
+    Ok(())
+}
+
+fn allows_telling(policy: AwaitingOnPolicy, executes_run: bool) -> bool
+    ensures { result ≡ allows_telling policy executes_run }
+{
+    match policy {
+        AwaitingOnPolicy::SendAlways => true,
+        AwaitingOnPolicy::DontSendWhenExecutingRun => !executes_run,
+        AwaitingOnPolicy::DontSend => false,
+    }
+}
+
+fn tells_awaiting(
+    version: Version,
+    policy: AwaitingOnPolicy,
+    executes_run: bool,
+    left: &UnresolvedFuture,
+) -> bool
+    ensures { result ≡ tells_awaiting version policy executes_run (tree_of left.now) }
+{
+    Feature::AwaitTree.is_in(version.number())
+        && allows_telling(policy, executes_run)
+        && has_handle(left)
+}
+
+fn tell(active: &mut Active, alloc: Global, left: UnresolvedFuture) -> Result<(), EncodingError>
+    ensures { TellsIf true (tree_of left) active.old result active.new }
+{
+    let awaiting_on = record_of(&active.results, left)?;
+    write_awaiting_on(&mut active.output, alloc, awaiting_on)
+}
+
+/// Tells what is left of what the attempt awaits, where it stays for more input: as the policy has it, by whether any run is
+/// being executed, and only of a future that has a handle in it. The version is the output's.
+pub fn tell_awaiting_on(
+    active: &mut Active,
+    alloc: Global,
+    version: Version,
+    policy: AwaitingOnPolicy,
+    executes_run: bool,
+    left: UnresolvedFuture,
+) -> Result<(), EncodingError>
+    ensures told { TellsIf (tells_awaiting version policy executes_run (tree_of left)) (tree_of left) active.old result active.new }
+    ensures run { TellsAsRun (tree_of left) active.old }
+{
+    if tells_awaiting(version, policy, executes_run, &left) {
+        return tell(active, alloc, left);
+    }
+    drop(left);
+    Ok(())
+}
