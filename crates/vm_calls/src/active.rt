@@ -66,7 +66,7 @@ fn still_replays(is_replaying: bool, commands: &VecDeque<RawMessage>) -> bool
 
 impl Active {
     /// A command of this type and name is asked for: errors that follow tell it. Answers a copy of the name.
-    pub(crate) fn ask(&mut self, ty: MessageType, name: ByteStr) -> Result<ByteStr, AllocError>
+    pub fn ask(&mut self, ty: MessageType, name: ByteStr) -> Result<ByteStr, AllocError>
         ensures copy { IfOk result (λ copy. copy ≡ name) }
         ensures journal { self.new ≡ asking ty name self.old }
     {
@@ -91,7 +91,7 @@ impl Active {
 
     /// Begins a call of one completion, whose command is of this type and name: takes the completion's id and the handle that
     /// stands for it. Answers a copy of the name beside the two.
-    pub(crate) fn begin(
+    pub fn begin(
         &mut self,
         ty: MessageType,
         name: ByteStr,

@@ -23,7 +23,7 @@ use vm_commands::Command;
 use vm_types::CallHandle;
 
 /// A text, or an empty one where none is given.
-pub(crate) fn or_empty(text: Option<ByteStr>) -> ByteStr
+pub fn or_empty(text: Option<ByteStr>) -> ByteStr
     ensures { result ≡ unwrap_or text [] }
 {
     match text {

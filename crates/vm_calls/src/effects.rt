@@ -11,7 +11,7 @@ use std::alloc::Global;
 use vm_commands::Command;
 
 /// Whether other bytes of a payload stand: where the machine's checks are off for them, or the call's options say so.
-pub(crate) fn ignores(checks_off: bool, options: PayloadOptions) -> bool
+pub fn ignores(checks_off: bool, options: PayloadOptions) -> bool
     ensures { result ≡ (checks_off || options.unstable_serialization) }
 {
     checks_off || options.unstable_serialization

@@ -21,5 +21,7 @@ mod telling;
 
 pub use active::Active;
 pub use call_error::{CallError, NumberError};
+pub use calling::or_empty;
+pub use effects::ignores;
 pub use put_error::PutError;
 pub use putting::put;
