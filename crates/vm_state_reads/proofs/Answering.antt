@@ -1,0 +1,125 @@
+-- A read of which all is done but that its command is put does what the abstract machine does.
+use Rattle.std.proofs.Common.{◌≡◌, ◌+◌, ◌∷◌, ◌++◌, ℕ, Bool, ◌||◌, [], length, map, Some, Result, Ok, Err, refl, sym, ap, ◌∙◌, subst}
+use Rattle.journal_model.specs.declared.notification.NotificationId.TheVariants.{CompletionId}
+use Rattle.journal_model.specs.declared.call.Call.{Call}
+use Rattle.journal_model.specs.declared.call.Answer.{Answer}
+use Rattle.journal_model.specs.Request.{Request}
+use Rattle.journal_model.specs.History.{completions_of, signals_of}
+use Rattle.journal_model.specs.Delivery.{known_result}
+use Rattle.journal_model.specs.Run.{Invocation}
+use Rattle.attempt_model.specs.Requests.{answer_by}
+use Rattle.attempt_model.specs.Results.{Slots, ready_after_all}
+use Rattle.attempt_model.specs.Machine.{Machine, next_slot}
+use Rattle.vm_awaits.specs.Views.{AsyncResults, results_of}
+use Rattle.vm_awaits.specs.Calls.{with_handle}
+use Rattle.vm_context.specs.Eager.{KnownState}
+use Rattle.vm_context.specs.Journal.{after_command, after_completions}
+use Rattle.vm_context.specs.Following.{KnowsState}
+use Rattle.vm_context.proofs.Keeping.{others_keep}
+use Rattle.vm_commands.specs.HeaderEquality.{is_unstable}
+use Rattle.vm_commands.specs.declared.replay_error.ReplayError.TheVariants as unmatched
+use Rattle.protocol_stream.specs.declared.encoder.EncodingError.TheVariants as unsent
+use Rattle.vm_calls.specs.declared.active.Active.{Active}
+use Rattle.vm_calls.specs.declared.put_error.PutError.{PutError}
+use Rattle.vm_calls.specs.declared.put_error.PutError.TheVariants as puts
+use Rattle.vm_calls.specs.declared.call_error.CallError.TheVariants.{Put}
+use Rattle.vm_calls.specs.declared.call_error.NumberError.{NumberError}
+use Rattle.vm_calls.specs.declared.call_error.NumberError.TheVariants as numbers
+use Rattle.vm_calls.specs.Active.{has_left, left_of, LacksCompletions, IsSettled, PutsOne, PutsIn}
+use Rattle.vm_calls.specs.Making.{Replies, FailsAs, IsReady, HasBegun}
+use Rattle.vm_calls.proofs.Making.{no_more, put_answers, put_fails_as}
+use Rattle.vm_state_reads.specs.declared.read_error.ReadError.{ReadError}
+use Rattle.vm_state_reads.specs.declared.read_error.ReadError.TheVariants as errors
+use Rattle.vm_state_reads.specs.Errors.{lazy_read, eager_read}
+use Rattle.vm_state_reads.specs.Reading.{ReadFailsAs, Reads, PutsRead, ReadsOne, with_known}
+
+module _ (given : Invocation) (m : Machine) (call : Call) (request : Request) (one : ReadsOne given m call request) (handle : ℕ) (old begun : Active) (begins : HasBegun given m handle old begun) where
+  pub handle_is : answer_by given.input.invocation_id (next_slot m) m.signals call ≡ Answer.Handle handle
+  handle_is = one.answer given.input.invocation_id (next_slot m) m.signals ∙ ap Answer.Handle (sym (begins.takes.handle ∙ ap (λ (r : AsyncResults). 17 + length r.slots) begins.sees.results))
+
+  abbrev with_slots : Slots → AsyncResults
+  with_slots slots = record { delivery = given.options.signal_delivery; queue = m.queue; ready = m.ready; slots = slots }
+
+  results_are : results_of begun.results ≡ with_slots (m.slots ++ Some (CompletionId m.completions) ∷ [])
+  results_are = begins.takes.results
+      ∙ ap (λ (n : ℕ). with_handle (CompletionId n) (results_of old.results)) begins.sees.completions ∙ ap (λ (r : AsyncResults). with_handle (CompletionId m.completions) r) begins.sees.results
+
+  pub left_is : left_of begun ≡ m.left
+  left_is = ap (λ (a : Active). left_of a) begins.takes.others ∙ begins.sees.left
+
+  pub output_is : begun.output ≡ old.output
+  output_is = ap (λ (a : Active). a.output) begins.takes.others
+
+  pub settled_is : IsSettled begun
+  settled_is = record {
+    replaying = ap (λ (a : Active). a.is_replaying) begins.takes.others ∙ begins.sees.replaying ∙ ap has_left (sym left_is);
+    opened = ap (λ (a : Active). a.output.is_closed) begins.takes.others ∙ begins.sees.opened;
+  }
+
+  pub read_is_ready : (read : Active) → results_of read.results ≡ with_known (known_result m.completions (request ∷ [])) (results_of begun.results)
+      → read ≡ record begun { results = read.results } → IsReady given m call request old read
+  read_is_ready read results is =
+      let others : read ≡ record old { journal = after_completions 1 (after_command begins.ty begins.name old.journal); results = read.results } =
+      is ∙ ap (λ (a : Active). record a { results = read.results }) begins.takes.others in
+      record {
+        left = ap (λ (a : Active). left_of a) others ∙ begins.sees.left;
+        replaying = ap (λ (a : Active). a.is_replaying) others ∙ begins.sees.replaying;
+        results = results ∙ ap (λ (r : AsyncResults). with_known (known_result m.completions (request ∷ [])) r) results_are ∙ (λ i. record {
+          delivery = given.options.signal_delivery;
+          queue = m.queue;
+          ready = ready_after_all given.options.signal_delivery m.ready (known_result m.completions (request ∷ []));
+          slots = m.slots ++ map Some (sym one.ids i);
+        });
+        state = subst (λ (state : KnownState). KnowsState state m.start (m.done ++ request ∷ [])) (sym (ap (λ (a : Active). a.state) others)) (others_keep old.state m.start m.done request one.keeps begins.sees.state);
+        completions = ap (λ (a : Active). a.journal.completions) others ∙ ap (λ (n : ℕ). n + 1) begins.sees.completions ∙ ap (λ (n : ℕ). m.completions + n) (sym one.completions);
+        signals = ap (λ (a : Active). a.journal.signals) others ∙ begins.sees.signals ∙ no_more m.signals (signals_of call) one.signals;
+        opened = ap (λ (a : Active). a.output.is_closed) others ∙ begins.sees.opened;
+        children = begins.sees.children;
+        output = ap (λ (a : Active). a.output) others;
+      }
+
+  module _ (checks_off ignoring : Bool) (ignores : ignoring ≡ (checks_off || is_unstable call)) (read : Active)
+      (results : results_of read.results ≡ with_known (known_result m.completions (request ∷ [])) (results_of begun.results)) (is : read ≡ record begun { results = read.results }) (new : Active) where
+    pub read_fails : {M : Type 0} (error : PutError M) → (IsSettled read → PutsIn ignoring request m.written read (Err error) new) → FailsAs checks_off given m call old (Put error) × (new.output ≡ old.output)
+    read_fails error puts = put_fails_as checks_off ignoring given m call request one.asks ignores old read (read_is_ready read results is) error new puts
+
+    pub read_answers : (IsSettled read → PutsOne ignoring request m.written read new) → Replies checks_off given m call (Answer.Handle handle) old new
+    read_answers puts = put_answers checks_off ignoring given m call request one.asks ignores old read (read_is_ready read results is) (Answer.Handle handle) handle_is new puts
+
+-- ---- what it is put as
+
+module _ (checks_off : Bool) (given : Invocation) (m : Machine) (call : Call) (old new : Active) where
+  lazily_put : {L : Type 0} (E : Type 0) (put : Result ℕ (PutError L)) → PutsRead checks_off given m call old put new → Reads checks_off given m call {L = L} {E = E} old (lazy_read put) new
+  lazily_put E (Ok handle) put = put
+  lazily_put E (Err (puts.Replay (unmatched.Unavailable error))) put = put
+  lazily_put E (Err (puts.Replay (unmatched.Decoding error))) put = put
+  lazily_put E (Err (puts.Replay (unmatched.Mismatch error))) put = put
+  lazily_put E (Err (puts.Replay unmatched.OutOfMemory)) put = put
+  lazily_put E (Err (puts.Encoding unsent.PayloadTooLong)) put = put
+  lazily_put E (Err (puts.Encoding unsent.OutOfMemory)) put = put
+
+  pub lazily : {L E : Type 0} (put : Result ℕ (PutError L)) (result : Result ℕ (ReadError L E)) → result ≡ lazy_read put → PutsRead checks_off given m call old put new
+      → Reads checks_off given m call old result new
+  lazily {L} {E} put result is done = subst (λ (r : Result ℕ (ReadError L E)). Reads checks_off given m call old r new) (sym is) (lazily_put E put done)
+
+  eagerly_put : {E : Type 0} (L : Type 0) (put : Result ℕ (PutError E)) → PutsRead checks_off given m call old put new → Reads checks_off given m call {L = L} {E = E} old (eager_read put) new
+  eagerly_put L (Ok handle) put = put
+  eagerly_put L (Err (puts.Replay (unmatched.Unavailable error))) put = put
+  eagerly_put L (Err (puts.Replay (unmatched.Decoding error))) put = put
+  eagerly_put L (Err (puts.Replay (unmatched.Mismatch error))) put = put
+  eagerly_put L (Err (puts.Replay unmatched.OutOfMemory)) put = put
+  eagerly_put L (Err (puts.Encoding unsent.PayloadTooLong)) put = put
+  eagerly_put L (Err (puts.Encoding unsent.OutOfMemory)) put = put
+
+  pub eagerly : {L E : Type 0} (put : Result ℕ (PutError E)) (result : Result ℕ (ReadError L E)) → result ≡ eager_read put → PutsRead checks_off given m call old put new
+      → Reads checks_off given m call old result new
+  eagerly {L} {E} put result is done = subst (λ (r : Result ℕ (ReadError L E)). Reads checks_off given m call old r new) (sym is) (eagerly_put L put done)
+
+  -- no number was taken
+  pub number_fails : {L E : Type 0} (error : NumberError) (result : Result ℕ (ReadError L E)) → completions_of call ≡ 1 → (error ≡ numbers.IdsExhausted → LacksCompletions 1 old)
+      → new.output ≡ old.output → result ≡ Err (errors.Number error) → Reads checks_off given m call old result new
+  number_fails {L} {E} error result one lacks output is = subst (λ (r : Result ℕ (ReadError L E)). Reads checks_off given m call old r new) (sym is) (by_error error lacks)
+    where
+      by_error : (e : NumberError) → (e ≡ numbers.IdsExhausted → LacksCompletions 1 old) → ReadFailsAs checks_off given m call {L = L} {E = E} old (errors.Number e) × (new.output ≡ old.output)
+      by_error numbers.IdsExhausted lacks = (subst (λ (n : ℕ). LacksCompletions n old) (sym one) (lacks refl), output)
+      by_error numbers.OutOfMemory lacks = (tt, output)

@@ -1,0 +1,5 @@
+pub mod Answering
+pub mod Matching
+pub mod Replayed
+pub mod Knowing
+pub mod Asked

@@ -1,0 +1,17 @@
+use Rattle.std.proofs.Common.{refl}
+use Rattle.vm_state_reads.proofs.Matching.{match_settles, match_fails, tells_next, never_unavailable}
+use Rattle.vm_state_reads.proofs.replaying.match_read.Goals as goal
+
+pub returns-in-Ok-clause-matched : goal.returns-in-Ok-clause-matched
+returns-in-Ok-clause-matched g c =
+    λ made written asks t settled.
+    match_settles c.args.ignoring made written c.args.active.now t settled (Unit {0}) (Unit {0}) c.in-Ok.read _ c.are_left-active.ensures (c.in-Ok.ensures.matched made written asks) refl refl
+
+pub returns-in-Err-clause-matched : goal.returns-in-Err-clause-matched
+returns-in-Err-clause-matched g c =
+    λ made written asks t settled.
+    match_fails c.args.ignoring made written c.args.active.now t settled (Unit {0}) c.in-Err.error _ (never_unavailable g.met.E.Command.means g.met.E.Lazy.Command.means g.E.EagerRead.known g.E.EagerRead.bare g.E.EagerRead.asked _ c.args.ignoring c.args.expected _ c.in-Err.error c.in-Err.ensures.read) (c.in-Err.ensures.matched made written asks)
+
+pub returns-in-Ok-clause-next : goal.returns-in-Ok-clause-next
+returns-in-Ok-clause-next g c =
+    tells_next g.met.E.Command.means g.met.E.Lazy.Command.means g.E.EagerRead.known g.E.EagerRead.bare g.E.EagerRead.asked _ c.args.ignoring c.args.expected c.args.active.now.commands.items c.in-Ok.read c.in-Ok.ensures.read

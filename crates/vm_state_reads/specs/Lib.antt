@@ -1,0 +1,4 @@
+pub mod Errors
+pub mod Telling
+pub mod Reading
+pub mod Replaying

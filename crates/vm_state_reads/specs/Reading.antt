@@ -1,0 +1,80 @@
+-- What a read of an object's state does: what it answers, and why it fails.
+use Rattle.std.specs.Prelude.{◌≡◌, ℕ, Bool, false, List, [], ◌∷◌, Option, Some, None, Result, Ok, Err}
+use Rattle.journal_model.specs.declared.notification.NotificationId.TheVariants.{CompletionId}
+use Rattle.journal_model.specs.Notification.{Text, Arrival}
+use Rattle.journal_model.specs.declared.notification.NotificationResult.{NotificationResult}
+use Rattle.journal_model.specs.declared.call.Call.{Call}
+use Rattle.journal_model.specs.declared.call.Answer.{Answer}
+use Rattle.journal_model.specs.Request.{Request}
+use Rattle.journal_model.specs.History.{completions_of, signals_of, ids_of}
+use Rattle.journal_model.specs.Delivery.{known_result}
+use Rattle.journal_model.specs.Run.{Invocation}
+use Rattle.attempt_model.specs.Requests.{answer_by}
+use Rattle.attempt_model.specs.Results.{ready_after_all}
+use Rattle.attempt_model.specs.Machine.{Machine, FailedBy, Mismatch, reply_to}
+use Rattle.protocol_stream.specs.declared.encoder.EncodingError.TheVariants as unsent
+use Rattle.vm_awaits.specs.Views.{AsyncResults, results_of}
+use Rattle.vm_context.specs.Following.{changes_state}
+use Rattle.vm_commands.specs.HeaderEquality.{same_header}
+use Rattle.vm_commands.specs.declared.replay_error.ReplayError.TheVariants as unmatched
+use Rattle.vm_commands.specs.declared.state_read.StateReadError.TheVariants as errors
+use Rattle.vm_calls.specs.declared.active.Active.{Active}
+use Rattle.vm_calls.specs.declared.call_error.CallError.TheVariants.{Put}
+use Rattle.vm_calls.specs.declared.call_error.NumberError.TheVariants as numbers
+use Rattle.vm_calls.specs.declared.put_error.PutError.{PutError}
+use Rattle.vm_calls.specs.Active.{LacksCompletions}
+use Rattle.vm_calls.specs.Making.{Replies, IsLong, FailsAs, AsksOne, HasBegun}
+use Rattle.vm_state_reads.specs.declared.read_error.ReadError.{ReadError}
+use Rattle.vm_state_reads.specs.declared.read_error.ReadError.TheVariants.{Number, Replay, Encoding, OutOfMemory}
+
+module _ (checks_off : Bool) (given : Invocation) (m : Machine) (call : Call) where
+  -- Why it fails: no number is left; the abstract machine fails; its request, which would be written, is too long; or memory
+  -- was refused.
+  abbrev pub ReadFailsAs : {L E : Type 0} → (old : Active) → ReadError L E → Type 0
+  ReadFailsAs old (Number numbers.IdsExhausted) = LacksCompletions (completions_of call) old
+  ReadFailsAs old (Number numbers.OutOfMemory) = Unit {0}
+  ReadFailsAs old (Replay (errors.Lazy (unmatched.Unavailable error))) = ⊥
+  ReadFailsAs old (Replay (errors.Lazy unmatched.OutOfMemory)) = Unit {0}
+  ReadFailsAs old (Replay (errors.Eager (unmatched.Unavailable error))) = ⊥
+  ReadFailsAs old (Replay (errors.Eager unmatched.OutOfMemory)) = Unit {0}
+  ReadFailsAs old (Replay _) = reply_to (same_header checks_off) given m call ≡ FailedBy Mismatch
+  ReadFailsAs old (Encoding unsent.PayloadTooLong) = (m.left ≡ []) × IsLong checks_off given m call
+  ReadFailsAs old (Encoding unsent.OutOfMemory) = Unit {0}
+  ReadFailsAs old OutOfMemory = Unit {0}
+
+  -- what a read does
+  abbrev pub Reads : {L E : Type 0} → (old : Active) → Result ℕ (ReadError L E) → (new : Active) → Type 0
+  Reads old (Ok handle) new = Replies checks_off given m call (Answer.Handle handle) old new
+  Reads old (Err error) new = ReadFailsAs old error × (new.output ≡ old.output)
+
+  -- what a read does that has begun, once its command is put
+  abbrev pub PutsRead : {M : Type 0} → (old : Active) → Result ℕ (PutError M) → (new : Active) → Type 0
+  PutsRead old (Ok handle) new = Replies checks_off given m call (Answer.Handle handle) old new
+  PutsRead old (Err error) new = FailsAs checks_off given m call old (Put error) × (new.output ≡ old.output)
+
+-- a call that takes one completion id and a handle for it, and puts this request, whose result may be known at once
+pub record ReadsOne (given : Invocation) (m : Machine) (call : Call) (request : Request) : Type 0 where
+  pub asks : AsksOne given m call request
+  pub completions : completions_of call ≡ 1
+  pub signals : signals_of call ≡ 0
+  pub ids : ids_of m.completions m.signals call ≡ CompletionId m.completions ∷ []
+  pub keeps : changes_state request ≡ false
+  pub answer : (id : Text) (handle signal : ℕ) → answer_by id handle signal call ≡ Answer.Handle handle
+
+-- ---- what is known at once
+
+-- what has come where this is known of a completion
+abbrev pub arrivals_of : ℕ → Option NotificationResult → List Arrival
+arrivals_of n None = []
+arrivals_of n (Some result) = record { id = CompletionId n; result = result } ∷ []
+
+-- these are looked at, one behind the other
+abbrev pub with_known : List Arrival → AsyncResults → AsyncResults
+with_known arrivals results = record results { ready = ready_after_all results.delivery results.ready arrivals }
+
+-- the machine's read has begun, and what is known of its result is ready
+pub record HasRead (given : Invocation) (m : Machine) (handle : ℕ) (request : Request) (old read : Active) : Type 0 where
+  pub begun : Active
+  pub begins : HasBegun given m handle old begun
+  pub results : results_of read.results ≡ with_known (known_result m.completions (request ∷ [])) (results_of begun.results)
+  pub others : read ≡ record begun { results = read.results }

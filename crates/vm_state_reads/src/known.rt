@@ -1,0 +1,51 @@
+// What is left of a read once it has begun.
+ghost use Rattle.std.specs.Prelude.{◌≡◌, ◌||◌, Bool, Some, OnOk};
+ghost use Rattle.vm_calls.specs.Words.{Call, Request, Invocation, Machine};
+ghost use Rattle.vm_awaits.specs.Views.{results_of};
+ghost use Rattle.vm_commands.specs.HeaderEquality.{is_unstable};
+ghost use Rattle.vm_state_reads.specs.Reading.{ReadsOne, HasRead, PutsRead, arrivals_of, with_known};
+
+use journal_model::{Notification, NotificationHandle, NotificationId, NotificationResult};
+use std::alloc::{AllocError, Global};
+use vm_awaits::AsyncResultsState;
+use vm_calls::{Active, PutError};
+use vm_commands::Command;
+
+/// The result of a completion is there at once, where it is known.
+pub(crate) fn ready_at_once(
+    results: &mut AsyncResultsState,
+    id: u32,
+    known: Option<NotificationResult>,
+) -> Result<(), AllocError>
+    ensures { OnOk result (results_of results.new ≡ with_known (arrivals_of id known) (results_of results.old)) }
+{
+    match known {
+        None => Ok(()),
+        Some(result) => results.insert_ready(Notification {
+            id: NotificationId::CompletionId(id),
+            result,
+        }),
+    }
+}
+
+/// Puts the command of a read that has begun, and answers the handle of its completion.
+pub(crate) fn put_read<M: Command>(
+    active: &mut Active,
+    alloc: Global,
+    command: M,
+    ignoring: bool,
+    handle: NotificationHandle,
+) -> Result<NotificationHandle, PutError<M>>
+    ensures put { (checks_off : Bool) (given : Invocation) (m : Machine) (call : Call) (request : Request) (old : Active) → M.request_of command ≡ Some request
+        → ReadsOne given m call request → ignoring ≡ (checks_off || is_unstable call) → HasRead given m handle request old active.old
+        → PutsRead checks_off given m call old result active.new }
+    ensures journal { active.new.journal ≡ active.old.journal }
+{
+    match active.put(alloc, command, ignoring) {
+        Ok(stands) => {
+            drop(stands);
+            Ok(handle)
+        }
+        Err(error) => Err(error),
+    }
+}
