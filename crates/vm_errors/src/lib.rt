@@ -1,6 +1,10 @@
-//! What becomes of an error that an attempt fails with, and the frame that tells it.
+//! What becomes of an error that a machine fails with: what is kept of it, what is answered, and the frame that tells it.
 #![tactic(auto)]
 
+mod failing;
 mod failure;
+mod phase;
 
+pub use failing::{again, fail};
 pub use failure::{error_message, fail_with};
+pub use phase::{Phase, unexpected};

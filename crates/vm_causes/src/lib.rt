@@ -1,0 +1,12 @@
+//! What a machine fails with, by what came up: the error, or that memory was refused for it.
+//!
+//! Memory that was refused to what came up is told as that alone: a machine that fails with it writes no frame.
+#![tactic(auto)]
+
+mod about;
+mod calls;
+mod entries;
+
+pub use about::{about_last, about_nothing};
+pub use calls::{call_cause, input_cause, number_cause};
+pub use entries::entry_cause;

@@ -1,0 +1,2 @@
+mod Admitted
+mod Moments

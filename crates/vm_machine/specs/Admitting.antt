@@ -1,0 +1,54 @@
+-- What stands before each call.
+use Rattle.std.specs.Prelude.{◌≡◌, Bool, true, false, Option, Some, None, Result, Ok, Err, IfOk}
+use Rattle.std.specs.declared.alloc.AllocError.{AllocError}
+use Rattle.journal_model.specs.Notification.{Text}
+use Rattle.protocol_differences.specs.declared.relationship.CommandRelationship.TheVariants.{Last}
+use Rattle.protocol_errors.specs.declared.error.Error.{Error}
+use Rattle.protocol_types.specs.TypeText.{type_text}
+use Rattle.protocol_types.specs.declared.message_type.MessageType.{MessageType}
+use Rattle.vm_calls.specs.Active.{asking}
+use Rattle.vm_causes.specs.Causes.{Tells}
+use Rattle.vm_context.specs.Journal.{JournalCounts, command_told}
+use Rattle.vm_errors.specs.Failing.{IsCopy}
+use Rattle.vm_errors.specs.Phases.{kept_error, unexpected_error}
+use Rattle.vm_errors.specs.declared.phase.Phase.{Phase}
+use Rattle.vm_errors.specs.declared.phase.Phase.TheVariants as phases
+use Rattle.vm_refusals.specs.Refusals.{refusal_code, refusal_text}
+use Rattle.vm_refusals.specs.declared.refusal_error.RefusalError.{RefusalError}
+use Rattle.vm_machine.specs.Failing.{MachineFails}
+use Rattle.vm_machine.specs.declared.machine_state.MachineState.{MachineState}
+
+-- whether calls are made of it
+abbrev pub is_active : Phase → Bool
+is_active phases.Active = true
+is_active _ = false
+
+-- the error of a command that is asked for where no calls are made; it is about that command
+abbrev pub ElsewhereCauses : Phase → Bool → JournalCounts → MessageType → Error → Type 0
+ElsewhereCauses phase is_replaying journal ty told = told ≡ record (unexpected_error phase is_replaying (type_text ty)) { related_command = Some (command_told journal Last) }
+
+-- the command is counted, and the machine fails
+pub record IsElsewhere (ty : MessageType) (name : Text) (old : MachineState) (answer : Error) (new : MachineState) : Type 0 where
+  pub cause : Result Error AllocError
+  pub causes : IfOk cause (ElsewhereCauses old.phase old.active.is_replaying (asking ty name old.active).journal ty)
+  pub fails : MachineFails cause (record old { active = asking ty name old.active }) answer new
+
+-- the machine fails with why the call is refused; no command is counted
+pub record IsRefused (refusal : RefusalError) (old : MachineState) (answer : Error) (new : MachineState) : Type 0 where
+  pub cause : Result Error AllocError
+  pub causes : IfOk cause (Tells (refusal_code refusal.refusal) (Some (refusal_text refusal)))
+  pub fails : MachineFails cause old answer new
+
+-- One that has failed answers that again. Then a refusal is told, and then that no calls are made.
+abbrev pub AdmitsWhere : (kept : Option Error) → Option RefusalError → (is_active : Bool) → MessageType → Text → (old : MachineState) → Result Text Error → (new : MachineState) → Type 0
+AdmitsWhere (Some kept) refusal active ty name old (Err answer) new = (new ≡ old) × IsCopy kept answer
+AdmitsWhere (Some kept) refusal active ty name old (Ok same) new = ⊥
+AdmitsWhere None (Some refusal) active ty name old (Err answer) new = IsRefused refusal old answer new
+AdmitsWhere None (Some refusal) active ty name old (Ok same) new = ⊥
+AdmitsWhere None None false ty name old (Err answer) new = IsElsewhere ty name old answer new
+AdmitsWhere None None false ty name old (Ok same) new = ⊥
+AdmitsWhere None None true ty name old (Err answer) new = ⊥
+AdmitsWhere None None true ty name old (Ok same) new = (same ≡ name) × (new ≡ old)
+
+abbrev pub Admits : Option RefusalError → MessageType → Text → (old : MachineState) → Result Text Error → (new : MachineState) → Type 0
+Admits refusal ty name old result new = AdmitsWhere (kept_error old.phase) refusal (is_active old.phase) ty name old result new

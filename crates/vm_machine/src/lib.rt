@@ -1,0 +1,11 @@
+//! The machine of an invocation's attempt, as far as it is no trait of a host's: how far it has come, and how it fails.
+#![tactic(auto)]
+
+mod admitting;
+mod failing;
+mod machine_state;
+mod receiving;
+mod settling;
+mod sleeping;
+
+pub use machine_state::MachineState;

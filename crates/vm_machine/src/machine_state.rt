@@ -1,0 +1,27 @@
+// All that a machine keeps.
+use protocol_records::StartMessage;
+use protocol_stream::Decoder;
+use protocol_types::Version;
+use std::alloc::Global;
+use vm_calls::Active;
+use vm_ephemeral::EphemeralCommands;
+use vm_errors::Phase;
+use vm_types::VMOptions;
+
+/// All that a machine keeps.
+#[derive(Drop)]
+pub struct MachineState {
+    pub alloc: Global,
+    /// The version of the protocol that it speaks.
+    pub version: Version,
+    pub options: VMOptions,
+    /// The bytes that came and were not read.
+    pub decoder: Decoder,
+    pub is_input_closed: bool,
+    /// The start of its attempt, without the state that it shows.
+    pub start: Option<StartMessage>,
+    pub phase: Phase,
+    /// What is kept for the calls; before the first and behind the last it is kept all the same.
+    pub active: Active,
+    pub reads: EphemeralCommands,
+}
