@@ -1,15 +1,87 @@
--- What is known where a call was admitted.
-use Rattle.std.proofs.Common.{◌≡◌, Bool, true, false, Option, Some, None, Ok, refl}
+-- How a call goes on that was admitted, and one that was not.
+use Rattle.std.proofs.Common.{◌≡◌, ℕ, Bool, List, [], Option, Some, None, option_map, Result, Err, refl, sym, ap, subst, ◌∙◌}
 use Rattle.journal_model.specs.Notification.{Text}
+use Rattle.journal_model.specs.Await.{child_of}
+use Rattle.journal_model.specs.Refusal.{refusal_of}
+use Rattle.journal_model.specs.Run.{Invocation}
+use Rattle.journal_model.specs.declared.call.Answer.{Answer}
+use Rattle.journal_model.specs.declared.call.Call.{Call}
+use Rattle.attempt_model.specs.Machine.{Machine}
 use Rattle.protocol_errors.specs.declared.error.Error.{Error}
+use Rattle.protocol_types.specs.Version.{version_number}
+use Rattle.protocol_types.specs.declared.version.Version.{Version}
 use Rattle.protocol_types.specs.declared.message_type.MessageType.{MessageType}
+use Rattle.vm_calls.specs.Active.{Sees}
+use Rattle.vm_calls.specs.Making.{Makes}
+use Rattle.vm_calls.specs.declared.active.Active.{Active}
+use Rattle.vm_calls.specs.declared.call_error.CallError.{CallError}
+use Rattle.vm_errors.specs.Phases.{kept_error}
+use Rattle.vm_refusals.specs.Refusals.{refusal_meant}
+use Rattle.vm_refusals.specs.declared.refusal.CallRefusal.{CallRefusal}
 use Rattle.vm_refusals.specs.declared.refusal_error.RefusalError.{RefusalError}
-use Rattle.vm_machine.specs.Admitting.{AdmitsWhere}
+use Rattle.vm_machine.specs.Admitting.{AdmitsWhere, IsElsewhere, Admits, Carries}
+use Rattle.vm_machine.specs.declared.admitting.Admission.TheVariants.{Admitted, Elsewhere, Stopped}
+use Rattle.vm_machine.specs.Calls.{checks_off, IsOf, IsRefusalOf, IsMade, Calls}
+use Rattle.vm_machine.specs.Settling.{Settles}
 use Rattle.vm_machine.specs.declared.machine_state.MachineState.{MachineState}
 
-pub admitted_free : (kept : Option Error) (refusal : Option RefusalError) (active : Bool) (ty : MessageType) (name same : Text) (old new : MachineState)
-    → AdmitsWhere kept refusal active ty name old (Ok same) new → (refusal ≡ None) × ((same ≡ name) × (new ≡ old))
-admitted_free (Some kept) refusal active ty name same old new h = absurd h
-admitted_free None (Some refusal) active ty name same old new h = absurd h
-admitted_free None None false ty name same old new h = absurd h
-admitted_free None None true ty name same old new h = (refl, h)
+-- what was admitted is not refused, and leaves the machine as it was
+pub admitted_free : (kept : Option Error) (refusal : Option RefusalError) (old new : MachineState) → AdmitsWhere kept refusal old Admitted new → (refusal ≡ None) × (new ≡ old)
+admitted_free (Some kept) refusal old new h = absurd h
+admitted_free None (Some refusal) old new h = absurd h
+admitted_free None None old new h = (refl, h.1)
+
+-- a refusal that is told of a call, with the version that is spoken
+pub refused_as : (version : Version) (number : ℕ) (call : Call) (event : List ℕ) (first : Option CallRefusal) (told : Option RefusalError) → number ≡ version_number version
+    → option_map refusal_meant first ≡ refusal_of number call → Carries version first event told → IsRefusalOf version call event told
+refused_as version number call event None None is first carries = sym (first ∙ ap (λ (n : ℕ). refusal_of n call) is)
+refused_as version number call event None (Some error) is first carries = absurd carries
+refused_as version number call event (Some refusal) None is first carries = absurd carries
+refused_as version number call event (Some refusal) (Some error) is first carries =
+    (sym (first ∙ ap (λ (n : ℕ). refusal_of n call) is) ∙ ap (λ (r : CallRefusal). Some (refusal_meant r)) (sym carries.0), carries.1, carries.2)
+
+unrefused : (version : Version) (call : Call) (event : List ℕ) (told : Option RefusalError) → IsRefusalOf version call event told → told ≡ None → refusal_of (version_number version) call ≡ None
+unrefused version call event None refuses is = refuses
+unrefused version call event (Some error) refuses is = cc
+
+-- so the call is not refused of this invocation
+pub unrefused_of : (given : Invocation) (call : Call) (event : List ℕ) (refusal : Option RefusalError) (old new : MachineState) → IsRefusalOf old.version call event refusal
+    → Admits refusal old Admitted new → IsOf given new → refusal_of given.version call ≡ None
+unrefused_of given call event refusal old new refuses admits is_of =
+    let free = admitted_free (kept_error old.phase) refusal old new admits in
+    let same : given.version ≡ version_number old.version = is_of ∙ ap (λ (vm : MachineState). version_number vm.version) free.1 in
+    ap (λ (n : ℕ). refusal_of n call) same ∙ unrefused old.version call event refusal refuses free.0
+
+-- the call is made by its function of an attempt
+pub made_by : {M Taken : Type 0} (difference : M → M → List ℕ) (call : Call) (answer : Taken → Answer) (off : Bool) (old : MachineState) (made : Result Taken (CallError M)) (active : Active)
+    (result : Result Taken Error) (new : MachineState) → off ≡ checks_off old.options.non_determinism_checks
+    → ((given : Invocation) (m : Machine) → IsOf given old → child_of given.options.implicit_cancellation m.completions call ≡ [] → Sees given old.active m → Makes off given m call answer old.active made active)
+    → Settles difference made (record old { active = active }) result new → IsMade difference call answer old result new
+made_by {M = M} {Taken = Taken} difference call answer off old made active result new is makes settles = record {
+  made = made;
+  between = record old { active = active };
+  others = refl;
+  makes = λ given m is_of childless sees. subst (λ (off : Bool). Makes off given m call answer old.active made active) is (makes given m is_of childless sees);
+  settles = settles;
+}
+
+module _ {M Taken : Type 0} (difference : M → M → List ℕ) (call : Call) (answer : Taken → Answer) (event : List ℕ) (ty : MessageType) (name : Text) (refusal : Option RefusalError)
+    (old between : MachineState) where
+  pub calls_made : (result : Result Taken Error) (new : MachineState) → IsRefusalOf old.version call event refusal → Admits refusal old Admitted between
+      → IsMade difference call answer between result new → Calls difference call answer event ty name old result new
+  calls_made result new refuses admits made = record { refusal = refusal; refuses = refuses; admission = Admitted; between = between; admits = admits; goes_on = made }
+
+  pub calls_elsewhere : (told : Error) (new : MachineState) (named : Text) → named ≡ name → IsRefusalOf old.version call event refusal → Admits refusal old Elsewhere between
+      → IsElsewhere ty named between told new → Calls difference call answer event ty name old (Err told) new
+  calls_elsewhere told new named is refuses admits elsewhere = record {
+    refusal = refusal;
+    refuses = refuses;
+    admission = Elsewhere;
+    between = between;
+    admits = admits;
+    goes_on = subst (λ (n : Text). IsElsewhere ty n between told new) is elsewhere;
+  }
+
+  pub calls_stopped : (told : Error) → IsRefusalOf old.version call event refusal → Admits refusal old (Stopped told) between
+      → Calls difference call answer event ty name old (Err told) between
+  calls_stopped told refuses admits = record { refusal = refusal; refuses = refuses; admission = Stopped told; between = between; admits = admits; goes_on = (refl, refl) }

@@ -1,2 +1,2 @@
-mod Admitted
+pub mod Admitted
 mod Moments

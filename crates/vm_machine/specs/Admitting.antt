@@ -1,11 +1,12 @@
 -- What stands before each call.
-use Rattle.std.specs.Prelude.{◌≡◌, Bool, true, false, Option, Some, None, Result, Ok, Err, IfOk}
+use Rattle.std.specs.Prelude.{◌≡◌, ℕ, Bool, true, false, List, Option, Some, None, Result, IfOk}
 use Rattle.std.specs.declared.alloc.AllocError.{AllocError}
 use Rattle.journal_model.specs.Notification.{Text}
 use Rattle.protocol_differences.specs.declared.relationship.CommandRelationship.TheVariants.{Last}
 use Rattle.protocol_errors.specs.declared.error.Error.{Error}
 use Rattle.protocol_types.specs.TypeText.{type_text}
 use Rattle.protocol_types.specs.declared.message_type.MessageType.{MessageType}
+use Rattle.protocol_types.specs.declared.version.Version.{Version}
 use Rattle.vm_calls.specs.Active.{asking}
 use Rattle.vm_causes.specs.Causes.{Tells}
 use Rattle.vm_context.specs.Journal.{JournalCounts, command_told}
@@ -14,8 +15,11 @@ use Rattle.vm_errors.specs.Phases.{kept_error, unexpected_error}
 use Rattle.vm_errors.specs.declared.phase.Phase.{Phase}
 use Rattle.vm_errors.specs.declared.phase.Phase.TheVariants as phases
 use Rattle.vm_refusals.specs.Refusals.{refusal_code, refusal_text}
+use Rattle.vm_refusals.specs.declared.refusal.CallRefusal.{CallRefusal}
 use Rattle.vm_refusals.specs.declared.refusal_error.RefusalError.{RefusalError}
 use Rattle.vm_machine.specs.Failing.{MachineFails}
+use Rattle.vm_machine.specs.declared.admitting.Admission.{Admission}
+use Rattle.vm_machine.specs.declared.admitting.Admission.TheVariants.{Admitted, Elsewhere, Stopped}
 use Rattle.vm_machine.specs.declared.machine_state.MachineState.{MachineState}
 
 -- whether calls are made of it
@@ -39,16 +43,20 @@ pub record IsRefused (refusal : RefusalError) (old : MachineState) (answer : Err
   pub causes : IfOk cause (Tells (refusal_code refusal.refusal) (Some (refusal_text refusal)))
   pub fails : MachineFails cause old answer new
 
--- One that has failed answers that again. Then a refusal is told, and then that no calls are made.
-abbrev pub AdmitsWhere : (kept : Option Error) → Option RefusalError → (is_active : Bool) → MessageType → Text → (old : MachineState) → Result Text Error → (new : MachineState) → Type 0
-AdmitsWhere (Some kept) refusal active ty name old (Err answer) new = (new ≡ old) × IsCopy kept answer
-AdmitsWhere (Some kept) refusal active ty name old (Ok same) new = ⊥
-AdmitsWhere None (Some refusal) active ty name old (Err answer) new = IsRefused refusal old answer new
-AdmitsWhere None (Some refusal) active ty name old (Ok same) new = ⊥
-AdmitsWhere None None false ty name old (Err answer) new = IsElsewhere ty name old answer new
-AdmitsWhere None None false ty name old (Ok same) new = ⊥
-AdmitsWhere None None true ty name old (Err answer) new = ⊥
-AdmitsWhere None None true ty name old (Ok same) new = (same ≡ name) × (new ≡ old)
+-- One that has failed answers that again. Then a refusal is told; and then whether calls are made.
+abbrev pub AdmitsWhere : (kept : Option Error) → Option RefusalError → (old : MachineState) → Admission → (new : MachineState) → Type 0
+AdmitsWhere (Some kept) refusal old (Stopped answer) new = (new ≡ old) × IsCopy kept answer
+AdmitsWhere None (Some refusal) old (Stopped answer) new = IsRefused refusal old answer new
+AdmitsWhere None None old Admitted new = (is_active old.phase ≡ true) × (new ≡ old)
+AdmitsWhere None None old Elsewhere new = (is_active old.phase ≡ false) × (new ≡ old)
+AdmitsWhere kept refusal old admission new = ⊥
 
-abbrev pub Admits : Option RefusalError → MessageType → Text → (old : MachineState) → Result Text Error → (new : MachineState) → Type 0
-Admits refusal ty name old result new = AdmitsWhere (kept_error old.phase) refusal (is_active old.phase) ty name old result new
+abbrev pub Admits : Option RefusalError → (old : MachineState) → Admission → (new : MachineState) → Type 0
+Admits refusal old admission new = AdmitsWhere (kept_error old.phase) refusal old admission new
+
+-- a refusal, with the version that is spoken, and with what the call's moment is called
+abbrev pub Carries : Version → Option CallRefusal → (event : List ℕ) → Option RefusalError → Type 0
+Carries version None event None = Unit {0}
+Carries version None event (Some error) = ⊥
+Carries version (Some refusal) event None = ⊥
+Carries version (Some refusal) event (Some error) = (error.refusal ≡ refusal) × (error.version ≡ version) × (error.event.now ≡ event)

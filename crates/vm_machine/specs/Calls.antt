@@ -1,5 +1,6 @@
 -- What a call does that puts one command, in every state of the machine.
-use Rattle.std.specs.Prelude.{◌≡◌, ℕ, Bool, true, false, List, Option, Some, None, Result, Ok, Err}
+use Rattle.std.specs.Prelude.{◌≡◌, ℕ, Bool, true, false, List, [], Option, Some, None, Result, Ok, Err}
+use Rattle.journal_model.specs.Await.{child_of}
 use Rattle.journal_model.specs.Notification.{Text}
 use Rattle.journal_model.specs.Refusal.{milliseconds, first_refusal, moment_tests, refusal_of}
 use Rattle.journal_model.specs.Run.{Invocation}
@@ -18,7 +19,9 @@ use Rattle.vm_refusals.specs.Refusals.{refusal_meant}
 use Rattle.vm_refusals.specs.declared.refusal_error.RefusalError.{RefusalError}
 use Rattle.vm_types.specs.declared.options.NonDeterministicChecksOption.{NonDeterministicChecksOption}
 use Rattle.vm_types.specs.declared.options.NonDeterministicChecksOption.TheVariants.{PayloadChecksDisabled, Enabled}
-use Rattle.vm_machine.specs.Admitting.{Admits}
+use Rattle.vm_machine.specs.Admitting.{IsElsewhere, Admits}
+use Rattle.vm_machine.specs.declared.admitting.Admission.{Admission}
+use Rattle.vm_machine.specs.declared.admitting.Admission.TheVariants.{Admitted, Elsewhere, Stopped}
 use Rattle.vm_machine.specs.Settling.{Settles}
 use Rattle.vm_machine.specs.declared.machine_state.MachineState.{MachineState}
 
@@ -42,22 +45,26 @@ module _ {M Taken : Type 0} (difference : M → M → List ℕ) (call : Call) (a
     pub made : Result Taken (CallError M)
     pub between : MachineState
     pub others : between ≡ record old { active = between.active }
-    pub makes : (given : Invocation) (m : Machine) → IsOf given old → Sees given old.active m
+    -- no child is tracked yet that a cancellation is passed on to
+    pub makes : (given : Invocation) (m : Machine) → IsOf given old → child_of given.options.implicit_cancellation m.completions call ≡ [] → Sees given old.active m
         → Makes (checks_off old.options.non_determinism_checks) given m call answer old.active made between.active
     pub settles : Settles difference made between result new
 
-  abbrev pub GoesOn : Result Text Error → (between : MachineState) → Result Taken Error → (new : MachineState) → Type 0
-  GoesOn (Ok name) between result new = IsMade between result new
-  GoesOn (Err refused) between result new = (result ≡ Err refused) × (new ≡ between)
+  -- a call whose command is of this type and name goes on as it was admitted
+  abbrev pub GoesOn : (ty : MessageType) (name : Text) → Admission → (between : MachineState) → Result Taken Error → (new : MachineState) → Type 0
+  GoesOn ty name Admitted between result new = IsMade between result new
+  GoesOn ty name Elsewhere between (Ok taken) new = ⊥
+  GoesOn ty name Elsewhere between (Err answer) new = IsElsewhere ty name between answer new
+  GoesOn ty name (Stopped answer) between result new = (result ≡ Err answer) × (new ≡ between)
 
-  -- A call whose command is of this type and name: what stands before each call, and then the call itself.
+  -- What stands before each call, and then the call itself.
   pub record Calls (event : List ℕ) (ty : MessageType) (name : Text) (old : MachineState) (result : Result Taken Error) (new : MachineState) : Type 0 where
     pub refusal : Option RefusalError
     pub refuses : IsRefusalOf old.version call event refusal
-    pub admitted : Result Text Error
+    pub admission : Admission
     pub between : MachineState
-    pub admits : Admits refusal ty name old admitted between
-    pub goes_on : GoesOn admitted between result new
+    pub admits : Admits refusal old admission between
+    pub goes_on : GoesOn ty name admission between result new
 
 -- ---- moments
 

@@ -1,16 +1,27 @@
 // What stands before each call: whether it is refused, and whether calls are made of the machine.
 ghost use Rattle.std.specs.Prelude.{◌≡◌, Option, IfOk};
-ghost use Rattle.vm_machine.specs.Admitting.{is_active, ElsewhereCauses, IsElsewhere, Admits};
+ghost use Rattle.vm_machine.specs.Admitting.{is_active, ElsewhereCauses, IsElsewhere, Admits, Carries};
 
 use crate::MachineState;
 use bytes::ByteStr;
 use protocol_errors::Error;
-use protocol_types::MessageType;
+use protocol_types::{MessageType, Version};
 use std::alloc::{AllocError, Global};
 use vm_causes::about_nothing;
 use vm_context::Journal;
 use vm_errors::{Phase, again, unexpected};
-use vm_refusals::RefusalError;
+use vm_refusals::{CallRefusal, RefusalError};
+
+/// What stands before a call.
+#[derive(Debug, Drop)]
+pub enum Admission {
+    /// Calls are made of the machine, and this one is not refused.
+    Admitted,
+    /// No calls are made of the machine in its phase.
+    Elsewhere,
+    /// The machine fails with this, or has failed with it before.
+    Stopped(Error),
+}
 
 fn is_active(phase: &Phase) -> bool
     ensures { result ≡ is_active phase.now }
@@ -46,8 +57,8 @@ fn elsewhere_cause(
 }
 
 impl MachineState {
-    // A command is asked for where no calls are made.
-    fn fail_elsewhere(&mut self, ty: MessageType, name: ByteStr) -> Error
+    /// A command is asked for where no calls are made: it is counted, and the machine fails.
+    pub fn fail_elsewhere(&mut self, ty: MessageType, name: ByteStr) -> Error
         ensures { IsElsewhere ty name self.old result self.new }
     {
         self.active.journal.transition(ty, name);
@@ -61,28 +72,39 @@ impl MachineState {
         self.fail(cause)
     }
 
-    /// Whether the command of a call may be asked for: answers its name, or what the machine fails with. A refused call counts no
-    /// command.
-    pub(crate) fn admit(
-        &mut self,
-        refusal: Option<RefusalError>,
-        ty: MessageType,
-        name: ByteStr,
-    ) -> Result<ByteStr, Error>
-        ensures { Admits refusal ty name self.old result self.new }
+    /// What stands before each call: whether calls are made of the machine; or what it fails with, as the call is refused, or has
+    /// failed with before.
+    pub fn admit(&mut self, refusal: Option<RefusalError>) -> Admission
+        ensures { Admits refusal self.old result self.new }
     {
         if let Some(answer) = again(&self.phase) {
-            drop(name);
-            return Err(answer);
+            return Admission::Stopped(answer);
         }
         if let Some(refusal) = refusal {
-            drop(name);
             let cause = about_nothing(self.alloc, &refusal);
-            return Err(self.fail(cause));
+            return Admission::Stopped(self.fail(cause));
         }
         if is_active(&self.phase) {
-            return Ok(name);
+            return Admission::Admitted;
         }
-        Err(self.fail_elsewhere(ty, name))
+        Admission::Elsewhere
+    }
+}
+
+/// Why a call is refused, with the version that is spoken. `event` is what its moment is called.
+pub fn refusal_error(
+    version: Version,
+    refusal: Option<CallRefusal>,
+    event: &'static str,
+) -> Option<RefusalError>
+    ensures { Carries version refusal event.now result }
+{
+    match refusal {
+        None => None,
+        Some(refusal) => Some(RefusalError {
+            refusal,
+            version,
+            event,
+        }),
     }
 }

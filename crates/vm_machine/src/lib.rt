@@ -8,4 +8,6 @@ mod receiving;
 mod settling;
 mod sleeping;
 
+pub use admitting::{Admission, refusal_error};
 pub use machine_state::MachineState;
+pub use sleeping::checks_off;

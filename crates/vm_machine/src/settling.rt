@@ -9,10 +9,7 @@ use vm_commands::Command;
 
 impl MachineState {
     /// The answer of a call that puts one command: what it has made, or what the machine fails with.
-    pub(crate) fn settle<T, M: Command>(
-        &mut self,
-        made: Result<T, CallError<M>>,
-    ) -> Result<T, Error>
+    pub fn settle<T, M: Command>(&mut self, made: Result<T, CallError<M>>) -> Result<T, Error>
         ensures { Settles M.difference made self.old result self.new }
     {
         match made {

@@ -8,7 +8,7 @@ ghost use Rattle.protocol_differences.specs.Control.{sleep_command_difference};
 ghost use Rattle.protocol_types.specs.declared.message_type.MessageType.TheVariants.{SleepCommand};
 ghost use Rattle.vm_machine.specs.Calls.{checks_off, IsMade, Calls, TellsMoment};
 
-use crate::MachineState;
+use crate::{Admission, MachineState};
 use bytes::ByteStr;
 use journal_model::{Moment, NotificationHandle};
 use protocol_errors::Error;
@@ -16,8 +16,8 @@ use protocol_types::{MessageType, Version};
 use vm_refusals::{RefusalError, to_millis};
 use vm_types::NonDeterministicChecksOption;
 
-// Whether payloads are not compared.
-pub(crate) fn checks_off(option: NonDeterministicChecksOption) -> bool
+/// Whether payloads are not compared.
+pub fn checks_off(option: NonDeterministicChecksOption) -> bool
     ensures { result ≡ checks_off option }
 {
     match option {
@@ -65,9 +65,10 @@ impl MachineState {
     {
         drop(now);
         let (time, refusal) = moment_of(self.version, wake_up, "sleep duration");
-        match self.admit(refusal, MessageType::SleepCommand, name) {
-            Ok(name) => self.make_sleep(name, time),
-            Err(error) => Err(error),
+        match self.admit(refusal) {
+            Admission::Admitted => self.make_sleep(name, time),
+            Admission::Elsewhere => Err(self.fail_elsewhere(MessageType::SleepCommand, name)),
+            Admission::Stopped(error) => Err(error),
         }
     }
 }
