@@ -11,7 +11,7 @@ use Rattle.protocol_errors.specs.declared.error.Error.{Error}
 use Rattle.protocol_types.specs.Version.{version_number}
 use Rattle.protocol_types.specs.declared.version.Version.{Version}
 use Rattle.protocol_types.specs.declared.message_type.MessageType.{MessageType}
-use Rattle.vm_calls.specs.Active.{Sees}
+use Rattle.vm_calls.specs.Active.{Sees, IsAtCommand}
 use Rattle.vm_calls.specs.Making.{Makes}
 use Rattle.vm_calls.specs.declared.active.Active.{Active}
 use Rattle.vm_calls.specs.declared.call_error.CallError.{CallError}
@@ -23,6 +23,7 @@ use Rattle.vm_machine.specs.Admitting.{AdmitsWhere, IsElsewhere, Admits, Carries
 use Rattle.vm_machine.specs.declared.admitting.Admission.TheVariants.{Admitted, Elsewhere, Stopped}
 use Rattle.vm_machine.specs.Calls.{checks_off, IsOf, IsRefusalOf, IsMade, Calls}
 use Rattle.vm_machine.specs.Settling.{Settles}
+use Rattle.vm_machine.specs.Steps.{Steps}
 use Rattle.vm_machine.specs.declared.machine_state.MachineState.{MachineState}
 
 -- what was admitted is not refused, and leaves the machine as it was
@@ -52,36 +53,49 @@ unrefused_of given call event refusal old new refuses admits is_of =
     let same : given.version ≡ version_number old.version = is_of ∙ ap (λ (vm : MachineState). version_number vm.version) free.1 in
     ap (λ (n : ℕ). refusal_of n call) same ∙ unrefused old.version call event refusal refuses free.0
 
+-- ---- the steps of any call
+
+module _ {Taken : Type 0} (IsDone : MachineState → Result Taken Error → MachineState → Type 0) (IsMissed : MachineState → Error → MachineState → Type 0) (refusal : Option RefusalError)
+    (old between : MachineState) where
+  pub steps_made : (result : Result Taken Error) (new : MachineState) → Admits refusal old Admitted between → IsDone between result new → Steps IsDone IsMissed refusal old result new
+  steps_made result new admits made = record { admission = Admitted; between = between; admits = admits; goes_on = made }
+
+  pub steps_elsewhere : (told : Error) (new : MachineState) → Admits refusal old Elsewhere between → IsMissed between told new → Steps IsDone IsMissed refusal old (Err told) new
+  steps_elsewhere told new admits misses = record { admission = Elsewhere; between = between; admits = admits; goes_on = misses }
+
+  pub steps_stopped : (told : Error) → Admits refusal old (Stopped told) between → Steps IsDone IsMissed refusal old (Err told) between
+  steps_stopped told admits = record { admission = Stopped told; between = between; admits = admits; goes_on = (refl, refl) }
+
+-- ---- calls that put one command
+
 -- the call is made by its function of an attempt
-pub made_by : {M Taken : Type 0} (difference : M → M → List ℕ) (call : Call) (answer : Taken → Answer) (off : Bool) (old : MachineState) (made : Result Taken (CallError M)) (active : Active)
-    (result : Result Taken Error) (new : MachineState) → off ≡ checks_off old.options.non_determinism_checks
+pub made_by : {M Taken : Type 0} (difference : M → M → List ℕ) (call : Call) (answer : Taken → Answer) (ty : MessageType) (name : Text) (off : Bool) (old : MachineState)
+    (made : Result Taken (CallError M)) (active : Active) (result : Result Taken Error) (new : MachineState) → off ≡ checks_off old.options.non_determinism_checks
     → ((given : Invocation) (m : Machine) → IsOf given old → child_of given.options.implicit_cancellation m.completions call ≡ [] → Sees given old.active m → Makes off given m call answer old.active made active)
-    → Settles difference made (record old { active = active }) result new → IsMade difference call answer old result new
-made_by {M = M} {Taken = Taken} difference call answer off old made active result new is makes settles = record {
+    → IsAtCommand ty name old.active.journal active.journal → Settles difference made (record old { active = active }) result new → IsMade difference call answer ty name old result new
+made_by {M = M} {Taken = Taken} difference call answer ty name off old made active result new is makes told settles = record {
   made = made;
   between = record old { active = active };
   others = refl;
   makes = λ given m is_of childless sees. subst (λ (off : Bool). Makes off given m call answer old.active made active) is (makes given m is_of childless sees);
+  told = told;
   settles = settles;
 }
 
 module _ {M Taken : Type 0} (difference : M → M → List ℕ) (call : Call) (answer : Taken → Answer) (event : List ℕ) (ty : MessageType) (name : Text) (refusal : Option RefusalError)
     (old between : MachineState) where
   pub calls_made : (result : Result Taken Error) (new : MachineState) → IsRefusalOf old.version call event refusal → Admits refusal old Admitted between
-      → IsMade difference call answer between result new → Calls difference call answer event ty name old result new
-  calls_made result new refuses admits made = record { refusal = refusal; refuses = refuses; admission = Admitted; between = between; admits = admits; goes_on = made }
+      → IsMade difference call answer ty name between result new → Calls difference call answer event ty name old result new
+  calls_made result new refuses admits made = record { refusal = refusal; refuses = refuses; steps = steps_made (IsMade difference call answer ty name) (IsElsewhere ty name) refusal old between result new admits made }
 
   pub calls_elsewhere : (told : Error) (new : MachineState) (named : Text) → named ≡ name → IsRefusalOf old.version call event refusal → Admits refusal old Elsewhere between
       → IsElsewhere ty named between told new → Calls difference call answer event ty name old (Err told) new
   calls_elsewhere told new named is refuses admits elsewhere = record {
     refusal = refusal;
     refuses = refuses;
-    admission = Elsewhere;
-    between = between;
-    admits = admits;
-    goes_on = subst (λ (n : Text). IsElsewhere ty n between told new) is elsewhere;
+    steps = steps_elsewhere (IsMade difference call answer ty name) (IsElsewhere ty name) refusal old between told new admits (subst (λ (n : Text). IsElsewhere ty n between told new) is elsewhere);
   }
 
   pub calls_stopped : (told : Error) → IsRefusalOf old.version call event refusal → Admits refusal old (Stopped told) between
       → Calls difference call answer event ty name old (Err told) between
-  calls_stopped told refuses admits = record { refusal = refusal; refuses = refuses; admission = Stopped told; between = between; admits = admits; goes_on = (refl, refl) }
+  calls_stopped told refuses admits = record { refusal = refusal; refuses = refuses; steps = steps_stopped (IsMade difference call answer ty name) (IsElsewhere ty name) refusal old between told admits }

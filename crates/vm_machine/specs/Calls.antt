@@ -1,5 +1,5 @@
 -- What a call does that puts one command, in every state of the machine.
-use Rattle.std.specs.Prelude.{◌≡◌, ℕ, Bool, true, false, List, [], Option, Some, None, Result, Ok, Err}
+use Rattle.std.specs.Prelude.{◌≡◌, ℕ, Bool, true, false, List, [], Option, Some, None, Result}
 use Rattle.journal_model.specs.Await.{child_of}
 use Rattle.journal_model.specs.Notification.{Text}
 use Rattle.journal_model.specs.Refusal.{milliseconds, first_refusal, moment_tests, refusal_of}
@@ -12,17 +12,16 @@ use Rattle.protocol_errors.specs.declared.error.Error.{Error}
 use Rattle.protocol_types.specs.Version.{version_number}
 use Rattle.protocol_types.specs.declared.version.Version.{Version}
 use Rattle.protocol_types.specs.declared.message_type.MessageType.{MessageType}
-use Rattle.vm_calls.specs.Active.{Sees}
+use Rattle.vm_calls.specs.Active.{Sees, IsAtCommand}
 use Rattle.vm_calls.specs.Making.{Makes}
 use Rattle.vm_calls.specs.declared.call_error.CallError.{CallError}
 use Rattle.vm_refusals.specs.Refusals.{refusal_meant}
 use Rattle.vm_refusals.specs.declared.refusal_error.RefusalError.{RefusalError}
 use Rattle.vm_types.specs.declared.options.NonDeterministicChecksOption.{NonDeterministicChecksOption}
 use Rattle.vm_types.specs.declared.options.NonDeterministicChecksOption.TheVariants.{PayloadChecksDisabled, Enabled}
-use Rattle.vm_machine.specs.Admitting.{IsElsewhere, Admits}
-use Rattle.vm_machine.specs.declared.admitting.Admission.{Admission}
-use Rattle.vm_machine.specs.declared.admitting.Admission.TheVariants.{Admitted, Elsewhere, Stopped}
+use Rattle.vm_machine.specs.Admitting.{IsElsewhere}
 use Rattle.vm_machine.specs.Settling.{Settles}
+use Rattle.vm_machine.specs.Steps.{Steps}
 use Rattle.vm_machine.specs.declared.machine_state.MachineState.{MachineState}
 
 -- whether payloads are not compared
@@ -39,8 +38,9 @@ abbrev pub IsRefusalOf : Version → Call → (event : List ℕ) → Option Refu
 IsRefusalOf version call event None = refusal_of (version_number version) call ≡ None
 IsRefusalOf version call event (Some error) = (refusal_of (version_number version) call ≡ Some (refusal_meant error.refusal)) × (error.version ≡ version) × (error.event.now ≡ event)
 
-module _ {M Taken : Type 0} (difference : M → M → List ℕ) (call : Call) (answer : Taken → Answer) where
-  -- The call is made as the abstract machine makes it, which was seen before; or the machine fails with why it is not.
+module _ {M Taken : Type 0} (difference : M → M → List ℕ) (call : Call) (answer : Taken → Answer) (ty : MessageType) (name : Text) where
+  -- The call is made as the abstract machine makes it, which was seen before; or the machine fails with why it is not. An error is
+  -- about this command.
   pub record IsMade (old : MachineState) (result : Result Taken Error) (new : MachineState) : Type 0 where
     pub made : Result Taken (CallError M)
     pub between : MachineState
@@ -48,23 +48,15 @@ module _ {M Taken : Type 0} (difference : M → M → List ℕ) (call : Call) (a
     -- no child is tracked yet that a cancellation is passed on to
     pub makes : (given : Invocation) (m : Machine) → IsOf given old → child_of given.options.implicit_cancellation m.completions call ≡ [] → Sees given old.active m
         → Makes (checks_off old.options.non_determinism_checks) given m call answer old.active made between.active
+    pub told : IsAtCommand ty name old.active.journal between.active.journal
     pub settles : Settles difference made between result new
 
-  -- a call whose command is of this type and name goes on as it was admitted
-  abbrev pub GoesOn : (ty : MessageType) (name : Text) → Admission → (between : MachineState) → Result Taken Error → (new : MachineState) → Type 0
-  GoesOn ty name Admitted between result new = IsMade between result new
-  GoesOn ty name Elsewhere between (Ok taken) new = ⊥
-  GoesOn ty name Elsewhere between (Err answer) new = IsElsewhere ty name between answer new
-  GoesOn ty name (Stopped answer) between result new = (result ≡ Err answer) × (new ≡ between)
-
-  -- What stands before each call, and then the call itself.
-  pub record Calls (event : List ℕ) (ty : MessageType) (name : Text) (old : MachineState) (result : Result Taken Error) (new : MachineState) : Type 0 where
-    pub refusal : Option RefusalError
-    pub refuses : IsRefusalOf old.version call event refusal
-    pub admission : Admission
-    pub between : MachineState
-    pub admits : Admits refusal old admission between
-    pub goes_on : GoesOn ty name admission between result new
+-- What stands before each call that puts one command, and then the call itself.
+pub record Calls {M Taken : Type 0} (difference : M → M → List ℕ) (call : Call) (answer : Taken → Answer) (event : List ℕ) (ty : MessageType) (name : Text)
+    (old : MachineState) (result : Result Taken Error) (new : MachineState) : Type 0 where
+  pub refusal : Option RefusalError
+  pub refuses : IsRefusalOf old.version call event refusal
+  pub steps : Steps (IsMade difference call answer ty name) (IsElsewhere ty name) refusal old result new
 
 -- ---- moments
 

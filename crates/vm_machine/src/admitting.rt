@@ -1,6 +1,7 @@
 // What stands before each call: whether it is refused, and whether calls are made of the machine.
 ghost use Rattle.std.specs.Prelude.{◌≡◌, Option, IfOk};
 ghost use Rattle.vm_machine.specs.Admitting.{is_active, ElsewhereCauses, IsElsewhere, Admits, Carries};
+ghost use Rattle.vm_machine.specs.Steps.{IsUnexpected};
 
 use crate::MachineState;
 use bytes::ByteStr;
@@ -68,6 +69,19 @@ impl MachineState {
             self.active.is_replaying,
             &self.active.journal,
             ty,
+        );
+        self.fail(cause)
+    }
+
+    /// A call that puts no command is made where no calls are made: the machine fails. `event` is what the call is named by.
+    pub fn fail_unexpected(&mut self, event: &'static str) -> Error
+        ensures { IsUnexpected event.now self.old result self.new }
+    {
+        let cause = unexpected(
+            self.alloc,
+            &self.phase,
+            self.active.is_replaying,
+            ByteStr::from_static(event),
         );
         self.fail(cause)
     }

@@ -47,7 +47,7 @@ impl MachineState {
     // Makes the call.
     fn make_sleep(&mut self, name: ByteStr, time: u64) -> Result<NotificationHandle, Error>
         ensures { (wake_up : Moments) (now : Option Moments) → milliseconds wake_up ≡ time → first_refusal (moment_tests wake_up) ≡ None
-            → IsMade sleep_command_difference (Call.Sleep name wake_up now) (λ handle. Answer.Handle handle) self.old result self.new }
+            → IsMade sleep_command_difference (Call.Sleep name wake_up now) (λ handle. Answer.Handle handle) SleepCommand name self.old result self.new }
     {
         let ignoring = checks_off(self.options.non_determinism_checks);
         let made = self.active.sleep(self.alloc, ignoring, name, time);

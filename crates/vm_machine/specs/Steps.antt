@@ -1,0 +1,36 @@
+-- What stands before a call, and then the call itself.
+use Rattle.std.specs.Prelude.{◌≡◌, List, ℕ, Option, Result, Ok, Err, IfOk}
+use Rattle.std.specs.declared.alloc.AllocError.{AllocError}
+use Rattle.protocol_errors.specs.declared.error.Error.{Error}
+use Rattle.vm_errors.specs.Phases.{unexpected_error}
+use Rattle.vm_refusals.specs.declared.refusal_error.RefusalError.{RefusalError}
+use Rattle.vm_machine.specs.Admitting.{Admits}
+use Rattle.vm_machine.specs.Failing.{MachineFails}
+use Rattle.vm_machine.specs.declared.admitting.Admission.{Admission}
+use Rattle.vm_machine.specs.declared.admitting.Admission.TheVariants.{Admitted, Elsewhere, Stopped}
+use Rattle.vm_machine.specs.declared.machine_state.MachineState.{MachineState}
+
+-- the machine fails with this cause, of which this is known where memory was not refused
+pub record FailsBy (Causes : Error → Type 0) (old : MachineState) (answer : Error) (new : MachineState) : Type 0 where
+  pub cause : Result Error AllocError
+  pub causes : IfOk cause Causes
+  pub fails : MachineFails cause old answer new
+
+-- the call that this names is none for the machine in its phase; no command is counted
+abbrev pub IsUnexpected : (event : List ℕ) → (old : MachineState) → Error → (new : MachineState) → Type 0
+IsUnexpected event old answer new = FailsBy (λ told. told ≡ unexpected_error old.phase old.active.is_replaying event) old answer new
+
+module _ {Taken : Type 0} (Makes : MachineState → Result Taken Error → MachineState → Type 0) (Misses : MachineState → Error → MachineState → Type 0) where
+  -- what was admitted is made; where no calls are made it fails so; what was stopped is answered
+  abbrev pub GoesOn : Admission → (between : MachineState) → Result Taken Error → (new : MachineState) → Type 0
+  GoesOn Admitted between result new = Makes between result new
+  GoesOn Elsewhere between (Ok taken) new = ⊥
+  GoesOn Elsewhere between (Err answer) new = Misses between answer new
+  GoesOn (Stopped answer) between result new = (result ≡ Err answer) × (new ≡ between)
+
+  -- One that has failed answers that again; then a refusal is told; then the call is made, or there is none in this phase.
+  pub record Steps (refusal : Option RefusalError) (old : MachineState) (result : Result Taken Error) (new : MachineState) : Type 0 where
+    pub admission : Admission
+    pub between : MachineState
+    pub admits : Admits refusal old admission between
+    pub goes_on : GoesOn admission between result new
