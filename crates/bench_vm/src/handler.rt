@@ -1,0 +1,81 @@
+// The handler: it sleeps and calls in turn.
+use anyhow::{Result, bail};
+use bytes::{ByteStr, Bytes};
+use std::alloc::Global;
+use vm_core::{
+    AwaitResponse, CoreVM, Moment, NotificationHandle, PayloadOptions, Sequence, Target,
+    UnresolvedFuture, VM, VMOptions,
+};
+
+/// How many bytes of a journal come at a time.
+const PIECE: usize = 64 * 1024;
+
+/// A machine that was told nothing yet.
+pub fn begin(alloc: Global) -> Result<CoreVM> {
+    let mut headers = Vec::new(alloc);
+    headers.push((
+        ByteStr::from_static("content-type"),
+        ByteStr::from_static("application/vnd.restate.invocation.v7"),
+    ))?;
+    let vm = CoreVM::new(alloc, &headers, VMOptions::default())?;
+    Ok(vm)
+}
+
+fn sleep(vm: &mut CoreVM) -> Result<NotificationHandle> {
+    let handle = vm.sys_sleep(ByteStr::new(), Moment::from_millis(10), None)?;
+    Ok(handle)
+}
+
+fn call(alloc: Global, vm: &mut CoreVM) -> Result<NotificationHandle> {
+    let target = Target {
+        service: ByteStr::from_static("Greeter"),
+        handler: ByteStr::from_static("greet"),
+        key: None,
+        idempotency_key: None,
+        scope: None,
+        limit_key: None,
+        headers: Sequence::new(alloc),
+    };
+    let parameter = Bytes::from_static(b"\"Ada\"");
+    let made = vm.sys_call(target, parameter, None, PayloadOptions::default())?;
+    Ok(made.call_notification_handle)
+}
+
+// What the handle stands for has come, and is taken.
+fn take(vm: &mut CoreVM, handle: NotificationHandle) -> Result<()> {
+    let response = vm.do_await(UnresolvedFuture::Single(handle))?;
+    if response != AwaitResponse::AnyCompleted {
+        bail!("an await of the journal is not over");
+    }
+    drop(vm.take_notification(handle)?);
+    Ok(())
+}
+
+fn take_both(alloc: Global, vm: &mut CoreVM) -> Result<()> {
+    let slept = sleep(vm)?;
+    take(vm, slept)?;
+    let answer = call(alloc, vm)?;
+    take(vm, answer)
+}
+
+/// Goes over a whole journal of so many sleeps and calls.
+pub fn replay(alloc: Global, vm: &mut CoreVM, journal: &[u8], count: u32) -> Result<()> {
+    for piece in journal.chunks(PIECE) {
+        vm.notify_input(Bytes::copy_from_slice(alloc, piece)?);
+    }
+    drop(vm.sys_input()?);
+    for _ in 0..count {
+        take_both(alloc, vm)?;
+    }
+    Ok(())
+}
+
+/// Makes so many sleeps and calls anew, and hands out their frames.
+pub fn write(alloc: Global, vm: &mut CoreVM, count: u32) -> Result<Bytes> {
+    for _ in 0..count {
+        sleep(vm)?;
+        call(alloc, vm)?;
+    }
+    let frames = vm.take_output()?;
+    Ok(frames)
+}

@@ -1,0 +1,122 @@
+// The journal: made, and taken apart.
+use crate::handler::{begin, write};
+use anyhow::Result;
+use bytes::{ByteStr, Bytes};
+use journal_protocol::messages::{
+    CallCommandMessage, NotificationMessage, NotificationMessageId, NotificationMessageResult, SleepCommandMessage,
+    StartMessage, Value, Void,
+};
+use journal_protocol::{
+    Decoder, Encoder, MessageType, RawMessage, RawMessageExt, Sequence, Version,
+    encode_record,
+};
+use std::alloc::Global;
+use vm_core::VM;
+
+fn start(alloc: Global, known_entries: u32) -> Result<Bytes> {
+    let message = StartMessage {
+        id: Bytes::from_static(b"inv_1"),
+        debug_id: ByteStr::from_static("inv_1"),
+        known_entries,
+        state_map: Sequence::new(alloc),
+        partial_state: false,
+        key: ByteStr::new(),
+        retry_count_since_last_stored_entry: 0,
+        duration_since_last_stored_entry: 0,
+        random_seed: 0,
+        scope: None,
+        limit_key: None,
+        idempotency_key: None,
+    };
+    let frame = Encoder::new(Version::V7).encode(alloc, &message);
+    drop(message);
+    Ok(frame?)
+}
+
+/// The frame of an input with no value.
+const INPUT: &[u8] = b"\x04\x00\x00\x00\x00\x00\x00\x02\x72\x00";
+
+fn put_notification(
+    alloc: Global,
+    out: &mut Vec<u8>,
+    ty: MessageType,
+    completion_id: u32,
+    result: NotificationMessageResult,
+) -> Result<()> {
+    let message = NotificationMessage {
+        id: Some(NotificationMessageId::CompletionId(completion_id)),
+        result: Some(result),
+    };
+    let frame = encode_record(alloc, ty, &message, Version::V7);
+    drop(message);
+    out.extend_from_slice(frame?.as_slice())?;
+    Ok(())
+}
+
+// A sleep takes one completion id, a call two.
+fn put_results(alloc: Global, out: &mut Vec<u8>, first: u32) -> Result<()> {
+    let slept = NotificationMessageResult::Void(Void {});
+    put_notification(alloc, out, MessageType::SleepCompletionNotification, first, slept)?;
+    let id = NotificationMessageResult::InvocationId(ByteStr::from_static("inv_2"));
+    put_notification(
+        alloc,
+        out,
+        MessageType::CallInvocationIdCompletionNotification,
+        first.wrapping_add(1),
+        id,
+    )?;
+    let answer = NotificationMessageResult::Value(Value {
+        content: Bytes::from_static(b"\"Hello, Ada\""),
+    });
+    put_notification(
+        alloc,
+        out,
+        MessageType::CallCompletionNotification,
+        first.wrapping_add(2),
+        answer,
+    )
+}
+
+// The frames of so many sleeps and calls, as the machine writes them.
+fn commands(alloc: Global, count: u32) -> Result<Bytes> {
+    let mut vm = begin(alloc)?;
+    vm.notify_input(start(alloc, 1)?);
+    vm.notify_input(Bytes::from_static(INPUT));
+    drop(vm.sys_input()?);
+    write(alloc, &mut vm, count)
+}
+
+/// A journal of so many sleeps and calls, and their results behind them.
+pub fn make_journal(alloc: Global, count: u32) -> Result<Vec<u8>> {
+    let mut journal = Vec::new(alloc);
+    journal.extend_from_slice(start(alloc, count.saturating_mul(5).saturating_add(1))?.as_slice())?;
+    journal.extend_from_slice(INPUT)?;
+    journal.extend_from_slice(commands(alloc, count)?.as_slice())?;
+    for at in 0..count {
+        put_results(alloc, &mut journal, at.wrapping_mul(3).wrapping_add(1))?;
+    }
+    Ok(journal)
+}
+
+fn decode_one(alloc: Global, message: &RawMessage) -> Result<()> {
+    match message.ty() {
+        MessageType::SleepCommand => drop(message.decode_to::<SleepCommandMessage>(alloc, 0)?),
+        MessageType::CallCommand => drop(message.decode_to::<CallCommandMessage>(alloc, 0)?),
+        ty if ty.is_notification() => drop(message.decode_as_notification(alloc)?),
+        _ => {}
+    }
+    Ok(())
+}
+
+/// Decodes all of a journal and lets it go.
+pub fn decode(alloc: Global, journal: &[u8]) -> Result<()> {
+    let mut decoder = Decoder::new(alloc);
+    decoder.push(journal)?;
+    for _ in 0..u64::MAX {
+        let Some(message) = decoder.consume_next()? else {
+            break;
+        };
+        decode_one(alloc, &message)?;
+    }
+    Ok(())
+}

@@ -1,0 +1,61 @@
+//! `bench_vm COUNT`: a handler sleeps and calls another handler COUNT times in turn, and waits for each answer. It is replayed over
+//! its whole journal, and then makes as many calls anew. What is printed is what an entry takes, beside what decoding the same
+//! bytes alone takes.
+//!
+//! With no word it does nothing.
+#![tactic(auto)]
+
+mod handler;
+mod journal;
+
+use anyhow::Result;
+use handler::{begin, replay, write};
+use journal::{decode, make_journal};
+use std::env;
+use std::rt::Env;
+use std::time::{CpuClock, Duration};
+
+// The nanoseconds that one of so many takes.
+fn each(took: Duration, count: u32) -> u128 {
+    took.as_nanos() / u128::from(count.max(1))
+}
+
+fn time_decoding<R: CpuClock + AllocGlobal>(rt: &R, journal: &[u8]) -> Result<Duration> {
+    let start = rt.thread_cpu_time()?;
+    decode(rt.alloc(), journal)?;
+    let end = rt.thread_cpu_time()?;
+    Ok(end.saturating_sub(start))
+}
+
+fn time_machine<R: CpuClock + Print + AllocGlobal>(rt: &R, count: u32) -> Result<()> {
+    let alloc = rt.alloc();
+    let journal = make_journal(alloc, count)?;
+    let decoding = time_decoding(rt, journal.as_slice())?;
+    let mut vm = begin(alloc)?;
+    let start = rt.thread_cpu_time()?;
+    replay(alloc, &mut vm, journal.as_slice(), count)?;
+    let replayed = rt.thread_cpu_time()?;
+    write(alloc, &mut vm, count)?;
+    let written = rt.thread_cpu_time()?;
+    drop(vm);
+    let entries = count.saturating_mul(5);
+    let replaying = each(replayed.saturating_sub(start), entries);
+    let decoding = each(decoding, entries);
+    let writing = each(written.saturating_sub(replayed), count.saturating_mul(2));
+    println!(rt; "entries {entries} replay {replaying} decode {decoding} write {writing}")?;
+    Ok(())
+}
+
+fn run<R: CpuClock + Env + Print + AllocGlobal>(rt: &R) -> Result<()> {
+    let mut words = env::args(rt)?;
+    let _program = words.next();
+    let Some(count) = words.next() else {
+        return Ok(());
+    };
+    let count: u32 = count.as_str().parse()?;
+    time_machine(rt, count)
+}
+
+fn main(rt: HostRuntime) -> Result<()> {
+    run(&rt)
+}

@@ -1,0 +1,108 @@
+//! What a machine is told, and what is asked of itself. `new VERSION SIGNALS JOURNAL CANCELLATION` with `queued` or `overwrite`,
+//! `replay` or `fresh`, `cancels` or `stays`; `in HEX`, `close`, `fail CODE`, `out`, `head`, `state`, `index`, `ready`.
+use crate::operands::{byte_str, bytes, number};
+use crate::told::{Hex, debug, done, failed, word};
+use bytes::ByteStr;
+use std::alloc::Global;
+use vm_core::{
+    CoreVM, Error, ImplicitCancellationOption, InvocationErrorCode, JournalReplay, SignalDelivery,
+    State, VM, VMOptions, VMResult,
+};
+
+fn options(signals: &str, journal: &str, cancellation: &str) -> VMOptions {
+    let mut options = VMOptions::default();
+    if signals == "overwrite" {
+        options.signal_delivery = SignalDelivery::Overwrite;
+    }
+    if journal == "fresh" {
+        options.journal_replay = JournalReplay::Disabled;
+    }
+    if cancellation == "stays" {
+        options.implicit_cancellation = ImplicitCancellationOption::Disabled;
+    }
+    options
+}
+
+// The header of a request in a version; of version 0 no header.
+fn headers(alloc: Global, version: &str) -> Option<Vec<(ByteStr, ByteStr)>> {
+    let mut headers = Vec::new(alloc);
+    if version != "0" {
+        let value = format!(in alloc; "application/vnd.restate.invocation.v{version}").ok()?;
+        let value = ByteStr::from_string(value).ok()?;
+        headers
+            .push((ByteStr::from_static("content-type"), value))
+            .ok()?;
+    }
+    Some(headers)
+}
+
+pub fn begin(alloc: Global, operands: &[&str]) -> Option<VMResult<CoreVM>> {
+    match operands {
+        [version, signals, journal, cancellation] => {
+            let headers = headers(alloc, *version)?;
+            let options = options(*signals, *journal, *cancellation);
+            Some(CoreVM::new(alloc, &headers, options))
+        }
+        _ => None,
+    }
+}
+
+fn come(alloc: Global, vm: &mut CoreVM, operand: &str) -> Option<String> {
+    vm.notify_input(bytes(alloc, operand)?);
+    debug(alloc, vm.state())
+}
+
+fn close(alloc: Global, vm: &mut CoreVM) -> Option<String> {
+    vm.notify_input_closed();
+    debug(alloc, vm.state())
+}
+
+fn fail(alloc: Global, vm: &mut CoreVM, code: &str) -> Option<String> {
+    let code = u16::try_from(number(code)?).ok()?;
+    let error = Error::new(InvocationErrorCode::new(code), ByteStr::from_static("failed"));
+    vm.notify_error(error, None);
+    debug(alloc, vm.state())
+}
+
+fn out(alloc: Global, vm: &mut CoreVM) -> Option<String> {
+    let bytes = vm.take_output().ok()?;
+    format!(in alloc; "{}", Hex(bytes.as_slice())).ok()
+}
+
+fn head(alloc: Global, vm: &CoreVM) -> Option<String> {
+    match vm.get_response_head() {
+        Ok(head) => {
+            let told = format!(in alloc; "{} {}", head.status_code, head.version.content_type()).ok();
+            drop(head);
+            told
+        }
+        Err(error) => failed(alloc, error),
+    }
+}
+
+fn ready(alloc: Global, vm: &CoreVM) -> Option<String> {
+    match vm.is_ready_to_execute() {
+        Ok(ready) => debug(alloc, ready),
+        Err(error) => failed(alloc, error),
+    }
+}
+
+pub fn answer(
+    alloc: Global,
+    vm: &mut CoreVM,
+    call: &str,
+    operands: &[&str],
+) -> Option<String> {
+    match (call, operands) {
+        ("in", [operand]) => come(alloc, vm, *operand),
+        ("close", []) => close(alloc, vm),
+        ("fail", [code]) => fail(alloc, vm, *code),
+        ("out", []) => out(alloc, vm),
+        ("head", []) => head(alloc, vm),
+        ("state", []) => debug(alloc, vm.state()),
+        ("index", []) => debug(alloc, vm.last_command_index()),
+        ("ready", []) => ready(alloc, vm),
+        ("end", []) => done(alloc, vm.sys_end()),
+        _ => None,
+    }
+}

@@ -1,0 +1,74 @@
+//! `resolve DELIVERIES WORD ..`: a tree over the completions 1 to 4, spelled as `await` has it, is awaited where these have come, `+` one
+//! that succeeded and `-` one that failed, or `-` alone for none. Told is that it wakes, or the frame of what it waits for.
+use crate::awaits::tree;
+use crate::feeding::begin;
+use crate::operands::number;
+use crate::told::{Hex, failed, word};
+use bytes::{ByteStr, Bytes};
+use std::alloc::Global;
+use vm_core::{AwaitResponse, CoreVM, Moment, VM};
+
+/// The frames of the start of `inv1` with one known entry, and of an input without a value.
+const OPENING: &[u8] = b"\x00\x00\x00\x00\x00\x00\x00\x0e\x0a\x04inv1\x12\x04inv1\x18\x01\x04\x00\x00\x00\x00\x00\x00\x02\x72\x00";
+
+const SUCCEEDED: &[u8] = b"\x2a\x03\x0a\x01\x31";
+
+const FAILED: &[u8] = b"\x32\x03\x08\xf4\x03";
+
+// A machine behind its input that has made four sleeps.
+fn sleeping(alloc: Global) -> Option<CoreVM> {
+    let mut vm = begin(alloc, &["7", "queued", "replay", "stays"])?.ok()?;
+    vm.notify_input(Bytes::from_static(OPENING));
+    drop(vm.sys_input().ok()?);
+    for _ in 0..4 {
+        vm.sys_sleep(ByteStr::new(), Moment::from_millis(10), None)
+            .ok()?;
+    }
+    drop(vm.take_output().ok()?);
+    Some(vm)
+}
+
+// The frame of a sleep's completion, which brings this.
+fn deliver(alloc: Global, vm: &mut CoreVM, completion: u8, brought: &[u8]) -> Option<()> {
+    let mut frame: Vec<u8> = Vec::new(alloc);
+    frame
+        .extend_from_slice(b"\x80\x0c\x00\x00\x00\x00\x00\x07\x08")
+        .ok()?;
+    frame.push(completion).ok()?;
+    frame.extend_from_slice(brought).ok()?;
+    vm.notify_input(Bytes::from_vec(frame).ok()?);
+    Some(())
+}
+
+fn deliver_all(alloc: Global, vm: &mut CoreVM, deliveries: &[u8]) -> Option<()> {
+    for delivery in deliveries.chunks(2) {
+        match delivery {
+            [b'+', digit] => deliver(alloc, vm, digit.wrapping_sub(b'0'), SUCCEEDED)?,
+            [b'-', digit] => deliver(alloc, vm, digit.wrapping_sub(b'0'), FAILED)?,
+            _ => {}
+        }
+    }
+    Some(())
+}
+
+fn told(alloc: Global, vm: &mut CoreVM, words: &[&str]) -> Option<String> {
+    match vm.do_await(tree(alloc, words, 16)?) {
+        Ok(AwaitResponse::AnyCompleted) => word(alloc, "wakes"),
+        Ok(_) => {
+            let frames = vm.take_output().ok()?;
+            format!(in alloc; "{}", Hex(frames.as_slice())).ok()
+        }
+        Err(error) => failed(alloc, error),
+    }
+}
+
+pub fn answer(alloc: Global, operands: &[&str]) -> Option<String> {
+    match operands {
+        [deliveries, words @ ..] => {
+            let mut vm = sleeping(alloc)?;
+            deliver_all(alloc, &mut vm, deliveries.as_bytes())?;
+            told(alloc, &mut vm, words)
+        }
+        [] => None,
+    }
+}

@@ -1,0 +1,260 @@
+// The machine, closed.
+use crate::{VM, VMResult};
+use bytes::{ByteStr, Bytes};
+use journal_model::{
+    AttachInvocationTarget, Input, Moment, NonEmptyValue, NotificationHandle, PayloadOptions,
+    Target, UnresolvedFuture, Value,
+};
+use protocol_differences::CommandRelationship;
+use protocol_errors::Error;
+use protocol_stream::HeaderMap;
+use std::alloc::{AllocError, Global};
+use std::fmt;
+use std::marker::Model;
+use vm_beginning::begin;
+use vm_errors::Phase;
+use vm_machine::MachineState;
+use vm_types::{
+    AwaitResponse, AwakeableHandle, CallHandle, EphemeralCompletionId, ResponseHead, SendHandle,
+    State, VMOptions,
+};
+
+/// The machine of an invocation's attempt.
+///
+/// Its contracts see all that it keeps (`vm_machine::MachineState`), which nothing but its calls changes.
+#[derive(Drop)]
+pub struct CoreVM {
+    state: MachineState,
+}
+
+impl Model for CoreVM {
+    ghost use Rattle.vm_machine.specs.declared.machine_state.MachineState.{MachineState};
+
+    ghost Value = { MachineState };
+
+    ghost view = { λ vm. vm.state };
+}
+
+// How far a machine has come, as it is shown.
+fn phase_shown(phase: &Phase, is_replaying: bool) -> &'static str {
+    match phase {
+        Phase::WaitingStart => "WaitingStart",
+        Phase::WaitingReplayEntries { .. } => "WaitingReplayEntries",
+        Phase::Active if is_replaying => "Replaying",
+        Phase::Active => "Processing",
+        Phase::Closed => "Closed",
+        Phase::Failed(_) => "Errored",
+    }
+}
+
+/// Prints the version, the invocation once its start has come, how far the machine has come, and the index of its last command.
+impl fmt::Debug for CoreVM {
+    fn fmt<W: fmt::Write>(&self, f: &mut fmt::Formatter<W>) -> fmt::Result {
+        let state = &self.state;
+        let mut shown = f.debug_struct("CoreVM");
+        shown.field("version", &state.version);
+        if let Some(start) = &state.start {
+            shown.field("invocation_id", &start.debug_id);
+        }
+        let phase = phase_shown(&state.phase, state.active.is_replaying);
+        shown
+            .field("last_transition", &phase)
+            .field("command_index", &state.active.journal.command_index())
+            .finish()
+    }
+}
+
+impl VM for CoreVM {
+
+    fn new<H: HeaderMap>(alloc: Global, request_headers: &H, options: VMOptions) -> VMResult<Self>
+    {
+        match begin(alloc, request_headers, options) {
+            Ok(state) => Ok(CoreVM { state }),
+            Err(error) => Err(error),
+        }
+    }
+
+    fn get_response_head(&self) -> VMResult<ResponseHead>
+    {
+        vm_beginning::get_response_head(&self.state)
+    }
+
+    fn notify_input(&mut self, buffer: Bytes) 
+    {
+        vm_feeding::notify_input(&mut self.state, buffer);
+    }
+
+    fn notify_input_closed(&mut self) 
+    {
+        vm_feeding::notify_input_closed(&mut self.state);
+    }
+
+    fn notify_error(&mut self, error: Error, relationship: Option<CommandRelationship>) 
+    {
+        vm_feeding::notify_error(&mut self.state, error, relationship);
+    }
+
+    fn take_output(&mut self) -> Result<Bytes, AllocError>
+    {
+        vm_feeding::take_output(&mut self.state)
+    }
+
+    fn is_ready_to_execute(&self) -> VMResult<bool>
+    {
+        vm_feeding::is_ready_to_execute(&self.state)
+    }
+
+    fn is_completed(&self, handle: NotificationHandle) -> bool
+    {
+        vm_handles::is_completed(&self.state, handle)
+    }
+
+    fn do_await(&mut self, future: UnresolvedFuture) -> VMResult<AwaitResponse>
+    {
+        vm_progress::do_await(&mut self.state, future)
+    }
+
+    fn take_notification(&mut self, handle: NotificationHandle) -> VMResult<Option<Value>>
+    {
+        vm_handles::take_notification(&mut self.state, handle)
+    }
+
+    fn sys_input(&mut self) -> VMResult<Input>
+    {
+        vm_beginning::sys_input(&mut self.state)
+    }
+
+    fn sys_state_get(&mut self, key: ByteStr, name: Option<ByteStr>, options: PayloadOptions) -> VMResult<NotificationHandle>
+    {
+        vm_reading::sys_state_get(&mut self.state, key, name, options)
+    }
+
+    fn sys_state_get_keys(&mut self, name: Option<ByteStr>) -> VMResult<NotificationHandle>
+    {
+        vm_reading::sys_state_get_keys(&mut self.state, name)
+    }
+
+    fn ephemeral_state_get(&mut self, key: ByteStr) -> VMResult<EphemeralCompletionId>
+    {
+        vm_ephemeral_calls::ephemeral_state_get(&mut self.state, key)
+    }
+
+    fn take_ephemeral_notification(&mut self, id: EphemeralCompletionId) -> VMResult<Option<Value>>
+    {
+        vm_ephemeral_calls::take_ephemeral_notification(&mut self.state, id)
+    }
+
+    fn sys_state_set(&mut self, key: ByteStr, value: Bytes, name: Option<ByteStr>, options: PayloadOptions) -> VMResult<()>
+        ensures { Calls set_state_command_difference (Call.StateSet key value name options) (λ done. Answer.Done) [] SetStateCommand (name_or_empty name) self.old result self.new }
+    {
+        vm_syscalls::sys_state_set(&mut self.state, key, value, name, options)
+    }
+
+    fn sys_state_clear(&mut self, key: ByteStr, name: Option<ByteStr>) -> VMResult<()>
+        ensures { Calls clear_state_command_difference (Call.StateClear key name) (λ done. Answer.Done) [] ClearStateCommand (name_or_empty name) self.old result self.new }
+    {
+        vm_syscalls::sys_state_clear(&mut self.state, key, name)
+    }
+
+    fn sys_state_clear_all(&mut self, name: Option<ByteStr>) -> VMResult<()>
+        ensures { Calls clear_all_state_command_difference (Call.StateClearAll name) (λ done. Answer.Done) [] ClearAllStateCommand (name_or_empty name) self.old result self.new }
+    {
+        vm_syscalls::sys_state_clear_all(&mut self.state, name)
+    }
+
+    fn sys_sleep(&mut self, name: ByteStr, wake_up: Moment, now: Option<Moment>) -> VMResult<NotificationHandle>
+        ensures { Calls sleep_command_difference (Call.Sleep name wake_up now) (λ handle. Answer.Handle handle) (codes "sleep duration") SleepCommand name self.old result self.new }
+    {
+        self.state.sys_sleep(name, wake_up, now)
+    }
+
+    fn sys_call(&mut self, target: Target, parameter: Bytes, name: Option<ByteStr>, options: PayloadOptions) -> VMResult<CallHandle>
+        ensures { Calls call_command_difference (Call.Call target parameter name options) (λ made. Answer.Handles made.invocation_id_notification_handle made.call_notification_handle) [] CallCommand (name_or_empty name) self.old result self.new }
+    {
+        vm_syscalls::sys_call(&mut self.state, target, parameter, name, options)
+    }
+
+    fn sys_send(&mut self, target: Target, parameter: Bytes, execution_time: Option<Moment>, name: Option<ByteStr>, options: PayloadOptions) -> VMResult<SendHandle>
+    {
+        vm_syscalls::sys_send(&mut self.state, target, parameter, execution_time, name, options)
+    }
+
+    fn sys_awakeable(&mut self) -> VMResult<AwakeableHandle>
+    {
+        vm_handles::sys_awakeable(&mut self.state)
+    }
+
+    fn sys_complete_awakeable(&mut self, id: ByteStr, value: NonEmptyValue, options: PayloadOptions) -> VMResult<()>
+        ensures { Calls complete_awakeable_command_difference (Call.CompleteAwakeable id value options) (λ done. Answer.Done) [] CompleteAwakeableCommand [] self.old result self.new }
+    {
+        vm_syscalls::sys_complete_awakeable(&mut self.state, id, value, options)
+    }
+
+    fn create_signal_handle(&mut self, name: ByteStr) -> VMResult<NotificationHandle>
+    {
+        vm_handles::create_signal_handle(&mut self.state, name)
+    }
+
+    fn sys_complete_signal(&mut self, target_id: ByteStr, name: ByteStr, value: NonEmptyValue) -> VMResult<()>
+        ensures { Calls send_signal_command_difference (Call.CompleteSignal target_id name value) (λ done. Answer.Done) [] SendSignalCommand [] self.old result self.new }
+    {
+        vm_syscalls::sys_complete_signal(&mut self.state, target_id, name, value)
+    }
+
+    fn sys_get_promise(&mut self, key: ByteStr) -> VMResult<NotificationHandle>
+        ensures { Calls get_promise_command_difference (Call.GetPromise key) (λ handle. Answer.Handle handle) [] GetPromiseCommand [] self.old result self.new }
+    {
+        vm_syscalls::sys_get_promise(&mut self.state, key)
+    }
+
+    fn sys_peek_promise(&mut self, key: ByteStr) -> VMResult<NotificationHandle>
+        ensures { Calls peek_promise_command_difference (Call.PeekPromise key) (λ handle. Answer.Handle handle) [] PeekPromiseCommand [] self.old result self.new }
+    {
+        vm_syscalls::sys_peek_promise(&mut self.state, key)
+    }
+
+    fn sys_complete_promise(&mut self, key: ByteStr, value: NonEmptyValue, options: PayloadOptions) -> VMResult<NotificationHandle>
+        ensures { Calls complete_promise_command_difference (Call.CompletePromise key value options) (λ handle. Answer.Handle handle) [] CompletePromiseCommand [] self.old result self.new }
+    {
+        vm_syscalls::sys_complete_promise(&mut self.state, key, value, options)
+    }
+
+    fn sys_cancel_invocation(&mut self, target_id: ByteStr) -> VMResult<()>
+        ensures { Calls send_signal_command_difference (Call.Cancel target_id) (λ done. Answer.Done) [] SendSignalCommand [] self.old result self.new }
+    {
+        vm_syscalls::sys_cancel_invocation(&mut self.state, target_id)
+    }
+
+    fn sys_attach_invocation(&mut self, target: AttachInvocationTarget) -> VMResult<NotificationHandle>
+        ensures { Calls attach_invocation_command_difference (Call.Attach target) (λ handle. Answer.Handle handle) [] AttachInvocationCommand [] self.old result self.new }
+    {
+        vm_syscalls::sys_attach_invocation(&mut self.state, target)
+    }
+
+    fn sys_get_invocation_output(&mut self, target: AttachInvocationTarget) -> VMResult<NotificationHandle>
+        ensures { Calls get_invocation_output_command_difference (Call.GetOutput target) (λ handle. Answer.Handle handle) [] GetInvocationOutputCommand [] self.old result self.new }
+    {
+        vm_syscalls::sys_get_invocation_output(&mut self.state, target)
+    }
+
+    fn sys_write_output(&mut self, value: NonEmptyValue, options: PayloadOptions) -> VMResult<()>
+        ensures { Calls output_command_difference (Call.Output value options) (λ done. Answer.Done) [] OutputCommand [] self.old result self.new }
+    {
+        vm_syscalls::sys_write_output(&mut self.state, value, options)
+    }
+
+    fn sys_end(&mut self) -> VMResult<()>
+    {
+        vm_progress::sys_end(&mut self.state)
+    }
+
+    fn state(&self) -> State
+    {
+        vm_feeding::state(&self.state)
+    }
+
+    fn last_command_index(&self) -> i64
+    {
+        vm_feeding::last_command_index(&self.state)
+    }
+}
