@@ -1,10 +1,9 @@
 -- Each completion is asked for by one recorded request at most, and comes once, after it was asked for.
-use Rattle.std.specs.Prelude.{◌≡◌, true, map, filter, length, ℕ, ◌+◌, ◌≤◌, ◌==◌, if◌then◌else◌, List, [], ◌∷◌, ◌++◌}
+use Rattle.std.specs.Prelude.{◌≡◌, true, length, ℕ, ◌+◌, ◌≤◌, ◌==◌, if◌then◌else◌, List, [], ◌∷◌, ◌++◌}
 use Rattle.std.specs.List.{list_any}
-use Rattle.journal_model.specs.declared.notification.NotificationResult.{NotificationResult}
 use Rattle.journal_model.specs.declared.notification.NotificationId.{NotificationId}
 use Rattle.journal_model.specs.declared.notification.NotificationId.TheVariants.{CompletionId}
-use Rattle.journal_model.specs.Notification.{Text, Arrival, same_id}
+use Rattle.journal_model.specs.Notification.{Text, Arrival}
 use Rattle.journal_model.specs.Request.{Request, completions_asked}
 use Rattle.journal_model.specs.Delivery.{results_for}
 use Rattle.journal_model.specs.Event.{Event}
