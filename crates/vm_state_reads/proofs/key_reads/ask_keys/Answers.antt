@@ -1,6 +1,6 @@
-use Rattle.std.proofs.Common.{Some, Err, refl, ap, ◌∙◌}
-use Rattle.std.proofs.lemmas.Result.{err_from_is_err_and}
+use Rattle.std.proofs.Common.{Some, refl, ap, ◌∙◌}
 use Rattle.journal_model.specs.Request.{Request}
+use Rattle.attempt_model.specs.Machine.{Machine}
 use Rattle.protocol_types.specs.declared.message_type.MessageType.TheVariants.{GetLazyStateKeysCommand}
 use Rattle.vm_state_reads.proofs.Answering.{lazily, number_fails}
 use Rattle.vm_state_reads.proofs.key_reads.ask_keys.Goals as goal
@@ -17,6 +17,5 @@ returns-clause-made c =
 
 pub returns-in_err-name-clause-made : goal.returns-in_err-name-clause-made
 returns-in_err-name-clause-made c =
-    λ checks_off given m call one ignores sees.
-    let told = err_from_is_err_and c.from_residual.result c.from_residual.ensures.1 in
-    number_fails checks_off given m call c.args.active.now c.begin.new.self c.in_err-name.field-0.0 c.from_residual.result one.completions c.in_err-name.ensures.err c.begin.ensures.output (told.1 ∙ ap Err told.2)
+    number_fails (λ (m : Machine). Request.GetLazyStateKeys m.completions c.args.name) c.args.ignoring c.args.active.now c.begin.new.self
+    c.in_err-name.field-0.0 c.from_residual.result c.in_err-name.ensures.err c.begin.ensures.output c.from_residual.ensures.1

@@ -1,8 +1,8 @@
-use Rattle.std.proofs.Common.{Some, Err, [], ◌∷◌, List, refl, ap, ◌∙◌}
-use Rattle.std.proofs.lemmas.Result.{err_from_is_err_and}
+use Rattle.std.proofs.Common.{Some, [], ◌∷◌, List, refl, ap, ◌∙◌}
 use Rattle.journal_model.specs.declared.notification.NotificationId.TheVariants.{CompletionId}
 use Rattle.journal_model.specs.Notification.{Arrival}
 use Rattle.journal_model.specs.Request.{Request}
+use Rattle.attempt_model.specs.Machine.{Machine}
 use Rattle.protocol_types.specs.declared.message_type.MessageType.TheVariants.{GetEagerStateCommand}
 use Rattle.vm_awaits.specs.Views.{results_of}
 use Rattle.vm_state_reads.specs.Reading.{with_known}
@@ -27,6 +27,5 @@ returns-clause-made c =
 
 pub returns-in_err-name-clause-made : goal.returns-in_err-name-clause-made
 returns-in_err-name-clause-made c =
-    λ checks_off given m call one ignores sees.
-    let told = err_from_is_err_and c.from_residual.result c.from_residual.ensures.1 in
-    number_fails checks_off given m call c.args.active.now c.begin.new.self c.in_err-name.field-0.0 c.from_residual.result one.completions c.in_err-name.ensures.err c.begin.ensures.output (told.1 ∙ ap Err told.2)
+    number_fails (λ (_ : Machine). Request.GetEagerState c.args.key c.args.known c.args.name) c.args.ignoring c.args.active.now c.begin.new.self
+    c.in_err-name.field-0.0 c.from_residual.result c.in_err-name.ensures.err c.begin.ensures.output c.from_residual.ensures.1
