@@ -26,7 +26,7 @@ use Rattle.vm_calls.specs.Making.{Replies, HasBegun}
 use Rattle.vm_calls.proofs.Making.{replied}
 use Rattle.vm_state_reads.specs.declared.read_error.ReadError.TheVariants.{Replay, OutOfMemory}
 use Rattle.vm_state_reads.specs.declared.read_error.ReadError.{ReadError}
-use Rattle.vm_state_reads.specs.Reading.{ReadFailsAs, Reads, ReadsAs, ReadsOne, arrivals_of, with_known}
+use Rattle.vm_state_reads.specs.Reading.{ReadFailsAs, Reads, ReadsFor, ReadsOne, arrivals_of, with_known}
 use Rattle.vm_state_reads.specs.Replaying.{MatchFails, TellsNext}
 use Rattle.vm_state_reads.proofs.Answering.{left_is, output_is, settled_is, read_answers}
 
@@ -120,7 +120,7 @@ module _ (ignoring : Bool) (asked : ℕ → Request) {handle id : ℕ} (ty : Mes
       → PutsOne ignoring (as_recorded (left_of begun) made) written begun matched)
       → TellsNext lazy_request_of request_of known (left_of begun) read → (shown : Option NotificationResult) → shown ≡ known_of read
       → (results : AsyncResultsState) → results_of results ≡ with_known (arrivals_of id shown) (results_of matched.results)
-      → ReadsAs {L = L} {E = E} (recorded asked) ignoring old (Ok handle) (record matched { results = results })
+      → ReadsFor {L = L} {E = E} (recorded asked) ignoring old (Ok handle) (record matched { results = results })
   reads_recorded read known_of lazy_request_of request_of known is_known matched matches next shown shows results ready checks_off given m call one ignores sees =
       let id_is : id ≡ m.completions = taken.id ∙ sees.completions in
       let next_left = subst (λ (l : Commands). TellsNext lazy_request_of request_of known l read) (left given m call one sees) next in
@@ -131,7 +131,7 @@ module _ (ignoring : Bool) (asked : ℕ → Request) {handle id : ℕ} (ty : Mes
   -- it is not matched
   pub fails_unmatched : {L E : Type 0} (error : StateReadError L E) → ((made : Request) (written : List Request) → Some (asked id) ≡ Some made → begun.is_replaying ≡ true → IsSettled begun
       → MatchFails ignoring made written (left_of begun) error) → (result : Result ℕ (ReadError L E)) → IsErrAnd result (λ told. told ≡ Replay error)
-      → (new : Active) → new.output ≡ begun.output → ReadsAs (recorded asked) ignoring old result new
+      → (new : Active) → new.output ≡ begun.output → ReadsFor (recorded asked) ignoring old result new
   fails_unmatched error unmatched result fails new output checks_off given m call one ignores sees =
       let told = err_from_is_err_and result fails in
       fails_unreplayed checks_off ignoring given m call (recorded asked m) one ignores handle old begun (begun_in_replay given m sees) (asked id) (recorded_is given m call one sees) error
@@ -139,7 +139,7 @@ module _ (ignoring : Bool) (asked : ℕ → Request) {handle id : ℕ} (ty : Mes
 
   -- memory was refused for what was known
   pub fails_unready : {L E : Type 0} (result : Result ℕ (ReadError L E)) → IsErrAnd result (λ told. told ≡ OutOfMemory) → (new : Active) → new.output ≡ begun.output
-      → ReadsAs (recorded asked) ignoring old result new
+      → ReadsFor (recorded asked) ignoring old result new
   fails_unready result fails new output checks_off given m call one ignores sees =
       let told = err_from_is_err_and result fails in
       fails_for_memory checks_off ignoring given m call (recorded asked m) one ignores handle old begun (begun_in_replay given m sees) result (told.1 ∙ ap Err told.2) new output

@@ -62,8 +62,8 @@ pub record ReadsOne (given : Invocation) (m : Machine) (call : Call) (request : 
   pub answer : (id : Text) (handle signal : ℕ) → answer_by id handle signal call ≡ Answer.Handle handle
 
 -- what a read does that puts this request, whatever call it is of
-abbrev pub ReadsAs : {L E : Type 0} → (Machine → Request) → (ignoring : Bool) → (old : Active) → Result ℕ (ReadError L E) → (new : Active) → Type 0
-ReadsAs request ignoring old result new =
+abbrev pub ReadsFor : {L E : Type 0} → (Machine → Request) → (ignoring : Bool) → (old : Active) → Result ℕ (ReadError L E) → (new : Active) → Type 0
+ReadsFor request ignoring old result new =
     (checks_off : Bool) (given : Invocation) (m : Machine) (call : Call) → ReadsOne given m call (request m) → ignoring ≡ (checks_off || is_unstable call) → Sees given old m
     → Reads checks_off given m call old result new
 
@@ -84,3 +84,9 @@ pub record HasRead (given : Invocation) (m : Machine) (handle : ℕ) (request : 
   pub begins : HasBegun given m handle old begun
   pub results : results_of read.results ≡ with_known (known_result m.completions (request ∷ [])) (results_of begun.results)
   pub others : read ≡ record begun { results = read.results }
+
+-- what a read does that has begun, where its command stands for this request
+abbrev pub PutsReadAs : {M : Type 0} → Option Request → (ignoring : Bool) → (handle : ℕ) → (begun : Active) → Result ℕ (PutError M) → (new : Active) → Type 0
+PutsReadAs made ignoring handle begun result new =
+    (checks_off : Bool) (given : Invocation) (m : Machine) (call : Call) (request : Request) (old : Active) → made ≡ Some request → ReadsOne given m call request
+    → ignoring ≡ (checks_off || is_unstable call) → HasRead given m handle request old begun → PutsRead checks_off given m call old result new

@@ -6,7 +6,7 @@ ghost use Rattle.attempt_model.specs.Requests.{fresh_keys};
 ghost use Rattle.protocol_types.specs.declared.message_type.MessageType.TheVariants.{GetEagerStateKeysCommand, GetLazyStateKeysCommand};
 ghost use Rattle.vm_commands.specs.Recorded.{as_recorded};
 ghost use Rattle.vm_calls.specs.Active.{Sees, IsAtCommand};
-ghost use Rattle.vm_state_reads.specs.Reading.{Reads, ReadsAs};
+ghost use Rattle.vm_state_reads.specs.Reading.{Reads, ReadsFor};
 ghost use Rattle.vm_state_reads.specs.Replaying.{keys_known};
 ghost use Rattle.vm_state_reads.specs.Telling.{type_in_replay, type_behind, IsAtRead};
 
@@ -72,7 +72,7 @@ fn replay_keys(
     ignoring: bool,
     name: ByteStr,
 ) -> Result<NotificationHandle, KeysReadError>
-    ensures made { active.old.is_replaying ≡ true → ReadsAs (λ m. as_recorded m.left (Request.GetLazyStateKeys m.completions name)) ignoring active.old result active.new }
+    ensures made { active.old.is_replaying ≡ true → ReadsFor (λ m. as_recorded m.left (Request.GetLazyStateKeys m.completions name)) ignoring active.old result active.new }
     ensures told { IsAtCommand (type_in_replay GetEagerStateKeysCommand GetLazyStateKeysCommand active.old.commands.items) [] active.old.journal active.new.journal }
 {
     let (id, handle) = begin_in_replay(
@@ -96,7 +96,7 @@ fn ask_keys(
     ignoring: bool,
     name: ByteStr,
 ) -> Result<NotificationHandle, KeysReadError>
-    ensures made { ReadsAs (λ m. Request.GetLazyStateKeys m.completions name) ignoring active.old result active.new }
+    ensures made { ReadsFor (λ m. Request.GetLazyStateKeys m.completions name) ignoring active.old result active.new }
     ensures told { IsAtCommand GetLazyStateKeysCommand name active.old.journal active.new.journal }
 {
     let (name, result_completion_id, handle) = active.begin(
@@ -118,7 +118,7 @@ fn tell_keys(
     name: ByteStr,
     keys: &Sequence<ByteStr>,
 ) -> Result<NotificationHandle, KeysReadError>
-    ensures made { ReadsAs (λ _. Request.GetEagerStateKeys keys.now name) ignoring active.old result active.new }
+    ensures made { ReadsFor (λ _. Request.GetEagerStateKeys keys.now name) ignoring active.old result active.new }
     ensures told { IsAtCommand GetEagerStateKeysCommand name active.old.journal active.new.journal }
 {
     let (name, id, handle) = active.begin(MessageType::GetEagerStateKeysCommand, name)?;
@@ -138,7 +138,7 @@ fn write_keys(
     ignoring: bool,
     name: ByteStr,
 ) -> Result<NotificationHandle, KeysReadError>
-    ensures made { ReadsAs (λ m. fresh_keys m.start m.done m.completions name) ignoring active.old result active.new }
+    ensures made { ReadsFor (λ m. fresh_keys m.start m.done m.completions name) ignoring active.old result active.new }
     ensures told { IsAtCommand (type_behind GetEagerStateKeysCommand GetLazyStateKeysCommand (not active.old.state.is_partial)) name active.old.journal active.new.journal }
 {
     match active.state.get_keys(alloc) {

@@ -9,7 +9,7 @@ ghost use Rattle.protocol_spellings.specs.Requests.{state_told};
 ghost use Rattle.vm_context.specs.Eager.{is_known};
 ghost use Rattle.vm_commands.specs.Recorded.{as_recorded};
 ghost use Rattle.vm_calls.specs.Active.{Sees, IsAtCommand};
-ghost use Rattle.vm_state_reads.specs.Reading.{Reads, ReadsAs};
+ghost use Rattle.vm_state_reads.specs.Reading.{Reads, ReadsFor};
 ghost use Rattle.vm_state_reads.specs.Replaying.{value_known};
 ghost use Rattle.vm_state_reads.specs.Telling.{type_in_replay, type_behind, IsAtRead};
 
@@ -76,7 +76,7 @@ fn replay_value(
     key: Bytes,
     name: ByteStr,
 ) -> Result<NotificationHandle, ValueReadError>
-    ensures made { active.old.is_replaying ≡ true → ReadsAs (λ m. as_recorded m.left (Request.GetLazyState key m.completions name)) ignoring active.old result active.new }
+    ensures made { active.old.is_replaying ≡ true → ReadsFor (λ m. as_recorded m.left (Request.GetLazyState key m.completions name)) ignoring active.old result active.new }
     ensures told { IsAtCommand (type_in_replay GetEagerStateCommand GetLazyStateCommand active.old.commands.items) [] active.old.journal active.new.journal }
 {
     let (id, handle) = begin_in_replay(
@@ -102,7 +102,7 @@ fn ask_value(
     key: Bytes,
     name: ByteStr,
 ) -> Result<NotificationHandle, ValueReadError>
-    ensures made { ReadsAs (λ m. Request.GetLazyState key m.completions name) ignoring active.old result active.new }
+    ensures made { ReadsFor (λ m. Request.GetLazyState key m.completions name) ignoring active.old result active.new }
     ensures told { IsAtCommand GetLazyStateCommand name active.old.journal active.new.journal }
 {
     let (name, result_completion_id, handle) = active.begin(
@@ -126,7 +126,7 @@ fn tell_value(
     name: ByteStr,
     known: Option<Bytes>,
 ) -> Result<NotificationHandle, ValueReadError>
-    ensures made { ReadsAs (λ _. Request.GetEagerState key known name) ignoring active.old result active.new }
+    ensures made { ReadsFor (λ _. Request.GetEagerState key known name) ignoring active.old result active.new }
     ensures told { IsAtCommand GetEagerStateCommand name active.old.journal active.new.journal }
 {
     let (name, id, handle) = active.begin(MessageType::GetEagerStateCommand, name)?;
@@ -148,7 +148,7 @@ fn write_value(
     key: ByteStr,
     name: ByteStr,
 ) -> Result<NotificationHandle, ValueReadError>
-    ensures made { ReadsAs (λ m. fresh_value m.start m.done m.completions key name) ignoring active.old result active.new }
+    ensures made { ReadsFor (λ m. fresh_value m.start m.done m.completions key name) ignoring active.old result active.new }
     ensures told { IsAtCommand (type_behind GetEagerStateCommand GetLazyStateCommand (is_known active.old.state key)) name active.old.journal active.new.journal }
 {
     let known = active.state.get(&key);

@@ -1,4 +1,3 @@
-use Rattle.std.proofs.Common.{◌≡◌}
 use Rattle.journal_model.specs.Request.{Request}
 use Rattle.attempt_model.specs.Machine.{Machine}
 use Rattle.vm_commands.specs.Recorded.{as_recorded}
