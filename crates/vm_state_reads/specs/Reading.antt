@@ -61,6 +61,10 @@ pub record ReadsOne (given : Invocation) (m : Machine) (call : Call) (request : 
   pub keeps : changes_state request ≡ false
   pub answer : (id : Text) (handle signal : ℕ) → answer_by id handle signal call ≡ Answer.Handle handle
 
+-- what the read of this call does, for every machine that the attempt is seen as
+abbrev pub ReadsByCall : {L E : Type 0} → (checks_off : Bool) → Call → (old : Active) → Result ℕ (ReadError L E) → (new : Active) → Type 0
+ReadsByCall checks_off call old result new = (given : Invocation) (m : Machine) → Sees given old m → Reads checks_off given m call old result new
+
 -- what a read does that puts this request, whatever call it is of
 abbrev pub ReadsFor : {L E : Type 0} → (Machine → Request) → (ignoring : Bool) → (old : Active) → Result ℕ (ReadError L E) → (new : Active) → Type 0
 ReadsFor request ignoring old result new =

@@ -1,12 +1,12 @@
 // The read of all keys.
 ghost use Rattle.std.specs.Prelude.{◌≡◌, true, not, Some, [], IfOk};
-ghost use Rattle.vm_calls.specs.Words.{Call, Request, Invocation, Machine};
+ghost use Rattle.vm_calls.specs.Words.{Call, Request};
 ghost use Rattle.journal_model.specs.Run.{name_or_empty};
 ghost use Rattle.attempt_model.specs.Requests.{fresh_keys};
 ghost use Rattle.protocol_types.specs.declared.message_type.MessageType.TheVariants.{GetEagerStateKeysCommand, GetLazyStateKeysCommand};
 ghost use Rattle.vm_commands.specs.Recorded.{as_recorded};
-ghost use Rattle.vm_calls.specs.Active.{Sees, IsAtCommand};
-ghost use Rattle.vm_state_reads.specs.Reading.{Reads, ReadsFor};
+ghost use Rattle.vm_calls.specs.Active.{IsAtCommand};
+ghost use Rattle.vm_state_reads.specs.Reading.{ReadsByCall, ReadsFor};
 ghost use Rattle.vm_state_reads.specs.Replaying.{keys_known};
 ghost use Rattle.vm_state_reads.specs.Telling.{type_in_replay, type_behind, IsAtRead};
 
@@ -161,8 +161,7 @@ pub fn state_get_keys(
     checks_off: bool,
     name: Option<ByteStr>,
 ) -> Result<NotificationHandle, KeysReadError>
-    ensures made { (given : Invocation) (m : Machine) → Sees given active.old m
-        → Reads checks_off given m (Call.StateGetKeys name) active.old result active.new }
+    ensures made { ReadsByCall checks_off (Call.StateGetKeys name) active.old result active.new }
     ensures told { IsAtRead GetEagerStateKeysCommand GetLazyStateKeysCommand active.old.is_replaying (not active.old.state.is_partial) (name_or_empty name) active.old active.new }
 {
     let name = or_empty(name);

@@ -1,6 +1,6 @@
 // The read of a key.
 ghost use Rattle.std.specs.Prelude.{◌≡◌, true, Some, [], IfOk};
-ghost use Rattle.vm_calls.specs.Words.{Call, Request, Invocation, Machine};
+ghost use Rattle.vm_calls.specs.Words.{Call, Request};
 ghost use Rattle.journal_model.specs.Delivery.{value_or_void};
 ghost use Rattle.journal_model.specs.Run.{name_or_empty};
 ghost use Rattle.attempt_model.specs.Requests.{fresh_value};
@@ -8,8 +8,8 @@ ghost use Rattle.protocol_types.specs.declared.message_type.MessageType.TheVaria
 ghost use Rattle.protocol_spellings.specs.Requests.{state_told};
 ghost use Rattle.vm_context.specs.Eager.{is_known};
 ghost use Rattle.vm_commands.specs.Recorded.{as_recorded};
-ghost use Rattle.vm_calls.specs.Active.{Sees, IsAtCommand};
-ghost use Rattle.vm_state_reads.specs.Reading.{Reads, ReadsFor};
+ghost use Rattle.vm_calls.specs.Active.{IsAtCommand};
+ghost use Rattle.vm_state_reads.specs.Reading.{ReadsByCall, ReadsFor};
 ghost use Rattle.vm_state_reads.specs.Replaying.{value_known};
 ghost use Rattle.vm_state_reads.specs.Telling.{type_in_replay, type_behind, IsAtRead};
 
@@ -178,8 +178,7 @@ pub fn state_get(
     name: Option<ByteStr>,
     options: PayloadOptions,
 ) -> Result<NotificationHandle, ValueReadError>
-    ensures made { (given : Invocation) (m : Machine) → Sees given active.old m
-        → Reads checks_off given m (Call.StateGet key name options) active.old result active.new }
+    ensures made { ReadsByCall checks_off (Call.StateGet key name options) active.old result active.new }
     ensures told { IsAtRead GetEagerStateCommand GetLazyStateCommand active.old.is_replaying (is_known active.old.state key) (name_or_empty name) active.old active.new }
 {
     let ignoring = ignores(checks_off, options);
