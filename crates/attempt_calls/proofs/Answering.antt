@@ -21,43 +21,40 @@ use Rattle.attempt_model.specs.Children.{Child, new_child, child_with_value, may
 use Rattle.attempt_model.specs.Machine.{Machine, Reply, Answered, ToTake, ToLook, ToMake, work_of, next_slot, reply_to_make, reply_where_taken, reply_to_take, reply_to_end}
 use Rattle.attempt_model.specs.Requests.{answer_by, Commands, requests_by, PutState, put_all}
 use Rattle.attempt_model.specs.Results.{Ready, Slots, ready_after, first_of, slot_of, waiting_for, ready_without_first, slots_without, ready_after_all, are_keys_text}
-use Rattle.attempt_model.specs.Standing.{TablesStand, RequestsStand, Reached, here, ahead, cancelling, IsShown, children_of, is_id_if_known, Fits, next_call, AnswersNext, RepliesAsRun, IsReflexive}
+use Rattle.attempt_model.specs.Standing.{TablesStand, RequestsStand, Reached, here, ahead, cancelling, IsShown, children_of, is_id_if_known, Stands, Fits, next_call, AnswersNext, RepliesAsRun, IsReflexive}
 use Rattle.attempt_model.proofs.Requests.{Agrees, Puts, put, agree, none_left}
 use Rattle.attempt_tables.proofs.Children.{children-made, children-taken}
 use Rattle.attempt_tables.proofs.Making.{Creates, makes, knows}
 use Rattle.attempt_tables.proofs.Tables.{front-untaken, in_front}
 use Rattle.attempt_tables.proofs.Taking.{known-id, takes_first}
-use Rattle.attempt_calls.proofs.CallKinds.{make-kind, make-answer, make-takes, make-keeps, no_child-look, no_child-take}
+use Rattle.attempt_calls.proofs.CallKinds.{make-kind, make-answer, make-takes, make-keeps, no_child}
 use Rattle.attempt_calls.proofs.Ids.{is_in, takes-ids, taken-ids, new-ids}
 use Rattle.attempt_calls.proofs.Reading.{requests-same, known-one}
 
 module _ (same_header : Request → Request → Bool) (reflexive : IsReflexive same_header) (handler : Handler) (given : Invocation) (journal : List Request) (arrivals : List Arrival)
-    (fits : Fits handler given journal arrivals) (calls : ℕ) (m : Machine) (steps : List Step) (place : ℕ)
-    (going : run handler given arrivals calls ≡ record { steps = steps; ending = GoesOn })
-    (tables : TablesStand given.options steps arrivals place m.queue m.ready m.slots)
-    (completions : m.completions ≡ next_completion steps) (signals : m.signals ≡ next_signal steps)
-    (requests : RequestsStand journal steps m.left m.written) (shows : IsShown given.start journal m.start) (done : m.done ≡ requests_of steps)
-    (children : m.children ≡ children_of given.options.implicit_cancellation steps) (ids_known : list_all (λ child. is_id_if_known child.taken) m.children ≡ true) (reached : Reached handler given arrivals steps place)
-    (call : Call) (is : next_call handler given steps ≡ call) where
+    (fits : Fits handler given journal arrivals) (calls : ℕ) (m : Machine) (now : Stands handler given journal arrivals calls m) (call : Call) (is : next_call handler given now.steps ≡ call) where
   abbrev Replies : Reply → Type 0
   Replies reply = RepliesAsRun handler given journal arrivals calls reply
 
+  abbrev steps : List Step
+  steps = now.steps
+
   pub after : run handler given arrivals (suc calls) ≡ after_call given steps arrivals call
-  after = run-next handler given arrivals calls steps going ∙ ap (after_call given steps arrivals) is
+  after = run-next handler given arrivals calls steps now.going ∙ ap (after_call given steps arrivals) is
 
   pub same_steps : (run handler given arrivals calls).steps ≡ steps
-  same_steps = ap (λ (p : Progress). p.steps) going
+  same_steps = ap (λ (p : Progress). p.steps) now.going
 
   -- only an await was asked before
-  is_here : (work_of call ≡ ToMake) ⊎ ((h : ℕ) × ((work_of call ≡ ToTake h) ⊎ (work_of call ≡ ToLook h))) → place ≡ place_of steps
-  is_here work = by_reached reached
+  is_here : (work_of call ≡ ToMake) ⊎ ((h : ℕ) × ((work_of call ≡ ToTake h) ⊎ (work_of call ≡ ToLook h))) → now.place ≡ place_of steps
+  is_here work = by_reached now.reached
     where
-      by_work : (tree : AwaitTree ℕ) → call ≡ Call.Await tree → (work_of call ≡ ToMake) ⊎ ((h : ℕ) × ((work_of call ≡ ToTake h) ⊎ (work_of call ≡ ToLook h))) → place ≡ place_of steps
+      by_work : (tree : AwaitTree ℕ) → call ≡ Call.Await tree → (work_of call ≡ ToMake) ⊎ ((h : ℕ) × ((work_of call ≡ ToTake h) ⊎ (work_of call ≡ ToLook h))) → now.place ≡ place_of steps
       by_work tree e (inl w) = let wrong : work_of (Call.Await tree) ≡ ToMake = ap work_of (sym e) ∙ w in cc
       by_work tree e (inr (h, inl w)) = let wrong : work_of (Call.Await tree) ≡ ToTake h = ap work_of (sym e) ∙ w in cc
       by_work tree e (inr (h, inr w)) = let wrong : work_of (Call.Await tree) ≡ ToLook h = ap work_of (sym e) ∙ w in cc
 
-      by_reached : Reached handler given arrivals steps place → place ≡ place_of steps
+      by_reached : Reached handler given arrivals steps now.place → now.place ≡ place_of steps
       by_reached (here e) = e
       by_reached (ahead tree e above before) = by_work tree (sym is ∙ e) work
       by_reached (cancelling tree e wakes above under awake before cancelled unknown) = by_work tree (sym is ∙ e) work
@@ -92,19 +89,19 @@ module _ (same_header : Request → Request → Bool) (reflexive : IsReflexive s
   -- a step without requests
   pub quiet : (step : Step) → step.requests ≡ [] → RequestsStand journal (step ∷ steps) m.left m.written
   quiet step none = record {
-    left = requests.left;
-    are_requests = requests.are_requests;
-    requests = ap (λ (xs : List Request). (requests_of steps ++ xs) ++ requests.left) none ∙ ap (λ (xs : List Request). xs ++ requests.left) (append-nil (requests_of steps)) ∙ requests.requests;
-    replays = requests.replays;
+    left = now.requests.left;
+    are_requests = now.requests.are_requests;
+    requests = ap (λ (xs : List Request). (requests_of steps ++ xs) ++ now.requests.left) none ∙ ap (λ (xs : List Request). xs ++ now.requests.left) (append-nil (requests_of steps)) ∙ now.requests.requests;
+    replays = now.requests.replays;
   }
 
   pub quiet_done : (step : Step) → step.requests ≡ [] → m.done ≡ requests_of (step ∷ steps)
-  quiet_done step none = done ∙ sym (append-nil (requests_of steps)) ∙ sym (ap (λ (xs : List Request). requests_of steps ++ xs) none)
+  quiet_done step none = now.done ∙ sym (append-nil (requests_of steps)) ∙ sym (ap (λ (xs : List Request). requests_of steps ++ xs) none)
 
   pub quiet_children : (step : Step) → Creates steps step [] → child_of cancellation (next_completion steps) step.call ≡ [] → ((xs : List ℕ) → children_after step.answer xs ≡ xs)
       → m.children ≡ children_of cancellation (step ∷ steps)
   quiet_children step creates none keeps =
-      children ∙ sym (children-made cancellation steps step [] creates tables.takes keeps
+      now.children ∙ sym (children-made cancellation steps step [] creates now.tables.takes keeps
       ∙ ap (λ (ns : List ℕ). children_of cancellation steps ++ map new_child ns) none ∙ append-nil (children_of cancellation steps))
 
   pub none_more : (n : ℕ) → n ≡ n + 0
@@ -118,9 +115,9 @@ module _ (same_header : Request → Request → Bool) (reflexive : IsReflexive s
       (subst (λ (n : ℕ). TablesStand given.options (step ∷ steps) arrivals n line waiting (m.slots ++ [])) (sym at)
       (makes given.options steps arrivals q step [] line waiting m.slots at made stands reads))
 
-  waiting-is : (handle : ℕ) → place ≡ place_of steps → waiting_for m.slots m.ready handle ≡ front_of_handle given.options steps arrivals handle
+  waiting-is : (handle : ℕ) → now.place ≡ place_of steps → waiting_for m.slots m.ready handle ≡ front_of_handle given.options steps arrivals handle
   waiting-is handle at =
-      in_front given.options steps arrivals m.queue m.ready m.slots place tables handle
+      in_front given.options steps arrivals m.queue m.ready m.slots now.place now.tables handle
       ∙ ap (λ (n : ℕ). option_and_then (front given.options steps arrivals n) (stands_for steps handle)) at
 
   -- what the run makes of an accepted call
@@ -141,11 +138,11 @@ module _ (same_header : Request → Request → Bool) (reflexive : IsReflexive s
   pub looks : (handle : ℕ) → call ≡ Call.IsCompleted handle → refusal_of given.version call ≡ None
       → Replies (Answered (Answer.Completed (is_some (waiting_for m.slots m.ready handle))) m)
   looks handle e accepted =
-      let at : place ≡ place_of steps = is_here (inr (handle, inr (ap work_of e))) in
+      let at : now.place ≡ place_of steps = is_here (inr (handle, inr (ap work_of e))) in
       subst (λ (o : Option NotificationResult). AnswersNext handler given journal arrivals calls (Answer.Completed (is_some o)) m) (sym (waiting-is handle at))
-      (stepped step goes m (quiet_tables step place m.queue m.ready (sym at) (record { made = refl; takes = refl }) refl tables)
-      (completions ∙ none_more (next_completion steps)) (signals ∙ none_more (next_signal steps)) (quiet step refl)
-      shows (quiet_done step refl) (quiet_children step (record { made = refl; takes = refl }) (no_child-look cancellation (next_completion steps) handle) (λ xs. refl)) ids_known)
+      (stepped step goes m (quiet_tables step now.place m.queue m.ready (sym at) (record { made = refl; takes = refl }) refl now.tables)
+      (now.completions ∙ none_more (next_completion steps)) (now.signals ∙ none_more (next_signal steps)) (quiet step refl)
+      now.start (quiet_done step refl) (quiet_children step (record { made = refl; takes = refl }) ((no_child cancellation (next_completion steps)).look handle) (λ xs. refl)) now.ids)
     where
       step : Step
       step = answered_step given steps arrivals (Call.IsCompleted handle)
@@ -158,7 +155,7 @@ module _ (same_header : Request → Request → Bool) (reflexive : IsReflexive s
   pub takes : (handle : ℕ) → call ≡ Call.Take handle → refusal_of given.version call ≡ None → Replies (reply_to_take m handle (waiting_for m.slots m.ready handle))
   takes handle e accepted = by_result (waiting_for m.slots m.ready handle) refl
     where
-      at : place ≡ place_of steps
+      at : now.place ≡ place_of steps
       at = is_here (inr (handle, inl (ap work_of e)))
 
       taking : Option NotificationResult → Step
@@ -176,44 +173,44 @@ module _ (same_header : Request → Request → Bool) (reflexive : IsReflexive s
       by_slot r f None slot = let wrong : None ≡ Some r = sym (ap (option_and_then (λ (id : NotificationId). first_of (m.ready id))) slot) ∙ f in cc
       by_slot r f (Some id) slot =
           let first : first_of (m.ready id) ≡ Some r = sym (ap (option_and_then (λ (id : NotificationId). first_of (m.ready id))) slot) ∙ f in
-          let there : front given.options steps arrivals place id ≡ Some r = front-untaken given.options steps arrivals place id ∙ sym (ap first_of (tables.ready id)) ∙ first in
+          let there : front given.options steps arrivals now.place id ≡ Some r = front-untaken given.options steps arrivals now.place id ∙ sym (ap first_of (now.tables.ready id)) ∙ first in
           let text : are_keys_text r ≡ true = keys_text id r (ap (λ (n : ℕ). front given.options steps arrivals n id) (sym at) ∙ there) in
-          let ids : list_all (may_take (Some id) (as_taken r)) m.children ≡ true = ap (list_all (may_take (Some id) (as_taken r))) children
-          ∙ takes-ids given.options steps arrivals place (tracked_children cancellation steps) id r there (λ n e. front_ids place tables.within n e) in
+          let ids : list_all (may_take (Some id) (as_taken r)) m.children ≡ true = ap (list_all (may_take (Some id) (as_taken r))) now.children
+          ∙ takes-ids given.options steps arrivals now.place (tracked_children cancellation steps) id r there (λ n e. front_ids now.place now.tables.within n e) in
           subst (λ (b : Bool). Replies (reply_where_taken m handle r b (list_all (may_take (slot_of m.slots handle) (as_taken r)) m.children))) (sym text)
           (subst (λ (b : Bool). Replies (reply_where_taken m handle r true b)) (sym (ap (λ (o : Option NotificationId). list_all (may_take o (as_taken r)) m.children) slot ∙ ids))
           (subst (λ (o : Option NotificationId). Replies (Answered (Answer.Taken (Some (as_taken r))) (record m { ready = ready_without_first m.ready o; slots = slots_without m.slots handle; children = map (child_with_value o (as_taken r)) m.children }))) (sym slot)
           (stepped (taking (Some r)) (goes (Some r) f) (record m { ready = ready_without_first m.ready (Some id); slots = slots_without m.slots handle; children = map (child_with_value (Some id) (as_taken r)) m.children })
           (subst (λ (n : ℕ). TablesStand given.options (taking (Some r) ∷ steps) arrivals n m.queue (ready_without_first m.ready (Some id)) (slots_without m.slots handle)) at
-          (takes_first given.options steps arrivals place (taking (Some r)) m.queue m.ready m.slots handle id r (sym at)
-          (record { none_made = refl; handle_is = refl; none_known = refl }) tables slot first))
-          (completions ∙ none_more (next_completion steps)) (signals ∙ none_more (next_signal steps)) (quiet (taking (Some r)) refl)
-          shows (quiet_done (taking (Some r)) refl)
-          (ap (map (child_with_value (Some id) (as_taken r))) children
-          ∙ sym (children-taken cancellation steps handle (place_of steps) id (as_taken r) (known-id (handle == 1) (list_any (takes_handle handle) steps) _ id (sym (tables.handles handle) ∙ slot))))
-          (taken-ids id (as_taken r) m.children ids_known ids))))
+          (takes_first given.options steps arrivals now.place (taking (Some r)) m.queue m.ready m.slots handle id r (sym at)
+          (record { none_made = refl; handle_is = refl; none_known = refl }) now.tables slot first))
+          (now.completions ∙ none_more (next_completion steps)) (now.signals ∙ none_more (next_signal steps)) (quiet (taking (Some r)) refl)
+          now.start (quiet_done (taking (Some r)) refl)
+          (ap (map (child_with_value (Some id) (as_taken r))) now.children
+          ∙ sym (children-taken cancellation steps handle (place_of steps) id (as_taken r) (known-id (handle == 1) (list_any (takes_handle handle) steps) _ id (sym (now.tables.handles handle) ∙ slot))))
+          (taken-ids id (as_taken r) m.children now.ids ids))))
 
       by_result : (o : Option NotificationResult) → waiting_for m.slots m.ready handle ≡ o → Replies (reply_to_take m handle o)
       by_result None f =
-          stepped (taking None) (goes None f) m (quiet_tables (taking None) place m.queue m.ready (sym at) (record { made = refl; takes = refl }) refl tables)
-          (completions ∙ none_more (next_completion steps)) (signals ∙ none_more (next_signal steps)) (quiet (taking None) refl)
-          shows (quiet_done (taking None) refl) (quiet_children (taking None) (record { made = refl; takes = refl }) (no_child-take cancellation (next_completion steps) handle) (λ xs. refl)) ids_known
+          stepped (taking None) (goes None f) m (quiet_tables (taking None) now.place m.queue m.ready (sym at) (record { made = refl; takes = refl }) refl now.tables)
+          (now.completions ∙ none_more (next_completion steps)) (now.signals ∙ none_more (next_signal steps)) (quiet (taking None) refl)
+          now.start (quiet_done (taking None) refl) (quiet_children (taking None) (record { made = refl; takes = refl }) ((no_child cancellation (next_completion steps)).take handle) (λ xs. refl)) now.ids
       by_result (Some r) f = by_slot r f (slot_of m.slots handle) refl
 
   -- where the run stops nothing is left, and its requests are all matched or written
-  none_is_left : (ending : Ending) → is_going ending ≡ false → run handler given arrivals (suc calls) ≡ record { steps = steps; ending = ending } → requests.left ≡ []
+  none_is_left : (ending : Ending) → is_going ending ≡ false → run handler given arrivals (suc calls) ≡ record { steps = steps; ending = ending } → now.requests.left ≡ []
   none_is_left ending stopped goes =
-      none_left handler given journal arrivals fits.calls fits.beginning (suc calls) (requests_of steps) requests.left m.written
-      (ap (λ (p : Progress). is_going p.ending) goes ∙ stopped) (ap (λ (p : Progress). requests_of p.steps) goes) requests.requests requests.replays
+      none_left handler given journal arrivals fits.calls fits.beginning (suc calls) (requests_of steps) now.requests.left m.written
+      (ap (λ (p : Progress). is_going p.ending) goes ∙ stopped) (ap (λ (p : Progress). requests_of p.steps) goes) now.requests.requests now.requests.replays
 
   pub nothing_left : (ending : Ending) → is_going ending ≡ false → run handler given arrivals (suc calls) ≡ record { steps = steps; ending = ending } → m.left ≡ []
-  nothing_left ending stopped goes = requests.are_requests ∙ ap (map (λ (request : Request). Some request)) (none_is_left ending stopped goes)
+  nothing_left ending stopped goes = now.requests.are_requests ∙ ap (map (λ (request : Request). Some request)) (none_is_left ending stopped goes)
 
   pub all_there : (ending : Ending) → is_going ending ≡ false → run handler given arrivals (suc calls) ≡ record { steps = steps; ending = ending }
       → run_requests handler given arrivals (suc calls) ≡ journal ++ m.written
   all_there ending stopped goes =
       ap (λ (p : Progress). requests_of p.steps) goes ∙ sym (append-nil (requests_of steps))
-      ∙ ap (λ (xs : List Request). requests_of steps ++ xs) (sym (none_is_left ending stopped goes)) ∙ requests.requests
+      ∙ ap (λ (xs : List Request). requests_of steps ++ xs) (sym (none_is_left ending stopped goes)) ∙ now.requests.requests
 
   -- the end
   pub ends : call ≡ Call.End → refusal_of given.version call ≡ None → Replies (reply_to_end m m.left)
@@ -232,15 +229,15 @@ module _ (same_header : Request → Request → Bool) (reflexive : IsReflexive s
       (put_all same_header (requests_by m.start m.done m.left m.completions call) (record { left = m.left; written = m.written })))
   makes_some e accepted =
       subst (λ (some : List Request). Replies (reply_to_make same_header given m call some (put_all same_header some (record { left = m.left; written = m.written })))) (sym same_requests)
-      (subst (λ (o : Option PutState). Replies (reply_to_make same_header given m call asked o)) (sym (ap (λ (some : Commands). put_all same_header asked (record { left = some; written = m.written })) requests.are_requests ∙ p.puts))
+      (subst (λ (o : Option PutState). Replies (reply_to_make same_header given m call asked o)) (sym (ap (λ (some : Commands). put_all same_header asked (record { left = some; written = m.written })) now.requests.are_requests ∙ p.puts))
       (subst (λ (answer : Answer). AnswersNext handler given journal arrivals calls answer new) (sym same_answer)
       (stepped step goes new new_tables
-      (ap (λ (n : ℕ). n + completions_of call) completions) (ap (λ (n : ℕ). n + signals_of call) signals)
+      (ap (λ (n : ℕ). n + completions_of call) now.completions) (ap (λ (n : ℕ). n + signals_of call) now.signals)
       (record { left = p.rest; are_requests = refl; requests = p.whole; replays = p.replays })
-      shows (ap (λ (some : List Request). some ++ asked) done) new_children
-      (new-ids m.children (child_of cancellation m.completions call) ids_known))))
+      now.start (ap (λ (some : List Request). some ++ asked) now.done) new_children
+      (new-ids m.children (child_of cancellation m.completions call) now.ids))))
     where
-      at : place ≡ place_of steps
+      at : now.place ≡ place_of steps
       at = is_here (inl e)
 
       asked : List Request
@@ -252,21 +249,21 @@ module _ (same_header : Request → Request → Bool) (reflexive : IsReflexive s
       goes : run handler given arrivals (suc calls) ≡ record { steps = step ∷ steps; ending = GoesOn }
       goes = after ∙ after_call-answers given steps arrivals call accepted (make-kind call e)
 
-      agrees : Agrees requests.left asked
-      agrees = agree handler given journal arrivals fits.calls fits.beginning (suc calls) (requests_of steps) asked requests.left m.written
-          (ap (λ (p : Progress). requests_of p.steps) goes) requests.requests requests.replays
+      agrees : Agrees now.requests.left asked
+      agrees = agree handler given journal arrivals fits.calls fits.beginning (suc calls) (requests_of steps) asked now.requests.left m.written
+          (ap (λ (p : Progress). requests_of p.steps) goes) now.requests.requests now.requests.replays
 
-      p : Puts same_header journal (requests_of steps) asked requests.left m.written
-      p = put same_header reflexive journal asked (requests_of steps) requests.left m.written requests.requests requests.replays agrees
+      p : Puts same_header journal (requests_of steps) asked now.requests.left m.written
+      p = put same_header reflexive journal asked (requests_of steps) now.requests.left m.written now.requests.requests now.requests.replays agrees
 
       same_requests : requests_by m.start m.done m.left m.completions call ≡ asked
-      same_requests = requests-same given steps m.start journal m.done m.left m.written m.completions shows done completions requests call agrees
+      same_requests = requests-same given steps m.start journal m.done m.left m.written m.completions now.start now.done now.completions now.requests call agrees
 
       made_ids : List NotificationId
       made_ids = ids_of m.completions m.signals call
 
       same_ids : ids_of (next_completion steps) (next_signal steps) call ≡ made_ids
-      same_ids = ap₂ (λ (n signal : ℕ). ids_of n signal call) (sym completions) (sym signals)
+      same_ids = ap₂ (λ (n signal : ℕ). ids_of n signal call) (sym now.completions) (sym now.signals)
 
       creates : Creates steps step made_ids
       creates = record { made = same_ids; takes = make-takes given steps arrivals call e }
@@ -285,30 +282,30 @@ module _ (same_header : Request → Request → Bool) (reflexive : IsReflexive s
         children = m.children ++ map new_child (child_of cancellation m.completions call);
       }
 
-      at_place : (waiting : Ready) → TablesStand given.options (step ∷ steps) arrivals place m.queue waiting new.slots → TablesStand given.options (step ∷ steps) arrivals step.place m.queue waiting new.slots
+      at_place : (waiting : Ready) → TablesStand given.options (step ∷ steps) arrivals now.place m.queue waiting new.slots → TablesStand given.options (step ∷ steps) arrivals step.place m.queue waiting new.slots
       at_place waiting stands = subst (λ (n : ℕ). TablesStand given.options (step ∷ steps) arrivals n m.queue waiting new.slots) at stands
 
       new_tables : TablesStand given.options (step ∷ steps) arrivals step.place new.queue new.ready new.slots
       new_tables =
-          subst (λ (n : ℕ). TablesStand given.options (step ∷ steps) arrivals step.place m.queue (ready_after_all given.options.signal_delivery m.ready (known_result n asked)) new.slots) (sym completions)
+          subst (λ (n : ℕ). TablesStand given.options (step ∷ steps) arrivals step.place m.queue (ready_after_all given.options.signal_delivery m.ready (known_result n asked)) new.slots) (sym now.completions)
           (by_known (known-one given steps (next_completion steps) call))
         where
           by_known : (known_result (next_completion steps) asked ≡ []) ⊎ ((result : NotificationResult) × (known_result (next_completion steps) asked ≡ record { id = CompletionId (next_completion steps); result = result } ∷ []))
               → TablesStand given.options (step ∷ steps) arrivals step.place m.queue (ready_after_all given.options.signal_delivery m.ready (known_result (next_completion steps) asked)) new.slots
           by_known (inl none) =
               subst (λ (known : List Arrival). TablesStand given.options (step ∷ steps) arrivals step.place m.queue (ready_after_all given.options.signal_delivery m.ready known) new.slots) (sym none)
-              (at_place m.ready (makes given.options steps arrivals place step made_ids m.queue m.ready m.slots (sym at) creates tables none))
+              (at_place m.ready (makes given.options steps arrivals now.place step made_ids m.queue m.ready m.slots (sym at) creates now.tables none))
           by_known (inr (result, one)) =
               subst (λ (known : List Arrival). TablesStand given.options (step ∷ steps) arrivals step.place m.queue (ready_after_all given.options.signal_delivery m.ready known) new.slots) (sym one)
               (at_place (ready_after given.options.signal_delivery m.ready (record { id = CompletionId (next_completion steps); result = result }))
-              (knows given.options steps arrivals place step made_ids m.queue m.ready m.slots (sym at) creates tables (next_completion steps) result one
+              (knows given.options steps arrivals now.place step made_ids m.queue m.ready m.slots (sym at) creates now.tables (next_completion steps) result one
               (subst (λ (some : List Step). length (results_for (known_results some ++ arrivals) (CompletionId (next_completion steps))) ≤ 1) (ap (λ (p : Progress). p.steps) goes)
               (fits.once (suc calls) (next_completion steps)))))
 
       new_children : new.children ≡ children_of cancellation (step ∷ steps)
       new_children =
-          ap₂ (λ (some : List Child) (n : ℕ). some ++ map new_child (child_of cancellation n call)) children completions
-          ∙ sym (children-made cancellation steps step made_ids creates tables.takes (make-keeps given steps arrivals call e))
+          ap₂ (λ (some : List Child) (n : ℕ). some ++ map new_child (child_of cancellation n call)) now.children now.completions
+          ∙ sym (children-made cancellation steps step made_ids creates now.tables.takes (make-keeps given steps arrivals call e))
 
       same_answer : answer_by given.input.invocation_id (next_slot m) m.signals call ≡ answer_to given steps arrivals call
-      same_answer = ap₂ (λ (h signal : ℕ). answer_by given.input.invocation_id h signal call) tables.next signals ∙ make-answer given steps arrivals call e
+      same_answer = ap₂ (λ (h signal : ℕ). answer_by given.input.invocation_id h signal call) now.tables.next now.signals ∙ make-answer given steps arrivals call e

@@ -23,70 +23,93 @@ use Rattle.attempt_model.specs.Children.{Child, cancel_requests_for, ChildrenOut
 use Rattle.attempt_model.specs.Machine.{Machine, Reply, Answered, is_cancelled, reply_where_unknown, reply_where_asleep, reply_where_cancelled, reply_to_children, reply_where_awake, reply_to_await}
 use Rattle.attempt_model.specs.Requests.{Commands, PutState, put_all}
 use Rattle.attempt_model.specs.Results.{Ready, first_of, ready_without_first, Resolution, Awake, Asleep, resolution_of}
-use Rattle.attempt_model.specs.Standing.{TablesStand, RequestsStand, Reached, here, ahead, cancelling, IsShown, children_of, is_id_if_known, Fits, next_call, AnswersNext, RepliesAsRun, IsReflexive}
+use Rattle.attempt_model.specs.Standing.{TablesStand, RequestsStand, Reached, here, ahead, cancelling, IsShown, children_of, is_id_if_known, Stands, Fits, next_call, AnswersNext, RepliesAsRun, IsReflexive}
 use Rattle.attempt_model.proofs.Requests.{Puts, put, agree}
 use Rattle.attempt_tables.proofs.Children.{cancels-same, TellsFrom, tells}
 use Rattle.attempt_tables.proofs.Making.{Creates}
 use Rattle.attempt_tables.proofs.Tables.{front-untaken, starts}
 use Rattle.attempt_tables.proofs.Taking.{takes_first}
 use Rattle.attempt_tables.proofs.Waking.{least-some, least-none, front-stays, fronts, leaf_state-fronts, still-whole, ResolvesFrom, resolves}
-use Rattle.attempt_calls.proofs.CallKinds.{no_child-await, awake-cancelled, completed-some, known-cancels, awaits-same}
+use Rattle.attempt_calls.proofs.CallKinds.{no_child, awake-cancelled, completed-some, known-cancels, awaits-same}
 use Rattle.attempt_calls.proofs.Ids.{results-ids}
 
+-- a test that fails at a place, be it before another place or not, fails there
+either_side : (test : ℕ → Bool) (place q : ℕ) → (q < place → test q ≡ false) → (place ≤ q → test q ≡ false) → test q ≡ false
+either_side test place q early late = by_order (nat_lt q place) refl
+  where
+    by_order : (b : Bool) → nat_lt q place ≡ b → test q ≡ false
+    by_order true f = early (ltb-true q place f)
+    by_order false f = late (ltb-false q place f)
+
 module _ (same_header : Request → Request → Bool) (reflexive : IsReflexive same_header) (handler : Handler) (given : Invocation) (journal : List Request) (arrivals : List Arrival)
-    (fits : Fits handler given journal arrivals) (calls : ℕ) (m : Machine) (steps : List Step) (place : ℕ)
-    (going : run handler given arrivals calls ≡ record { steps = steps; ending = GoesOn })
-    (tables : TablesStand given.options steps arrivals place m.queue m.ready m.slots)
-    (completions : m.completions ≡ next_completion steps) (signals : m.signals ≡ next_signal steps)
-    (requests : RequestsStand journal steps m.left m.written) (shows : IsShown given.start journal m.start) (done : m.done ≡ requests_of steps)
-    (children : m.children ≡ children_of given.options.implicit_cancellation steps) (ids_known : list_all (λ child. is_id_if_known child.taken) m.children ≡ true) (reached : Reached handler given arrivals steps place)
-    (call : Call) (is : next_call handler given steps ≡ call) where
+    (fits : Fits handler given journal arrivals) (calls : ℕ) (m : Machine) (now : Stands handler given journal arrivals calls m) (call : Call) (is : next_call handler given now.steps ≡ call) where
   abbrev Replies : Reply → Type 0
   Replies reply = RepliesAsRun handler given journal arrivals calls reply
 
   abbrev cancellation : ImplicitCancellationOption
   cancellation = given.options.implicit_cancellation
 
+  abbrev steps : List Step
+  steps = now.steps
+
   -- what all calls share
   after : run handler given arrivals (suc calls) ≡ after_call given steps arrivals call
-  after = Answering.after same_header reflexive handler given journal arrivals fits calls m steps place going tables completions signals requests shows done children ids_known reached call is
+  after = Answering.after same_header reflexive handler given journal arrivals fits calls m now call is
 
   same_steps : (run handler given arrivals calls).steps ≡ steps
-  same_steps = Answering.same_steps same_header reflexive handler given journal arrivals fits calls m steps place going tables completions signals requests shows done children ids_known reached call is
+  same_steps = Answering.same_steps same_header reflexive handler given journal arrivals fits calls m now call is
 
   stepped : (step : Step) → run handler given arrivals (suc calls) ≡ record { steps = step ∷ steps; ending = GoesOn } → (new : Machine)
       → TablesStand given.options (step ∷ steps) arrivals step.place new.queue new.ready new.slots
       → new.completions ≡ next_completion (step ∷ steps) → new.signals ≡ next_signal (step ∷ steps) → RequestsStand journal (step ∷ steps) new.left new.written
       → IsShown given.start journal new.start → new.done ≡ requests_of (step ∷ steps) → new.children ≡ children_of cancellation (step ∷ steps) → list_all (λ child. is_id_if_known child.taken) new.children ≡ true
       → AnswersNext handler given journal arrivals calls step.answer new
-  stepped = Answering.stepped same_header reflexive handler given journal arrivals fits calls m steps place going tables completions signals requests shows done children ids_known reached call is
+  stepped = Answering.stepped same_header reflexive handler given journal arrivals fits calls m now call is
 
   quiet : (step : Step) → step.requests ≡ [] → RequestsStand journal (step ∷ steps) m.left m.written
-  quiet = Answering.quiet same_header reflexive handler given journal arrivals fits calls m steps place going tables completions signals requests shows done children ids_known reached call is
+  quiet = Answering.quiet same_header reflexive handler given journal arrivals fits calls m now call is
 
   quiet_done : (step : Step) → step.requests ≡ [] → m.done ≡ requests_of (step ∷ steps)
-  quiet_done = Answering.quiet_done same_header reflexive handler given journal arrivals fits calls m steps place going tables completions signals requests shows done children ids_known reached call is
+  quiet_done = Answering.quiet_done same_header reflexive handler given journal arrivals fits calls m now call is
 
   quiet_children : (step : Step) → Creates steps step [] → child_of cancellation (next_completion steps) step.call ≡ [] → ((xs : List ℕ) → children_after step.answer xs ≡ xs)
       → m.children ≡ children_of cancellation (step ∷ steps)
-  quiet_children = Answering.quiet_children same_header reflexive handler given journal arrivals fits calls m steps place going tables completions signals requests shows done children ids_known reached call is
+  quiet_children = Answering.quiet_children same_header reflexive handler given journal arrivals fits calls m now call is
 
   none_more : (n : ℕ) → n ≡ n + 0
-  none_more = Answering.none_more same_header reflexive handler given journal arrivals fits calls m steps place going tables completions signals requests shows done children ids_known reached call is
+  none_more = Answering.none_more same_header reflexive handler given journal arrivals fits calls m now call is
 
   quiet_tables : (step : Step) (q : ℕ) (line : List Arrival) (waiting : Ready) → step.place ≡ q → Creates steps step [] → known_result (next_completion steps) step.requests ≡ []
       → TablesStand given.options steps arrivals q line waiting m.slots → TablesStand given.options (step ∷ steps) arrivals step.place line waiting m.slots
-  quiet_tables = Answering.quiet_tables same_header reflexive handler given journal arrivals fits calls m steps place going tables completions signals requests shows done children ids_known reached call is
+  quiet_tables = Answering.quiet_tables same_header reflexive handler given journal arrivals fits calls m now call is
 
   accepted_is : (other : Call) → call ≡ other → refusal_of given.version call ≡ None → refusal_of given.version other ≡ None
-  accepted_is = Answering.accepted_is same_header reflexive handler given journal arrivals fits calls m steps place going tables completions signals requests shows done children ids_known reached call is
+  accepted_is = Answering.accepted_is same_header reflexive handler given journal arrivals fits calls m now call is
 
   nothing_left : (ending : Ending) → is_going ending ≡ false → run handler given arrivals (suc calls) ≡ record { steps = steps; ending = ending } → m.left ≡ []
-  nothing_left = Answering.nothing_left same_header reflexive handler given journal arrivals fits calls m steps place going tables completions signals requests shows done children ids_known reached call is
+  nothing_left = Answering.nothing_left same_header reflexive handler given journal arrivals fits calls m now call is
 
   all_there : (ending : Ending) → is_going ending ≡ false → run handler given arrivals (suc calls) ≡ record { steps = steps; ending = ending }
       → run_requests handler given arrivals (suc calls) ≡ journal ++ m.written
-  all_there = Answering.all_there same_header reflexive handler given journal arrivals fits calls m steps place going tables completions signals requests shows done children ids_known reached call is
+  all_there = Answering.all_there same_header reflexive handler given journal arrivals fits calls m now call is
+
+  -- the machine stands as it did, with so much looked at
+  looks_on : (p : ℕ) (line : List Arrival) (waiting : Ready) → TablesStand given.options steps arrivals p line waiting m.slots → Reached handler given arrivals steps p
+      → Stands handler given journal arrivals calls (record m { queue = line; ready = waiting })
+  looks_on p line waiting tables reached = record {
+    steps = now.steps;
+    place = p;
+    going = now.going;
+    tables = tables;
+    completions = now.completions;
+    signals = now.signals;
+    requests = now.requests;
+    start = now.start;
+    done = now.done;
+    children = now.children;
+    ids = now.ids;
+    reached = reached;
+  }
 
   -- an await
   module _ (tree : AwaitTree ℕ) (e : call ≡ Call.Await tree) (accepted : refusal_of given.version call ≡ None) where
@@ -133,9 +156,9 @@ module _ (same_header : Request → Request → Bool) (reflexive : IsReflexive s
         → Replies (reply_to_children same_header given (record m { queue = line; ready = waiting }) (children_outcome given.options.signal_delivery m.children line waiting))
     tells_them wakes starts cancel p line waiting low unknown stands =
         by_told (children_outcome given.options.signal_delivery m.children line waiting)
-        (subst (λ (some : List Child). TellsFrom given.options steps arrivals m.slots tracked p (children_outcome given.options.signal_delivery some line waiting)) (sym children)
+        (subst (λ (some : List Child). TellsFrom given.options steps arrivals m.slots tracked p (children_outcome given.options.signal_delivery some line waiting)) (sym now.children)
         (tells given.options steps arrivals m.slots tracked
-        (λ q high. results-ids given.options steps arrivals q tracked (ap (list_all (λ child. is_id_if_known child.taken)) (sym children) ∙ ids_known) (λ n f. Answering.front_ids same_header reflexive handler given journal arrivals fits calls m steps place going tables completions signals requests shows done children ids_known reached call is q high n f))
+        (λ q high. results-ids given.options steps arrivals q tracked (ap (list_all (λ child. is_id_if_known child.taken)) (sym now.children) ∙ now.ids) (λ n f. Answering.front_ids same_header reflexive handler given journal arrivals fits calls m now call is q high n f))
         p line waiting stands))
       where
         p_high : p ≤ length arrivals
@@ -172,11 +195,7 @@ module _ (same_header : Request → Request → Bool) (reflexive : IsReflexive s
 
             placed : children_place given.options steps arrivals wakes ≡ Some t.place
             placed = least-some known wakes (length arrivals - wakes) t.place (omega (arith, low, t_low)) (omega (arith, low, t_low, t_high)) t.known
-                (λ q above below. by_order q above below (nat_lt q p) refl)
-              where
-                by_order : (q : ℕ) → wakes ≤ q → q < t.place → (b : Bool) → nat_lt q p ≡ b → known q ≡ false
-                by_order q above below true f = unknown q above (ltb-true q p f)
-                by_order q above below false f = t.before q (ltb-false q p f) below
+                (λ q above below. either_side known p q (unknown q above) (λ from. t.before q from below))
 
             asked : List Request
             asked = cancel_requests given.options steps arrivals t.place tracked
@@ -187,13 +206,13 @@ module _ (same_header : Request → Request → Bool) (reflexive : IsReflexive s
             goes_on : run handler given arrivals (suc calls) ≡ record { steps = step ∷ steps; ending = GoesOn }
             goes_on = goes (CancelledAt t.place asked) (outcome (Some t.place) placed)
 
-            puts : Puts same_header journal (requests_of steps) asked requests.left m.written
-            puts = put same_header reflexive journal asked (requests_of steps) requests.left m.written requests.requests requests.replays
-                (agree handler given journal arrivals fits.calls fits.beginning (suc calls) (requests_of steps) asked requests.left m.written
-                (ap (λ (p : Progress). requests_of p.steps) goes_on) requests.requests requests.replays)
+            puts : Puts same_header journal (requests_of steps) asked now.requests.left m.written
+            puts = put same_header reflexive journal asked (requests_of steps) now.requests.left m.written now.requests.requests now.requests.replays
+                (agree handler given journal arrivals fits.calls fits.beginning (suc calls) (requests_of steps) asked now.requests.left m.written
+                (ap (λ (p : Progress). requests_of p.steps) goes_on) now.requests.requests now.requests.replays)
 
             same_asked : cancel_requests_for ready m.children ≡ asked
-            same_asked = ap (cancel_requests_for ready) children ∙ cancels-same given.options steps arrivals t.place queue ready m.slots t.stands tracked
+            same_asked = ap (cancel_requests_for ready) now.children ∙ cancels-same given.options steps arrivals t.place queue ready m.slots t.stands tracked
 
             by_first : (o : Option NotificationResult) → first_of (ready cancel_id) ≡ o
                 → Replies (reply_where_cancelled same_header given (record m { queue = queue; ready = ready }) (cancel_requests_for ready m.children)
@@ -205,7 +224,7 @@ module _ (same_header : Request → Request → Bool) (reflexive : IsReflexive s
                 cc
             by_first (Some r) f =
                 subst (λ (some : List Request). Replies (reply_where_cancelled same_header given (record m { queue = queue; ready = ready }) some (put_all same_header some (record { left = m.left; written = m.written })))) (sym same_asked)
-                (subst (λ (o : Option PutState). Replies (reply_where_cancelled same_header given (record m { queue = queue; ready = ready }) asked o)) (sym (ap (λ (some : Commands). put_all same_header asked (record { left = some; written = m.written })) requests.are_requests ∙ puts.puts))
+                (subst (λ (o : Option PutState). Replies (reply_where_cancelled same_header given (record m { queue = queue; ready = ready }) asked o)) (sym (ap (λ (some : Commands). put_all same_header asked (record { left = some; written = m.written })) now.requests.are_requests ∙ puts.puts))
                 (stepped step goes_on (record {
                   left = map Some puts.rest;
                   written = puts.wrote;
@@ -220,46 +239,26 @@ module _ (same_header : Request → Request → Bool) (reflexive : IsReflexive s
                 })
                 (takes_first given.options steps arrivals t.place step queue ready m.slots 1 cancel_id r refl
                 (record { none_made = refl; handle_is = refl; none_known = known-cancels given.options steps arrivals t.place (next_completion steps) tracked }) t.stands refl f)
-                (completions ∙ none_more (next_completion steps)) (signals ∙ none_more (next_signal steps))
+                (now.completions ∙ none_more (next_completion steps)) (now.signals ∙ none_more (next_signal steps))
                 (record { left = puts.rest; are_requests = refl; requests = puts.whole; replays = puts.replays })
-                shows (ap (λ (some : List Request). some ++ asked) done) refl refl))
+                now.start (ap (λ (some : List Request). some ++ asked) now.done) refl refl))
         by_told OneIsNoId t = absurd t
         by_told (FirstUnknown child ready) t = by_left m.left refl
           where
             none : children_place given.options steps arrivals wakes ≡ None
-            none = least-none known wakes (length arrivals - wakes) (λ q above below. by_order q above (omega (arith, below, low, p_high)) (nat_lt q p) refl)
-              where
-                by_order : (q : ℕ) → wakes ≤ q → q ≤ length arrivals → (b : Bool) → nat_lt q p ≡ b → known q ≡ false
-                by_order q above below true f = unknown q above (ltb-true q p f)
-                by_order q above below false f = t.unknown q (ltb-false q p f) below
+            none = least-none known wakes (length arrivals - wakes)
+                (λ q above below. either_side known p q (unknown q above) (λ from. t.unknown q from (omega (arith, below, low, p_high))))
 
             waits : run handler given arrivals (suc calls) ≡ record { steps = steps; ending = Waits (Single (Some (CompletionId child))) }
             waits = goes (WaitsFor (Single (child_id (first_unknown given.options steps arrivals tracked)))) (outcome None none)
                 ∙ ap (λ (o : Option ℕ). record { steps = steps; ending = Waits (Single (child_id o)) }) (sym t.first)
 
             before : (q : ℕ) → wakes ≤ q → q < length arrivals → known q ≡ false
-            before q above below = by_order (nat_lt q p) refl
-              where
-                by_order : (b : Bool) → nat_lt q p ≡ b → known q ≡ false
-                by_order true f = unknown q above (ltb-true q p f)
-                by_order false f = t.unknown q (ltb-false q p f) (omega (arith, below))
+            before q above below = either_side known p q (unknown q above) (λ from. t.unknown q from (omega (arith, below)))
 
             by_left : (some : Commands) → m.left ≡ some → Replies (reply_where_unknown child (record m { queue = []; ready = ready }) some)
             by_left [] f = record {
-              stands = record {
-                steps = steps;
-                place = length arrivals;
-                going = going;
-                tables = t.stands;
-                completions = completions;
-                signals = signals;
-                requests = requests;
-                start = shows;
-                done = done;
-                children = children;
-                ids = ids_known;
-                reached = cancelling tree (is ∙ e) wakes starts.above (omega (arith, low, p_high)) starts.awake starts.before cancel before;
-              };
+              stands = looks_on (length arrivals) [] ready t.stands (cancelling tree (is ∙ e) wakes starts.above (omega (arith, low, p_high)) starts.awake starts.before cancel before);
               waits = ap (λ (p : Progress). p.ending) waits;
               exactly = all_there (Waits (Single (Some (CompletionId child)))) refl waits;
             }
@@ -274,8 +273,8 @@ module _ (same_header : Request → Request → Bool) (reflexive : IsReflexive s
         ∙ ap (λ (b : Bool). if b then cancellation_outcome given.options steps arrivals (children_place given.options steps arrivals q) else WokenAt q) quiet_there))
         (record m { queue = line; ready = waiting })
         (quiet_tables step q line waiting refl (record { made = refl; takes = refl }) refl stands)
-        (completions ∙ none_more (next_completion steps)) (signals ∙ none_more (next_signal steps)) (quiet step refl)
-        shows (quiet_done step refl) (quiet_children step (record { made = refl; takes = refl }) (no_child-await cancellation (next_completion steps) tree) (λ xs. refl)) ids_known
+        (now.completions ∙ none_more (next_completion steps)) (now.signals ∙ none_more (next_signal steps)) (quiet step refl)
+        now.start (quiet_done step refl) (quiet_children step (record { made = refl; takes = refl }) ((no_child cancellation (next_completion steps)).await tree) (λ xs. refl)) now.ids
       where
         step : Step
         step = record { call = Call.Await tree; answer = Answer.Woken; requests = []; place = q }
@@ -286,26 +285,22 @@ module _ (same_header : Request → Request → Bool) (reflexive : IsReflexive s
         (ap first_of (stands.ready cancel_id) ∙ sym (front-untaken given.options steps arrivals q cancel_id))
 
     -- no cancellation waits: the machine has looked at no more than the run, or the tree was asleep at all it has looked at
-    asks : place_of steps ≤ place → ((q : ℕ) → place_of steps ≤ q → q < place → test q ≡ false) → (r : Resolution)
-        → ResolvesFrom given.options steps arrivals fits.queued once m.slots whole place r → Replies (reply_to_await same_header given m r)
+    asks : place_of steps ≤ now.place → ((q : ℕ) → place_of steps ≤ q → q < now.place → test q ≡ false) → (r : Resolution)
+        → ResolvesFrom given.options steps arrivals fits.queued once m.slots whole now.place r → Replies (reply_to_await same_header given m r)
     asks low_place early (Awake line waiting) w = by_cancel (is_cancelled given (record m { queue = line; ready = waiting })) refl
       where
         high : w.place ≤ length arrivals
         high = w.stands.within
 
-        low : place ≤ w.place
+        low : now.place ≤ w.place
         low = w.above
 
         starts : Starts w.place
         starts = record {
           above = omega (arith, low_place, low);
           awake = test-is w.place (omega (arith, low_place, low)) high ∙ w.awake;
-          before = λ q above below. by_order q above below (nat_lt q place) refl;
+          before = λ q above below. either_side test now.place q (early q above) (λ from. test-is q above (omega (arith, below, high)) ∙ w.before q from below);
         }
-          where
-            by_order : (q : ℕ) → place_of steps ≤ q → q < w.place → (b : Bool) → nat_lt q place ≡ b → test q ≡ false
-            by_order q above below true f = early q above (ltb-true q place f)
-            by_order q above below false f = test-is q above (omega (arith, below, high)) ∙ w.before q (ltb-false q place f) below
 
         by_cancel : (b : Bool) → is_cancelled given (record m { queue = line; ready = waiting }) ≡ b → Replies (reply_where_awake same_header given (record m { queue = line; ready = waiting }) b)
         by_cancel false f = wakes_up w.place line waiting starts (sym (cancelled-is w.place line waiting w.stands) ∙ f) w.stands
@@ -314,45 +309,25 @@ module _ (same_header : Request → Request → Bool) (reflexive : IsReflexive s
             (λ q above below. absurd (omega (arith, above, below))) w.stands
     asks low_place early (Asleep left waiting) s = by_left m.left refl
       where
-        within : place ≤ length arrivals
-        within = tables.within
+        within : now.place ≤ length arrivals
+        within = now.tables.within
+
+        later : (q : ℕ) → place_of steps ≤ q → q ≤ length arrivals → now.place ≤ q → test q ≡ false
+        later q low top from = test-is q low top ∙ s.asleep q from top
 
         none : awake_place given.options steps arrivals ids ≡ None
         none =
-            least-none test (place_of steps) (length arrivals - place_of steps) (λ q low high. by_order q low (omega (arith, high, low_place, within)) (nat_lt q place) refl)
-          where
-            by_order : (q : ℕ) → place_of steps ≤ q → q ≤ length arrivals → (b : Bool) → nat_lt q place ≡ b → test q ≡ false
-            by_order q low high true f = early q low (ltb-true q place f)
-            by_order q low high false f = test-is q low high ∙ s.asleep q (ltb-false q place f) high
+            least-none test (place_of steps) (length arrivals - place_of steps) (λ q low high. either_side test now.place q (early q low) (later q low (omega (arith, high, low_place, within))))
 
         waits : run handler given arrivals (suc calls) ≡ record { steps = steps; ending = Waits ids }
         waits = goes (WaitsFor ids) (ap (outcome_from given.options steps arrivals ids) none)
 
         before : (q : ℕ) → place_of steps ≤ q → q < length arrivals → test q ≡ false
-        before q low high = by_order (nat_lt q place) refl
-          where
-            by_order : (b : Bool) → nat_lt q place ≡ b → test q ≡ false
-            by_order true f = early q low (ltb-true q place f)
-            by_order false f =
-                let top : q ≤ length arrivals = omega (arith, high) in
-                test-is q low top ∙ s.asleep q (ltb-false q place f) top
+        before q low high = either_side test now.place q (early q low) (later q low (omega (arith, high)))
 
         by_left : (some : Commands) → m.left ≡ some → Replies (reply_where_asleep left (record m { queue = []; ready = waiting }) some)
         by_left [] f = record {
-          stands = record {
-            steps = steps;
-            place = length arrivals;
-            going = going;
-            tables = s.stands;
-            completions = completions;
-            signals = signals;
-            requests = requests;
-            start = shows;
-            done = done;
-            children = children;
-            ids = ids_known;
-            reached = ahead tree (is ∙ e) (omega (arith, low_place, within)) before;
-          };
+          stands = looks_on (length arrivals) [] waiting s.stands (ahead tree (is ∙ e) (omega (arith, low_place, within)) before);
           ids = ids;
           waits = ap (λ (p : Progress). p.ending) waits;
           exactly = all_there (Waits ids) refl waits;
@@ -362,23 +337,23 @@ module _ (same_header : Request → Request → Bool) (reflexive : IsReflexive s
         by_left (command ∷ some) f = let wrong : command ∷ some ≡ [] = sym f ∙ nothing_left (Waits ids) refl waits in cc
 
     -- a cancellation waits: the tree is awake at once, and the children are told from here on
-    asks_again : (wakes : ℕ) → Starts wakes → wakes ≤ place → is_cancelled_at given.options steps arrivals wakes ≡ true
-        → ((q : ℕ) → wakes ≤ q → q < place → all_known_at given.options steps arrivals tracked q ≡ false) → (r : Resolution)
-        → ResolvesFrom given.options steps arrivals fits.queued once m.slots whole place r → Replies (reply_to_await same_header given m r)
+    asks_again : (wakes : ℕ) → Starts wakes → wakes ≤ now.place → is_cancelled_at given.options steps arrivals wakes ≡ true
+        → ((q : ℕ) → wakes ≤ q → q < now.place → all_known_at given.options steps arrivals tracked q ≡ false) → (r : Resolution)
+        → ResolvesFrom given.options steps arrivals fits.queued once m.slots whole now.place r → Replies (reply_to_await same_header given m r)
     asks_again wakes starts under cancel unknown r resolved_so = by_resolved r resolved_so
       where
-        within : place ≤ length arrivals
-        within = tables.within
+        within : now.place ≤ length arrivals
+        within = now.tables.within
 
-        front_here : (o : Option NotificationResult) → front given.options steps arrivals wakes cancel_id ≡ o → is_some (front given.options steps arrivals place cancel_id) ≡ true
+        front_here : (o : Option NotificationResult) → front given.options steps arrivals wakes cancel_id ≡ o → is_some (front given.options steps arrivals now.place cancel_id) ≡ true
         front_here None f = absurd (never (ends_awaits cancellation) (sym (ap (λ (o : Option NotificationResult). ends_awaits cancellation && is_some o) f) ∙ cancel))
           where
             never : (b : Bool) → (b && false) ≡ true → ⊥
             never true g = cc
             never false g = cc
-        front_here (Some r) f = ap is_some (front-stays given.options steps arrivals fits.queued once wakes place cancel_id r under within f)
+        front_here (Some r) f = ap is_some (front-stays given.options steps arrivals fits.queued once wakes now.place cancel_id r under within f)
 
-        there : is_some (front given.options steps arrivals place cancel_id) ≡ true
+        there : is_some (front given.options steps arrivals now.place cancel_id) ≡ true
         there = front_here (front given.options steps arrivals wakes cancel_id) refl
 
         ends : ends_awaits cancellation ≡ true
@@ -388,18 +363,18 @@ module _ (same_header : Request → Request → Bool) (reflexive : IsReflexive s
             both true b f = refl
             both false b f = cc
 
-        awake_here : is_awake ids (states place) ≡ true
-        awake_here = awake-cancelled steps cancellation ends tree (states place) (completed-some (front given.options steps arrivals place cancel_id) there)
+        awake_here : is_awake ids (states now.place) ≡ true
+        awake_here = awake-cancelled steps cancellation ends tree (states now.place) (completed-some (front given.options steps arrivals now.place cancel_id) there)
 
-        by_resolved : (r : Resolution) → ResolvesFrom given.options steps arrivals fits.queued once m.slots whole place r → Replies (reply_to_await same_header given m r)
+        by_resolved : (r : Resolution) → ResolvesFrom given.options steps arrivals fits.queued once m.slots whole now.place r → Replies (reply_to_await same_header given m r)
         by_resolved (Awake line waiting) w = by_cancel (is_cancelled given (record m { queue = line; ready = waiting })) refl
           where
-            same : place ≡ w.place
+            same : now.place ≡ w.place
             same = by_order (eq-or-lt_of_le w.above)
               where
-                by_order : (place ≡ w.place) ⊎ (place < w.place) → place ≡ w.place
+                by_order : (now.place ≡ w.place) ⊎ (now.place < w.place) → now.place ≡ w.place
                 by_order (inl f) = f
-                by_order (inr above) = let wrong : true ≡ false = sym awake_here ∙ w.before place (le_refl place) above in cc
+                by_order (inr above) = let wrong : true ≡ false = sym awake_here ∙ w.before now.place (le_refl now.place) above in cc
 
             cancel_here : is_cancelled_at given.options steps arrivals w.place ≡ true
             cancel_here = ap (λ (b : Bool). b && is_some (front given.options steps arrivals w.place cancel_id)) ends ∙ ap (λ (q : ℕ). is_some (front given.options steps arrivals q cancel_id)) (sym same) ∙ there
@@ -409,18 +384,18 @@ module _ (same_header : Request → Request → Bool) (reflexive : IsReflexive s
             by_cancel true f =
                 tells_them wakes starts cancel w.place line waiting (omega (arith, under, same))
                 (λ q above below. unknown q above (omega (arith, below, same))) w.stands
-        by_resolved (Asleep left waiting) s = let wrong : true ≡ false = sym awake_here ∙ s.asleep place (le_refl place) within in cc
+        by_resolved (Asleep left waiting) s = let wrong : true ≡ false = sym awake_here ∙ s.asleep now.place (le_refl now.place) within in cc
 
     pub awaits : Replies (reply_to_await same_header given m (resolution_of given.options.signal_delivery m.slots whole m.queue m.ready))
-    awaits = by_reached reached
+    awaits = by_reached now.reached
       where
         r : Resolution
         r = resolution_of given.options.signal_delivery m.slots whole m.queue m.ready
 
-        so : ResolvesFrom given.options steps arrivals fits.queued once m.slots whole place (resolution_of given.options.signal_delivery m.slots whole m.queue m.ready)
-        so = resolves given.options steps arrivals fits.queued once m.slots whole whole place m.queue m.ready tables (still-whole given.options steps arrivals fits.queued once whole place)
+        so : ResolvesFrom given.options steps arrivals fits.queued once m.slots whole now.place (resolution_of given.options.signal_delivery m.slots whole m.queue m.ready)
+        so = resolves given.options steps arrivals fits.queued once m.slots whole whole now.place m.queue m.ready now.tables (still-whole given.options steps arrivals fits.queued once whole now.place)
 
-        by_reached : Reached handler given arrivals steps place → Replies (reply_to_await same_header given m (resolution_of given.options.signal_delivery m.slots whole m.queue m.ready))
+        by_reached : Reached handler given arrivals steps now.place → Replies (reply_to_await same_header given m (resolution_of given.options.signal_delivery m.slots whole m.queue m.ready))
         by_reached (here f) = asks (omega (arith, f)) (λ q low high. absurd (omega (arith, f, low, high))) (resolution_of given.options.signal_delivery m.slots whole m.queue m.ready) so
         by_reached (ahead other f above before) =
             let same : other ≡ tree = awaits-same other tree (sym f ∙ is ∙ e) in

@@ -55,26 +55,17 @@ module _ (given : Invocation) (steps : List Step) (arrivals : List Arrival) wher
   make-keeps _ e xs = refl
 
 -- calls that bring no child
-pub no_child-look : (cancellation : ImplicitCancellationOption) (n handle : ℕ) → child_of cancellation n (Call.IsCompleted handle) ≡ []
-no_child-look Disabled n handle = refl
-no_child-look (Enabled true true) n handle = refl
-no_child-look (Enabled true false) n handle = refl
-no_child-look (Enabled false true) n handle = refl
-no_child-look (Enabled false false) n handle = refl
+pub record BringNoChild (cancellation : ImplicitCancellationOption) (n : ℕ) : Type 0 where
+  pub look : (handle : ℕ) → child_of cancellation n (Call.IsCompleted handle) ≡ []
+  pub take : (handle : ℕ) → child_of cancellation n (Call.Take handle) ≡ []
+  pub await : (tree : AwaitTree ℕ) → child_of cancellation n (Call.Await tree) ≡ []
 
-pub no_child-take : (cancellation : ImplicitCancellationOption) (n handle : ℕ) → child_of cancellation n (Call.Take handle) ≡ []
-no_child-take Disabled n handle = refl
-no_child-take (Enabled true true) n handle = refl
-no_child-take (Enabled true false) n handle = refl
-no_child-take (Enabled false true) n handle = refl
-no_child-take (Enabled false false) n handle = refl
-
-pub no_child-await : (cancellation : ImplicitCancellationOption) (n : ℕ) (tree : AwaitTree ℕ) → child_of cancellation n (Call.Await tree) ≡ []
-no_child-await Disabled n tree = refl
-no_child-await (Enabled true true) n tree = refl
-no_child-await (Enabled true false) n tree = refl
-no_child-await (Enabled false true) n tree = refl
-no_child-await (Enabled false false) n tree = refl
+pub no_child : (cancellation : ImplicitCancellationOption) (n : ℕ) → BringNoChild cancellation n
+no_child Disabled n = record { look = λ handle. refl; take = λ handle. refl; await = λ tree. refl }
+no_child (Enabled true true) n = record { look = λ handle. refl; take = λ handle. refl; await = λ tree. refl }
+no_child (Enabled true false) n = record { look = λ handle. refl; take = λ handle. refl; await = λ tree. refl }
+no_child (Enabled false true) n = record { look = λ handle. refl; take = λ handle. refl; await = λ tree. refl }
+no_child (Enabled false false) n = record { look = λ handle. refl; take = λ handle. refl; await = λ tree. refl }
 
 -- a tree in which a cancellation ends the await is awake where the cancellation has come
 pub awake-cancelled : (steps : List Step) (cancellation : ImplicitCancellationOption) → ends_awaits cancellation ≡ true → (tree : AwaitTree ℕ) (leaves : Option NotificationId → AwaitState)

@@ -1,5 +1,5 @@
 -- What comes for a child is its invocation id: what was taken, and what is in front.
-use Rattle.std.proofs.Common.{◌++◌, ◌≡◌, refl, sym, ap, ◌∙◌, ℕ, ◌==◌, Bool, true, false, ◌&&◌, ◌||◌, if◌then◌else◌, List, [], ◌∷◌, map, Option, Some, None, option_map, eq-eqb}
+use Rattle.std.proofs.Common.{◌++◌, ◌≡◌, refl, sym, ap, ◌∙◌, ℕ, ◌==◌, Bool, true, false, ◌&&◌, if◌then◌else◌, List, [], ◌∷◌, map, Option, Some, None, option_map, eq-eqb}
 use Rattle.std.specs.List.{list_all, list_any}
 use Rattle.journal_model.specs.declared.notification.NotificationId.{NotificationId}
 use Rattle.journal_model.specs.declared.notification.NotificationId.TheVariants.{CompletionId}
@@ -14,6 +14,7 @@ use Rattle.journal_model.specs.Await.{last_taken, child_result}
 use Rattle.attempt_model.specs.Children.{Child, new_child, child_with_value, is_id, may_take}
 use Rattle.attempt_model.specs.Standing.{child_after, is_id_if_known}
 use Rattle.journal_model.proofs.Ids.{same_id-same}
+use Rattle.journal_laws.proofs.Leaving.{or-true_left, or-true_right}
 
 pub both-true : (a b : Bool) → a ≡ true → b ≡ true → (a && b) ≡ true
 both-true true true e f = refl
@@ -28,14 +29,6 @@ pub second-true : (a b : Bool) → (a && b) ≡ true → b ≡ true
 second-true true b e = e
 second-true false b e = cc
 
-or-first : (a b : Bool) → a ≡ true → (a || b) ≡ true
-or-first true b e = refl
-or-first false b e = cc
-
-or-second : (a b : Bool) → b ≡ true → (a || b) ≡ true
-or-second true b e = refl
-or-second false b e = e
-
 -- what holds of each that is in the list holds of all
 abbrev pub is_in : List ℕ → ℕ → Bool
 is_in ns n = list_any (λ m. m == n) ns
@@ -43,8 +36,8 @@ is_in ns n = list_any (λ m. m == n) ns
 pub all-in : (test : ℕ → Bool) (ns : List ℕ) → ((n : ℕ) → is_in ns n ≡ true → test n ≡ true) → list_all test ns ≡ true
 all-in test [] holds = refl
 all-in test (n ∷ ns) holds =
-    both-true (test n) (list_all test ns) (holds n (or-first (n == n) (is_in ns n) (eq-eqb n n refl)))
-    (all-in test ns (λ m e. holds m (or-second (n == m) (is_in ns m) e)))
+    both-true (test n) (list_all test ns) (holds n (or-true_left (n == n) (is_in ns n) (eq-eqb n n refl)))
+    (all-in test ns (λ m e. holds m (or-true_right (n == m) (is_in ns m) e)))
 
 module _ (options : RunOptions) (steps : List Step) (arrivals : List Arrival) where
   -- each child is known by its invocation id, if it is
@@ -55,8 +48,8 @@ module _ (options : RunOptions) (steps : List Step) (arrivals : List Arrival) wh
   results-ids place (n ∷ ns) taken fronts =
       both-true (is_id_if_known (child_result options steps arrivals place n)) (list_all (λ n. is_id_if_known (child_result options steps arrivals place n)) ns)
       (by_taken (last_taken (ids_created steps) (CompletionId n) steps) (first-true (is_id_if_known (last_taken (ids_created steps) (CompletionId n) steps)) _ taken)
-      (fronts n (or-first (n == n) (is_in ns n) (eq-eqb n n refl))))
-      (results-ids place ns (second-true (is_id_if_known (last_taken (ids_created steps) (CompletionId n) steps)) _ taken) (λ m e. fronts m (or-second (n == m) (is_in ns m) e)))
+      (fronts n (or-true_left (n == n) (is_in ns n) (eq-eqb n n refl))))
+      (results-ids place ns (second-true (is_id_if_known (last_taken (ids_created steps) (CompletionId n) steps)) _ taken) (λ m e. fronts m (or-true_right (n == m) (is_in ns m) e)))
     where
       by_taken : (o : Option Value) → is_id_if_known o ≡ true → is_id_if_known (option_map as_taken (front options steps arrivals place (CompletionId n))) ≡ true
           → is_id_if_known (or_else o (option_map as_taken (front options steps arrivals place (CompletionId n)))) ≡ true
@@ -70,12 +63,12 @@ module _ (options : RunOptions) (steps : List Step) (arrivals : List Arrival) wh
   takes-ids place [] id r e fronts = refl
   takes-ids place (n ∷ ns) id r e fronts =
       both-true (may_take (Some id) (as_taken r) (child_after steps n)) (list_all (may_take (Some id) (as_taken r)) (map (child_after steps) ns))
-      (by_test (same_id id (CompletionId n)) refl) (takes-ids place ns id r e (λ m f. fronts m (or-second (n == m) (is_in ns m) f)))
+      (by_test (same_id id (CompletionId n)) refl) (takes-ids place ns id r e (λ m f. fronts m (or-true_right (n == m) (is_in ns m) f)))
     where
       by_test : (b : Bool) → same_id id (CompletionId n) ≡ b → (if b then is_id (as_taken r) else true) ≡ true
       by_test true f =
           ap is_id_if_known (ap (option_map as_taken) (sym e ∙ ap (front options steps arrivals place) (same_id-same id (CompletionId n) f)))
-          ∙ fronts n (or-first (n == n) (is_in ns n) (eq-eqb n n refl))
+          ∙ fronts n (or-true_left (n == n) (is_in ns n) (eq-eqb n n refl))
       by_test false f = refl
 
 -- a child keeps an invocation id, or takes one

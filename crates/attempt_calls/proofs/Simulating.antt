@@ -1,41 +1,34 @@
 -- Each call is answered as the run answers it.
-use Rattle.std.proofs.Common.{◌≡◌, refl, sym, ap, ◌∙◌, subst, suc, ◌++◌, [], append_assoc, append-nil, ◌⊎◌, inl, inr, List, ℕ, Bool, Option, Some, None, true}
-use Rattle.std.specs.List.{list_all}
+use Rattle.std.proofs.Common.{◌≡◌, refl, sym, ap, ◌∙◌, subst, suc, ◌++◌, [], append_assoc, append-nil, ◌⊎◌, inl, inr, List, ℕ, Bool, Option, Some, None}
 use Rattle.journal_model.specs.Notification.{Arrival}
 use Rattle.journal_model.specs.declared.call.Call.{Call}
 use Rattle.journal_model.specs.Request.{Request}
 use Rattle.journal_model.specs.Refusal.{Refusal, refusal_of}
-use Rattle.journal_model.specs.History.{Step, requests_of, next_completion, next_signal}
-use Rattle.journal_model.specs.Run.{Handler, Invocation, Progress, GoesOn, run, run_requests, BeginsRun}
+use Rattle.journal_model.specs.History.{requests_of}
+use Rattle.journal_model.specs.Run.{Handler, Invocation, Progress, run_requests, BeginsRun}
 use Rattle.journal_model.proofs.Continuing.{after_call-refused}
 use Rattle.attempt_calls.proofs.Answering as Answering
 use Rattle.attempt_calls.proofs.Awaiting as Awaiting
 use Rattle.attempt_model.specs.Machine.{Machine, Reply, Work, ToAwait, ToEnd, ToTake, ToLook, ToMake, work_of, reply_to_work, reply_unless_refused, reply_to, StopsMidway}
 use Rattle.attempt_model.specs.Requests.{Commands, PutState, put_all}
-use Rattle.attempt_model.specs.Standing.{TablesStand, RequestsStand, Reached, IsShown, children_of, is_id_if_known, Stands, Fits, next_call, AnswersNext, RepliesAsRun, IsReflexive, AreReflexive}
+use Rattle.attempt_model.specs.Standing.{Stands, Fits, next_call, AnswersNext, RepliesAsRun, IsReflexive, AreReflexive}
 use Rattle.attempt_model.proofs.Requests.{Agrees, Puts, put, agree}
 use Rattle.attempt_calls.proofs.CallKinds.{inv-take, inv-look, inv-await, inv-end}
 
 module _ (same_header : Request → Request → Bool) (reflexive : IsReflexive same_header) (handler : Handler) (given : Invocation) (journal : List Request) (arrivals : List Arrival)
-    (fits : Fits handler given journal arrivals) (calls : ℕ) (m : Machine) (steps : List Step) (place : ℕ)
-    (going : run handler given arrivals calls ≡ record { steps = steps; ending = GoesOn })
-    (tables : TablesStand given.options steps arrivals place m.queue m.ready m.slots)
-    (completions : m.completions ≡ next_completion steps) (signals : m.signals ≡ next_signal steps)
-    (requests : RequestsStand journal steps m.left m.written) (shows : IsShown given.start journal m.start) (done : m.done ≡ requests_of steps)
-    (children : m.children ≡ children_of given.options.implicit_cancellation steps) (ids_known : list_all (λ child. is_id_if_known child.taken) m.children ≡ true) (reached : Reached handler given arrivals steps place)
-    (call : Call) (is : next_call handler given steps ≡ call) where
+    (fits : Fits handler given journal arrivals) (calls : ℕ) (m : Machine) (now : Stands handler given journal arrivals calls m) (call : Call) (is : next_call handler given now.steps ≡ call) where
   abbrev Replies : Reply → Type 0
   Replies reply = RepliesAsRun handler given journal arrivals calls reply
 
   by_work : (w : Work) → work_of call ≡ w → refusal_of given.version call ≡ None → Replies (reply_to_work same_header given m call w)
-  by_work (ToAwait tree) e accepted = Awaiting.awaits same_header reflexive handler given journal arrivals fits calls m steps place going tables completions signals requests shows done children ids_known reached call is tree (inv-await call tree e) accepted
-  by_work ToEnd e accepted = Answering.ends same_header reflexive handler given journal arrivals fits calls m steps place going tables completions signals requests shows done children ids_known reached call is (inv-end call e) accepted
-  by_work (ToTake handle) e accepted = Answering.takes same_header reflexive handler given journal arrivals fits calls m steps place going tables completions signals requests shows done children ids_known reached call is handle (inv-take call handle e) accepted
-  by_work (ToLook handle) e accepted = Answering.looks same_header reflexive handler given journal arrivals fits calls m steps place going tables completions signals requests shows done children ids_known reached call is handle (inv-look call handle e) accepted
-  by_work ToMake e accepted = Answering.makes_some same_header reflexive handler given journal arrivals fits calls m steps place going tables completions signals requests shows done children ids_known reached call is e accepted
+  by_work (ToAwait tree) e accepted = Awaiting.awaits same_header reflexive handler given journal arrivals fits calls m now call is tree (inv-await call tree e) accepted
+  by_work ToEnd e accepted = Answering.ends same_header reflexive handler given journal arrivals fits calls m now call is (inv-end call e) accepted
+  by_work (ToTake handle) e accepted = Answering.takes same_header reflexive handler given journal arrivals fits calls m now call is handle (inv-take call handle e) accepted
+  by_work (ToLook handle) e accepted = Answering.looks same_header reflexive handler given journal arrivals fits calls m now call is handle (inv-look call handle e) accepted
+  by_work ToMake e accepted = Answering.makes_some same_header reflexive handler given journal arrivals fits calls m now call is e accepted
 
   by_refusal : (o : Option Refusal) → refusal_of given.version call ≡ o → Replies (reply_unless_refused same_header given m call o)
-  by_refusal (Some refusal) e = ap (λ (p : Progress). p.ending) (Answering.after same_header reflexive handler given journal arrivals fits calls m steps place going tables completions signals requests shows done children ids_known reached call is ∙ after_call-refused given steps arrivals call refusal e)
+  by_refusal (Some refusal) e = ap (λ (p : Progress). p.ending) (Answering.after same_header reflexive handler given journal arrivals fits calls m now call is ∙ after_call-refused given now.steps arrivals call refusal e)
   by_refusal None e = by_work (work_of call) refl e
 
 -- each call is answered as the run answers it, and the machine stands behind it
@@ -44,8 +37,7 @@ pub simulates : (same_header : Call → Request → Request → Bool) (handler :
     → RepliesAsRun handler given journal arrivals calls (reply_to same_header given m (next_call handler given stands.steps))
 simulates same_header handler given journal arrivals calls m reflexive fits stands =
     by_refusal (same_header (next_call handler given stands.steps)) (reflexive (next_call handler given stands.steps)) handler given journal arrivals fits calls m
-    stands.steps stands.place stands.going stands.tables stands.completions stands.signals
-    stands.requests stands.start stands.done stands.children stands.ids stands.reached (next_call handler given stands.steps) refl
+    stands (next_call handler given stands.steps) refl
     (refusal_of given.version (next_call handler given stands.steps)) refl
 
 abbrev written_of : Option PutState → List Request

@@ -23,11 +23,12 @@ use Rattle.journal_model.specs.Await.{child_of, children_after, tracked_children
 use Rattle.journal_model.specs.Cause.{is_invocation_id, keys_of}
 use Rattle.journal_model.specs.Journal.{asks_for}
 use Rattle.journal_model.specs.Run.{Handler, Invocation, Progress, Ending, GoesOn, Kind, Awaits, Ends, Answers, kind_of, requests_to, after_await, carried_out, unless_refused, continued_by, run, run_requests}
+use Rattle.journal_laws.proofs.Leaving.{or-true_left, or-true_right}
 use Rattle.attempt_model.specs.Attempts.{gives_id, ComeAsAsked}
 use Rattle.attempt_model.specs.Results.{are_keys_text}
 use Rattle.attempt_model.specs.Standing.{is_id_if_known, AreOfKind}
 use Rattle.attempt_tables.proofs.Tables.{results-append}
-use Rattle.attempt_calls.proofs.CallKinds.{no_child-await}
+use Rattle.attempt_calls.proofs.CallKinds.{no_child}
 use Rattle.attempt_calls.proofs.Ids.{both-true, first-true, second-true, is_in}
 use Rattle.attempt_laws.proofs.Apart.{own-run, IsApart, apart}
 
@@ -60,7 +61,7 @@ module _ (given : Invocation) (steps : List Step) (arrivals : List Arrival) (can
   none : (call : Call) (tree : AwaitTree ℕ) → call ≡ Call.Await tree → (requests : List Request) (n : ℕ)
       → is_in (child_of cancellation (next_completion steps) call) n ≡ true → gives n requests ≡ true
   none call tree is requests n e =
-      let wrong : false ≡ true = sym (ap (λ (c : Call). is_in (child_of cancellation (next_completion steps) c) n) is ∙ ap (λ (ns : List ℕ). is_in ns n) (no_child-await cancellation (next_completion steps) tree)) ∙ e in
+      let wrong : false ≡ true = sym (ap (λ (c : Call). is_in (child_of cancellation (next_completion steps) c) n) is ∙ ap (λ (ns : List ℕ). is_in ns n) ((no_child cancellation (next_completion steps)).await tree)) ∙ e in
       cc
 
   own-await : (call : Call) (tree : AwaitTree ℕ) → call ≡ Call.Await tree → (outcome : AwaitOutcome) → AllOwn cancellation steps → AllOwn cancellation (after_await steps call outcome).steps
@@ -88,14 +89,6 @@ children-run cancellation handler given arrivals zero = tt
 children-run cancellation handler given arrivals (suc made) =
     own-continued cancellation handler given arrivals (run handler given arrivals made) (run handler given arrivals made).ending (children-run cancellation handler given arrivals made)
 
-or-left : (a b : Bool) → a ≡ true → (a || b) ≡ true
-or-left true b e = refl
-or-left false b e = cc
-
-or-right : (a b : Bool) → b ≡ true → (a || b) ≡ true
-or-right true b e = refl
-or-right false b e = e
-
 pub any-append : {A : Type 0} (test : A → Bool) (xs ys : List A) → list_any test (xs ++ ys) ≡ (list_any test xs || list_any test ys)
 any-append test [] ys = refl
 any-append test (x ∷ xs) ys = by_first (test x) (any-append test xs ys)
@@ -120,8 +113,8 @@ tracked-given cancellation (step ∷ earlier) all n e =
   where
     by_either : (b : Bool) → is_in (tracked_children cancellation earlier) n ≡ b → (is_in (tracked_children cancellation earlier) n ≡ true → gives n (requests_of earlier) ≡ true) → (b || is_in (child_of cancellation (next_completion earlier) step.call) n) ≡ true
         → (gives n (requests_of earlier) || gives n step.requests) ≡ true
-    by_either true f before g = or-left (gives n (requests_of earlier)) (gives n step.requests) (before f)
-    by_either false f before g = or-right (gives n (requests_of earlier)) (gives n step.requests) (all.0 n g)
+    by_either true f before g = or-true_left (gives n (requests_of earlier)) (gives n step.requests) (before f)
+    by_either false f before g = or-true_right (gives n (requests_of earlier)) (gives n step.requests) (all.0 n g)
 
 -- and what gives an invocation id is asked for
 pub given-asked : (n : ℕ) (requests : List Request) → gives n requests ≡ true → list_any (asks_for n) requests ≡ true
@@ -129,14 +122,14 @@ given-asked n [] e = cc
 given-asked n (request ∷ requests) e = by_first (gives_id n request) refl e (given-asked n requests)
   where
     one : (request : Request) → gives_id n request ≡ true → asks_for n request ≡ true
-    one (Request.CallService call m result name) f = or-left (m == n) (result == n || false) f
-    one (Request.OneWayCall call time m name) f = or-left (m == n) false f
+    one (Request.CallService call m result name) f = or-true_left (m == n) (result == n || false) f
+    one (Request.OneWayCall call time m name) f = or-true_left (m == n) false f
     one _ f = cc
 
     by_first : (b : Bool) → gives_id n request ≡ b → (b || gives n requests) ≡ true → (gives n requests ≡ true → list_any (asks_for n) requests ≡ true)
         → (asks_for n request || list_any (asks_for n) requests) ≡ true
-    by_first true f g later = or-left (asks_for n request) (list_any (asks_for n) requests) (one request f)
-    by_first false f g later = or-right (asks_for n request) (list_any (asks_for n) requests) (later g)
+    by_first true f g later = or-true_left (asks_for n request) (list_any (asks_for n) requests) (one request f)
+    by_first false f g later = or-true_right (asks_for n request) (list_any (asks_for n) requests) (later g)
 
 -- what holds of all in a list
 pub all-front : {A : Type 0} (test : A → Bool) (xs ys : List A) → list_all test (xs ++ ys) ≡ true → list_all test xs ≡ true

@@ -1,5 +1,5 @@
 -- An await that is asked for the first time wakes at the least place, whatever replaces what and however often it comes.
-use Rattle.std.proofs.Common.{◌≡◌, refl, sym, ap, ◌∙◌, subst, ℕ, zero, suc, ◌+◌, ◌-◌, ◌≤◌, ◌<◌, arith, le_refl, eq-or-lt_of_le, Bool, true, false, if◌then◌else◌, List, [], ◌∷◌, length, Option, Some, None, option_and_then, ◌⊎◌, inl, inr}
+use Rattle.std.proofs.Common.{◌≡◌, refl, sym, ap, ◌∙◌, subst, ℕ, zero, suc, ◌+◌, ◌-◌, ◌≤◌, ◌<◌, arith, le_refl, Bool, true, false, if◌then◌else◌, List, [], ◌∷◌, length, Option, Some, None}
 use Rattle.std.proofs.Math.Path.{fun_ext}
 use Rattle.journal_model.specs.declared.notification.NotificationId.{NotificationId}
 use Rattle.journal_model.specs.declared.notification.NotificationResult.{NotificationResult}
@@ -14,7 +14,7 @@ use Rattle.journal_laws.proofs.Pruning.{pruned-awake, pruned-again}
 use Rattle.journal_laws.proofs.Leaving.{or-false}
 use Rattle.attempt_model.specs.Results.{Ready, Slots, ready_after, handle_state, Resolution, Awake, Asleep, resolution_of}
 use Rattle.attempt_model.specs.Standing.{TablesStand, ResolvesAsDefined}
-use Rattle.attempt_tables.proofs.Tables.{drop-nil-length, arrive, in_front}
+use Rattle.attempt_tables.proofs.Tables.{from_here, all_read, front_states, leaves_in_front, arrive}
 use Rattle.attempt_tables.proofs.Waking.{awake-map, pruned-map, least-some, least-none}
 
 -- the last that is looked for
@@ -42,8 +42,7 @@ orders a b c = fun_ext (λ leaf. in-order (a leaf) (b leaf) (c leaf))
 module _ (options : RunOptions) (steps : List Step) (arrivals : List Arrival) where
   -- the states of leaves by what is in front at a place
   abbrev now : ℕ → Option NotificationId → AwaitState
-  now q None = Pending
-  now q (Some id) = state_of_result (front options steps arrivals q id)
+  now = front_states options steps arrivals
 
   next-seen : (from q : ℕ) → from ≤ q → earlier_or_later (leaf_state options steps arrivals from q) (now (suc q)) ≡ leaf_state options steps arrivals from (suc q)
   next-seen from q low = fun_ext at_leaf
@@ -86,14 +85,6 @@ module _ (options : RunOptions) (steps : List Step) (arrivals : List Arrival) wh
     abbrev test : ℕ → Bool
     test = is_awake_at options steps arrivals (ids whole) from
 
-    leaves-now : (place : ℕ) (line : List Arrival) (waiting : Ready) → TablesStand options steps arrivals place line waiting table
-        → handle_state table waiting ≡ (λ handle. now place (stands_for steps handle))
-    leaves-now place line waiting stands = fun_ext (λ handle. ap state_of_result (in_front options steps arrivals line waiting table place stands handle) ∙ by_id (stands_for steps handle))
-      where
-        by_id : (o : Option NotificationId) → state_of_result (option_and_then (front options steps arrivals place) o) ≡ now place o
-        by_id None = refl
-        by_id (Some id) = refl
-
     -- what is left of the tree, where so much was seen
     record Left (tree : AwaitTree ℕ) (early : Option NotificationId → AwaitState) : Type 0 where
       awake : (late : Option NotificationId → AwaitState) → is_awake (ids tree) late ≡ is_awake (ids whole) (earlier_or_later early late)
@@ -120,31 +111,23 @@ module _ (options : RunOptions) (steps : List Step) (arrivals : List Arrival) wh
       place = w.place;
       above = (let h : suc place ≤ w.place = w.above in omega (arith, h));
       awake = w.awake;
-      before = λ q low high. by_order q high (eq-or-lt_of_le low);
+      before = λ q low high. from_here test place q asleep (λ above. w.before q above high) low;
       stands = w.stands;
     }
-      where
-        by_order : (q : ℕ) → q < w.place → (place ≡ q) ⊎ (place < q) → test q ≡ false
-        by_order q high (inl same) = ap test (sym same) ∙ asleep
-        by_order q high (inr above) = w.before q above high
     later-on place asleep (Asleep left waiting) w = record {
-      asleep = λ q low high. by_order q high (eq-or-lt_of_le low);
+      asleep = λ q low high. from_here test place q asleep (λ above. w.asleep q above high) low;
       rest = w.rest;
       stands = w.stands;
     }
-      where
-        by_order : (q : ℕ) → q ≤ length arrivals → (place ≡ q) ⊎ (place < q) → test q ≡ false
-        by_order q high (inl same) = ap test (sym same) ∙ asleep
-        by_order q high (inr above) = w.asleep q above high
 
     module _ (tree : AwaitTree ℕ) (early : Option NotificationId → AwaitState) (place : ℕ) (line : List Arrival) (waiting : Ready)
         (stands : TablesStand options steps arrivals place line waiting table) (left : Left tree early)
         (seen : earlier_or_later early (now place) ≡ leaf_state options steps arrivals from place) where
       by-front : is_awake tree (handle_state table waiting) ≡ is_awake (ids tree) (now place)
-      by-front = ap (is_awake tree) (leaves-now place line waiting stands) ∙ sym (awake-map (stands_for steps) (now place) tree)
+      by-front = ap (is_awake tree) (leaves_in_front options steps arrivals place line waiting table stands) ∙ sym (awake-map (stands_for steps) (now place) tree)
 
       rest-front : ids (pruned tree (handle_state table waiting)) ≡ pruned (ids tree) (now place)
-      rest-front = ap (λ (leaves : ℕ → AwaitState). ids (pruned tree leaves)) (leaves-now place line waiting stands) ∙ sym (pruned-map (stands_for steps) (now place) tree)
+      rest-front = ap (λ (leaves : ℕ → AwaitState). ids (pruned tree leaves)) (leaves_in_front options steps arrivals place line waiting table stands) ∙ sym (pruned-map (stands_for steps) (now place) tree)
 
       here : is_awake tree (handle_state table waiting) ≡ test place
       here = by-front ∙ left.awake (now place) ∙ ap (is_awake (ids whole)) seen
@@ -174,11 +157,8 @@ module _ (options : RunOptions) (steps : List Step) (arrivals : List Arrival) wh
         → ResolvesFrom place (resolution_of options.signal_delivery table tree line waiting)
     resolves tree early place [] waiting low stands left seen = by_test (is_awake tree (handle_state table waiting)) refl
       where
-        within : place ≤ length arrivals
-        within = stands.within
-
         over : place ≡ length arrivals
-        over = let low : length arrivals ≤ place = drop-nil-length place arrivals (sym stands.queue) in omega (arith, low, within)
+        over = all_read options steps arrivals place waiting table stands
 
         by_test : (b : Bool) → is_awake tree (handle_state table waiting) ≡ b
             → ResolvesFrom place (if b then Awake [] waiting else Asleep (pruned tree (handle_state table waiting)) waiting)

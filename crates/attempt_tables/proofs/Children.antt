@@ -1,5 +1,5 @@
 -- The children that a cancellation is passed on to, and the least place by which all of them are known.
-use Rattle.std.proofs.Common.{◌≡◌, refl, sym, ap, ap₂, ◌∙◌, subst, ℕ, zero, suc, ◌+◌, ◌-◌, ◌≤◌, ◌<◌, ◌==◌, nat_lt, arith, le_refl, eq-or-lt_of_le, Bool, true, false, ◌&&◌, if◌then◌else◌, List, [], ◌∷◌, ◌++◌, append-nil, length, map, slice_get, Option, Some, None, is_some, option_map, option_and_then, eqb-true, ◌⊎◌, inl, inr}
+use Rattle.std.proofs.Common.{◌≡◌, refl, sym, ap, ap₂, ◌∙◌, subst, ℕ, zero, suc, ◌+◌, ◌-◌, ◌≤◌, ◌<◌, ◌==◌, nat_lt, arith, le_refl, Bool, true, false, ◌&&◌, if◌then◌else◌, List, [], ◌∷◌, ◌++◌, append-nil, length, map, slice_get, Option, Some, None, is_some, option_map, option_and_then, eqb-true}
 use Rattle.std.proofs.Math.Path.{fun_ext}
 use Rattle.std.specs.List.{list_all}
 use Rattle.journal_model.specs.declared.notification.NotificationId.{NotificationId}
@@ -22,7 +22,7 @@ use Rattle.attempt_model.specs.Children.{Child, new_child, child_with_value, chi
 use Rattle.attempt_model.specs.Results.{Ready, Slots, ready_after, first_of}
 use Rattle.attempt_model.specs.Standing.{TablesStand, child_after, children_of, is_id_if_known}
 use Rattle.attempt_tables.proofs.Making.{Creates}
-use Rattle.attempt_tables.proofs.Tables.{front-untaken, drop-nil-length, arrive}
+use Rattle.attempt_tables.proofs.Tables.{from_here, all_read, front-untaken, arrive}
 
 -- what was taken last of an id, where more handles were made since
 last_taken-old : (ids more : List NotificationId) (id : NotificationId) (some : List Step) → TakesBelow (17 + length ids) some
@@ -306,34 +306,23 @@ module _ (options : RunOptions) (steps : List Step) (arrivals : List Arrival) wh
       place = t.place;
       above = (let h : suc place ≤ t.place = t.above in omega (arith, h));
       known = t.known;
-      before = λ q low high. by_order q high (eq-or-lt_of_le low);
+      before = λ q low high. from_here (all_known_at options steps arrivals ns) place q unknown (λ above. t.before q above high) low;
       stands = t.stands;
     }
-      where
-        by_order : (q : ℕ) → q < t.place → (place ≡ q) ⊎ (place < q) → all_known_at options steps arrivals ns q ≡ false
-        by_order q high (inl same) = ap (all_known_at options steps arrivals ns) (sym same) ∙ unknown
-        by_order q high (inr above) = t.before q above high
     later-tells place unknown OneIsNoId t = absurd t
     later-tells place unknown (FirstUnknown child waiting) t = record {
-      unknown = λ q low high. by_order q high (eq-or-lt_of_le low);
+      unknown = λ q low high. from_here (all_known_at options steps arrivals ns) place q unknown (λ above. t.unknown q above high) low;
       first = t.first;
       stands = t.stands;
     }
-      where
-        by_order : (q : ℕ) → q ≤ length arrivals → (place ≡ q) ⊎ (place < q) → all_known_at options steps arrivals ns q ≡ false
-        by_order q high (inl same) = ap (all_known_at options steps arrivals ns) (sym same) ∙ unknown
-        by_order q high (inr above) = t.unknown q above high
 
     module _ (ids : (q : ℕ) → q ≤ length arrivals → list_all (λ n. is_id_if_known (child_result options steps arrivals q n)) ns ≡ true) where
       pub tells : (place : ℕ) (line : List Arrival) (waiting : Ready) → TablesStand options steps arrivals place line waiting table
           → TellsFrom place (children_outcome options.signal_delivery (map (child_after steps) ns) line waiting)
       tells place [] waiting stands = by_state (children_state waiting (map (child_after steps) ns)) refl
         where
-          within : place ≤ length arrivals
-          within = stands.within
-
           over : place ≡ length arrivals
-          over = let low : length arrivals ≤ place = drop-nil-length place arrivals (sym stands.queue) in omega (arith, low, within)
+          over = all_read options steps arrivals place waiting table stands
 
           by_state : (c : ChildrenState) → children_state waiting (map (child_after steps) ns) ≡ c
               → TellsFrom place (outcome_by c (AllKnown [] waiting) (λ n. FirstUnknown n waiting))
@@ -351,7 +340,7 @@ module _ (options : RunOptions) (steps : List Step) (arrivals : List Arrival) wh
                 first = u.first over;
                 stands = subst (λ (n : ℕ). TablesStand options steps arrivals n [] waiting table) over stands;
               }
-          by_state IsNoId e = no-other place [] waiting table stands ns (ids place within) e
+          by_state IsNoId e = no-other place [] waiting table stands ns (ids place stands.within) e
       tells place (arrival ∷ line) waiting stands = by_state (children_state waiting (map (child_after steps) ns)) refl
           (tells (suc place) line (ready_after options.signal_delivery waiting arrival) (arrive options steps arrivals place arrival line waiting table stands))
         where

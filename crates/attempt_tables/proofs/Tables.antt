@@ -1,15 +1,17 @@
 -- What has come and what handles stand for, one arrival on; lists of what handles stand for.
-use Rattle.std.proofs.Common.{◌≡◌, refl, sym, ap, ap₂, ◌∙◌, ℕ, zero, suc, ◌+◌, ◌-◌, ◌≤◌, ◌<◌, ◌==◌, nat_lt, arith, Bool, true, false, if◌then◌else◌, List, [], ◌∷◌, ◌++◌, append_assoc, append-nil, length, length-append, take, drop, map, filter, slice_get, Option, Some, None, option_and_then, eqb-true}
+use Rattle.std.proofs.Common.{◌≡◌, refl, sym, ap, ap₂, ◌∙◌, ℕ, zero, suc, ◌+◌, ◌-◌, ◌≤◌, ◌<◌, ◌==◌, nat_lt, arith, eq-or-lt_of_le, Bool, true, false, if◌then◌else◌, List, [], ◌∷◌, ◌++◌, append_assoc, append-nil, length, length-append, take, drop, map, filter, slice_get, Option, Some, None, option_and_then, eqb-true, ◌⊎◌, inl, inr}
+use Rattle.std.proofs.Math.Path.{fun_ext}
 use Rattle.std.proofs.lemmas.Bool.{ltb-true}
 use Rattle.journal_model.specs.declared.notification.NotificationId.{NotificationId}
 use Rattle.journal_model.specs.declared.notification.NotificationResult.{NotificationResult}
 use Rattle.journal_model.specs.Notification.{same_id, Arrival, cancel_id}
+use Rattle.journal_model.specs.AwaitTree.{AwaitState, Pending}
 use Rattle.journal_model.specs.declared.options.RunOptions.{RunOptions}
 use Rattle.journal_model.specs.Options.{replaces}
 use Rattle.journal_model.specs.History.{Step, ids_created, stands_for, id_of_handle, WithinPlaces}
-use Rattle.journal_model.specs.Delivery.{results_for, known_results, deliveries, takes_of, passed_at_take, last_of, front}
+use Rattle.journal_model.specs.Delivery.{results_for, known_results, deliveries, takes_of, passed_at_take, last_of, front, state_of_result}
 use Rattle.journal_model.proofs.Extension.{deliveries-more, passed_at_take-more}
-use Rattle.attempt_model.specs.Results.{Ready, Slots, ready_after, first_of, slot_in, slot_of, waiting_for}
+use Rattle.attempt_model.specs.Results.{Ready, Slots, ready_after, first_of, slot_in, slot_of, waiting_for, handle_state}
 use Rattle.attempt_model.specs.Standing.{passed_deliveries, only_last, kept_results, untaken_results, TablesStand}
 
 -- the first of what waits to be taken is in front
@@ -245,3 +247,34 @@ starts options arrivals = record {
     handles_at h true b = refl
     handles_at h false true = refl
     handles_at h false false = refl
+
+-- a test that fails at a place and behind it fails from there on
+pub from_here : (test : ℕ → Bool) (place q : ℕ) → test place ≡ false → (place < q → test q ≡ false) → place ≤ q → test q ≡ false
+from_here test place q here behind low = by_order (eq-or-lt_of_le low)
+  where
+    by_order : (place ≡ q) ⊎ (place < q) → test q ≡ false
+    by_order (inl same) = ap test (sym same) ∙ here
+    by_order (inr above) = behind above
+
+-- where nothing is in line all has been looked at
+pub all_read : (options : RunOptions) (steps : List Step) (arrivals : List Arrival) (place : ℕ) (waiting : Ready) (table : Slots)
+    → TablesStand options steps arrivals place [] waiting table → place ≡ length arrivals
+all_read options steps arrivals place waiting table stands =
+    let low : length arrivals ≤ place = drop-nil-length place arrivals (sym stands.queue) in
+    let high : place ≤ length arrivals = stands.within in
+    omega (arith, low, high)
+
+-- the states of leaves by what is in front at a place
+abbrev pub front_states : RunOptions → List Step → List Arrival → ℕ → Option NotificationId → AwaitState
+front_states options steps arrivals q None = Pending
+front_states options steps arrivals q (Some id) = state_of_result (front options steps arrivals q id)
+
+pub leaves_in_front : (options : RunOptions) (steps : List Step) (arrivals : List Arrival) (place : ℕ) (line : List Arrival) (waiting : Ready) (table : Slots)
+    → TablesStand options steps arrivals place line waiting table
+    → handle_state table waiting ≡ (λ handle. front_states options steps arrivals place (stands_for steps handle))
+leaves_in_front options steps arrivals place line waiting table stands =
+    fun_ext (λ handle. ap state_of_result (in_front options steps arrivals line waiting table place stands handle) ∙ by_id (stands_for steps handle))
+  where
+    by_id : (o : Option NotificationId) → state_of_result (option_and_then (front options steps arrivals place) o) ≡ front_states options steps arrivals place o
+    by_id None = refl
+    by_id (Some id) = refl

@@ -1,12 +1,12 @@
 -- An await that looks at one notification a step wakes at the least place, however often it was asked before.
-use Rattle.std.proofs.Common.{◌≡◌, refl, sym, ap, ap₂, ◌∙◌, subst, ℕ, zero, suc, ◌+◌, ◌-◌, ◌≤◌, ◌<◌, arith, le_refl, eq-or-lt_of_le, Bool, true, false, ◌||◌, if◌then◌else◌, List, [], ◌∷◌, ◌++◌, append_assoc, length, length-append, take, drop, slice_get, Option, Some, None, option_and_then, ◌⊎◌, inl, inr}
+use Rattle.std.proofs.Common.{◌≡◌, refl, sym, ap, ap₂, ◌∙◌, subst, ℕ, zero, suc, ◌+◌, ◌-◌, ◌≤◌, ◌<◌, arith, le_refl, eq-or-lt_of_le, Bool, true, false, ◌||◌, if◌then◌else◌, List, [], ◌∷◌, ◌++◌, append_assoc, length, length-append, take, drop, slice_get, Option, Some, None, ◌⊎◌, inl, inr}
 use Rattle.std.proofs.Math.Path.{fun_ext}
 use Rattle.std.specs.List.{list_any}
 use Rattle.journal_model.specs.declared.notification.NotificationId.{NotificationId}
 use Rattle.journal_model.specs.declared.notification.NotificationId.TheVariants.{CompletionId, SignalId, SignalName}
 use Rattle.journal_model.specs.declared.notification.NotificationResult.{NotificationResult}
 use Rattle.journal_model.specs.Notification.{Arrival}
-use Rattle.journal_model.specs.AwaitTree.{AwaitState, Pending, AwaitTree, Single, Combined, AwaitTrees, no_trees, and_trees, is_completed, combined_state, await_state, child_states, ends_at_once, has_ended_node, some_has_ended_node, is_awake, map_leaves, map_leaves_of_trees}
+use Rattle.journal_model.specs.AwaitTree.{AwaitState, AwaitTree, Single, Combined, AwaitTrees, no_trees, and_trees, is_completed, combined_state, await_state, child_states, ends_at_once, has_ended_node, some_has_ended_node, is_awake, map_leaves, map_leaves_of_trees}
 use Rattle.journal_model.specs.declared.options.RunOptions.{RunOptions}
 use Rattle.journal_model.specs.declared.options.SignalDelivery.TheVariants.{Queued}
 use Rattle.journal_model.specs.Options.{replaces}
@@ -18,7 +18,7 @@ use Rattle.journal_laws.proofs.Pruning.{pruned-awake, pruned-again}
 use Rattle.journal_laws.proofs.Leaving.{or-false}
 use Rattle.attempt_model.specs.Results.{Ready, Slots, ready_after, handle_state, Resolution, Awake, Asleep, resolution_of}
 use Rattle.attempt_model.specs.Standing.{TablesStand}
-use Rattle.attempt_tables.proofs.Tables.{drop-nil-length, results-append, arrive, in_front}
+use Rattle.attempt_tables.proofs.Tables.{from_here, all_read, front_states, leaves_in_front, results-append, arrive}
 
 -- trees with other leaves
 mutual
@@ -149,8 +149,7 @@ module _ (options : RunOptions) (steps : List Step) (arrivals : List Arrival) (q
 
   -- the states of leaves by what is in front
   abbrev pub fronts : ℕ → Option NotificationId → AwaitState
-  fronts q None = Pending
-  fronts q (Some id) = state_of_result (front options steps arrivals q id)
+  fronts = front_states options steps arrivals
 
   first-last : (id : NotificationId) (from more : ℕ) → from + more ≤ length arrivals
       → first_found (λ q. front options steps arrivals q id) from more ≡ front options steps arrivals (from + more) id
@@ -203,22 +202,14 @@ module _ (options : RunOptions) (steps : List Step) (arrivals : List Arrival) (q
   still-whole whole place = record { awake = λ q low high. refl; rest = λ q low high. refl }
 
   module _ (table : Slots) where
-    leaves-same : (place : ℕ) (line : List Arrival) (waiting : Ready) → TablesStand options steps arrivals place line waiting table
-        → handle_state table waiting ≡ (λ handle. fronts place (stands_for steps handle))
-    leaves-same place line waiting stands = fun_ext (λ handle. ap state_of_result (in_front options steps arrivals line waiting table place stands handle) ∙ by_id (stands_for steps handle))
-      where
-        by_id : (o : Option NotificationId) → state_of_result (option_and_then (front options steps arrivals place) o) ≡ fronts place o
-        by_id None = refl
-        by_id (Some id) = refl
-
     own-awake : (place : ℕ) (line : List Arrival) (waiting : Ready) (tree : AwaitTree ℕ) → TablesStand options steps arrivals place line waiting table
         → is_awake tree (handle_state table waiting) ≡ is_awake (ids tree) (fronts place)
-    own-awake place line waiting tree stands = ap (is_awake tree) (leaves-same place line waiting stands) ∙ sym (awake-map (stands_for steps) (fronts place) tree)
+    own-awake place line waiting tree stands = ap (is_awake tree) (leaves_in_front options steps arrivals place line waiting table stands) ∙ sym (awake-map (stands_for steps) (fronts place) tree)
 
     own-rest : (place : ℕ) (line : List Arrival) (waiting : Ready) (tree : AwaitTree ℕ) → TablesStand options steps arrivals place line waiting table
         → ids (pruned tree (handle_state table waiting)) ≡ pruned (ids tree) (fronts place)
     own-rest place line waiting tree stands =
-        ap (λ (leaves : ℕ → AwaitState). ids (pruned tree leaves)) (leaves-same place line waiting stands) ∙ sym (pruned-map (stands_for steps) (fronts place) tree)
+        ap (λ (leaves : ℕ → AwaitState). ids (pruned tree leaves)) (leaves_in_front options steps arrivals place line waiting table stands) ∙ sym (pruned-map (stands_for steps) (fronts place) tree)
 
     -- what resolving comes to, from a place on
     pub record Wakes (whole : AwaitTree ℕ) (from : ℕ) (line : List Arrival) (waiting : Ready) : Type 0 where
@@ -243,22 +234,14 @@ module _ (options : RunOptions) (steps : List Step) (arrivals : List Arrival) (q
       place = w.place;
       above = (let h : suc place ≤ w.place = w.above in omega (arith, h));
       awake = w.awake;
-      before = λ q low high. by_order q high (eq-or-lt_of_le low);
+      before = λ q low high. from_here (λ n. is_awake (ids whole) (fronts n)) place q asleep (λ above. w.before q above high) low;
       stands = w.stands;
     }
-      where
-        by_order : (q : ℕ) → q < w.place → (place ≡ q) ⊎ (place < q) → is_awake (ids whole) (fronts q) ≡ false
-        by_order q high (inl same) = ap (λ (n : ℕ). is_awake (ids whole) (fronts n)) (sym same) ∙ asleep
-        by_order q high (inr above) = w.before q above high
     later-wakes whole place asleep (Asleep left waiting) w = record {
-      asleep = λ q low high. by_order q high (eq-or-lt_of_le low);
+      asleep = λ q low high. from_here (λ n. is_awake (ids whole) (fronts n)) place q asleep (λ above. w.asleep q above high) low;
       rest = w.rest;
       stands = w.stands;
     }
-      where
-        by_order : (q : ℕ) → q ≤ length arrivals → (place ≡ q) ⊎ (place < q) → is_awake (ids whole) (fronts q) ≡ false
-        by_order q high (inl same) = ap (λ (n : ℕ). is_awake (ids whole) (fronts n)) (sym same) ∙ asleep
-        by_order q high (inr above) = w.asleep q above high
 
     goes_on : (whole tree : AwaitTree ℕ) (place : ℕ) (line : List Arrival) (waiting : Ready) → TablesStand options steps arrivals place line waiting table
         → Still whole tree place → is_awake tree (handle_state table waiting) ≡ false → Still whole (pruned tree (handle_state table waiting)) (suc place)
@@ -286,7 +269,7 @@ module _ (options : RunOptions) (steps : List Step) (arrivals : List Arrival) (q
         within = stands.within
 
         over : place ≡ length arrivals
-        over = let low : length arrivals ≤ place = drop-nil-length place arrivals (sym stands.queue) in omega (arith, low, within)
+        over = all_read options steps arrivals place waiting table stands
 
         by_test : (b : Bool) → is_awake tree (handle_state table waiting) ≡ b
             → ResolvesFrom whole place (if b then Awake [] waiting else Asleep (pruned tree (handle_state table waiting)) waiting)

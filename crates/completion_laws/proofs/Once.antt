@@ -357,6 +357,17 @@ module _ (events : List Event) (id : Text) (once : AreOnce (recorded_requests ev
           let same = alone m in
           omega arith
 
+  -- a signal, which no request asks for
+  signal_once : (event : Event) → begins id event ≡ false → (other : Text) (arrival : Arrival)
+      → (bytes_eq other id ≡ false → added_by events id event ≡ []) → (bytes_eq other id ≡ true → added_by events id event ≡ Arrived arrival ∷ [])
+      → ((m : ℕ) → count_of m (numbers_come (arrival ∷ [])) ≡ 0)
+      → AreOnce (recorded_requests (event ∷ events) id) (recorded_arrivals (event ∷ events) id)
+  signal_once event old other arrival elsewhere here unasked = by_id (bytes_eq other id) refl
+    where
+      by_id : (b : Bool) → bytes_eq other id ≡ b → AreOnce (recorded_requests (event ∷ events) id) (recorded_arrivals (event ∷ events) id)
+      by_id false f = still_once event old (elsewhere f)
+      by_id true f = come_once event old (Arrived arrival ∷ []) (here f) refl (λ m. let low = once.come m in let none = unasked m in omega arith)
+
   once_step : (event : Event) → causes_of events event ≡ [] → begins id event ≡ false → AreOnce (recorded_requests (event ∷ events) id) (recorded_arrivals (event ∷ events) id)
   once_step (Event.Tick now) causes old = by_open (is_open events id) refl
     where
@@ -381,27 +392,12 @@ module _ (events : List Event) (id : Text) (once : AreOnce (recorded_requests ev
       by_id true f =
           come_once (Event.Complete other n result) old (Arrived (completion n result) ∷ []) (own_added events id (Event.Complete other n result) f) refl
           (once_one (entries_of events id) n once (subst (λ (x : Text). is_some (open_request (entries_of events x) n) ≡ true) ((bytes_eq-Decides other id).0 f) opened))
-  once_step (Event.Signal other (SignalKey.ByIndex n) result) causes old = by_id (bytes_eq other id) refl
-    where
-      by_id : (b : Bool) → bytes_eq other id ≡ b → AreOnce (recorded_requests (Event.Signal other (SignalKey.ByIndex n) result ∷ events) id) (recorded_arrivals (Event.Signal other (SignalKey.ByIndex n) result ∷ events) id)
-      by_id false f = still_once (Event.Signal other (SignalKey.ByIndex n) result) old (other_added events id (Event.Signal other (SignalKey.ByIndex n) result) f refl)
-      by_id true f =
-          come_once (Event.Signal other (SignalKey.ByIndex n) result) old (Arrived (record { id = SignalId n; result = result }) ∷ []) (own_added events id (Event.Signal other (SignalKey.ByIndex n) result) f) refl
-          (λ m. let low = once.come m in omega arith)
-  once_step (Event.Signal other (SignalKey.ByName name) result) causes old = by_id (bytes_eq other id) refl
-    where
-      by_id : (b : Bool) → bytes_eq other id ≡ b → AreOnce (recorded_requests (Event.Signal other (SignalKey.ByName name) result ∷ events) id) (recorded_arrivals (Event.Signal other (SignalKey.ByName name) result ∷ events) id)
-      by_id false f = still_once (Event.Signal other (SignalKey.ByName name) result) old (other_added events id (Event.Signal other (SignalKey.ByName name) result) f refl)
-      by_id true f =
-          come_once (Event.Signal other (SignalKey.ByName name) result) old (Arrived (record { id = SignalName name; result = result }) ∷ []) (own_added events id (Event.Signal other (SignalKey.ByName name) result) f) refl
-          (λ m. let low = once.come m in omega arith)
-  once_step (Event.Cancel other) causes old = by_id (bytes_eq other id) refl
-    where
-      by_id : (b : Bool) → bytes_eq other id ≡ b → AreOnce (recorded_requests (Event.Cancel other ∷ events) id) (recorded_arrivals (Event.Cancel other ∷ events) id)
-      by_id false f = still_once (Event.Cancel other) old (other_added events id (Event.Cancel other) f refl)
-      by_id true f =
-          come_once (Event.Cancel other) old (Arrived (record { id = SignalId 1; result = Void }) ∷ []) (own_added events id (Event.Cancel other) f) refl
-          (λ m. let low = once.come m in omega arith)
+  once_step (Event.Signal other (SignalKey.ByIndex n) result) causes old =
+      signal_once (Event.Signal other (SignalKey.ByIndex n) result) old other (record { id = SignalId n; result = result }) (λ f. other_added events id (Event.Signal other (SignalKey.ByIndex n) result) f refl) (own_added events id (Event.Signal other (SignalKey.ByIndex n) result)) (λ m. refl)
+  once_step (Event.Signal other (SignalKey.ByName name) result) causes old =
+      signal_once (Event.Signal other (SignalKey.ByName name) result) old other (record { id = SignalName name; result = result }) (λ f. other_added events id (Event.Signal other (SignalKey.ByName name) result) f refl) (own_added events id (Event.Signal other (SignalKey.ByName name) result)) (λ m. refl)
+  once_step (Event.Cancel other) causes old =
+      signal_once (Event.Cancel other) old other (record { id = SignalId 1; result = Void }) (λ f. other_added events id (Event.Cancel other) f refl) (own_added events id (Event.Cancel other)) (λ m. refl)
   once_step (Event.Take other attempt (Frame.Command request)) causes old = by_id (bytes_eq other id) refl
     where
       ascends : do_ascend (last_completion (recorded_requests events other)) (completions_asked request) ≡ true

@@ -1,10 +1,9 @@
 -- Each completion is asked for by one recorded request at most, and comes once, after it was asked for.
-use Rattle.std.specs.Prelude.{◌≡◌, true, map, filter, length, ℕ, ◌+◌, ◌≤◌, ◌==◌, if◌then◌else◌, List, [], ◌∷◌, ◌++◌}
-use Rattle.std.specs.List.{list_any}
-use Rattle.journal_model.specs.declared.notification.NotificationResult.{NotificationResult}
+use Rattle.std.specs.Prelude.{◌≡◌, true, length, ℕ, ◌+◌, ◌≤◌, ◌==◌, if◌then◌else◌, List, [], ◌∷◌}
+use Rattle.std.specs.List.{flat_map, list_any}
 use Rattle.journal_model.specs.declared.notification.NotificationId.{NotificationId}
 use Rattle.journal_model.specs.declared.notification.NotificationId.TheVariants.{CompletionId}
-use Rattle.journal_model.specs.Notification.{Text, Arrival, same_id}
+use Rattle.journal_model.specs.Notification.{Text, Arrival}
 use Rattle.journal_model.specs.Request.{Request, completions_asked}
 use Rattle.journal_model.specs.Delivery.{results_for}
 use Rattle.journal_model.specs.Event.{Event}
@@ -18,16 +17,14 @@ count_of n (m ∷ ms) = (if m == n then 1 else 0) + count_of n ms
 
 -- the numbers of the completions that requests ask for, and of those that have come
 abbrev pub numbers_asked : List Request → List ℕ
-numbers_asked [] = []
-numbers_asked (request ∷ requests) = completions_asked request ++ numbers_asked requests
+numbers_asked = flat_map completions_asked
 
 abbrev pub number_of : NotificationId → List ℕ
 number_of (CompletionId n) = n ∷ []
 number_of _ = []
 
 abbrev pub numbers_come : List Arrival → List ℕ
-numbers_come [] = []
-numbers_come (arrival ∷ arrivals) = number_of arrival.id ++ numbers_come arrivals
+numbers_come = flat_map (λ (arrival : Arrival). number_of arrival.id)
 
 -- each number is asked for once at most, and comes as often at most
 pub record AreOnce (requests : List Request) (arrivals : List Arrival) : Type 0 where

@@ -92,6 +92,15 @@ module _ (next : Handler) (given : Invocation) (id : Text) where
       quiet (Event.Tick now) f = no_request events id (Event.Tick now) refl
       quiet event f = ap requests_in (nothing_added events id event f refl)
 
+  -- an event of a live attempt is none of this invocation, of which no attempt is live
+  still_dead : (event : Event) (events : List Event) (suspension : Suspension) → IsAccepted events → begins id event ≡ false → (other : Text) (attempt : ℕ) → is_live events other attempt ≡ true
+      → is_of id event ≡ bytes_eq other id → StillWaits next given id events suspension → StillWaits next given id (event ∷ events) suspension
+  still_dead event events suspension accepted old other attempt live of still = by_id (bytes_eq other id) refl
+    where
+      by_id : (b : Bool) → bytes_eq other id ≡ b → StillWaits next given id (event ∷ events) suspension
+      by_id true f = absurd (not_live events id attempt still.over (subst (λ (x : Text). is_live events x attempt ≡ true) ((bytes_eq-Decides other id).0 f) live))
+      by_id false f = other_still event events suspension accepted old (of ∙ f) still
+
   no_suspension : (suspension : Suspension) → ◌≡◌ {A = Option Suspension} None (Some suspension) → ⊥
   no_suspension suspension e = cc
 
@@ -125,27 +134,12 @@ module _ (next : Handler) (given : Invocation) (id : Text) where
       by_id : (b : Bool) → bytes_eq other id ≡ b → or_before (if b then told else None) (suspension_of events id) ≡ Some suspension → StillWaits next given id (Event.Take other attempt (Frame.Suspend told) ∷ events) suspension
       by_id true f e = by_told told ((bytes_eq-Decides other id).0 f) f (of_run ((bytes_eq-Decides other id).0 f)) e
       by_id false f e = other_still (Event.Take other attempt (Frame.Suspend told)) events suspension accepted.1 refl f (before e)
-  still_step (Event.Take other attempt frame) events suspension accepted of_run e before = by_id (bytes_eq other id) refl
-    where
-      by_id : (b : Bool) → bytes_eq other id ≡ b → StillWaits next given id (Event.Take other attempt frame ∷ events) suspension
-      by_id true f =
-          let same : other ≡ id = (bytes_eq-Decides other id).0 f in
-          absurd (not_live events other attempt (subst (λ (x : Text). live_attempt events x ≡ None) (sym same) (before e).over) (taken_live events other attempt frame accepted.0))
-      by_id false f = other_still (Event.Take other attempt frame) events suspension accepted.1 refl f (before e)
-  still_step (Event.HandOut other attempt most) events suspension accepted of_run e before = by_id (bytes_eq other id) refl
-    where
-      by_id : (b : Bool) → bytes_eq other id ≡ b → StillWaits next given id (Event.HandOut other attempt most ∷ events) suspension
-      by_id true f =
-          let same : other ≡ id = (bytes_eq-Decides other id).0 f in
-          absurd (not_live events other attempt (subst (λ (x : Text). live_attempt events x ≡ None) (sym same) (before e).over) (handed_live events other attempt most accepted.0))
-      by_id false f = other_still (Event.HandOut other attempt most) events suspension accepted.1 refl f (before e)
-  still_step (Event.Stop other attempt) events suspension accepted of_run e before = by_id (bytes_eq other id) refl
-    where
-      by_id : (b : Bool) → bytes_eq other id ≡ b → StillWaits next given id (Event.Stop other attempt ∷ events) suspension
-      by_id true f =
-          let same : other ≡ id = (bytes_eq-Decides other id).0 f in
-          absurd (not_live events other attempt (subst (λ (x : Text). live_attempt events x ≡ None) (sym same) (before e).over) (stopped_live events other attempt accepted.0))
-      by_id false f = other_still (Event.Stop other attempt) events suspension accepted.1 refl f (before e)
+  still_step (Event.Take other attempt frame) events suspension accepted of_run e before =
+      still_dead (Event.Take other attempt frame) events suspension accepted.1 refl other attempt (taken_live events other attempt frame accepted.0) refl (before e)
+  still_step (Event.HandOut other attempt most) events suspension accepted of_run e before =
+      still_dead (Event.HandOut other attempt most) events suspension accepted.1 refl other attempt (handed_live events other attempt most accepted.0) refl (before e)
+  still_step (Event.Stop other attempt) events suspension accepted of_run e before =
+      still_dead (Event.Stop other attempt) events suspension accepted.1 refl other attempt (stopped_live events other attempt accepted.0) refl (before e)
   still_step event events suspension accepted of_run e before =
       still_kept event events suspension accepted.1 refl refl refl (no_request events id event refl) (never (is_of id event)) (before e)
 

@@ -174,6 +174,16 @@ module _ (next : Handler) (given : Invocation) (id : Text) where
       flies_on event events coming coming (other_begins event id e)
       (λ on. kept event events coming accepted old (other_begins event id e) (other_asks event id e) (other_closes event e) (other_quiet events event e)) flies
 
+  -- by whether it is an event of this invocation
+  flies_by : (event : Event) (events : List Event) (coming left : List Frame) → IsAccepted events → begins id event ≡ false → (other : Text) → is_of id event ≡ bytes_eq other id
+      → (bytes_eq other id ≡ false → left ≡ coming) → (bytes_eq other id ≡ true → FliesOfRun next given id (event ∷ events) left)
+      → FliesOfRun next given id events coming → FliesOfRun next given id (event ∷ events) left
+  flies_by event events coming left accepted old other of elsewhere here flies = by_id (bytes_eq other id) refl
+    where
+      by_id : (b : Bool) → bytes_eq other id ≡ b → FliesOfRun next given id (event ∷ events) left
+      by_id true e = here e
+      by_id false e = same_left event events coming left (elsewhere e) (other_flies event events coming accepted old (of ∙ e) flies)
+
   pub flies_step : (event : Event) (events : List Event) (coming left : List Frame) → IsAccepted (event ∷ events) → PassesOn id event coming left
       → FliesOfRun next given id events coming → FliesOfRun next given id (event ∷ events) left
   flies_step (Event.Invoke new) events coming left accepted passes flies = by_id (bytes_eq new.id id) refl
@@ -184,41 +194,29 @@ module _ (next : Handler) (given : Invocation) (id : Text) where
           (live_now (Event.Invoke new) events id refl (never (bytes_eq new.id id))
           ∙ unborn_live events accepted.1 id (not_begun (Event.Invoke new) events id accepted e))
       by_id false e = same_left (Event.Invoke new) events coming left passes (other_flies (Event.Invoke new) events coming accepted.1 e e flies)
-  flies_step (Event.Begin other now) events coming left accepted passes flies = by_id (bytes_eq other id) refl
-    where
-      by_id : (b : Bool) → bytes_eq other id ≡ b → FliesOfRun next given id (Event.Begin other now ∷ events) left
-      by_id true e = same_left (Event.Begin other now) events [] left (passes.0 e) (λ attempt live. tt)
-      by_id false e = same_left (Event.Begin other now) events coming left (passes.1 e) (other_flies (Event.Begin other now) events coming accepted.1 refl e flies)
-  flies_step (Event.Take other attempt frame) events coming left accepted passes flies = by_id (bytes_eq other id) refl
-    where
-      by_id : (b : Bool) → bytes_eq other id ≡ b → FliesOfRun next given id (Event.Take other attempt frame ∷ events) left
-      by_id true e =
-          let same : other ≡ id = (bytes_eq-Decides other id).0 e in
-          flies_on (Event.Take other attempt frame) events coming left refl
-          (λ on sends.
-          subst (λ (x : Text). Behind (Event.Take x attempt frame ∷ events) left) (sym same)
-          (took events attempt frame left accepted.1 (subst (λ (some : List Frame). Behind events some) (passes.0 e) sends))) flies
-      by_id false e = same_left (Event.Take other attempt frame) events coming left (passes.1 e) (other_flies (Event.Take other attempt frame) events coming accepted.1 refl e flies)
-  flies_step (Event.HandOut other attempt most) events coming left accepted passes flies = by_id (bytes_eq other id) refl
-    where
-      by_id : (b : Bool) → bytes_eq other id ≡ b → FliesOfRun next given id (Event.HandOut other attempt most ∷ events) left
-      by_id true e =
-          let same : other ≡ id = (bytes_eq-Decides other id).0 e in
-          same_left (Event.HandOut other attempt most) events coming left passes
-          (flies_on (Event.HandOut other attempt most) events coming coming refl
-          (λ on sends.
-          subst (λ (x : Text). Behind (Event.HandOut x attempt most ∷ events) coming) (sym same)
-          (handed events attempt most coming accepted.1 (subst (λ (x : Text). causes_of events (Event.HandOut x attempt most) ≡ []) same accepted.0) sends)) flies)
-      by_id false e = same_left (Event.HandOut other attempt most) events coming left passes (other_flies (Event.HandOut other attempt most) events coming accepted.1 refl e flies)
-  flies_step (Event.CloseInput other attempt) events coming left accepted passes flies = by_id (bytes_eq other id) refl
-    where
-      by_id : (b : Bool) → bytes_eq other id ≡ b → FliesOfRun next given id (Event.CloseInput other attempt ∷ events) left
-      by_id true e =
-          let same : other ≡ id = (bytes_eq-Decides other id).0 e in
-          same_left (Event.CloseInput other attempt) events coming left passes
-          (flies_on (Event.CloseInput other attempt) events coming coming refl
-          (λ on sends. subst (λ (x : Text). Behind (Event.CloseInput x attempt ∷ events) coming) (sym same) (closed events attempt coming accepted.1 sends)) flies)
-      by_id false e = same_left (Event.CloseInput other attempt) events coming left passes (other_flies (Event.CloseInput other attempt) events coming accepted.1 refl e flies)
+  flies_step (Event.Begin other now) events coming left accepted passes flies =
+      flies_by (Event.Begin other now) events coming left accepted.1 refl other refl passes.1
+      (λ e. same_left (Event.Begin other now) events [] left (passes.0 e) (λ attempt live. tt)) flies
+  flies_step (Event.Take other attempt frame) events coming left accepted passes flies =
+      flies_by (Event.Take other attempt frame) events coming left accepted.1 refl other refl passes.1
+      (λ e. flies_on (Event.Take other attempt frame) events coming left refl
+      (λ on sends.
+      subst (λ (x : Text). Behind (Event.Take x attempt frame ∷ events) left) (sym ((bytes_eq-Decides other id).0 e))
+      (took events attempt frame left accepted.1 (subst (λ (some : List Frame). Behind events some) (passes.0 e) sends))) flies) flies
+  flies_step (Event.HandOut other attempt most) events coming left accepted passes flies =
+      flies_by (Event.HandOut other attempt most) events coming left accepted.1 refl other refl (λ e. passes)
+      (λ e. let same : other ≡ id = (bytes_eq-Decides other id).0 e in
+      same_left (Event.HandOut other attempt most) events coming left passes
+      (flies_on (Event.HandOut other attempt most) events coming coming refl
+      (λ on sends.
+      subst (λ (x : Text). Behind (Event.HandOut x attempt most ∷ events) coming) (sym same)
+      (handed events attempt most coming accepted.1 (subst (λ (x : Text). causes_of events (Event.HandOut x attempt most) ≡ []) same accepted.0) sends)) flies)) flies
+  flies_step (Event.CloseInput other attempt) events coming left accepted passes flies =
+      flies_by (Event.CloseInput other attempt) events coming left accepted.1 refl other refl (λ e. passes)
+      (λ e. same_left (Event.CloseInput other attempt) events coming left passes
+      (flies_on (Event.CloseInput other attempt) events coming coming refl
+      (λ on sends.
+      subst (λ (x : Text). Behind (Event.CloseInput x attempt ∷ events) coming) (sym ((bytes_eq-Decides other id).0 e)) (closed events attempt coming accepted.1 sends)) flies)) flies
   flies_step event events coming left accepted passes flies =
       same_left event events coming left passes
       (flies_on event events coming coming refl

@@ -107,6 +107,12 @@ MessagesComeWhenAsked = (next : Handler) (given : Invocation) (id : Text) (event
     (left written : List Request) → IsAccepted events → IsLive next given id events coming held read unread calls left written
     → ComeWhenAsked (recorded_requests events id) (arrivals_carried (read ++ unread))
 
+pub record AttemptsAreLive : Type 0 where
+  pub begins : AttemptsBeginLive
+  pub events : EventsKeepLive
+  pub handed : HandingOutKeepsLive
+  pub asked : MessagesComeWhenAsked
+
 -- ---- what the live attempt was begun with
 
 -- an attempt that is begun is begun with its journal, and with the start frame of that moment
@@ -123,6 +129,11 @@ BegunWithStays = (events : List Event) (id : Text) (event : Event) (new : NewInv
 abbrev pub JournalsBegin : Type 0
 JournalsBegin = (next : Handler) (given : Invocation) (id : Text) (events : List Event) → Holds next given id events
     → BeginsRun next given (arrivals_carried (journal_after events id)) (requests_carried (journal_after events id))
+
+pub record AttemptsBeginWithJournals : Type 0 where
+  pub begins : AttemptsBeginWith
+  pub stays : BegunWithStays
+  pub of_run : JournalsBegin
 
 -- ---- its messages
 
@@ -141,3 +152,8 @@ InputsGoOn = (events : List Event) (id : Text) (event : Event) (coming coming' :
 abbrev pub TurnsPropose : Type 0
 TurnsPropose = (events : List Event) (id : Text) (coming sent : List Frame) (proposed : List (ℕ × NonEmptyValue)) (new : NewInvocation) (journal messages : List InputMessage)
     → HasInput events id coming proposed new journal messages → HasInput events id (coming ++ sent) (proposed ++ proposals_in sent) new journal messages
+
+pub record InputsHaveJournals : Type 0 where
+  pub begins : InputsBegin
+  pub events : InputsGoOn
+  pub turns : TurnsPropose

@@ -2,7 +2,7 @@
 //! its frames on their way to the store. The functions do nothing: their contracts are the laws.
 #![tactic(auto)]
 
-ghost use Rattle.turn_laws.specs.Laws.{AttemptsBeginLive, AttemptsBeginWith, BeginsFollow, BegunWithStays, EventsKeep, EventsKeepLive, HandingOutKeepsLive, InputsBegin, InputsGoOn, JournalsBegin, MessagesComeWhenAsked, PositionsAreAtCalls, SchedulesFollow, SchedulesLeave, TurnsKeep, TurnsPropose, TurnsSend};
+ghost use Rattle.turn_laws.specs.Laws.{AttemptsAreLive, AttemptsBeginWithJournals, BeginsFollow, EventsKeep, InputsHaveJournals, PositionsAreAtCalls, SchedulesFollow, SchedulesLeave, TurnsKeep, TurnsSend};
 
 /// A schedule whose attempts write frames of the run alone keeps an invocation in its run, from its begin and event by event.
 pub fn schedules_follow()
@@ -29,22 +29,15 @@ pub fn turns_keep()
 
 /// An attempt is live when it is begun, and stays so after each event but its end.
 pub fn attempts_are_live()
-    ensures begins { AttemptsBeginLive }
-    ensures events { EventsKeepLive }
-    ensures handed { HandingOutKeepsLive }
-    ensures asked { MessagesComeWhenAsked }
+    ensures { AttemptsAreLive }
 {}
 
 /// What an attempt was begun with: its start frame, and a journal that begins the run.
 pub fn attempts_begin_with_journals()
-    ensures begins { AttemptsBeginWith }
-    ensures stays { BegunWithStays }
-    ensures of_run { JournalsBegin }
+    ensures { AttemptsBeginWithJournals }
 {}
 
 /// Which messages the input of the live attempt has.
 pub fn inputs_have_journals()
-    ensures begins { InputsBegin }
-    ensures events { InputsGoOn }
-    ensures turns { TurnsPropose }
+    ensures { InputsHaveJournals }
 {}

@@ -1,16 +1,21 @@
 -- A read of which all is done but that its command is put does what the abstract machine does.
 use Rattle.std.proofs.Common.{◌≡◌, ◌+◌, ◌∷◌, ◌++◌, ℕ, Bool, ◌||◌, [], length, map, Some, Result, Ok, Err, refl, sym, ap, ◌∙◌, subst}
+use Rattle.std.specs.Prelude.{IsErrAnd}
+use Rattle.std.proofs.lemmas.Result.{err_from_is_err_and}
 use Rattle.journal_model.specs.declared.notification.NotificationId.TheVariants.{CompletionId}
 use Rattle.journal_model.specs.declared.call.Call.{Call}
 use Rattle.journal_model.specs.declared.call.Answer.{Answer}
 use Rattle.journal_model.specs.Request.{Request}
-use Rattle.journal_model.specs.History.{completions_of, signals_of}
+use Rattle.journal_model.specs.History.{signals_of}
 use Rattle.journal_model.specs.Delivery.{known_result}
 use Rattle.journal_model.specs.Run.{Invocation}
 use Rattle.attempt_model.specs.Requests.{answer_by}
 use Rattle.attempt_model.specs.Results.{Slots, ready_after_all}
 use Rattle.attempt_model.specs.Machine.{Machine, next_slot}
+use Rattle.vm_awaits.specs.declared.state.AsyncResultsState.{AsyncResultsState}
 use Rattle.vm_awaits.specs.Views.{AsyncResults, results_of}
+use Rattle.protocol_types.specs.declared.message_type.MessageType.{MessageType}
+use Rattle.journal_model.specs.Notification.{Text}
 use Rattle.vm_awaits.specs.Calls.{with_handle}
 use Rattle.vm_context.specs.Eager.{KnownState}
 use Rattle.vm_context.specs.Journal.{after_command, after_completions}
@@ -25,13 +30,13 @@ use Rattle.vm_calls.specs.declared.put_error.PutError.TheVariants as puts
 use Rattle.vm_calls.specs.declared.call_error.CallError.TheVariants.{Put}
 use Rattle.vm_calls.specs.declared.call_error.NumberError.{NumberError}
 use Rattle.vm_calls.specs.declared.call_error.NumberError.TheVariants as numbers
-use Rattle.vm_calls.specs.Active.{has_left, left_of, LacksCompletions, IsSettled, PutsOne, PutsIn}
+use Rattle.vm_calls.specs.Active.{Sees, asking, TakesCompletion, has_left, left_of, LacksCompletions, IsSettled, PutsOne, PutsIn}
 use Rattle.vm_calls.specs.Making.{Replies, FailsAs, IsReady, HasBegun}
 use Rattle.vm_calls.proofs.Making.{no_more, put_answers, put_fails_as}
 use Rattle.vm_state_reads.specs.declared.read_error.ReadError.{ReadError}
 use Rattle.vm_state_reads.specs.declared.read_error.ReadError.TheVariants as errors
 use Rattle.vm_state_reads.specs.Errors.{lazy_read, eager_read}
-use Rattle.vm_state_reads.specs.Reading.{ReadFailsAs, Reads, PutsRead, ReadsOne, with_known}
+use Rattle.vm_state_reads.specs.Reading.{ReadFailsAs, Reads, ReadsFor, PutsRead, PutsReadAs, ReadsOne, with_known}
 
 module _ (given : Invocation) (m : Machine) (call : Call) (request : Request) (one : ReadsOne given m call request) (handle : ℕ) (old begun : Active) (begins : HasBegun given m handle old begun) where
   pub handle_is : answer_by given.input.invocation_id (next_slot m) m.signals call ≡ Answer.Handle handle
@@ -89,37 +94,55 @@ module _ (given : Invocation) (m : Machine) (call : Call) (request : Request) (o
 -- ---- what it is put as
 
 module _ (checks_off : Bool) (given : Invocation) (m : Machine) (call : Call) (old new : Active) where
-  lazily_put : {L : Type 0} (E : Type 0) (put : Result ℕ (PutError L)) → PutsRead checks_off given m call old put new → Reads checks_off given m call {L = L} {E = E} old (lazy_read put) new
-  lazily_put E (Ok handle) put = put
-  lazily_put E (Err (puts.Replay (unmatched.Unavailable error))) put = put
-  lazily_put E (Err (puts.Replay (unmatched.Decoding error))) put = put
-  lazily_put E (Err (puts.Replay (unmatched.Mismatch error))) put = put
-  lazily_put E (Err (puts.Replay unmatched.OutOfMemory)) put = put
-  lazily_put E (Err (puts.Encoding unsent.PayloadTooLong)) put = put
-  lazily_put E (Err (puts.Encoding unsent.OutOfMemory)) put = put
+  -- the command of either kind of read
+  either_put : {P : Type 0} (Q : Type 0) (put : Result ℕ (PutError P)) → PutsRead checks_off given m call old put new
+      → Reads checks_off given m call {L = P} {E = Q} old (lazy_read put) new × Reads checks_off given m call {L = Q} {E = P} old (eager_read put) new
+  either_put Q (Ok handle) put = (put, put)
+  either_put Q (Err (puts.Replay (unmatched.Unavailable error))) put = (put, put)
+  either_put Q (Err (puts.Replay (unmatched.Decoding error))) put = (put, put)
+  either_put Q (Err (puts.Replay (unmatched.Mismatch error))) put = (put, put)
+  either_put Q (Err (puts.Replay unmatched.OutOfMemory)) put = (put, put)
+  either_put Q (Err (puts.Encoding unsent.PayloadTooLong)) put = (put, put)
+  either_put Q (Err (puts.Encoding unsent.OutOfMemory)) put = (put, put)
 
-  pub lazily : {L E : Type 0} (put : Result ℕ (PutError L)) (result : Result ℕ (ReadError L E)) → result ≡ lazy_read put → PutsRead checks_off given m call old put new
+  lazily : {L E : Type 0} (put : Result ℕ (PutError L)) (result : Result ℕ (ReadError L E)) → result ≡ lazy_read put → PutsRead checks_off given m call old put new
       → Reads checks_off given m call old result new
-  lazily {L} {E} put result is done = subst (λ (r : Result ℕ (ReadError L E)). Reads checks_off given m call old r new) (sym is) (lazily_put E put done)
+  lazily {L} {E} put result is done = subst (λ (r : Result ℕ (ReadError L E)). Reads checks_off given m call old r new) (sym is) (either_put E put done).0
 
-  eagerly_put : {E : Type 0} (L : Type 0) (put : Result ℕ (PutError E)) → PutsRead checks_off given m call old put new → Reads checks_off given m call {L = L} {E = E} old (eager_read put) new
-  eagerly_put L (Ok handle) put = put
-  eagerly_put L (Err (puts.Replay (unmatched.Unavailable error))) put = put
-  eagerly_put L (Err (puts.Replay (unmatched.Decoding error))) put = put
-  eagerly_put L (Err (puts.Replay (unmatched.Mismatch error))) put = put
-  eagerly_put L (Err (puts.Replay unmatched.OutOfMemory)) put = put
-  eagerly_put L (Err (puts.Encoding unsent.PayloadTooLong)) put = put
-  eagerly_put L (Err (puts.Encoding unsent.OutOfMemory)) put = put
-
-  pub eagerly : {L E : Type 0} (put : Result ℕ (PutError E)) (result : Result ℕ (ReadError L E)) → result ≡ eager_read put → PutsRead checks_off given m call old put new
+  eagerly : {L E : Type 0} (put : Result ℕ (PutError E)) (result : Result ℕ (ReadError L E)) → result ≡ eager_read put → PutsRead checks_off given m call old put new
       → Reads checks_off given m call old result new
-  eagerly {L} {E} put result is done = subst (λ (r : Result ℕ (ReadError L E)). Reads checks_off given m call old r new) (sym is) (eagerly_put L put done)
+  eagerly {L} {E} put result is done = subst (λ (r : Result ℕ (ReadError L E)). Reads checks_off given m call old r new) (sym is) (either_put L put done).1
 
-  -- no number was taken
-  pub number_fails : {L E : Type 0} (error : NumberError) (result : Result ℕ (ReadError L E)) → completions_of call ≡ 1 → (error ≡ numbers.IdsExhausted → LacksCompletions 1 old)
-      → new.output ≡ old.output → result ≡ Err (errors.Number error) → Reads checks_off given m call old result new
-  number_fails {L} {E} error result one lacks output is = subst (λ (r : Result ℕ (ReadError L E)). Reads checks_off given m call old r new) (sym is) (by_error error lacks)
-    where
-      by_error : (e : NumberError) → (e ≡ numbers.IdsExhausted → LacksCompletions 1 old) → ReadFailsAs checks_off given m call {L = L} {E = E} old (errors.Number e) × (new.output ≡ old.output)
-      by_error numbers.IdsExhausted lacks = (subst (λ (n : ℕ). LacksCompletions n old) (sym one) (lacks refl), output)
-      by_error numbers.OutOfMemory lacks = (tt, output)
+-- a read has begun that stands for this request, and what is known of it is ready
+module _ {M : Type 0} (ignoring : Bool) (request : Machine → Request) (ty : MessageType) (name : Text) (old : Active) {id handle : ℕ} {begun : Active} (taken : TakesCompletion (id, handle) (asking ty name old) begun)
+    (made : Request) (is : (given : Invocation) (m : Machine) → Sees given old m → made ≡ request m) (results : AsyncResultsState)
+    (ready : (given : Invocation) (m : Machine) → Sees given old m → results_of results ≡ with_known (known_result m.completions (request m ∷ [])) (results_of begun.results))
+    (put : Result ℕ (PutError M)) (new : Active) (puts : PutsReadAs (Some made) ignoring handle (record begun { results = results }) put new) where
+  puts_read : (checks_off : Bool) (given : Invocation) (m : Machine) (call : Call) → ReadsOne given m call (request m) → ignoring ≡ (checks_off || is_unstable call) → Sees given old m
+      → PutsRead checks_off given m call old put new
+  puts_read checks_off given m call one ignores sees =
+      puts checks_off given m call (request m) old (ap Some (is given m sees)) one ignores
+      (record { begun = begun; begins = record { sees = sees; ty = ty; name = name; id = id; takes = taken }; results = ready given m sees; others = refl })
+
+  pub reads_lazily : {E : Type 0} (result : Result ℕ (ReadError M E)) → result ≡ lazy_read put → ReadsFor request ignoring old result new
+  reads_lazily result told checks_off given m call one ignores sees = lazily checks_off given m call old new put result told (puts_read checks_off given m call one ignores sees)
+
+  pub reads_eagerly : {L : Type 0} (result : Result ℕ (ReadError L M)) → result ≡ eager_read put → ReadsFor request ignoring old result new
+  reads_eagerly result told checks_off given m call one ignores sees = eagerly checks_off given m call old new put result told (puts_read checks_off given m call one ignores sees)
+
+-- no number was taken
+pub number_fails : {L E : Type 0} (request : Machine → Request) (ignoring : Bool) (old new : Active) (error : NumberError) (result : Result ℕ (ReadError L E))
+    → (error ≡ numbers.IdsExhausted → LacksCompletions 1 old) → new.output ≡ old.output → IsErrAnd result (λ told. told ≡ errors.Number error) → ReadsFor request ignoring old result new
+number_fails {L} {E} request ignoring old new error result lacks output fails checks_off given m call one ignores sees =
+    let told = err_from_is_err_and result fails in
+    subst (λ (r : Result ℕ (ReadError L E)). Reads checks_off given m call old r new) (sym (told.1 ∙ ap Err told.2)) (by_error error lacks)
+  where
+    by_error : (e : NumberError) → (e ≡ numbers.IdsExhausted → LacksCompletions 1 old) → ReadFailsAs checks_off given m call {L = L} {E = E} old (errors.Number e) × (new.output ≡ old.output)
+    by_error numbers.IdsExhausted lacks = (subst (λ (n : ℕ). LacksCompletions n old) (sym one.completions) (lacks refl), output)
+    by_error numbers.OutOfMemory lacks = (tt, output)
+
+-- what puts one request puts another, where both are the same for a machine that is seen
+pub reads_the_same : {L E : Type 0} {one other : Machine → Request} {ignoring : Bool} (old new : Active) (result : Result ℕ (ReadError L E))
+    → ((given : Invocation) (m : Machine) → Sees given old m → other m ≡ one m) → ReadsFor one ignoring old result new → ReadsFor other ignoring old result new
+reads_the_same old new result same reads checks_off given m call asks ignores sees =
+    reads checks_off given m call (subst (λ (r : Request). ReadsOne given m call r) (same given m sees) asks) ignores sees

@@ -1,5 +1,10 @@
 -- A read that was matched in replay does what the abstract machine does, once what was known of it is ready.
-use Rattle.std.proofs.Common.{◌≡◌, ℕ, Bool, ◌||◌, [], ◌∷◌, None, Result, Err, refl, sym, ap, ◌∙◌, subst}
+use Rattle.std.proofs.Common.{◌≡◌, ℕ, Bool, true, ◌||◌, List, [], ◌∷◌, Option, Some, None, Result, Ok, Err, refl, sym, ap, ◌∙◌, subst}
+use Rattle.std.specs.Prelude.{IsErrAnd}
+use Rattle.std.proofs.lemmas.Result.{err_from_is_err_and}
+use Rattle.protocol_types.specs.declared.message_type.MessageType.{MessageType}
+use Rattle.journal_model.specs.declared.notification.NotificationResult.{NotificationResult}
+use Rattle.journal_model.specs.Notification.{Arrival}
 use Rattle.journal_model.specs.declared.call.Call.{Call}
 use Rattle.journal_model.specs.declared.call.Answer.{Answer}
 use Rattle.journal_model.specs.Request.{Request}
@@ -11,18 +16,19 @@ use Rattle.vm_awaits.specs.declared.state.AsyncResultsState.{AsyncResultsState}
 use Rattle.vm_awaits.specs.Views.{results_of}
 use Rattle.vm_commands.specs.HeaderEquality.{same_header, header_equal, is_unstable}
 use Rattle.vm_commands.specs.declared.replay_error.ReplayError.TheVariants as unmatched
+use Rattle.vm_commands.specs.declared.state_read.StateRead.{StateRead}
 use Rattle.vm_commands.specs.declared.state_read.StateReadError.{StateReadError}
 use Rattle.vm_commands.specs.declared.state_read.StateReadError.TheVariants as errors
 use Rattle.vm_commands.specs.Recorded.{as_recorded}
 use Rattle.vm_calls.specs.declared.active.Active.{Active}
-use Rattle.vm_calls.specs.Active.{left_of, IsSettled, PutsOne}
+use Rattle.vm_calls.specs.Active.{Sees, asking, TakesCompletion, left_of, IsSettled, PutsOne}
 use Rattle.vm_calls.specs.Making.{Replies, HasBegun}
 use Rattle.vm_calls.proofs.Making.{replied}
 use Rattle.vm_state_reads.specs.declared.read_error.ReadError.TheVariants.{Replay, OutOfMemory}
 use Rattle.vm_state_reads.specs.declared.read_error.ReadError.{ReadError}
-use Rattle.vm_state_reads.specs.Reading.{ReadFailsAs, Reads, ReadsOne, with_known}
-use Rattle.vm_state_reads.specs.Replaying.{MatchFails}
-use Rattle.vm_state_reads.proofs.Answering.{left_is, output_is, read_answers}
+use Rattle.vm_state_reads.specs.Reading.{ReadFailsAs, Reads, ReadsFor, ReadsOne, arrivals_of, with_known}
+use Rattle.vm_state_reads.specs.Replaying.{MatchFails, TellsNext}
+use Rattle.vm_state_reads.proofs.Answering.{left_is, output_is, settled_is, read_answers}
 
 module _ (checks_off ignoring : Bool) (given : Invocation) (m : Machine) (call : Call) (request : Request) (one : ReadsOne given m call request) (ignores : ignoring ≡ (checks_off || is_unstable call))
     (handle : ℕ) (old begun : Active) (begins : HasBegun given m handle old begun) where
@@ -82,3 +88,58 @@ module _ (checks_off ignoring : Bool) (given : Invocation) (m : Machine) (call :
   pub fails_for_memory : {L E : Type 0} (result : Result ℕ (ReadError L E)) → result ≡ Err OutOfMemory → (new : Active) → new.output ≡ begun.output → Reads checks_off given m call old result new
   fails_for_memory {L} {E} result is new output =
       subst (λ (r : Result ℕ (ReadError L E)). Reads checks_off given m call old r new) (sym is) (tt, output ∙ output_is given m call request one handle old begun begins)
+
+-- ---- by what a read asks for, where its completion and its handle were taken in replay
+
+-- what the recorded read stands for
+abbrev pub recorded : (ℕ → Request) → Machine → Request
+recorded asked m = as_recorded m.left (asked m.completions)
+
+module _ (ignoring : Bool) (asked : ℕ → Request) {handle id : ℕ} (ty : MessageType) (old : Active) {begun : Active} (taken : TakesCompletion (id, handle) (asking ty [] old) begun) (replays : old.is_replaying ≡ true) where
+  begun_in_replay : (given : Invocation) (m : Machine) → Sees given old m → HasBegun given m handle old begun
+  begun_in_replay given m sees = record { sees = sees; ty = ty; name = []; id = id; takes = taken }
+
+  module _ (given : Invocation) (m : Machine) (call : Call) (one : ReadsOne given m call (recorded asked m)) (sees : Sees given old m) where
+    settled : IsSettled begun
+    settled = settled_is given m call (recorded asked m) one handle old begun (begun_in_replay given m sees)
+
+    left : left_of begun ≡ m.left
+    left = left_is given m call (recorded asked m) one handle old begun (begun_in_replay given m sees)
+
+    recorded_is : as_recorded (left_of begun) (asked id) ≡ recorded asked m
+    recorded_is = λ i. as_recorded (left i) (asked ((taken.id ∙ sees.completions) i))
+
+  still_replays_then : begun.is_replaying ≡ true
+  still_replays_then = ap (λ (a : Active). a.is_replaying) taken.others ∙ replays
+
+  -- it is matched, and what was known of it is ready
+  pub reads_recorded : {K L E : Type 0} (read : StateRead K) (known_of : StateRead K → Option NotificationResult)
+      (lazy_request_of : L → Option Request) (request_of : E → Option Request) (known : E → Option K)
+      → ((left : Commands) (n : ℕ) → TellsNext lazy_request_of request_of known left read → known_result n (as_recorded left (asked n) ∷ []) ≡ arrivals_of n (known_of read))
+      → (matched : Active) → ((made : Request) (written : List Request) → Some (asked id) ≡ Some made → begun.is_replaying ≡ true → IsSettled begun
+      → PutsOne ignoring (as_recorded (left_of begun) made) written begun matched)
+      → TellsNext lazy_request_of request_of known (left_of begun) read → (shown : Option NotificationResult) → shown ≡ known_of read
+      → (results : AsyncResultsState) → results_of results ≡ with_known (arrivals_of id shown) (results_of matched.results)
+      → ReadsFor {L = L} {E = E} (recorded asked) ignoring old (Ok handle) (record matched { results = results })
+  reads_recorded read known_of lazy_request_of request_of known is_known matched matches next shown shows results ready checks_off given m call one ignores sees =
+      let id_is : id ≡ m.completions = taken.id ∙ sees.completions in
+      let next_left = subst (λ (l : Commands). TellsNext lazy_request_of request_of known l read) (left given m call one sees) next in
+      replayed checks_off ignoring given m call (recorded asked m) one ignores handle old begun (begun_in_replay given m sees) matched results
+      (subst (λ (r : Request). PutsOne ignoring r m.written begun matched) (recorded_is given m call one sees) (matches (asked id) m.written refl still_replays_then (settled given m call one sees)))
+      (ready ∙ ap (λ (known : List Arrival). with_known known (results_of matched.results)) ((λ i. arrivals_of (id_is i) (shows i)) ∙ sym (is_known m.left m.completions next_left)))
+
+  -- it is not matched
+  pub fails_unmatched : {L E : Type 0} (error : StateReadError L E) → ((made : Request) (written : List Request) → Some (asked id) ≡ Some made → begun.is_replaying ≡ true → IsSettled begun
+      → MatchFails ignoring made written (left_of begun) error) → (result : Result ℕ (ReadError L E)) → IsErrAnd result (λ told. told ≡ Replay error)
+      → (new : Active) → new.output ≡ begun.output → ReadsFor (recorded asked) ignoring old result new
+  fails_unmatched error unmatched result fails new output checks_off given m call one ignores sees =
+      let told = err_from_is_err_and result fails in
+      fails_unreplayed checks_off ignoring given m call (recorded asked m) one ignores handle old begun (begun_in_replay given m sees) (asked id) (recorded_is given m call one sees) error
+      (unmatched (asked id) m.written refl still_replays_then (settled given m call one sees)) result (told.1 ∙ ap Err told.2) new output
+
+  -- memory was refused for what was known
+  pub fails_unready : {L E : Type 0} (result : Result ℕ (ReadError L E)) → IsErrAnd result (λ told. told ≡ OutOfMemory) → (new : Active) → new.output ≡ begun.output
+      → ReadsFor (recorded asked) ignoring old result new
+  fails_unready result fails new output checks_off given m call one ignores sees =
+      let told = err_from_is_err_and result fails in
+      fails_for_memory checks_off ignoring given m call (recorded asked m) one ignores handle old begun (begun_in_replay given m sees) result (told.1 ∙ ap Err told.2) new output

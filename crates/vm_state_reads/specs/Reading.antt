@@ -1,5 +1,5 @@
 -- What a read of an object's state does: what it answers, and why it fails.
-use Rattle.std.specs.Prelude.{◌≡◌, ℕ, Bool, false, List, [], ◌∷◌, Option, Some, None, Result, Ok, Err}
+use Rattle.std.specs.Prelude.{◌≡◌, ◌||◌, ℕ, Bool, false, List, [], ◌∷◌, Option, Some, None, Result, Ok, Err}
 use Rattle.journal_model.specs.declared.notification.NotificationId.TheVariants.{CompletionId}
 use Rattle.journal_model.specs.Notification.{Text, Arrival}
 use Rattle.journal_model.specs.declared.notification.NotificationResult.{NotificationResult}
@@ -15,14 +15,14 @@ use Rattle.attempt_model.specs.Machine.{Machine, FailedBy, Mismatch, reply_to}
 use Rattle.protocol_stream.specs.declared.encoder.EncodingError.TheVariants as unsent
 use Rattle.vm_awaits.specs.Views.{AsyncResults, results_of}
 use Rattle.vm_context.specs.Following.{changes_state}
-use Rattle.vm_commands.specs.HeaderEquality.{same_header}
+use Rattle.vm_commands.specs.HeaderEquality.{same_header, is_unstable}
 use Rattle.vm_commands.specs.declared.replay_error.ReplayError.TheVariants as unmatched
 use Rattle.vm_commands.specs.declared.state_read.StateReadError.TheVariants as errors
 use Rattle.vm_calls.specs.declared.active.Active.{Active}
 use Rattle.vm_calls.specs.declared.call_error.CallError.TheVariants.{Put}
 use Rattle.vm_calls.specs.declared.call_error.NumberError.TheVariants as numbers
 use Rattle.vm_calls.specs.declared.put_error.PutError.{PutError}
-use Rattle.vm_calls.specs.Active.{LacksCompletions}
+use Rattle.vm_calls.specs.Active.{Sees, LacksCompletions}
 use Rattle.vm_calls.specs.Making.{Replies, IsLong, FailsAs, AsksOne, HasBegun}
 use Rattle.vm_state_reads.specs.declared.read_error.ReadError.{ReadError}
 use Rattle.vm_state_reads.specs.declared.read_error.ReadError.TheVariants.{Number, Replay, Encoding, OutOfMemory}
@@ -61,6 +61,16 @@ pub record ReadsOne (given : Invocation) (m : Machine) (call : Call) (request : 
   pub keeps : changes_state request ≡ false
   pub answer : (id : Text) (handle signal : ℕ) → answer_by id handle signal call ≡ Answer.Handle handle
 
+-- what the read of this call does, for every machine that the attempt is seen as
+abbrev pub ReadsByCall : {L E : Type 0} → (checks_off : Bool) → Call → (old : Active) → Result ℕ (ReadError L E) → (new : Active) → Type 0
+ReadsByCall checks_off call old result new = (given : Invocation) (m : Machine) → Sees given old m → Reads checks_off given m call old result new
+
+-- what a read does that puts this request, whatever call it is of
+abbrev pub ReadsFor : {L E : Type 0} → (Machine → Request) → (ignoring : Bool) → (old : Active) → Result ℕ (ReadError L E) → (new : Active) → Type 0
+ReadsFor request ignoring old result new =
+    (checks_off : Bool) (given : Invocation) (m : Machine) (call : Call) → ReadsOne given m call (request m) → ignoring ≡ (checks_off || is_unstable call) → Sees given old m
+    → Reads checks_off given m call old result new
+
 -- ---- what is known at once
 
 -- what has come where this is known of a completion
@@ -78,3 +88,9 @@ pub record HasRead (given : Invocation) (m : Machine) (handle : ℕ) (request : 
   pub begins : HasBegun given m handle old begun
   pub results : results_of read.results ≡ with_known (known_result m.completions (request ∷ [])) (results_of begun.results)
   pub others : read ≡ record begun { results = read.results }
+
+-- what a read does that has begun, where its command stands for this request
+abbrev pub PutsReadAs : {M : Type 0} → Option Request → (ignoring : Bool) → (handle : ℕ) → (begun : Active) → Result ℕ (PutError M) → (new : Active) → Type 0
+PutsReadAs made ignoring handle begun result new =
+    (checks_off : Bool) (given : Invocation) (m : Machine) (call : Call) (request : Request) (old : Active) → made ≡ Some request → ReadsOne given m call request
+    → ignoring ≡ (checks_off || is_unstable call) → HasRead given m handle request old begun → PutsRead checks_off given m call old result new

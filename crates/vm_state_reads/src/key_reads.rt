@@ -1,13 +1,12 @@
 // The read of all keys.
-ghost use Rattle.std.specs.Prelude.{◌≡◌, ◌||◌, Bool, true, not, Some, [], IfOk};
-ghost use Rattle.vm_calls.specs.Words.{Call, Request, Invocation, Machine};
+ghost use Rattle.std.specs.Prelude.{◌≡◌, true, not, Some, [], IfOk};
+ghost use Rattle.vm_calls.specs.Words.{Call, Request};
 ghost use Rattle.journal_model.specs.Run.{name_or_empty};
 ghost use Rattle.attempt_model.specs.Requests.{fresh_keys};
 ghost use Rattle.protocol_types.specs.declared.message_type.MessageType.TheVariants.{GetEagerStateKeysCommand, GetLazyStateKeysCommand};
-ghost use Rattle.vm_commands.specs.HeaderEquality.{is_unstable};
 ghost use Rattle.vm_commands.specs.Recorded.{as_recorded};
-ghost use Rattle.vm_calls.specs.Active.{Sees, IsAtCommand};
-ghost use Rattle.vm_state_reads.specs.Reading.{ReadsOne, Reads};
+ghost use Rattle.vm_calls.specs.Active.{IsAtCommand};
+ghost use Rattle.vm_state_reads.specs.Reading.{ReadsByCall, ReadsFor};
 ghost use Rattle.vm_state_reads.specs.Replaying.{keys_known};
 ghost use Rattle.vm_state_reads.specs.Telling.{type_in_replay, type_behind, IsAtRead};
 
@@ -73,9 +72,7 @@ fn replay_keys(
     ignoring: bool,
     name: ByteStr,
 ) -> Result<NotificationHandle, KeysReadError>
-    ensures made { (checks_off : Bool) (given : Invocation) (m : Machine) (call : Call)
-        → ReadsOne given m call (as_recorded m.left (Request.GetLazyStateKeys m.completions name)) → ignoring ≡ (checks_off || is_unstable call)
-        → active.old.is_replaying ≡ true → Sees given active.old m → Reads checks_off given m call active.old result active.new }
+    ensures made { active.old.is_replaying ≡ true → ReadsFor (λ m. as_recorded m.left (Request.GetLazyStateKeys m.completions name)) ignoring active.old result active.new }
     ensures told { IsAtCommand (type_in_replay GetEagerStateKeysCommand GetLazyStateKeysCommand active.old.commands.items) [] active.old.journal active.new.journal }
 {
     let (id, handle) = begin_in_replay(
@@ -99,8 +96,7 @@ fn ask_keys(
     ignoring: bool,
     name: ByteStr,
 ) -> Result<NotificationHandle, KeysReadError>
-    ensures made { (checks_off : Bool) (given : Invocation) (m : Machine) (call : Call) → ReadsOne given m call (Request.GetLazyStateKeys m.completions name)
-        → ignoring ≡ (checks_off || is_unstable call) → Sees given active.old m → Reads checks_off given m call active.old result active.new }
+    ensures made { ReadsFor (λ m. Request.GetLazyStateKeys m.completions name) ignoring active.old result active.new }
     ensures told { IsAtCommand GetLazyStateKeysCommand name active.old.journal active.new.journal }
 {
     let (name, result_completion_id, handle) = active.begin(
@@ -122,8 +118,7 @@ fn tell_keys(
     name: ByteStr,
     keys: &Sequence<ByteStr>,
 ) -> Result<NotificationHandle, KeysReadError>
-    ensures made { (checks_off : Bool) (given : Invocation) (m : Machine) (call : Call) → ReadsOne given m call (Request.GetEagerStateKeys keys.now name)
-        → ignoring ≡ (checks_off || is_unstable call) → Sees given active.old m → Reads checks_off given m call active.old result active.new }
+    ensures made { ReadsFor (λ _. Request.GetEagerStateKeys keys.now name) ignoring active.old result active.new }
     ensures told { IsAtCommand GetEagerStateKeysCommand name active.old.journal active.new.journal }
 {
     let (name, id, handle) = active.begin(MessageType::GetEagerStateKeysCommand, name)?;
@@ -143,8 +138,7 @@ fn write_keys(
     ignoring: bool,
     name: ByteStr,
 ) -> Result<NotificationHandle, KeysReadError>
-    ensures made { (checks_off : Bool) (given : Invocation) (m : Machine) (call : Call) → ReadsOne given m call (fresh_keys m.start m.done m.completions name)
-        → ignoring ≡ (checks_off || is_unstable call) → Sees given active.old m → Reads checks_off given m call active.old result active.new }
+    ensures made { ReadsFor (λ m. fresh_keys m.start m.done m.completions name) ignoring active.old result active.new }
     ensures told { IsAtCommand (type_behind GetEagerStateKeysCommand GetLazyStateKeysCommand (not active.old.state.is_partial)) name active.old.journal active.new.journal }
 {
     match active.state.get_keys(alloc) {
@@ -167,8 +161,7 @@ pub fn state_get_keys(
     checks_off: bool,
     name: Option<ByteStr>,
 ) -> Result<NotificationHandle, KeysReadError>
-    ensures made { (given : Invocation) (m : Machine) → Sees given active.old m
-        → Reads checks_off given m (Call.StateGetKeys name) active.old result active.new }
+    ensures made { ReadsByCall checks_off (Call.StateGetKeys name) active.old result active.new }
     ensures told { IsAtRead GetEagerStateKeysCommand GetLazyStateKeysCommand active.old.is_replaying (not active.old.state.is_partial) (name_or_empty name) active.old active.new }
 {
     let name = or_empty(name);

@@ -1,9 +1,7 @@
 // What is left of a read once it has begun.
-ghost use Rattle.std.specs.Prelude.{◌≡◌, ◌||◌, Bool, Some, OnOk};
-ghost use Rattle.vm_calls.specs.Words.{Call, Request, Invocation, Machine};
+ghost use Rattle.std.specs.Prelude.{◌≡◌, OnOk};
 ghost use Rattle.vm_awaits.specs.Views.{results_of};
-ghost use Rattle.vm_commands.specs.HeaderEquality.{is_unstable};
-ghost use Rattle.vm_state_reads.specs.Reading.{ReadsOne, HasRead, PutsRead, arrivals_of, with_known};
+ghost use Rattle.vm_state_reads.specs.Reading.{PutsReadAs, arrivals_of, with_known};
 
 use journal_model::{Notification, NotificationHandle, NotificationId, NotificationResult};
 use std::alloc::{AllocError, Global};
@@ -36,9 +34,7 @@ pub(crate) fn put_read<M: Command>(
     ignoring: bool,
     handle: NotificationHandle,
 ) -> Result<NotificationHandle, PutError<M>>
-    ensures put { (checks_off : Bool) (given : Invocation) (m : Machine) (call : Call) (request : Request) (old : Active) → M.request_of command ≡ Some request
-        → ReadsOne given m call request → ignoring ≡ (checks_off || is_unstable call) → HasRead given m handle request old active.old
-        → PutsRead checks_off given m call old result active.new }
+    ensures put { PutsReadAs (M.request_of command) ignoring handle active.old result active.new }
     ensures journal { active.new.journal ≡ active.old.journal }
 {
     match active.put(alloc, command, ignoring) {

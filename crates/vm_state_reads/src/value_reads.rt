@@ -1,16 +1,15 @@
 // The read of a key.
-ghost use Rattle.std.specs.Prelude.{◌≡◌, ◌||◌, Bool, true, Some, [], IfOk};
-ghost use Rattle.vm_calls.specs.Words.{Call, Request, Invocation, Machine};
+ghost use Rattle.std.specs.Prelude.{◌≡◌, true, Some, [], IfOk};
+ghost use Rattle.vm_calls.specs.Words.{Call, Request};
 ghost use Rattle.journal_model.specs.Delivery.{value_or_void};
 ghost use Rattle.journal_model.specs.Run.{name_or_empty};
 ghost use Rattle.attempt_model.specs.Requests.{fresh_value};
 ghost use Rattle.protocol_types.specs.declared.message_type.MessageType.TheVariants.{GetEagerStateCommand, GetLazyStateCommand};
 ghost use Rattle.protocol_spellings.specs.Requests.{state_told};
 ghost use Rattle.vm_context.specs.Eager.{is_known};
-ghost use Rattle.vm_commands.specs.HeaderEquality.{is_unstable};
 ghost use Rattle.vm_commands.specs.Recorded.{as_recorded};
-ghost use Rattle.vm_calls.specs.Active.{Sees, IsAtCommand};
-ghost use Rattle.vm_state_reads.specs.Reading.{ReadsOne, Reads};
+ghost use Rattle.vm_calls.specs.Active.{IsAtCommand};
+ghost use Rattle.vm_state_reads.specs.Reading.{ReadsByCall, ReadsFor};
 ghost use Rattle.vm_state_reads.specs.Replaying.{value_known};
 ghost use Rattle.vm_state_reads.specs.Telling.{type_in_replay, type_behind, IsAtRead};
 
@@ -77,9 +76,7 @@ fn replay_value(
     key: Bytes,
     name: ByteStr,
 ) -> Result<NotificationHandle, ValueReadError>
-    ensures made { (checks_off : Bool) (given : Invocation) (m : Machine) (call : Call)
-        → ReadsOne given m call (as_recorded m.left (Request.GetLazyState key m.completions name)) → ignoring ≡ (checks_off || is_unstable call)
-        → active.old.is_replaying ≡ true → Sees given active.old m → Reads checks_off given m call active.old result active.new }
+    ensures made { active.old.is_replaying ≡ true → ReadsFor (λ m. as_recorded m.left (Request.GetLazyState key m.completions name)) ignoring active.old result active.new }
     ensures told { IsAtCommand (type_in_replay GetEagerStateCommand GetLazyStateCommand active.old.commands.items) [] active.old.journal active.new.journal }
 {
     let (id, handle) = begin_in_replay(
@@ -105,8 +102,7 @@ fn ask_value(
     key: Bytes,
     name: ByteStr,
 ) -> Result<NotificationHandle, ValueReadError>
-    ensures made { (checks_off : Bool) (given : Invocation) (m : Machine) (call : Call) → ReadsOne given m call (Request.GetLazyState key m.completions name)
-        → ignoring ≡ (checks_off || is_unstable call) → Sees given active.old m → Reads checks_off given m call active.old result active.new }
+    ensures made { ReadsFor (λ m. Request.GetLazyState key m.completions name) ignoring active.old result active.new }
     ensures told { IsAtCommand GetLazyStateCommand name active.old.journal active.new.journal }
 {
     let (name, result_completion_id, handle) = active.begin(
@@ -130,8 +126,7 @@ fn tell_value(
     name: ByteStr,
     known: Option<Bytes>,
 ) -> Result<NotificationHandle, ValueReadError>
-    ensures made { (checks_off : Bool) (given : Invocation) (m : Machine) (call : Call) → ReadsOne given m call (Request.GetEagerState key known name)
-        → ignoring ≡ (checks_off || is_unstable call) → Sees given active.old m → Reads checks_off given m call active.old result active.new }
+    ensures made { ReadsFor (λ _. Request.GetEagerState key known name) ignoring active.old result active.new }
     ensures told { IsAtCommand GetEagerStateCommand name active.old.journal active.new.journal }
 {
     let (name, id, handle) = active.begin(MessageType::GetEagerStateCommand, name)?;
@@ -153,8 +148,7 @@ fn write_value(
     key: ByteStr,
     name: ByteStr,
 ) -> Result<NotificationHandle, ValueReadError>
-    ensures made { (checks_off : Bool) (given : Invocation) (m : Machine) (call : Call) → ReadsOne given m call (fresh_value m.start m.done m.completions key name)
-        → ignoring ≡ (checks_off || is_unstable call) → Sees given active.old m → Reads checks_off given m call active.old result active.new }
+    ensures made { ReadsFor (λ m. fresh_value m.start m.done m.completions key name) ignoring active.old result active.new }
     ensures told { IsAtCommand (type_behind GetEagerStateCommand GetLazyStateCommand (is_known active.old.state key)) name active.old.journal active.new.journal }
 {
     let known = active.state.get(&key);
@@ -184,8 +178,7 @@ pub fn state_get(
     name: Option<ByteStr>,
     options: PayloadOptions,
 ) -> Result<NotificationHandle, ValueReadError>
-    ensures made { (given : Invocation) (m : Machine) → Sees given active.old m
-        → Reads checks_off given m (Call.StateGet key name options) active.old result active.new }
+    ensures made { ReadsByCall checks_off (Call.StateGet key name options) active.old result active.new }
     ensures told { IsAtRead GetEagerStateCommand GetLazyStateCommand active.old.is_replaying (is_known active.old.state key) (name_or_empty name) active.old active.new }
 {
     let ignoring = ignores(checks_off, options);

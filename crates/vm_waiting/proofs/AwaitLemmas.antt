@@ -25,19 +25,13 @@ where_nothing : (tree : Trees.AwaitTree ℕ) → awaits_nothing tree ≡ true �
 where_nothing (Trees.Single handle) h = cc
 where_nothing (Trees.Combined Trees.FirstCompleted Trees.no_trees) h = refl
 where_nothing (Trees.Combined Trees.FirstCompleted (Trees.and_trees tree trees)) h = cc
-where_nothing (Trees.Combined Trees.Unknown trees) h = cc
-where_nothing (Trees.Combined Trees.AllCompleted trees) h = cc
-where_nothing (Trees.Combined Trees.FirstSucceededOrAllFailed trees) h = cc
-where_nothing (Trees.Combined Trees.AllSucceededOrFirstFailed trees) h = cc
+where_nothing (Trees.Combined _ trees) h = cc
 
 where_something : (tree : Trees.AwaitTree ℕ) → awaits_nothing tree ≡ false → node Trees.FirstCompleted (tree ∷ Trees.Single 1 ∷ []) ≡ with_cancellation tree
 where_something (Trees.Single handle) h = refl
 where_something (Trees.Combined Trees.FirstCompleted Trees.no_trees) h = cc
 where_something (Trees.Combined Trees.FirstCompleted (Trees.and_trees tree trees)) h = refl
-where_something (Trees.Combined Trees.Unknown trees) h = refl
-where_something (Trees.Combined Trees.AllCompleted trees) h = refl
-where_something (Trees.Combined Trees.FirstSucceededOrAllFailed trees) h = refl
-where_something (Trees.Combined Trees.AllSucceededOrFirstFailed trees) h = refl
+where_something (Trees.Combined _ trees) h = refl
 
 pub alone : (tree : Trees.AwaitTree ℕ) (children : List UnresolvedFuture) → awaits_nothing tree ≡ true → children ≡ Single 1 ∷ [] → tree_of (FirstCompleted children) ≡ with_cancellation tree
 alone tree children h is =

@@ -49,6 +49,10 @@ Takes checks_off given m handle (Ok taken) new = Becomes given m (reply_to (same
 Takes checks_off given m handle (Err KeyNotText) new = reply_to (same_header checks_off) given m (Call.Take handle) ≡ FailedBy KeysNotText
 Takes checks_off given m handle (Err OutOfMemory) new = Unit {0}
 
+-- what it does, for every machine that the attempt is seen as
+abbrev pub TakesSeen : (handle : ℕ) → (old : Active) → Result (Option Value) TakeError → (new : Active) → Type 0
+TakesSeen handle old result new = (given : Invocation) (m : Machine) (checks_off : Bool) → Sees given old m → Takes checks_off given m handle result new
+
 -- ---- awaits
 
 -- whether a tree waits for nothing
@@ -84,3 +88,8 @@ Awaits checks_off given m tree (Ok Cancelled) new = Becomes given m (reply_to (s
 Awaits checks_off given m tree (Ok (Asleep left)) new = Becomes given m (reply_to (same_header checks_off) given m (Call.Await tree)) (AwaitsTree (tree_of left)) new
 Awaits checks_off given m tree (Err (unawaited.UncompletedInReplay left)) new = reply_to (same_header checks_off) given m (Call.Await tree) ≡ FailedBy faults.UncompletedInReplay
 Awaits checks_off given m tree (Err unawaited.OutOfMemory) new = Unit {0}
+
+-- what it does, for every machine that the attempt is seen as
+abbrev pub AwaitsSeen : ImplicitCancellationOption → AwaitTree ℕ → (old : Active) → Result Awaited AwaitError → (new : Active) → Type 0
+AwaitsSeen cancellation tree old result new =
+    (given : Invocation) (m : Machine) (checks_off : Bool) → given.options.implicit_cancellation ≡ cancellation → Sees given old m → Awaits checks_off given m tree result new

@@ -1,13 +1,10 @@
 // A future is awaited.
-ghost use Rattle.std.specs.Prelude.{◌≡◌, ◌∷◌, [], Bool, IfOk};
+ghost use Rattle.std.specs.Prelude.{◌≡◌, ◌∷◌, [], IfOk};
 ghost use Rattle.journal_model.specs.declared.future.UnresolvedFuture.{UnresolvedFuture as futures};
 ghost use Rattle.journal_model.specs.Future.{tree_of};
 ghost use Rattle.journal_model.specs.Await.{with_cancellation, awaited_tree};
-ghost use Rattle.journal_model.specs.Run.{Invocation};
-ghost use Rattle.attempt_model.specs.Machine.{Machine};
 ghost use Rattle.vm_awaits.specs.Views.{results_of};
-ghost use Rattle.vm_calls.specs.Active.{Sees};
-ghost use Rattle.vm_waiting.specs.Waiting.{awaits_nothing, is_cancelled_in, WakesAs, Resolves, Awaits};
+ghost use Rattle.vm_waiting.specs.Waiting.{awaits_nothing, is_cancelled_in, WakesAs, Resolves, AwaitsSeen};
 
 use journal_model::{CANCEL_NOTIFICATION_HANDLE, ImplicitCancellationOption, UnresolvedFuture};
 use sequence::Sequence;
@@ -133,8 +130,7 @@ pub fn await_future(
     cancellation: ImplicitCancellationOption,
     future: UnresolvedFuture,
 ) -> Result<Awaited, AwaitError>
-    ensures awaits { (given : Invocation) (m : Machine) (checks_off : Bool) → given.options.implicit_cancellation ≡ cancellation
-        → Sees given active.old m → Awaits checks_off given m (tree_of future) result active.new }
+    ensures awaits { AwaitsSeen cancellation (tree_of future) active.old result active.new }
     ensures others { active.new ≡ record active.old { results = active.new.results } }
 {
     match resolve(&mut active.results, alloc, cancellation, future) {

@@ -1,14 +1,11 @@
 // What has come is taken.
-ghost use Rattle.std.specs.Prelude.{◌≡◌, Bool};
+ghost use Rattle.std.specs.Prelude.{◌≡◌};
 ghost use Rattle.std.specs.List.{list_all};
 ghost use Rattle.std.specs.Str.{is_utf8};
-ghost use Rattle.journal_model.specs.Run.{Invocation};
 ghost use Rattle.attempt_model.specs.Results.{are_keys_text, waiting_for};
-ghost use Rattle.attempt_model.specs.Machine.{Machine};
 ghost use Rattle.vm_awaits.specs.Views.{results_of, slots_of, ready_of};
 ghost use Rattle.vm_awaits.specs.Calls.{after_take};
-ghost use Rattle.vm_calls.specs.Active.{Sees};
-ghost use Rattle.vm_waiting.specs.Waiting.{IsTaken, Takes};
+ghost use Rattle.vm_waiting.specs.Waiting.{IsTaken, TakesSeen};
 
 use bytes::Bytes;
 use journal_model::{NotificationHandle, NotificationResult, Value};
@@ -74,7 +71,7 @@ pub fn take(
     alloc: Global,
     handle: NotificationHandle,
 ) -> Result<Option<Value>, TakeError>
-    ensures taken { (given : Invocation) (m : Machine) (checks_off : Bool) → Sees given active.old m → Takes checks_off given m handle result active.new }
+    ensures taken { TakesSeen handle active.old result active.new }
     ensures value { IsTaken (waiting_for (slots_of active.old.results) (ready_of active.old.results) handle) result }
     ensures rest { results_of active.new.results
         ≡ after_take handle (waiting_for (slots_of active.old.results) (ready_of active.old.results) handle) (results_of active.old.results) }

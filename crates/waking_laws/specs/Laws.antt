@@ -43,6 +43,11 @@ IdsTell = (version : ℕ) (tree : AwaitTree (Option NotificationId)) (ids : List
     → lacks_feature version features.AwaitTree ≡ true → is_awake tree (λ leaf. Pending) ≡ false
     → ((p : NotificationId → Bool) → list_any p (leaf_ids tree) ≡ true → list_any p ids ≡ true) → Tells version tree (Some (ForAny ids))
 
+pub record SuspensionsTell : Type 0 where
+  pub trees : TreesTell
+  pub leaves : LeavesTell
+  pub lists : IdsTell
+
 -- where a run comes to wait at an await, it waits for what a suspension tells that tells what was left of the tree before it
 abbrev pub AwaitsTell : Type 0
 AwaitsTell = (next : Handler) (given : Invocation) (arrivals : List Arrival) (calls : ℕ) (requests : List Request) (ids left : AwaitTree (Option NotificationId)) (suspension : Suspension)
@@ -60,3 +65,8 @@ ChildrenTell = (next : Handler) (given : Invocation) (arrivals : List Arrival) (
 abbrev pub WaitsAsleep : Type 0
 WaitsAsleep = (next : Handler) (given : Invocation) (arrivals : List Arrival) (calls : ℕ) (tree : AwaitTree (Option NotificationId)) → (run next given arrivals calls).ending ≡ Waits tree
     → is_awake (left_of given arrivals (run next given arrivals calls) tree) (λ leaf. Pending) ≡ false
+
+pub record AwaitsAreTold : Type 0 where
+  pub awaits : AwaitsTell
+  pub children : ChildrenTell
+  pub asleep : WaitsAsleep

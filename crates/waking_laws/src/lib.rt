@@ -1,7 +1,7 @@
 //! What does a waiting run wait for, and when is it awake? The functions do nothing: their contracts are the laws.
 #![tactic(auto)]
 
-ghost use Rattle.waking_laws.specs.Laws.{AwaitsTell, ChildrenTell, IdsTell, LeavesTell, PastWhereWoken, TreesTell, WaitsAsleep, WokenWherePast};
+ghost use Rattle.waking_laws.specs.Laws.{AwaitsAreTold, PastWhereWoken, SuspensionsTell, WokenWherePast};
 
 /// A suspension that tells what a run waits for is awake under later arrivals wherever the run goes past its await, and, where
 /// suspensions tell trees, each handle stands for an id and nothing is cancelled, only there.
@@ -12,14 +12,10 @@ pub fn suspensions_wake_with_runs()
 
 /// Which trees and lists tell what a run waits for.
 pub fn suspensions_tell()
-    ensures trees { TreesTell }
-    ensures leaves { LeavesTell }
-    ensures lists { IdsTell }
+    ensures { SuspensionsTell }
 {}
 
 /// From the await at which a run waits to what its suspension has to tell.
 pub fn awaits_are_told()
-    ensures awaits { AwaitsTell }
-    ensures children { ChildrenTell }
-    ensures asleep { WaitsAsleep }
+    ensures { AwaitsAreTold }
 {}

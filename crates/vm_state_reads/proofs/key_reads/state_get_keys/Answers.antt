@@ -7,9 +7,9 @@ use Rattle.vm_state_reads.proofs.key_reads.state_get_keys.Goals as goal
 pub returns-then-active-clause-made : goal.returns-then-active-clause-made
 returns-then-active-clause-made c =
     λ given m sees.
-    c.replay_keys.ensures.made c.args.checks_off given m (Call.StateGetKeys c.args.name)
+    c.replay_keys.ensures.made c.if-active.true c.args.checks_off given m (Call.StateGetKeys c.args.name)
     (replays_keys given m c.args.name c.or_empty-name.result c.or_empty-name.ensures (sym sees.replaying ∙ c.if-active.true))
-    (unchecked c.args.checks_off) c.if-active.true sees
+    (unchecked c.args.checks_off) sees
 
 pub returns-clause-made : goal.returns-clause-made
 returns-clause-made c =

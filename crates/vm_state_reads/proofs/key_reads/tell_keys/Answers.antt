@@ -1,32 +1,23 @@
-use Rattle.std.proofs.Common.{Some, Err, [], ◌∷◌, List, refl, ap, ◌∙◌}
-use Rattle.std.proofs.lemmas.Result.{err_from_is_err_and}
+use Rattle.std.proofs.Common.{[], ◌∷◌, List, ap, ◌∙◌}
 use Rattle.journal_model.specs.declared.notification.NotificationId.TheVariants.{CompletionId}
 use Rattle.journal_model.specs.Notification.{Arrival}
 use Rattle.journal_model.specs.Request.{Request}
+use Rattle.attempt_model.specs.Machine.{Machine}
 use Rattle.protocol_types.specs.declared.message_type.MessageType.TheVariants.{GetEagerStateKeysCommand}
 use Rattle.vm_awaits.specs.Views.{results_of}
 use Rattle.vm_state_reads.specs.Reading.{with_known}
-use Rattle.vm_state_reads.proofs.Answering.{eagerly, number_fails}
+use Rattle.vm_state_reads.proofs.Answering.{reads_eagerly, number_fails}
 use Rattle.vm_state_reads.proofs.key_reads.tell_keys.Goals as goal
 
 pub returns-clause-made : goal.returns-clause-made
 returns-clause-made c =
-    λ checks_off given m call one ignores sees.
-    let begun = c.in_ok-name.ensures in
-    let id = begun.taken.id ∙ sees.completions in
-    let twice = c.in_ok-held.ensures in
-    eagerly checks_off given m call c.args.active.now _ c.put_read.result c.eager_read.result c.eager_read.ensures
-    (c.put_read.ensures.put checks_off given m call (Request.GetEagerStateKeys c.args.keys.now c.args.name) c.args.active.now
-    (λ i. Some (Request.GetEagerStateKeys (twice.held i) (begun.name i))) one ignores
-    (record {
-      begun = c.begin.new.self;
-      begins = record { sees = sees; ty = GetEagerStateKeysCommand; name = c.args.name; id = c.in_ok-name.id; takes = begun.taken };
-      results = c.in_ok-ready_at_once.ensures ∙ ap (λ (known : List Arrival). with_known known (results_of c.begin.new.self.results)) (λ i. record { id = CompletionId (id i); result = twice.shown i } ∷ []);
-      others = refl;
-    }))
+    reads_eagerly c.args.ignoring (λ m. Request.GetEagerStateKeys c.args.keys.now c.args.name) GetEagerStateKeysCommand c.args.name c.args.active.now c.in_ok-name.ensures.taken
+    _ (λ given m sees i. Request.GetEagerStateKeys (c.in_ok-held.ensures.held i) (c.in_ok-name.ensures.name i)) c.ready_at_once.new.results
+    (λ given m sees. c.in_ok-ready_at_once.ensures ∙ ap (λ (known : List Arrival). with_known known (results_of c.begin.new.self.results))
+    (λ i. record { id = CompletionId ((c.in_ok-name.ensures.taken.id ∙ sees.completions) i); result = c.in_ok-held.ensures.shown i } ∷ []))
+    c.put_read.result _ c.put_read.ensures.put c.eager_read.result c.eager_read.ensures
 
 pub returns-in_err-name-clause-made : goal.returns-in_err-name-clause-made
 returns-in_err-name-clause-made c =
-    λ checks_off given m call one ignores sees.
-    let told = err_from_is_err_and c.from_residual.result c.from_residual.ensures.1 in
-    number_fails checks_off given m call c.args.active.now c.begin.new.self c.in_err-name.field-0.0 c.from_residual.result one.completions c.in_err-name.ensures.err c.begin.ensures.output (told.1 ∙ ap Err told.2)
+    number_fails (λ (_ : Machine). Request.GetEagerStateKeys c.args.keys.now c.args.name) c.args.ignoring c.args.active.now c.begin.new.self
+    c.in_err-name.field-0.0 c.from_residual.result c.in_err-name.ensures.err c.begin.ensures.output c.from_residual.ensures.1

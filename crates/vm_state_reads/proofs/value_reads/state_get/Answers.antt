@@ -11,10 +11,10 @@ pub returns-then-active-clause-made : goal.returns-then-active-clause-made
 returns-then-active-clause-made c =
     λ given m sees.
     let call = Call.StateGet c.args.key c.args.name c.args.options in
-    c.replay_value.ensures.made c.args.checks_off given m call
+    c.replay_value.ensures.made c.if-active.true c.args.checks_off given m call
     (subst (λ (key : Bytes). ReadsOne given m call (as_recorded m.left (Request.GetLazyState key m.completions c.or_empty-name.result))) (sym c.into_bytes.ensures.value)
     (replays_value given m c.args.key c.args.name c.args.options c.or_empty-name.result c.or_empty-name.ensures (sym sees.replaying ∙ c.if-active.true)))
-    c.ignores-ignoring.ensures c.if-active.true sees
+    c.ignores-ignoring.ensures sees
 
 pub returns-clause-made : goal.returns-clause-made
 returns-clause-made c =
