@@ -1,0 +1,37 @@
+-- A send that is not refused.
+use Rattle.std.proofs.Common.{◌≡◌, ℕ, Bool, true, false, List, [], ◌∷◌, ◌++◌, Option, None, Result, Ok, Err, subst, sym}
+use Rattle.journal_model.specs.Refusal.{Refusal, first_refusal, send_tests, target_tests}
+use Rattle.journal_model.specs.Run.{Invocation}
+use Rattle.journal_model.specs.declared.call.Answer.{Answer}
+use Rattle.journal_model.specs.declared.call.Call.{Call}
+use Rattle.journal_model.specs.declared.call.Moment.{Moment}
+use Rattle.journal_model.specs.declared.call.Target.{Target}
+use Rattle.vm_calls.specs.Words.{Machine}
+use Rattle.vm_calls.specs.Making.{Makes}
+use Rattle.vm_calls.specs.declared.active.Active.{Active}
+use Rattle.vm_calls.specs.declared.call_error.CallError.{CallError}
+use Rattle.vm_types.specs.declared.handles.SendHandle.{SendHandle}
+use Rattle.vm_syscalls.specs.Sending.{sent}
+
+-- where no test holds, none of the last ones does
+passed : (tests more : List (Bool × Refusal)) → first_refusal (tests ++ more) ≡ None → first_refusal more ≡ None
+passed [] more h = h
+passed ((true, refusal) ∷ tests) more h = cc
+passed ((false, refusal) ∷ tests) more h = passed tests more h
+
+-- so its moment is not refused
+pub moment_passes : (version : ℕ) (target : Target) (execution_time : Option Moment) → first_refusal (target_tests version target (send_tests execution_time)) ≡ None
+    → first_refusal (send_tests execution_time) ≡ None
+moment_passes version target execution_time h = passed (target_tests version target []) (send_tests execution_time) h
+
+-- the handle alone is answered
+makes_put : {M : Type 0} (checks_off : Bool) (given : Invocation) (m : Machine) (call : Call) (old new : Active) (put : Result ℕ (CallError M)) → Makes checks_off given m call (λ (handle : ℕ). Answer.Handle handle) old put new
+    → Makes checks_off given m call (λ (made : SendHandle). Answer.Handle made.invocation_id_notification_handle) old (sent put) new
+makes_put checks_off given m call old new (Ok handle) makes = makes
+makes_put checks_off given m call old new (Err error) makes = makes
+
+pub makes_sent : {M : Type 0} (checks_off : Bool) (given : Invocation) (m : Machine) (call : Call) (old new : Active) (put : Result ℕ (CallError M)) (made : Result SendHandle (CallError M)) → made ≡ sent put
+    → Makes checks_off given m call (λ (handle : ℕ). Answer.Handle handle) old put new → Makes checks_off given m call (λ (made : SendHandle). Answer.Handle made.invocation_id_notification_handle) old made new
+makes_sent {M} checks_off given m call old new put made is makes =
+    subst (λ (r : Result SendHandle (CallError M)). Makes checks_off given m call (λ (made : SendHandle). Answer.Handle made.invocation_id_notification_handle) old r new) (sym is)
+    (makes_put checks_off given m call old new put makes)
