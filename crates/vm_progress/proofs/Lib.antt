@@ -1,0 +1,2 @@
+mod Machines
+mod Naming

@@ -1,0 +1,10 @@
+use Rattle.vm_progress.proofs.asleep.suspend_with.Goals as goal
+
+pub returns : goal.returns
+returns c = record {
+  written = c.suspend-written.result;
+  active = c.suspend-written.new.active;
+  suspends = c.suspend-written.ensures.suspends;
+  run = c.suspend-written.ensures.run;
+  closes = c.close_as.ensures;
+}

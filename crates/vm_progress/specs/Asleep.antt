@@ -1,0 +1,92 @@
+-- How an await goes on that waits behind the journal: it fails, it is suspended, or it stays for more input.
+use Rattle.std.specs.Prelude.{◌≡◌, ◌<◌, ℕ, true, false, length, [], None, Result, Ok, Err}
+use Rattle.journal_model.specs.AwaitTree.{AwaitTree}
+use Rattle.protocol_errors.specs.Code.{internal}
+use Rattle.protocol_errors.specs.Error.{plain_error}
+use Rattle.protocol_errors.specs.Fixed.{fixed_code, fixed_text}
+use Rattle.protocol_errors.specs.declared.error.Error.{Error}
+use Rattle.protocol_errors.specs.declared.fixed.FixedError.{FixedError}
+use Rattle.protocol_errors.specs.declared.fixed.FixedError.TheVariants.{Suspended, InputClosedWhileWaitingEphemeralNotifications}
+use Rattle.protocol_stream.specs.declared.encoder.EncodingError.{EncodingError}
+use Rattle.protocol_stream.specs.declared.encoder.EncodingError.TheVariants.{PayloadTooLong, OutOfMemory}
+use Rattle.vm_calls.specs.declared.active.Active.{Active}
+use Rattle.vm_causes.specs.Causes.{Tells}
+use Rattle.vm_errors.specs.declared.phase.Phase.TheVariants.{Closed}
+use Rattle.vm_machine.specs.Failing.{MachineFails}
+use Rattle.vm_machine.specs.Steps.{FailsBy}
+use Rattle.vm_machine.specs.declared.machine_state.MachineState.{MachineState}
+use Rattle.vm_types.specs.declared.answers.AwaitResponse.{AwaitResponse}
+use Rattle.vm_types.specs.declared.answers.AwaitResponse.TheVariants.{WaitingExternalProgress}
+use Rattle.vm_waiting.specs.Suspending.{Suspends, TellsAsRun, tells_awaiting, TellsIf}
+use Rattle.vm_progress.specs.declared.asleep.Sleep.{Sleep}
+use Rattle.vm_progress.specs.declared.asleep.Sleep.TheVariants as sleeps
+
+-- when it goes on so: it stays exactly while more input can come, and else is suspended exactly where each read has its answer
+abbrev pub SleepIs : Sleep → MachineState → Type 0
+SleepIs sleeps.Stays vm = vm.is_input_closed ≡ false
+SleepIs sleeps.Unanswered vm = (vm.is_input_closed ≡ true) × (0 < length vm.reads.in_flight)
+SleepIs sleeps.Suspends vm = (vm.is_input_closed ≡ true) × (vm.reads.in_flight ≡ [])
+
+-- ---- how it fails
+
+-- the machine fails for want of memory
+abbrev pub LacksMemory : (old : MachineState) → Error → (new : MachineState) → Type 0
+LacksMemory old answer new = FailsBy (λ told. ⊥) old answer new
+
+-- the machine fails with why a frame is not written, about no command
+abbrev pub FailsUnwritten : EncodingError → (old : MachineState) → Error → (new : MachineState) → Type 0
+FailsUnwritten PayloadTooLong old answer new = FailsBy (Tells internal None) old answer new
+FailsUnwritten OutOfMemory old answer new = LacksMemory old answer new
+
+abbrev pub fixed_error : FixedError → Error
+fixed_error error = plain_error (fixed_code error) (fixed_text error)
+
+-- the answer of a read cannot come
+abbrev pub FailsUnanswered : (old : MachineState) → Error → (new : MachineState) → Type 0
+FailsUnanswered old answer new = MachineFails (Ok (fixed_error InputClosedWhileWaitingEphemeralNotifications)) old answer new
+
+-- ---- it stays
+
+-- what is answered where it was told what is waited for, or did not need to be, and where it could not be
+abbrev pub SettlesStay : (told : Result (Unit {0}) EncodingError) → (old : MachineState) → Result AwaitResponse Error → (new : MachineState) → Type 0
+SettlesStay (Ok done) old (Ok response) new = (response ≡ WaitingExternalProgress true false) × (new ≡ old)
+SettlesStay (Ok done) old (Err answer) new = ⊥
+SettlesStay (Err error) old (Ok response) new = ⊥
+SettlesStay (Err error) old (Err answer) new = FailsUnwritten error old answer new
+
+-- it is told what is waited for, where that is to be told; no run is executed
+pub record Stays (left : AwaitTree ℕ) (old : MachineState) (result : Result AwaitResponse Error) (new : MachineState) : Type 0 where
+  pub told : Result (Unit {0}) EncodingError
+  pub active : Active
+  pub tells : TellsIf (tells_awaiting old.version old.options.awaiting_on_policy false left) left old.active told active
+  pub run : TellsAsRun left old.active
+  pub settles : SettlesStay told (record old { active = active }) result new
+
+-- ---- it is suspended
+
+-- a machine whose suspension was written is closed, and has not failed
+abbrev pub ClosesAs : (written : Result (Unit {0}) EncodingError) → (old : MachineState) → Error → (new : MachineState) → Type 0
+ClosesAs (Ok done) old answer new = (answer ≡ fixed_error Suspended) × (new ≡ record old { phase = Closed })
+ClosesAs (Err error) old answer new = FailsUnwritten error old answer new
+
+pub record SuspendsWith (left : AwaitTree ℕ) (old : MachineState) (answer : Error) (new : MachineState) : Type 0 where
+  pub written : Result (Unit {0}) EncodingError
+  pub active : Active
+  pub suspends : Suspends left old.active written active
+  pub run : TellsAsRun left old.active
+  pub closes : ClosesAs written (record old { active = active }) answer new
+
+-- ---- all three
+
+abbrev pub SleepsAs : Sleep → (left : AwaitTree ℕ) → (old : MachineState) → Result AwaitResponse Error → (new : MachineState) → Type 0
+SleepsAs sleeps.Stays left old result new = Stays left old result new
+SleepsAs sleeps.Unanswered left old (Ok response) new = ⊥
+SleepsAs sleeps.Unanswered left old (Err answer) new = FailsUnanswered old answer new
+SleepsAs sleeps.Suspends left old (Ok response) new = ⊥
+SleepsAs sleeps.Suspends left old (Err answer) new = SuspendsWith left old answer new
+
+-- it goes on as it is said, in the one case that is there
+pub record Sleeps (left : AwaitTree ℕ) (old : MachineState) (result : Result AwaitResponse Error) (new : MachineState) : Type 0 where
+  pub sleep : Sleep
+  pub is : SleepIs sleep old
+  pub goes_on : SleepsAs sleep left old result new

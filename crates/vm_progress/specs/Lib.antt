@@ -1,0 +1,4 @@
+pub mod Uncompleted
+pub mod Asleep
+pub mod Awaiting
+pub mod Ending

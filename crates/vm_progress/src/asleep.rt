@@ -1,0 +1,134 @@
+// An await that waits behind the journal.
+ghost use Rattle.std.specs.Prelude.{◌≡◌};
+ghost use Rattle.journal_model.specs.Future.{tree_of};
+ghost use Rattle.vm_progress.specs.Asleep.{SleepIs, LacksMemory, FailsUnwritten, FailsUnanswered, SettlesStay, Stays, ClosesAs, SuspendsWith, SleepsAs, Sleeps};
+
+use journal_model::UnresolvedFuture;
+use protocol_errors::{Error, INPUT_CLOSED_WHILE_WAITING_EPHEMERAL_NOTIFICATIONS, SUSPENDED};
+use protocol_stream::EncodingError;
+use std::alloc::AllocError;
+use std::mem::replace;
+use vm_causes::about_nothing;
+use vm_errors::Phase;
+use vm_machine::MachineState;
+use vm_types::AwaitResponse;
+use vm_waiting::{suspend, tell_awaiting_on};
+
+/// How an await goes on that waits.
+#[derive(Clone, Copy, Debug, PartialEq, Eq)]
+pub(crate) enum Sleep {
+    /// More input can come.
+    Stays,
+    /// None can, and a read has no answer.
+    Unanswered,
+    /// None can.
+    Suspends,
+}
+
+fn sleep_of(vm: &MachineState) -> Sleep
+    ensures { SleepIs result vm.now }
+{
+    if !vm.is_input_closed {
+        return Sleep::Stays;
+    }
+    if vm.reads.has_in_flight() {
+        return Sleep::Unanswered;
+    }
+    Sleep::Suspends
+}
+
+/// Fails for want of memory.
+pub(crate) fn fail_for_memory(vm: &mut MachineState) -> Error
+    ensures { LacksMemory vm.old result vm.new }
+{
+    vm.fail(Err(AllocError))
+}
+
+// Fails with why a frame is not written.
+fn fail_unwritten(vm: &mut MachineState, error: EncodingError) -> Error
+    ensures { FailsUnwritten error vm.old result vm.new }
+{
+    match error {
+        EncodingError::PayloadTooLong => {
+            let cause = about_nothing(vm.alloc, &EncodingError::PayloadTooLong);
+            vm.fail(cause)
+        }
+        EncodingError::OutOfMemory => fail_for_memory(vm),
+    }
+}
+
+// Fails, since the answer of a read cannot come.
+fn fail_unanswered(vm: &mut MachineState) -> Error
+    ensures { FailsUnanswered vm.old result vm.new }
+{
+    vm.fail(Ok(INPUT_CLOSED_WHILE_WAITING_EPHEMERAL_NOTIFICATIONS.into()))
+}
+
+// What is answered where it was told what is waited for, or could not be.
+fn settle_stay(
+    vm: &mut MachineState,
+    told: Result<(), EncodingError>,
+) -> Result<AwaitResponse, Error>
+    ensures { SettlesStay told vm.old result vm.new }
+{
+    match told {
+        Ok(()) => Ok(AwaitResponse::WaitingExternalProgress {
+            waiting_input: true,
+            waiting_run_proposal: false,
+        }),
+        Err(error) => Err(fail_unwritten(vm, error)),
+    }
+}
+
+// Waits for more input. No run is executed.
+fn stay_with(vm: &mut MachineState, left: UnresolvedFuture) -> Result<AwaitResponse, Error>
+    ensures { Stays (tree_of left) vm.old result vm.new }
+{
+    let told = tell_awaiting_on(
+        &mut vm.active,
+        vm.alloc,
+        vm.version,
+        vm.options.awaiting_on_policy,
+        false,
+        left,
+    );
+    settle_stay(vm, told)
+}
+
+// What becomes of a machine whose suspension was written, or could not be.
+fn close_as(vm: &mut MachineState, written: Result<(), EncodingError>) -> Error
+    ensures { ClosesAs written vm.old result vm.new }
+{
+    match written {
+        Ok(()) => {
+            drop(replace(&mut vm.phase, Phase::Closed));
+            SUSPENDED.into()
+        }
+        Err(error) => fail_unwritten(vm, error),
+    }
+}
+
+// Suspends the attempt.
+fn suspend_with(vm: &mut MachineState, left: UnresolvedFuture) -> Error
+    ensures { SuspendsWith (tree_of left) vm.old result vm.new }
+{
+    let written = suspend(&mut vm.active, vm.alloc, left);
+    close_as(vm, written)
+}
+
+/// Goes on with an await that waits for this.
+pub(crate) fn sleep_with(
+    vm: &mut MachineState,
+    left: UnresolvedFuture,
+) -> Result<AwaitResponse, Error>
+    ensures { Sleeps (tree_of left) vm.old result vm.new }
+{
+    match sleep_of(vm) {
+        Sleep::Stays => stay_with(vm, left),
+        Sleep::Unanswered => {
+            drop(left);
+            Err(fail_unanswered(vm))
+        }
+        Sleep::Suspends => Err(suspend_with(vm, left)),
+    }
+}

@@ -1,0 +1,94 @@
+// A future is awaited, in any phase.
+ghost use Rattle.std.specs.Prelude.{◌≡◌, codes, None};
+ghost use Rattle.journal_model.specs.Future.{tree_of};
+ghost use Rattle.vm_machine.specs.Steps.{IsUnexpected, Steps};
+ghost use Rattle.vm_progress.specs.Awaiting.{ready_read, GoesOnAs, IsAwaited, DoesAwait};
+
+use crate::asleep::{fail_for_memory, sleep_with};
+use crate::uncompleted::fail_uncompleted;
+use journal_model::UnresolvedFuture;
+use protocol_errors::Error;
+use vm_errors::Phase;
+use vm_machine::{Admission, MachineState};
+use vm_types::{AwaitResponse, EphemeralCompletionId};
+use vm_waiting::{AwaitError, Awaited, await_future};
+
+// The read whose answer comes before what an await answers: the least that is ready, behind the journal.
+fn ready_read(vm: &MachineState) -> Option<EphemeralCompletionId>
+    ensures { result ≡ ready_read vm.now.phase vm.now.active.is_replaying vm.now.reads }
+{
+    match vm.phase {
+        Phase::Active => {
+            if vm.active.is_replaying {
+                return None;
+            }
+            vm.reads.least_ready()
+        }
+        Phase::WaitingStart
+        | Phase::WaitingReplayEntries { .. }
+        | Phase::Closed
+        | Phase::Failed(_) => None,
+    }
+}
+
+// What an await that has come to this is answered.
+fn go_on(
+    vm: &mut MachineState,
+    awaited: Result<Awaited, AwaitError>,
+) -> Result<AwaitResponse, Error>
+    ensures { GoesOnAs awaited vm.old result vm.new }
+{
+    match awaited {
+        Ok(Awaited::AnyCompleted) => Ok(AwaitResponse::AnyCompleted),
+        Ok(Awaited::Cancelled) => Ok(AwaitResponse::CancelSignalReceived),
+        Ok(Awaited::Asleep(left)) => sleep_with(vm, left),
+        Err(AwaitError::UncompletedInReplay(left)) => Err(fail_uncompleted(vm, left)),
+        Err(AwaitError::OutOfMemory) => Err(fail_for_memory(vm)),
+    }
+}
+
+// Awaits, where calls are made of the machine.
+fn await_admitted(vm: &mut MachineState, future: UnresolvedFuture) -> Result<AwaitResponse, Error>
+    ensures { IsAwaited (tree_of future) vm.old result vm.new }
+{
+    let awaited = await_future(
+        &mut vm.active,
+        vm.alloc,
+        vm.options.implicit_cancellation,
+        future,
+    );
+    go_on(vm, awaited)
+}
+
+// Awaits, where no read's answer comes first.
+fn await_unread(vm: &mut MachineState, future: UnresolvedFuture) -> Result<AwaitResponse, Error>
+    ensures { Steps (IsAwaited (tree_of future)) (IsUnexpected (codes "await")) None vm.old result vm.new }
+{
+    match vm.admit(None) {
+        Admission::Admitted => await_admitted(vm, future),
+        Admission::Elsewhere => {
+            drop(future);
+            Err(vm.fail_unexpected("await"))
+        }
+        Admission::Stopped(error) => {
+            drop(future);
+            Err(error)
+        }
+    }
+}
+
+/// Awaits a future.
+///
+/// Where the answer of an ephemeral read can be taken that is told first, and nothing is looked at. An attempt that is suspended
+/// answers `SUSPENDED`, and is closed: it has not failed.
+pub fn do_await(vm: &mut MachineState, future: UnresolvedFuture) -> Result<AwaitResponse, Error>
+    ensures { DoesAwait (tree_of future) vm.old result vm.new }
+{
+    match ready_read(vm) {
+        Some(id) => {
+            drop(future);
+            Ok(AwaitResponse::EphemeralNotificationReady(id))
+        }
+        None => await_unread(vm, future),
+    }
+}
