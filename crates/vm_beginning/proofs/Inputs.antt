@@ -1,5 +1,5 @@
 -- What reading the input of an attempt shows of its machine.
-use Rattle.std.proofs.Common.{◌≡◌, Result, refl}
+use Rattle.std.proofs.Common.{Result, refl}
 use Rattle.journal_model.specs.declared.handler.Input.{Input}
 use Rattle.protocol_errors.specs.declared.error.Error.{Error}
 use Rattle.vm_calls.specs.declared.active.Active.{Active}

@@ -1,5 +1,5 @@
 -- What each step of an ephemeral read shows of the machine.
-use Rattle.std.proofs.Common.{◌≡◌, ◌≤◌, ◌<◌, ◌^◌, ◌↔◌, inl, inr, ℕ, Bool, true, false, Result, Ok, Err, refl, sym, ap, subst}
+use Rattle.std.proofs.Common.{◌≡◌, ◌≤◌, ◌<◌, ◌^◌, ◌↔◌, inl, inr, ℕ, true, Result, Ok, Err, refl, ap, subst}
 use Rattle.std.proofs.lemmas.Bool.{cases_lt}
 use Rattle.std.specs.declared.alloc.AllocError.{AllocError}
 use Rattle.journal_model.specs.Notification.{Text}
@@ -18,7 +18,7 @@ use Rattle.vm_ephemeral.specs.declared.commands.RegisterError.TheVariants as unr
 use Rattle.vm_machine.specs.Failing.{MachineFails}
 use Rattle.vm_machine.specs.declared.machine_state.MachineState.{MachineState}
 use Rattle.vm_types.specs.declared.handles.EphemeralCompletionId.{EphemeralCompletionId}
-use Rattle.vm_ephemeral_calls.specs.Reading.{read_message, IsTooLong, with_read, RegisterCauses, SendCauses, LacksNumber, Registers, Sends, AsksNext, Asks, Gets}
+use Rattle.vm_ephemeral_calls.specs.Reading.{read_message, IsTooLong, RegisterCauses, SendCauses, LacksNumber, Registers, Sends, AsksNext, Asks, Gets}
 
 -- ---- numbers
 
@@ -45,17 +45,17 @@ unregistered_for unregistered.OutOfMemory (Err refused) old between answer new s
 
 -- ---- frames
 
-abbrev TellsLong : Result (Unit {0}) EncodingError → Type 0 → Type 0
-TellsLong written long = written ≡ Err unsent.PayloadTooLong → long
+abbrev TellsLong : Result (Unit {0}) EncodingError → (long : Type 0) → Type 0
+TellsLong written long = (written ≡ Err unsent.PayloadTooLong) ↔ long
 
 module _ (id : EphemeralCompletionId) (key : Text) (old : MachineState) where
-  pub sent : (output : Written) → output ≡ with_frame (spelled (read_message old.active.output.version id.number key)) old.active.output
+  pub sent : (output : Written) → TellsLong (Ok tt) (IsTooLong id.number key old.active.output) → output ≡ with_frame (spelled (read_message old.active.output.version id.number key)) old.active.output
       → Sends id key old (Ok id) (record old { active = record old.active { output = output } })
-  sent output is = (refl, ap (λ (output : Written). record old { active = record old.active { output = output } }) is)
+  sent output long is = ((λ wrong. cc (long.1 wrong)), refl, ap (λ (output : Written). record old { active = record old.active { output = output } }) is)
 
   pub unsent_for : (error : EncodingError) (cause : Result Error AllocError) (between : MachineState) (answer : Error) (new : MachineState) → between ≡ old
       → TellsLong (Err error) (IsTooLong id.number key old.active.output) → SendCauses error cause → MachineFails cause between answer new → Sends id key old (Err answer) new
-  unsent_for unsent.PayloadTooLong (Ok told) between answer new same long causes fails = record { cause = Ok told; causes = (long refl, causes); fails = subst (λ (vm : MachineState). MachineFails (Ok told) vm answer new) same fails }
+  unsent_for unsent.PayloadTooLong (Ok told) between answer new same long causes fails = record { cause = Ok told; causes = (long.0 refl, causes); fails = subst (λ (vm : MachineState). MachineFails (Ok told) vm answer new) same fails }
   unsent_for unsent.PayloadTooLong (Err refused) between answer new same long causes fails = record { cause = Err refused; causes = tt; fails = subst (λ (vm : MachineState). MachineFails (Err refused) vm answer new) same fails }
   unsent_for unsent.OutOfMemory (Ok told) between answer new same long causes fails = absurd causes
   unsent_for unsent.OutOfMemory (Err refused) between answer new same long causes fails = record { cause = Err refused; causes = tt; fails = subst (λ (vm : MachineState). MachineFails (Err refused) vm answer new) same fails }

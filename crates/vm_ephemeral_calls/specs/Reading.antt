@@ -68,9 +68,9 @@ abbrev pub Registers : Value → (old : MachineState) → Result EphemeralComple
 Registers value old (Ok id) new = (old.reads.next < 2 ^ 32) × (id.number ≡ old.reads.next) × (new ≡ record old { reads = known value old.reads })
 Registers value old (Err answer) new = LacksNumber old answer new
 
--- the runtime is asked for the key, or its frame is not written
+-- the runtime is asked for the key, or its frame is not written: it is longer than one can be, or memory was refused
 abbrev pub Sends : EphemeralCompletionId → (key : Text) → (old : MachineState) → Result EphemeralCompletionId Error → (new : MachineState) → Type 0
-Sends id key old (Ok taken) new = (taken ≡ id) × (new ≡ with_read id.number key old)
+Sends id key old (Ok taken) new = (IsTooLong id.number key old.active.output → ⊥) × (taken ≡ id) × (new ≡ with_read id.number key old)
 Sends id key old (Err answer) new = FailsBy (λ error. IsTooLong id.number key old.active.output × Tells internal None error) old answer new
 
 -- the read takes the next number

@@ -1,5 +1,5 @@
 // A read takes its number: its value is known, or the runtime is asked for it.
-ghost use Rattle.std.specs.Prelude.{◌≡◌, OnOk, OnErr, IsErrOf};
+ghost use Rattle.std.specs.Prelude.{◌≡◌, ◌↔◌, OnOk, OnErr, IsErrOf};
 ghost use Rattle.journal_model.specs.declared.value.Value.{Value as Values};
 ghost use Rattle.protocol_stream.specs.Frame.{spelled};
 ghost use Rattle.protocol_stream.specs.declared.encoder.EncodingError.TheVariants.{PayloadTooLong};
@@ -60,7 +60,7 @@ fn write_read(
 ) -> Result<(), EncodingError>
     ensures ok { OnOk result (output.new ≡ with_frame (spelled (read_message output.old.version number key)) output.old) }
     ensures err { OnErr result (output.new ≡ output.old) }
-    ensures too_long { IsErrOf result PayloadTooLong → IsTooLong number key output.old }
+    ensures too_long { IsErrOf result PayloadTooLong ↔ IsTooLong number key output.old }
 {
     let message = GetStateEphemeralCommandMessage {
         ephemeral_completion_id: number,

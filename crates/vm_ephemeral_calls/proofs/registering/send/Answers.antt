@@ -4,7 +4,7 @@ use Rattle.vm_ephemeral_calls.proofs.ReadSteps.{sent, unsent_for}
 use Rattle.vm_ephemeral_calls.proofs.registering.send.Goals as goal
 
 pub returns-in-Ok : goal.returns-in-Ok
-returns-in-Ok c = sent c.args.id c.args.key c.args.vm.now c.write_read.new.output c.in-Ok.ensures.ok
+returns-in-Ok c = sent c.args.id c.args.key c.args.vm.now c.write_read.new.output c.in-Ok.ensures.too_long c.in-Ok.ensures.ok
 
 pub returns-in-Err : goal.returns-in-Err
 returns-in-Err c =
