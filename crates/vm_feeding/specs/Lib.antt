@@ -1,0 +1,6 @@
+pub mod Failing
+pub mod Closing
+pub mod Telling
+pub mod Asking
+pub mod Feeding
+pub mod Cuts

@@ -1,0 +1,86 @@
+// What is asked of a machine.
+ghost use Rattle.std.specs.Prelude.{◌≡◌, ◌-ℤ◌, pos};
+ghost use Rattle.vm_feeding.specs.Asking.{active_state, state_of, answered, IsReady, TakesOutput};
+
+use bytes::{ByteStr, Bytes};
+use protocol_errors::{Error, codes};
+use std::alloc::{AllocError, Global};
+use vm_errors::{Phase, unexpected};
+use vm_machine::MachineState;
+use vm_types::State;
+
+// How far one has come of which calls are made.
+fn active_state(is_replaying: bool) -> State
+    ensures { result ≡ active_state is_replaying }
+{
+    if is_replaying {
+        State::Replaying
+    } else {
+        State::Processing
+    }
+}
+
+// How far one has come in this phase.
+fn state_of(phase: &Phase, is_replaying: bool) -> State
+    ensures { result ≡ state_of phase.now is_replaying }
+{
+    match phase {
+        Phase::WaitingStart | Phase::WaitingReplayEntries { .. } => State::WaitingPreFlight,
+        Phase::Active => active_state(is_replaying),
+        Phase::Closed | Phase::Failed(_) => State::Closed,
+    }
+}
+
+/// How far the machine has come; one that has failed is closed.
+pub fn state(vm: &MachineState) -> State
+    ensures { result ≡ state_of vm.now.phase vm.now.active.is_replaying }
+{
+    state_of(&vm.phase, vm.active.is_replaying)
+}
+
+/// The index of the command that was asked for last, and -1 before the first.
+pub fn last_command_index(vm: &MachineState) -> i64
+    ensures { result ≡ pos vm.now.active.journal.commands -ℤ pos 1 }
+{
+    vm.active.journal.command_index()
+}
+
+// An error, or that memory was refused for it.
+fn answered(told: Result<Error, AllocError>) -> Error
+    ensures { result ≡ answered told }
+{
+    match told {
+        Ok(error) => error,
+        Err(_) => Error::new(codes::INTERNAL, ByteStr::from_static("out of memory")),
+    }
+}
+
+// Whether calls are made in this phase, or why none are any more.
+fn is_ready(alloc: Global, phase: &Phase) -> Result<bool, Error>
+    ensures { IsReady phase.now result }
+{
+    match phase {
+        Phase::WaitingStart | Phase::WaitingReplayEntries { .. } => Ok(false),
+        Phase::Active => Ok(true),
+        Phase::Closed => {
+            let event = ByteStr::from_static("IsReadyToExecute");
+            Err(answered(unexpected(alloc, phase, false, event)))
+        }
+        Phase::Failed(kept) => Err(answered(kept.clone())),
+    }
+}
+
+/// Whether calls are made of the machine: its start and the entries that it announced have come. Behind the end, and where it has
+/// failed, the answer is why none are any more; the machine stays in any case.
+pub fn is_ready_to_execute(vm: &MachineState) -> Result<bool, Error>
+    ensures { IsReady vm.now.phase result }
+{
+    is_ready(vm.alloc, &vm.phase)
+}
+
+/// Takes all bytes that the machine has written and that were not taken. Where memory is refused, they stay.
+pub fn take_output(vm: &mut MachineState) -> Result<Bytes, AllocError>
+    ensures { TakesOutput vm.old result vm.new }
+{
+    vm.active.output.take(vm.alloc)
+}

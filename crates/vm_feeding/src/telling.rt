@@ -1,0 +1,125 @@
+// An error of the host.
+ghost use Rattle.std.specs.Prelude.{◌≡◌};
+ghost use Rattle.std.specs.Fmt.{WritesOnOk};
+ghost use Rattle.vm_refusals.specs.Refusals.{unsupported_text};
+ghost use Rattle.vm_feeding.specs.Telling.{lacks_behavior, HostCauses, RelatedCauses, IsTold};
+
+use crate::failing::let_fail;
+use protocol_differences::CommandRelationship;
+use protocol_errors::{Error, ErrorBehavior, InvocationErrorCode, WithInvocationErrorCode, codes};
+use protocol_types::{Feature, Version};
+use std::alloc::{AllocError, Global};
+use std::fmt;
+use vm_causes::about_nothing;
+use vm_context::Journal;
+use vm_machine::MachineState;
+
+// Writes that a feature came with a later version.
+#[tactic(auto, unfolding(vm_refusals::specs::Refusals::unsupported_text))]
+fn write_lack<W: fmt::Write>(
+    name: &str,
+    version: Version,
+    minimum: Version,
+    f: &mut fmt::Formatter<W>,
+) -> fmt::Result
+    ensures { WritesOnOk W.write_str_gives f.old result (unsupported_text name.now version minimum) f.new }
+{
+    write!(
+        f,
+        "Feature '{name}' is not supported by the negotiated protocol version '{version}', the minimum required version is '{minimum}'"
+    )
+}
+
+// Errors have no behaviour in the version that is spoken. It prints what `protocol_errors::UnsupportedFeatureForNegotiatedVersion`
+// prints.
+#[derive(Debug, Drop)]
+struct BehaviorError {
+    version: Version,
+}
+
+impl fmt::Display for BehaviorError {
+    ghost use Rattle.std.specs.Prelude.{Some};
+    ghost use Rattle.vm_feeding.specs.Telling.{behavior_text};
+
+    ghost output = { λ error. Some (behavior_text error.version) };
+
+    fn fmt<W: fmt::Write>(&self, f: &mut fmt::Formatter<W>) -> fmt::Result {
+        let minimum = Feature::ErrorBehavior.first_version();
+        write_lack("error behavior", self.version, minimum, f)
+    }
+}
+
+impl WithInvocationErrorCode for BehaviorError {
+    ghost use Rattle.protocol_errors.specs.Code.{unsupported_feature};
+
+    ghost code_of = { λ _. unsupported_feature };
+
+    fn code(&self) -> InvocationErrorCode {
+        codes::UNSUPPORTED_FEATURE
+    }
+}
+
+// Whether an error has a behaviour that the version cannot tell.
+fn lacks_behavior(version: Version, behavior: ErrorBehavior) -> bool
+    ensures { result ≡ lacks_behavior version behavior }
+{
+    match behavior {
+        ErrorBehavior::Retry => false,
+        ErrorBehavior::Pause | ErrorBehavior::Fail => {
+            Feature::ErrorBehavior.is_later_than(version.number())
+        }
+    }
+}
+
+// The error, about the command that is named, if one is.
+fn related_cause(
+    journal: &Journal,
+    error: Error,
+    relationship: Option<CommandRelationship>,
+) -> Result<Error, AllocError>
+    ensures { RelatedCauses journal.now error relationship result }
+{
+    let Some(relationship) = relationship else {
+        return Ok(error);
+    };
+    match journal.resolve_related_command(relationship) {
+        Ok(command) => Ok(error.with_related_command_metadata(command)),
+        Err(refused) => {
+            drop(error);
+            Err(refused)
+        }
+    }
+}
+
+// What a machine fails with whose host tells an error.
+fn host_cause(
+    alloc: Global,
+    version: Version,
+    journal: &Journal,
+    error: Error,
+    relationship: Option<CommandRelationship>,
+) -> Result<Error, AllocError>
+    ensures { HostCauses version journal.now error relationship result }
+{
+    if lacks_behavior(version, error.behavior()) {
+        drop(error);
+        drop(relationship);
+        return about_nothing(alloc, &BehaviorError { version });
+    }
+    related_cause(journal, error, relationship)
+}
+
+/// The host has come upon an error, about the command that is named, if one is: the machine fails with it. Where the error has a
+/// behaviour that the version cannot tell, the machine fails with that in place of it.
+pub fn notify_error(vm: &mut MachineState, error: Error, relationship: Option<CommandRelationship>)
+    ensures { IsTold error relationship vm.old vm.new }
+{
+    let cause = host_cause(
+        vm.alloc,
+        vm.version,
+        &vm.active.journal,
+        error,
+        relationship,
+    );
+    let_fail(vm, cause);
+}
