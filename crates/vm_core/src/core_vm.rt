@@ -1,4 +1,36 @@
 // The machine, closed.
+ghost use Rattle.std.specs.Prelude.{◌≡◌, ◌-ℤ◌, pos, [], not, codes, None, IfOk, IfErr};
+ghost use Rattle.journal_model.specs.Future.{tree_of};
+ghost use Rattle.journal_model.specs.Run.{name_or_empty};
+ghost use Rattle.journal_model.specs.declared.call.Answer.{Answer};
+ghost use Rattle.journal_model.specs.declared.call.Call.{Call};
+ghost use Rattle.protocol_differences.specs.Calls.{call_command_difference, one_way_call_command_difference};
+ghost use Rattle.protocol_differences.specs.Control.{output_command_difference, sleep_command_difference};
+ghost use Rattle.protocol_differences.specs.Invocations.{attach_invocation_command_difference, complete_awakeable_command_difference, get_invocation_output_command_difference, send_signal_command_difference};
+ghost use Rattle.protocol_differences.specs.Promises.{complete_promise_command_difference, get_promise_command_difference, peek_promise_command_difference};
+ghost use Rattle.protocol_differences.specs.State.{clear_all_state_command_difference, clear_state_command_difference, set_state_command_difference};
+ghost use Rattle.protocol_types.specs.declared.message_type.MessageType.TheVariants.{AttachInvocationCommand, CallCommand, ClearAllStateCommand, ClearStateCommand, CompleteAwakeableCommand, CompletePromiseCommand, GetInvocationOutputCommand, GetPromiseCommand, OneWayCallCommand, OutputCommand, PeekPromiseCommand, SendSignalCommand, SetStateCommand, SleepCommand};
+ghost use Rattle.vm_beginning.specs.Beginning.{Begins, head_of};
+ghost use Rattle.vm_beginning.specs.Reading.{IsRead};
+ghost use Rattle.vm_causes.specs.Causes.{NumberCauses};
+ghost use Rattle.vm_context.specs.Eager.{is_known};
+ghost use Rattle.vm_ephemeral_calls.specs.Reading.{IsGot, IsTaken};
+ghost use Rattle.vm_errors.specs.Failing.{out_of_memory};
+ghost use Rattle.vm_errors.specs.Phases.{kept_error};
+ghost use Rattle.vm_feeding.specs.Asking.{state_of, IsReady, TakesOutput};
+ghost use Rattle.vm_feeding.specs.Closing.{ClosesInput};
+ghost use Rattle.vm_feeding.specs.Feeding.{IsFed};
+ghost use Rattle.vm_feeding.specs.Telling.{IsTold};
+ghost use Rattle.vm_handles.specs.Calling.{IsCalled};
+ghost use Rattle.vm_handles.specs.Handles.{id_of, IsNamed, IsAwakeable, IsNoAwakeable, Looks, MakesSignal, TakesFirst, TakeCauses};
+ghost use Rattle.vm_machine.specs.Calls.{Calls};
+ghost use Rattle.vm_machine.specs.Steps.{IsUnexpected, Steps};
+ghost use Rattle.vm_progress.specs.Awaiting.{DoesAwait};
+ghost use Rattle.vm_progress.specs.Ending.{EndsAs};
+ghost use Rattle.vm_reading.specs.Reading.{value_read, keys_read, StepsOfRead};
+ghost use Rattle.vm_core.specs.Closed.{state_made};
+ghost use Rattle.vm_start.specs.Negotiation.{content_type};
+
 use crate::{VM, VMResult};
 use bytes::{ByteStr, Bytes};
 use journal_model::{
@@ -10,7 +42,6 @@ use protocol_errors::Error;
 use protocol_stream::HeaderMap;
 use std::alloc::{AllocError, Global};
 use std::fmt;
-use std::marker::Model;
 use vm_beginning::begin;
 use vm_errors::Phase;
 use vm_machine::MachineState;
@@ -21,18 +52,10 @@ use vm_types::{
 
 /// The machine of an invocation's attempt.
 ///
-/// Its contracts see all that it keeps (`vm_machine::MachineState`), which nothing but its calls changes.
+/// Its contracts see all that it keeps, a `vm_machine::MachineState`, which nothing but its calls changes.
 #[derive(Drop)]
 pub struct CoreVM {
     state: MachineState,
-}
-
-impl Model for CoreVM {
-    ghost use Rattle.vm_machine.specs.declared.machine_state.MachineState.{MachineState};
-
-    ghost Value = { MachineState };
-
-    ghost view = { λ vm. vm.state };
 }
 
 // How far a machine has come, as it is shown.
@@ -65,8 +88,10 @@ impl fmt::Debug for CoreVM {
 }
 
 impl VM for CoreVM {
-
     fn new<H: HeaderMap>(alloc: Global, request_headers: &H, options: VMOptions) -> VMResult<Self>
+    where
+        H::Error: Drop,
+        ensures { Begins H.Error (H.text_of request_headers.now content_type) options (state_made result) }
     {
         match begin(alloc, request_headers, options) {
             Ok(state) => Ok(CoreVM { state }),
@@ -75,185 +100,264 @@ impl VM for CoreVM {
     }
 
     fn get_response_head(&self) -> VMResult<ResponseHead>
+        ensures head { IfOk result (λ head. head ≡ head_of self.now.state.version) }
+        ensures memory { IfErr result (λ error. error ≡ out_of_memory) }
     {
         vm_beginning::get_response_head(&self.state)
     }
 
-    fn notify_input(&mut self, buffer: Bytes) 
+    fn notify_input(&mut self, buffer: Bytes)
+        ensures { IsFed buffer self.old.state self.new.state }
     {
         vm_feeding::notify_input(&mut self.state, buffer);
     }
 
-    fn notify_input_closed(&mut self) 
+    fn notify_input_closed(&mut self)
+        ensures { ClosesInput self.old.state self.new.state }
     {
         vm_feeding::notify_input_closed(&mut self.state);
     }
 
-    fn notify_error(&mut self, error: Error, relationship: Option<CommandRelationship>) 
+    fn notify_error(&mut self, error: Error, relationship: Option<CommandRelationship>)
+        ensures { IsTold error relationship self.old.state self.new.state }
     {
         vm_feeding::notify_error(&mut self.state, error, relationship);
     }
 
     fn take_output(&mut self) -> Result<Bytes, AllocError>
+        ensures { TakesOutput self.old.state result self.new.state }
     {
         vm_feeding::take_output(&mut self.state)
     }
 
     fn is_ready_to_execute(&self) -> VMResult<bool>
+        ensures { IsReady self.now.state.phase result }
     {
         vm_feeding::is_ready_to_execute(&self.state)
     }
 
     fn is_completed(&self, handle: NotificationHandle) -> bool
+        ensures { Looks self.now.state.phase self.now.state.active handle result }
     {
         vm_handles::is_completed(&self.state, handle)
     }
 
     fn do_await(&mut self, future: UnresolvedFuture) -> VMResult<AwaitResponse>
+        ensures { DoesAwait (tree_of future) self.old.state result self.new.state }
     {
         vm_progress::do_await(&mut self.state, future)
     }
 
     fn take_notification(&mut self, handle: NotificationHandle) -> VMResult<Option<Value>>
+        ensures { Steps (IsCalled (TakesFirst handle) TakeCauses) (IsUnexpected (codes "TakeNotification")) None self.old.state result self.new.state }
     {
         vm_handles::take_notification(&mut self.state, handle)
     }
 
     fn sys_input(&mut self) -> VMResult<Input>
+        ensures { IsRead self.old.state result self.new.state }
     {
         vm_beginning::sys_input(&mut self.state)
     }
 
-    fn sys_state_get(&mut self, key: ByteStr, name: Option<ByteStr>, options: PayloadOptions) -> VMResult<NotificationHandle>
+    fn sys_state_get(
+        &mut self,
+        key: ByteStr,
+        name: Option<ByteStr>,
+        options: PayloadOptions,
+    ) -> VMResult<NotificationHandle>
+        ensures { StepsOfRead value_read (Call.StateGet key name options) (λ active. is_known active.state key) (name_or_empty name) self.old.state result self.new.state }
     {
         vm_reading::sys_state_get(&mut self.state, key, name, options)
     }
 
     fn sys_state_get_keys(&mut self, name: Option<ByteStr>) -> VMResult<NotificationHandle>
+        ensures { StepsOfRead keys_read (Call.StateGetKeys name) (λ active. not active.state.is_partial) (name_or_empty name) self.old.state result self.new.state }
     {
         vm_reading::sys_state_get_keys(&mut self.state, name)
     }
 
     fn ephemeral_state_get(&mut self, key: ByteStr) -> VMResult<EphemeralCompletionId>
+        ensures { IsGot key self.old.state result self.new.state }
     {
         vm_ephemeral_calls::ephemeral_state_get(&mut self.state, key)
     }
 
     fn take_ephemeral_notification(&mut self, id: EphemeralCompletionId) -> VMResult<Option<Value>>
+        ensures { IsTaken id self.old.state result self.new.state }
     {
         vm_ephemeral_calls::take_ephemeral_notification(&mut self.state, id)
     }
 
-    fn sys_state_set(&mut self, key: ByteStr, value: Bytes, name: Option<ByteStr>, options: PayloadOptions) -> VMResult<()>
-        ensures { Calls set_state_command_difference (Call.StateSet key value name options) (λ done. Answer.Done) [] SetStateCommand (name_or_empty name) self.old result self.new }
+    fn sys_state_set(
+        &mut self,
+        key: ByteStr,
+        value: Bytes,
+        name: Option<ByteStr>,
+        options: PayloadOptions,
+    ) -> VMResult<()>
+        ensures { Calls set_state_command_difference (Call.StateSet key value name options) (λ done. Answer.Done) [] SetStateCommand (name_or_empty name) self.old.state result self.new.state }
     {
         vm_syscalls::sys_state_set(&mut self.state, key, value, name, options)
     }
 
     fn sys_state_clear(&mut self, key: ByteStr, name: Option<ByteStr>) -> VMResult<()>
-        ensures { Calls clear_state_command_difference (Call.StateClear key name) (λ done. Answer.Done) [] ClearStateCommand (name_or_empty name) self.old result self.new }
+        ensures { Calls clear_state_command_difference (Call.StateClear key name) (λ done. Answer.Done) [] ClearStateCommand (name_or_empty name) self.old.state result self.new.state }
     {
         vm_syscalls::sys_state_clear(&mut self.state, key, name)
     }
 
     fn sys_state_clear_all(&mut self, name: Option<ByteStr>) -> VMResult<()>
-        ensures { Calls clear_all_state_command_difference (Call.StateClearAll name) (λ done. Answer.Done) [] ClearAllStateCommand (name_or_empty name) self.old result self.new }
+        ensures { Calls clear_all_state_command_difference (Call.StateClearAll name) (λ done. Answer.Done) [] ClearAllStateCommand (name_or_empty name) self.old.state result self.new.state }
     {
         vm_syscalls::sys_state_clear_all(&mut self.state, name)
     }
 
-    fn sys_sleep(&mut self, name: ByteStr, wake_up: Moment, now: Option<Moment>) -> VMResult<NotificationHandle>
-        ensures { Calls sleep_command_difference (Call.Sleep name wake_up now) (λ handle. Answer.Handle handle) (codes "sleep duration") SleepCommand name self.old result self.new }
+    fn sys_sleep(
+        &mut self,
+        name: ByteStr,
+        wake_up: Moment,
+        now: Option<Moment>,
+    ) -> VMResult<NotificationHandle>
+        ensures { Calls sleep_command_difference (Call.Sleep name wake_up now) (λ handle. Answer.Handle handle) (codes "sleep duration") SleepCommand name self.old.state result self.new.state }
     {
         self.state.sys_sleep(name, wake_up, now)
     }
 
-    fn sys_call(&mut self, target: Target, parameter: Bytes, name: Option<ByteStr>, options: PayloadOptions) -> VMResult<CallHandle>
-        ensures { Calls call_command_difference (Call.Call target parameter name options) (λ made. Answer.Handles made.invocation_id_notification_handle made.call_notification_handle) [] CallCommand (name_or_empty name) self.old result self.new }
+    fn sys_call(
+        &mut self,
+        target: Target,
+        parameter: Bytes,
+        name: Option<ByteStr>,
+        options: PayloadOptions,
+    ) -> VMResult<CallHandle>
+        ensures { Calls call_command_difference (Call.Call target parameter name options) (λ made. Answer.Handles made.invocation_id_notification_handle made.call_notification_handle) [] CallCommand (name_or_empty name) self.old.state result self.new.state }
     {
         vm_syscalls::sys_call(&mut self.state, target, parameter, name, options)
     }
 
-    fn sys_send(&mut self, target: Target, parameter: Bytes, execution_time: Option<Moment>, name: Option<ByteStr>, options: PayloadOptions) -> VMResult<SendHandle>
+    fn sys_send(
+        &mut self,
+        target: Target,
+        parameter: Bytes,
+        execution_time: Option<Moment>,
+        name: Option<ByteStr>,
+        options: PayloadOptions,
+    ) -> VMResult<SendHandle>
+        ensures { Calls one_way_call_command_difference (Call.Send target parameter execution_time name options) (λ made. Answer.Handle made.invocation_id_notification_handle) (codes "send delay") OneWayCallCommand (name_or_empty name) self.old.state result self.new.state }
     {
-        vm_syscalls::sys_send(&mut self.state, target, parameter, execution_time, name, options)
+        vm_syscalls::sys_send(
+            &mut self.state,
+            target,
+            parameter,
+            execution_time,
+            name,
+            options,
+        )
     }
 
     fn sys_awakeable(&mut self) -> VMResult<AwakeableHandle>
+        ensures text { IsNamed (id_of self.old.state.start) self.old.state.active result }
+        ensures steps { Steps IsAwakeable IsNoAwakeable None self.old.state result self.new.state }
     {
         vm_handles::sys_awakeable(&mut self.state)
     }
 
-    fn sys_complete_awakeable(&mut self, id: ByteStr, value: NonEmptyValue, options: PayloadOptions) -> VMResult<()>
-        ensures { Calls complete_awakeable_command_difference (Call.CompleteAwakeable id value options) (λ done. Answer.Done) [] CompleteAwakeableCommand [] self.old result self.new }
+    fn sys_complete_awakeable(
+        &mut self,
+        id: ByteStr,
+        value: NonEmptyValue,
+        options: PayloadOptions,
+    ) -> VMResult<()>
+        ensures { Calls complete_awakeable_command_difference (Call.CompleteAwakeable id value options) (λ done. Answer.Done) [] CompleteAwakeableCommand [] self.old.state result self.new.state }
     {
         vm_syscalls::sys_complete_awakeable(&mut self.state, id, value, options)
     }
 
     fn create_signal_handle(&mut self, name: ByteStr) -> VMResult<NotificationHandle>
+        ensures { Steps (IsCalled (MakesSignal name) NumberCauses) (IsUnexpected (codes "named awakeable")) None self.old.state result self.new.state }
     {
         vm_handles::create_signal_handle(&mut self.state, name)
     }
 
-    fn sys_complete_signal(&mut self, target_id: ByteStr, name: ByteStr, value: NonEmptyValue) -> VMResult<()>
-        ensures { Calls send_signal_command_difference (Call.CompleteSignal target_id name value) (λ done. Answer.Done) [] SendSignalCommand [] self.old result self.new }
+    fn sys_complete_signal(
+        &mut self,
+        target_id: ByteStr,
+        name: ByteStr,
+        value: NonEmptyValue,
+    ) -> VMResult<()>
+        ensures { Calls send_signal_command_difference (Call.CompleteSignal target_id name value) (λ done. Answer.Done) [] SendSignalCommand [] self.old.state result self.new.state }
     {
         vm_syscalls::sys_complete_signal(&mut self.state, target_id, name, value)
     }
 
     fn sys_get_promise(&mut self, key: ByteStr) -> VMResult<NotificationHandle>
-        ensures { Calls get_promise_command_difference (Call.GetPromise key) (λ handle. Answer.Handle handle) [] GetPromiseCommand [] self.old result self.new }
+        ensures { Calls get_promise_command_difference (Call.GetPromise key) (λ handle. Answer.Handle handle) [] GetPromiseCommand [] self.old.state result self.new.state }
     {
         vm_syscalls::sys_get_promise(&mut self.state, key)
     }
 
     fn sys_peek_promise(&mut self, key: ByteStr) -> VMResult<NotificationHandle>
-        ensures { Calls peek_promise_command_difference (Call.PeekPromise key) (λ handle. Answer.Handle handle) [] PeekPromiseCommand [] self.old result self.new }
+        ensures { Calls peek_promise_command_difference (Call.PeekPromise key) (λ handle. Answer.Handle handle) [] PeekPromiseCommand [] self.old.state result self.new.state }
     {
         vm_syscalls::sys_peek_promise(&mut self.state, key)
     }
 
-    fn sys_complete_promise(&mut self, key: ByteStr, value: NonEmptyValue, options: PayloadOptions) -> VMResult<NotificationHandle>
-        ensures { Calls complete_promise_command_difference (Call.CompletePromise key value options) (λ handle. Answer.Handle handle) [] CompletePromiseCommand [] self.old result self.new }
+    fn sys_complete_promise(
+        &mut self,
+        key: ByteStr,
+        value: NonEmptyValue,
+        options: PayloadOptions,
+    ) -> VMResult<NotificationHandle>
+        ensures { Calls complete_promise_command_difference (Call.CompletePromise key value options) (λ handle. Answer.Handle handle) [] CompletePromiseCommand [] self.old.state result self.new.state }
     {
         vm_syscalls::sys_complete_promise(&mut self.state, key, value, options)
     }
 
     fn sys_cancel_invocation(&mut self, target_id: ByteStr) -> VMResult<()>
-        ensures { Calls send_signal_command_difference (Call.Cancel target_id) (λ done. Answer.Done) [] SendSignalCommand [] self.old result self.new }
+        ensures { Calls send_signal_command_difference (Call.Cancel target_id) (λ done. Answer.Done) [] SendSignalCommand [] self.old.state result self.new.state }
     {
         vm_syscalls::sys_cancel_invocation(&mut self.state, target_id)
     }
 
-    fn sys_attach_invocation(&mut self, target: AttachInvocationTarget) -> VMResult<NotificationHandle>
-        ensures { Calls attach_invocation_command_difference (Call.Attach target) (λ handle. Answer.Handle handle) [] AttachInvocationCommand [] self.old result self.new }
+    fn sys_attach_invocation(
+        &mut self,
+        target: AttachInvocationTarget,
+    ) -> VMResult<NotificationHandle>
+        ensures { Calls attach_invocation_command_difference (Call.Attach target) (λ handle. Answer.Handle handle) [] AttachInvocationCommand [] self.old.state result self.new.state }
     {
         vm_syscalls::sys_attach_invocation(&mut self.state, target)
     }
 
-    fn sys_get_invocation_output(&mut self, target: AttachInvocationTarget) -> VMResult<NotificationHandle>
-        ensures { Calls get_invocation_output_command_difference (Call.GetOutput target) (λ handle. Answer.Handle handle) [] GetInvocationOutputCommand [] self.old result self.new }
+    fn sys_get_invocation_output(
+        &mut self,
+        target: AttachInvocationTarget,
+    ) -> VMResult<NotificationHandle>
+        ensures { Calls get_invocation_output_command_difference (Call.GetOutput target) (λ handle. Answer.Handle handle) [] GetInvocationOutputCommand [] self.old.state result self.new.state }
     {
         vm_syscalls::sys_get_invocation_output(&mut self.state, target)
     }
 
     fn sys_write_output(&mut self, value: NonEmptyValue, options: PayloadOptions) -> VMResult<()>
-        ensures { Calls output_command_difference (Call.Output value options) (λ done. Answer.Done) [] OutputCommand [] self.old result self.new }
+        ensures { Calls output_command_difference (Call.Output value options) (λ done. Answer.Done) [] OutputCommand [] self.old.state result self.new.state }
     {
         vm_syscalls::sys_write_output(&mut self.state, value, options)
     }
 
     fn sys_end(&mut self) -> VMResult<()>
+        ensures { EndsAs (kept_error self.old.state.phase) self.old.state result self.new.state }
     {
         vm_progress::sys_end(&mut self.state)
     }
 
     fn state(&self) -> State
+        ensures { result ≡ state_of self.now.state.phase self.now.state.active.is_replaying }
     {
         vm_feeding::state(&self.state)
     }
 
     fn last_command_index(&self) -> i64
+        ensures { result ≡ pos self.now.state.active.journal.commands -ℤ pos 1 }
     {
         vm_feeding::last_command_index(&self.state)
     }

@@ -21,11 +21,9 @@ pub type VMResult<T> = Result<T, Error>;
 /// A machine that has failed answers its error to every call from then on, and has written it once.
 pub trait VM: Sized {
     /// A machine for a request with these headers: its content type says which version of the protocol is spoken.
-    fn new<H: HeaderMap>(
-        alloc: Global,
-        request_headers: &H,
-        options: VMOptions,
-    ) -> VMResult<Self>;
+    fn new<H: HeaderMap>(alloc: Global, request_headers: &H, options: VMOptions) -> VMResult<Self>
+    where
+        H::Error: Drop;
 
     /// How the response begins.
     fn get_response_head(&self) -> VMResult<ResponseHead>;
@@ -72,8 +70,7 @@ pub trait VM: Sized {
     fn ephemeral_state_get(&mut self, key: ByteStr) -> VMResult<EphemeralCompletionId>;
 
     /// Takes the answer of a read of which nothing is recorded, if it has come.
-    fn take_ephemeral_notification(&mut self, id: EphemeralCompletionId)
-    -> VMResult<Option<Value>>;
+    fn take_ephemeral_notification(&mut self, id: EphemeralCompletionId) -> VMResult<Option<Value>>;
 
     /// Sets a key of the state.
     fn sys_state_set(
