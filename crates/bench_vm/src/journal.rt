@@ -3,12 +3,11 @@ use crate::handler::{begin, write};
 use anyhow::Result;
 use bytes::{ByteStr, Bytes};
 use journal_protocol::messages::{
-    CallCommandMessage, NotificationMessage, NotificationMessageId, NotificationMessageResult, SleepCommandMessage,
-    StartMessage, Value, Void,
+    CallCommandMessage, NotificationMessage, NotificationMessageId, NotificationMessageResult,
+    SleepCommandMessage, StartMessage, Value, Void,
 };
 use journal_protocol::{
-    Decoder, Encoder, MessageType, RawMessage, RawMessageExt, Sequence, Version,
-    encode_record,
+    Decoder, Encoder, MessageType, RawMessage, RawMessageExt, Sequence, Version, encode_record,
 };
 use std::alloc::Global;
 use vm_core::VM;
@@ -41,11 +40,11 @@ fn put_notification(
     out: &mut Vec<u8>,
     ty: MessageType,
     completion_id: u32,
-    result: NotificationMessageResult,
+    brought: NotificationMessageResult,
 ) -> Result<()> {
     let message = NotificationMessage {
         id: Some(NotificationMessageId::CompletionId(completion_id)),
-        result: Some(result),
+        result: Some(brought),
     };
     let frame = encode_record(alloc, ty, &message, Version::V7);
     drop(message);
@@ -56,7 +55,13 @@ fn put_notification(
 // A sleep takes one completion id, a call two.
 fn put_results(alloc: Global, out: &mut Vec<u8>, first: u32) -> Result<()> {
     let slept = NotificationMessageResult::Void(Void {});
-    put_notification(alloc, out, MessageType::SleepCompletionNotification, first, slept)?;
+    put_notification(
+        alloc,
+        out,
+        MessageType::SleepCompletionNotification,
+        first,
+        slept,
+    )?;
     let id = NotificationMessageResult::InvocationId(ByteStr::from_static("inv_2"));
     put_notification(
         alloc,

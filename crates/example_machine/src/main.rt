@@ -46,7 +46,12 @@ fn run(alloc: Global, vm: &mut CoreVM) -> VMResult<AwaitResponse> {
     wait(vm, sleep)?;
     drop(vm.take_notification(sleep)?);
     let options = PayloadOptions::default();
-    let call = vm.sys_call(greeter(alloc), Bytes::from_static(b"\"Ada\""), None, options)?;
+    let call = vm.sys_call(
+        greeter(alloc),
+        Bytes::from_static(b"\"Ada\""),
+        None,
+        options,
+    )?;
     wait(vm, call.call_notification_handle)
 }
 
@@ -78,7 +83,8 @@ fn main(rt: HostRuntime) -> Result<()> {
     let _program = words.next();
     if let Some(journal) = words.next() {
         let bytes = fs::read(&rt, journal.as_str())?;
-        go_on(&rt, rt.alloc(), Bytes::from(bytes))?;
+        let journal = Bytes::copy_from_slice(rt.alloc(), bytes.as_slice())?;
+        go_on(&rt, rt.alloc(), journal)?;
     }
     Ok(())
 }

@@ -16,8 +16,8 @@ fn call(
     let name = optional(alloc, name)?;
     match vm.sys_call(target, parameter, name, PayloadOptions::default()) {
         Ok(made) => {
-            let id = made.invocation_id_notification_handle;
-            let answer = made.call_notification_handle;
+            let id = u32::from(made.invocation_id_notification_handle);
+            let answer = u32::from(made.call_notification_handle);
             format!(in alloc; "{id} {answer}").ok()
         }
         Err(error) => failed(alloc, error),
@@ -38,7 +38,7 @@ fn send(
     };
     match vm.sys_send(target, parameter, at, None, PayloadOptions::default()) {
         Ok(made) => {
-            let id = made.invocation_id_notification_handle;
+            let id = u32::from(made.invocation_id_notification_handle);
             format!(in alloc; "{id}").ok()
         }
         Err(error) => failed(alloc, error),

@@ -60,7 +60,14 @@ fn wait(alloc: Global, vm: &mut CoreVM, words: &[&str]) -> Option<String> {
 }
 
 fn input(alloc: Global, input: Input) -> Option<String> {
-    let told = format!(in alloc; "{} key {} seed {} value {}", input.invocation_id, input.key, input.random_seed, Hex(input.input.as_slice())).ok();
+    let told = format!(in alloc;
+        "{} key {} seed {} value {}",
+        input.invocation_id,
+        input.key,
+        input.random_seed,
+        Hex(input.input.as_slice())
+    )
+    .ok();
     drop(input);
     told
 }
@@ -73,7 +80,10 @@ fn read_input(alloc: Global, vm: &mut CoreVM) -> Option<String> {
 }
 
 fn completed(alloc: Global, vm: &CoreVM, handle: &str) -> Option<String> {
-    debug(alloc, vm.is_completed(NotificationHandle::from(number(handle)?)))
+    debug(
+        alloc,
+        vm.is_completed(NotificationHandle::from(number(handle)?)),
+    )
 }
 
 fn take(alloc: Global, vm: &mut CoreVM, handle: &str) -> Option<String> {
@@ -81,12 +91,7 @@ fn take(alloc: Global, vm: &mut CoreVM, handle: &str) -> Option<String> {
     taken(alloc, vm.take_notification(handle))
 }
 
-pub fn answer(
-    alloc: Global,
-    vm: &mut CoreVM,
-    call: &str,
-    operands: &[&str],
-) -> Option<String> {
+pub fn answer(alloc: Global, vm: &mut CoreVM, call: &str, operands: &[&str]) -> Option<String> {
     match (call, operands) {
         ("await", words) => wait(alloc, vm, words),
         ("input", []) => read_input(alloc, vm),

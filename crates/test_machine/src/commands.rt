@@ -21,7 +21,7 @@ fn complete_promise(alloc: Global, vm: &mut CoreVM, key: &str, value: &str) -> O
 fn awakeable(alloc: Global, vm: &mut CoreVM) -> Option<String> {
     match vm.sys_awakeable() {
         Ok(made) => {
-            let told = format!(in alloc; "{} {}", made.handle, made.id).ok();
+            let told = format!(in alloc; "{} {}", u32::from(made.handle), made.id).ok();
             drop(made);
             told
         }
@@ -43,12 +43,7 @@ fn output(alloc: Global, vm: &mut CoreVM, value: &str) -> Option<String> {
     done(alloc, vm.sys_write_output(value, PayloadOptions::default()))
 }
 
-pub fn answer(
-    alloc: Global,
-    vm: &mut CoreVM,
-    call: &str,
-    operands: &[&str],
-) -> Option<String> {
+pub fn answer(alloc: Global, vm: &mut CoreVM, call: &str, operands: &[&str]) -> Option<String> {
     match (call, operands) {
         ("sleep", [millis, name]) => sleep(alloc, vm, *millis, *name),
         ("promise", [key]) => handle(alloc, vm.sys_get_promise(byte_str(alloc, *key)?)),

@@ -59,7 +59,10 @@ fn close(alloc: Global, vm: &mut CoreVM) -> Option<String> {
 
 fn fail(alloc: Global, vm: &mut CoreVM, code: &str) -> Option<String> {
     let code = u16::try_from(number(code)?).ok()?;
-    let error = Error::new(InvocationErrorCode::new(code), ByteStr::from_static("failed"));
+    let error = Error::new(
+        InvocationErrorCode::new(code),
+        ByteStr::from_static("failed"),
+    );
     vm.notify_error(error, None);
     debug(alloc, vm.state())
 }
@@ -72,7 +75,11 @@ fn out(alloc: Global, vm: &mut CoreVM) -> Option<String> {
 fn head(alloc: Global, vm: &CoreVM) -> Option<String> {
     match vm.get_response_head() {
         Ok(head) => {
-            let told = format!(in alloc; "{} {}", head.status_code, head.version.content_type()).ok();
+            let told = format!(in alloc;
+                "{} {}",
+                head.status_code,
+                head.version.content_type()
+            ).ok();
             drop(head);
             told
         }
@@ -87,12 +94,7 @@ fn ready(alloc: Global, vm: &CoreVM) -> Option<String> {
     }
 }
 
-pub fn answer(
-    alloc: Global,
-    vm: &mut CoreVM,
-    call: &str,
-    operands: &[&str],
-) -> Option<String> {
+pub fn answer(alloc: Global, vm: &mut CoreVM, call: &str, operands: &[&str]) -> Option<String> {
     match (call, operands) {
         ("in", [operand]) => come(alloc, vm, *operand),
         ("close", []) => close(alloc, vm),

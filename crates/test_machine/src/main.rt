@@ -55,11 +55,7 @@ fn answer(alloc: Global, vm: &mut Option<CoreVM>, row: &str) -> Option<String> {
     }
 }
 
-fn print_row<R: Print + AllocGlobal>(
-    rt: &R,
-    vm: &mut Option<CoreVM>,
-    row: &str,
-) -> io::Result<()> {
+fn print_row<R: Print + AllocGlobal>(rt: &R, vm: &mut Option<CoreVM>, row: &str) -> io::Result<()> {
     match answer(rt.alloc(), vm, row) {
         Some(answer) => println!(rt; "{row} = {answer}"),
         None => println!(rt; "{row} ?"),

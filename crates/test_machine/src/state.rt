@@ -8,7 +8,10 @@ use vm_core::{CoreVM, EphemeralCompletionId, PayloadOptions, VM};
 fn get(alloc: Global, vm: &mut CoreVM, key: &str, name: &str) -> Option<String> {
     let key = byte_str(alloc, key)?;
     let name = optional(alloc, name)?;
-    handle(alloc, vm.sys_state_get(key, name, PayloadOptions::default()))
+    handle(
+        alloc,
+        vm.sys_state_get(key, name, PayloadOptions::default()),
+    )
 }
 
 fn set(alloc: Global, vm: &mut CoreVM, key: &str, value: &str, name: &str) -> Option<String> {
@@ -39,12 +42,7 @@ fn take_ephemeral(alloc: Global, vm: &mut CoreVM, id: &str) -> Option<String> {
     taken(alloc, vm.take_ephemeral_notification(id))
 }
 
-pub fn answer(
-    alloc: Global,
-    vm: &mut CoreVM,
-    call: &str,
-    operands: &[&str],
-) -> Option<String> {
+pub fn answer(alloc: Global, vm: &mut CoreVM, call: &str, operands: &[&str]) -> Option<String> {
     match (call, operands) {
         ("get", [key, name]) => get(alloc, vm, *key, *name),
         ("keys", [name]) => handle(alloc, vm.sys_state_get_keys(optional(alloc, *name)?)),

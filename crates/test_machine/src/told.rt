@@ -27,7 +27,7 @@ pub fn word(alloc: Global, word: &str) -> Option<String> {
 }
 
 /// What is printed with `{:?}`.
-pub fn debug<T: fmt::Debug>(alloc: Global, told: T) -> Option<String> {
+pub fn debug<T: fmt::Debug + Drop>(alloc: Global, told: T) -> Option<String> {
     format!(in alloc; "{told:?}").ok()
 }
 
@@ -39,17 +39,17 @@ pub fn failed(alloc: Global, error: Error) -> Option<String> {
 }
 
 /// Nothing, or an error.
-pub fn done(alloc: Global, result: VMResult<()>) -> Option<String> {
-    match result {
+pub fn done(alloc: Global, answer: VMResult<()>) -> Option<String> {
+    match answer {
         Ok(()) => word(alloc, "ok"),
         Err(error) => failed(alloc, error),
     }
 }
 
 /// A handle, or an error.
-pub fn handle(alloc: Global, result: VMResult<NotificationHandle>) -> Option<String> {
-    match result {
-        Ok(handle) => format!(in alloc; "{handle}").ok(),
+pub fn handle(alloc: Global, answer: VMResult<NotificationHandle>) -> Option<String> {
+    match answer {
+        Ok(handle) => debug(alloc, u32::from(handle)),
         Err(error) => failed(alloc, error),
     }
 }
@@ -76,8 +76,8 @@ fn value(alloc: Global, value: Value) -> Option<String> {
 }
 
 /// What is taken, or an error.
-pub fn taken(alloc: Global, result: VMResult<Option<Value>>) -> Option<String> {
-    match result {
+pub fn taken(alloc: Global, answer: VMResult<Option<Value>>) -> Option<String> {
+    match answer {
         Ok(Some(brought)) => value(alloc, brought),
         Ok(None) => word(alloc, "none"),
         Err(error) => failed(alloc, error),
