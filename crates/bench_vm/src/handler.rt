@@ -17,8 +17,10 @@ pub fn begin(alloc: Global) -> Result<CoreVM> {
         ByteStr::from_static("content-type"),
         ByteStr::from_static("application/vnd.restate.invocation.v7"),
     ))?;
-    let vm = CoreVM::new(alloc, &headers, VMOptions::default())?;
-    Ok(vm)
+    match CoreVM::new(alloc, &headers, VMOptions::default()) {
+        Ok(vm) => Ok(vm),
+        Err(error) => Err(error.into()),
+    }
 }
 
 fn sleep(vm: &mut CoreVM) -> Result<NotificationHandle> {

@@ -10,7 +10,7 @@ use journal_protocol::{
     Decoder, Encoder, MessageType, RawMessage, RawMessageExt, Sequence, Version, encode_record,
 };
 use std::alloc::Global;
-use vm_core::VM;
+use vm_core::{CoreVM, VM};
 
 fn start(alloc: Global, known_entries: u32) -> Result<Bytes> {
     let message = StartMessage {
@@ -82,13 +82,19 @@ fn put_results(alloc: Global, out: &mut Vec<u8>, first: u32) -> Result<()> {
     )
 }
 
-// The frames of so many sleeps and calls, as the machine writes them.
-fn commands(alloc: Global, count: u32) -> Result<Bytes> {
-    let mut vm = begin(alloc)?;
+fn write_anew(alloc: Global, vm: &mut CoreVM, count: u32) -> Result<Bytes> {
     vm.notify_input(start(alloc, 1)?);
     vm.notify_input(Bytes::from_static(INPUT));
     drop(vm.sys_input()?);
-    write(alloc, &mut vm, count)
+    write(alloc, vm, count)
+}
+
+// The frames of so many sleeps and calls, as the machine writes them.
+fn commands(alloc: Global, count: u32) -> Result<Bytes> {
+    let mut vm = begin(alloc)?;
+    let written = write_anew(alloc, &mut vm, count);
+    drop(vm);
+    written
 }
 
 /// A journal of so many sleeps and calls, and their results behind them.

@@ -14,6 +14,7 @@ use journal::{decode, make_journal};
 use std::env;
 use std::rt::Env;
 use std::time::{CpuClock, Duration};
+use vm_core::CoreVM;
 
 // The nanoseconds that one of so many takes.
 fn each(took: Duration, count: u32) -> u128 {
@@ -27,22 +28,45 @@ fn time_decoding<R: CpuClock + AllocGlobal>(rt: &R, journal: &[u8]) -> Result<Du
     Ok(end.saturating_sub(start))
 }
 
-fn time_machine<R: CpuClock + Print + AllocGlobal>(rt: &R, count: u32) -> Result<()> {
-    let alloc = rt.alloc();
-    let journal = make_journal(alloc, count)?;
-    let decoding = time_decoding(rt, journal.as_slice())?;
-    let mut vm = begin(alloc)?;
+// How long the machine takes to replay the journal, and to make as many calls anew.
+fn time_calls<R: CpuClock>(
+    rt: &R,
+    alloc: Global,
+    vm: &mut CoreVM,
+    journal: &[u8],
+    count: u32,
+) -> Result<(Duration, Duration)> {
     let start = rt.thread_cpu_time()?;
-    replay(alloc, &mut vm, journal.as_slice(), count)?;
+    replay(alloc, vm, journal, count)?;
     let replayed = rt.thread_cpu_time()?;
-    write(alloc, &mut vm, count)?;
+    drop(write(alloc, vm, count)?);
     let written = rt.thread_cpu_time()?;
+    Ok((
+        replayed.saturating_sub(start),
+        written.saturating_sub(replayed),
+    ))
+}
+
+fn time_machine<R: CpuClock>(
+    rt: &R,
+    alloc: Global,
+    journal: &[u8],
+    count: u32,
+) -> Result<(Duration, Duration)> {
+    let mut vm = begin(alloc)?;
+    let timed = time_calls(rt, alloc, &mut vm, journal, count);
     drop(vm);
+    timed
+}
+
+fn time<R: CpuClock + Print + AllocGlobal>(rt: &R, count: u32) -> Result<()> {
+    let journal = make_journal(rt.alloc(), count)?;
+    let decoding = time_decoding(rt, journal.as_slice())?;
+    let (replaying, writing) = time_machine(rt, rt.alloc(), journal.as_slice(), count)?;
     let entries = count.saturating_mul(5);
-    let replaying = each(replayed.saturating_sub(start), entries);
-    let decoding = each(decoding, entries);
-    let writing = each(written.saturating_sub(replayed), count.saturating_mul(2));
-    println!(rt; "entries {entries} replay {replaying} decode {decoding} write {writing}")?;
+    let (replay, decode) = (each(replaying, entries), each(decoding, entries));
+    let write = each(writing, count.saturating_mul(2));
+    println!(rt; "entries {entries} replay {replay} decode {decode} write {write}")?;
     Ok(())
 }
 
@@ -53,7 +77,7 @@ fn run<R: CpuClock + Env + Print + AllocGlobal>(rt: &R) -> Result<()> {
         return Ok(());
     };
     let count: u32 = count.as_str().parse()?;
-    time_machine(rt, count)
+    time(rt, count)
 }
 
 fn main(rt: HostRuntime) -> Result<()> {

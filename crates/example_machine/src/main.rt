@@ -19,8 +19,10 @@ fn begin(alloc: Global) -> Result<CoreVM> {
         ByteStr::from_static("content-type"),
         ByteStr::from_static("application/vnd.restate.invocation.v7"),
     ))?;
-    let vm = CoreVM::new(alloc, &headers, VMOptions::default())?;
-    Ok(vm)
+    match CoreVM::new(alloc, &headers, VMOptions::default()) {
+        Ok(vm) => Ok(vm),
+        Err(error) => Err(error.into()),
+    }
 }
 
 fn greeter(alloc: Global) -> Target {
@@ -67,15 +69,21 @@ fn show_frames<R: Print>(rt: &R, alloc: Global, frames: &[u8]) -> Result<()> {
     Ok(())
 }
 
-fn go_on<R: Print>(rt: &R, alloc: Global, journal: Bytes) -> Result<()> {
-    let mut vm = begin(alloc)?;
+fn go_on<R: Print>(rt: &R, alloc: Global, vm: &mut CoreVM, journal: Bytes) -> Result<()> {
     vm.notify_input(journal);
     vm.notify_input_closed();
-    match run(alloc, &mut vm) {
+    match run(alloc, vm) {
         Ok(response) => println!(rt; "{response:?}")?,
         Err(error) => println!(rt; "{error}")?,
     }
     show_frames(rt, alloc, vm.take_output()?.as_slice())
+}
+
+fn attempt<R: Print>(rt: &R, alloc: Global, journal: Bytes) -> Result<()> {
+    let mut vm = begin(alloc)?;
+    let gone_on = go_on(rt, alloc, &mut vm, journal);
+    drop(vm);
+    gone_on
 }
 
 fn main(rt: HostRuntime) -> Result<()> {
@@ -84,7 +92,7 @@ fn main(rt: HostRuntime) -> Result<()> {
     if let Some(journal) = words.next() {
         let bytes = fs::read(&rt, journal.as_str())?;
         let journal = Bytes::copy_from_slice(rt.alloc(), bytes.as_slice())?;
-        go_on(&rt, rt.alloc(), journal)?;
+        attempt(&rt, rt.alloc(), journal)?;
     }
     Ok(())
 }

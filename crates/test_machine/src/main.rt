@@ -12,6 +12,7 @@ mod tables;
 mod told;
 
 use std::alloc::Global;
+use std::mem::replace;
 use std::process::ExitCode;
 use std::rt::{Env, Files};
 use std::{env, fs, io};
@@ -34,14 +35,18 @@ fn answer_of(alloc: Global, vm: &mut CoreVM, call: &str, operands: &[&str]) -> O
     asking::answer(alloc, vm, call, operands)
 }
 
-/// Another machine stands in the place.
+/// Another machine stands in the place, or none where it is refused.
 fn begin(alloc: Global, vm: &mut Option<CoreVM>, operands: &[&str]) -> Option<String> {
-    let (made, told) = match feeding::begin(alloc, operands)? {
-        Ok(made) => (Some(made), told::word(alloc, "ok")),
-        Err(error) => (None, told::failed(alloc, error)),
-    };
-    drop(std::mem::replace(vm, made));
-    told
+    match feeding::begin(alloc, operands)? {
+        Ok(made) => {
+            drop(replace(vm, Some(made)));
+            told::word(alloc, "ok")
+        }
+        Err(error) => {
+            drop(replace(vm, None));
+            told::failed(alloc, error)
+        }
+    }
 }
 
 /// What a row asks: its words stand between single spaces.
@@ -62,17 +67,27 @@ fn print_row<R: Print + AllocGlobal>(rt: &R, vm: &mut Option<CoreVM>, row: &str)
     }
 }
 
+fn print_all<R: Print + AllocGlobal>(
+    rt: &R,
+    vm: &mut Option<CoreVM>,
+    rows: &str,
+) -> io::Result<()> {
+    for row in rows.lines() {
+        if !row.is_empty() && !row.starts_with('#') {
+            print_row(rt, vm, row)?;
+        }
+    }
+    Ok(())
+}
+
 /// Prints the rows of a file, without its empty lines and those that begin with a `#`.
 fn print_rows<R: Files + Print + AllocGlobal>(rt: &R, file: &str) -> io::Result<()> {
     let rows = fs::read_to_string(rt, file)?;
     println!(rt; "== {file}")?;
     let mut vm = None;
-    for row in rows.as_str().lines() {
-        if !row.is_empty() && !row.starts_with('#') {
-            print_row(rt, &mut vm, row)?;
-        }
-    }
-    Ok(())
+    let printed = print_all(rt, &mut vm, rows.as_str());
+    drop(vm);
+    printed
 }
 
 fn print_files<R: Files + Env + Print + AllocGlobal>(rt: &R) -> io::Result<()> {

@@ -16,9 +16,8 @@ const SUCCEEDED: &[u8] = b"\x2a\x03\x0a\x01\x31";
 
 const FAILED: &[u8] = b"\x32\x03\x08\xf4\x03";
 
-// A machine behind its input that has made four sleeps.
-fn sleeping(alloc: Global) -> Option<CoreVM> {
-    let mut vm = begin(alloc, &["7", "queued", "replay", "stays"])?.ok()?;
+// The machine reads its input, and makes four sleeps.
+fn fall_asleep(vm: &mut CoreVM) -> Option<()> {
     vm.notify_input(Bytes::from_static(OPENING));
     drop(vm.sys_input().ok()?);
     for _ in 0..4 {
@@ -26,7 +25,7 @@ fn sleeping(alloc: Global) -> Option<CoreVM> {
             .ok()?;
     }
     drop(vm.take_output().ok()?);
-    Some(vm)
+    Some(())
 }
 
 // The frame of a sleep's completion, which brings this.
@@ -63,13 +62,26 @@ fn told(alloc: Global, vm: &mut CoreVM, words: &[&str]) -> Option<String> {
     }
 }
 
+fn resolve(alloc: Global, vm: &mut CoreVM, deliveries: &str, words: &[&str]) -> Option<String> {
+    fall_asleep(vm)?;
+    deliver_all(alloc, vm, deliveries.as_bytes())?;
+    told(alloc, vm, words)
+}
+
+fn begun(alloc: Global, deliveries: &str, words: &[&str]) -> Option<String> {
+    match begin(alloc, &["7", "queued", "replay", "stays"])? {
+        Ok(mut vm) => {
+            let resolved = resolve(alloc, &mut vm, deliveries, words);
+            drop(vm);
+            resolved
+        }
+        Err(error) => failed(alloc, error),
+    }
+}
+
 pub fn answer(alloc: Global, operands: &[&str]) -> Option<String> {
     match operands {
-        [deliveries, words @ ..] => {
-            let mut vm = sleeping(alloc)?;
-            deliver_all(alloc, &mut vm, deliveries.as_bytes())?;
-            told(alloc, &mut vm, words)
-        }
+        [deliveries, words @ ..] => begun(alloc, *deliveries, words),
         [] => None,
     }
 }
