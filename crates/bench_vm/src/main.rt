@@ -11,6 +11,7 @@ mod journal;
 use anyhow::Result;
 use handler::{begin, replay, write};
 use journal::{decode, make_journal};
+use std::alloc::Global;
 use std::env;
 use std::rt::Env;
 use std::time::{CpuClock, Duration};
