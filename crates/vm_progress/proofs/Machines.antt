@@ -17,7 +17,7 @@ use Rattle.vm_progress.specs.Awaiting.{GoesOnAs, IsAwaited}
 pub awaited_by : (tree : AwaitTree ℕ) (old : MachineState) (awaited : Result Awaited AwaitError) (active : Active) (result : Result AwaitResponse Error) (new : MachineState)
     → active ≡ record old.active { results = active.results }
     → ((given : Invocation) (m : Machine) (checks_off : Bool) → given.options.implicit_cancellation ≡ old.options.implicit_cancellation
-        → Sees given old.active m → Awaits checks_off given m tree awaited active)
+    → Sees given old.active m → Awaits checks_off given m tree awaited active)
     → GoesOnAs awaited (record old { active = active }) result new → IsAwaited tree old result new
 awaited_by tree old awaited active result new others awaits goes_on = record {
   awaited = awaited;
