@@ -2,18 +2,17 @@
 //! `-`, `complete_signal ID NAME HEX`, `cancel ID`, `attach ID`, `output_of ID`.
 use crate::operands::{byte_str, bytes, invocation, moment, optional, success, target};
 use crate::told::{done, failed, handle};
-use bytes::Bytes;
+use bytes::{ByteStr, Bytes};
 use std::alloc::Global;
-use vm_core::{CoreVM, PayloadOptions, Target, VM};
+use vm_core::{CoreVM, Moment, PayloadOptions, Target, VM};
 
 fn call(
     alloc: Global,
     vm: &mut CoreVM,
     target: Target,
     parameter: Bytes,
-    name: &str,
+    name: Option<ByteStr>,
 ) -> Option<String> {
-    let name = optional(alloc, name)?;
     match vm.sys_call(target, parameter, name, PayloadOptions::default()) {
         Ok(made) => {
             let id = u32::from(made.invocation_id_notification_handle);
@@ -24,18 +23,21 @@ fn call(
     }
 }
 
+fn call_words(alloc: Global, vm: &mut CoreVM, words: [&str; 5]) -> Option<String> {
+    let [service, handler, key, parameter, name] = words;
+    let name = optional(alloc, name)?;
+    let parameter = bytes(alloc, parameter)?;
+    let target = target(alloc, service, handler, key)?;
+    call(alloc, vm, target, parameter, name)
+}
+
 fn send(
     alloc: Global,
     vm: &mut CoreVM,
     target: Target,
     parameter: Bytes,
-    millis: &str,
+    at: Option<Moment>,
 ) -> Option<String> {
-    let at = if millis == "-" {
-        None
-    } else {
-        Some(moment(millis)?)
-    };
     match vm.sys_send(target, parameter, at, None, PayloadOptions::default()) {
         Ok(made) => {
             let id = u32::from(made.invocation_id_notification_handle);
@@ -43,6 +45,21 @@ fn send(
         }
         Err(error) => failed(alloc, error),
     }
+}
+
+fn moment_or_none(millis: &str) -> Option<Option<Moment>> {
+    if millis == "-" {
+        return Some(None);
+    }
+    Some(Some(moment(millis)?))
+}
+
+fn send_words(alloc: Global, vm: &mut CoreVM, words: [&str; 5]) -> Option<String> {
+    let [service, handler, key, parameter, millis] = words;
+    let at = moment_or_none(millis)?;
+    let parameter = bytes(alloc, parameter)?;
+    let target = target(alloc, service, handler, key)?;
+    send(alloc, vm, target, parameter, at)
 }
 
 fn complete_signal(
@@ -66,12 +83,10 @@ pub fn answer(
 ) -> Option<String> {
     match (call_name, operands) {
         ("call", [service, handler, key, parameter, name]) => {
-            let target = target(alloc, *service, *handler, *key)?;
-            call(alloc, vm, target, bytes(alloc, *parameter)?, *name)
+            call_words(alloc, vm, [*service, *handler, *key, *parameter, *name])
         }
         ("send", [service, handler, key, parameter, millis]) => {
-            let target = target(alloc, *service, *handler, *key)?;
-            send(alloc, vm, target, bytes(alloc, *parameter)?, *millis)
+            send_words(alloc, vm, [*service, *handler, *key, *parameter, *millis])
         }
         ("complete_signal", [id, name, value]) => complete_signal(alloc, vm, *id, *name, *value),
         ("cancel", [id]) => done(alloc, vm.sys_cancel_invocation(byte_str(alloc, *id)?)),
