@@ -1,14 +1,14 @@
 //! Commands towards other invocations: `call SERVICE HANDLER KEY HEX NAME`, `send SERVICE HANDLER KEY HEX MILLIS` with no moment for
 //! `-`, `complete_signal ID NAME HEX`, `cancel ID`, `attach ID`, `output_of ID`.
+use crate::answers::{done, failed, handle};
 use crate::operands::{byte_str, bytes, invocation, moment, optional, success, target};
-use crate::told::{done, failed, handle};
 use bytes::{ByteStr, Bytes};
 use std::alloc::Global;
-use vm_core::{CoreVM, Moment, PayloadOptions, Target, VM};
+use vm_core::{Moment, PayloadOptions, Target, VM};
 
-fn call(
+fn call<V: VM>(
     alloc: Global,
-    vm: &mut CoreVM,
+    vm: &mut V,
     target: Target,
     parameter: Bytes,
     name: Option<ByteStr>,
@@ -23,7 +23,7 @@ fn call(
     }
 }
 
-fn call_words(alloc: Global, vm: &mut CoreVM, words: [&str; 5]) -> Option<String> {
+fn call_words<V: VM>(alloc: Global, vm: &mut V, words: [&str; 5]) -> Option<String> {
     let [service, handler, key, parameter, name] = words;
     let name = optional(alloc, name)?;
     let parameter = bytes(alloc, parameter)?;
@@ -31,9 +31,9 @@ fn call_words(alloc: Global, vm: &mut CoreVM, words: [&str; 5]) -> Option<String
     call(alloc, vm, target, parameter, name)
 }
 
-fn send(
+fn send<V: VM>(
     alloc: Global,
-    vm: &mut CoreVM,
+    vm: &mut V,
     target: Target,
     parameter: Bytes,
     at: Option<Moment>,
@@ -54,7 +54,7 @@ fn moment_or_none(millis: &str) -> Option<Option<Moment>> {
     Some(Some(moment(millis)?))
 }
 
-fn send_words(alloc: Global, vm: &mut CoreVM, words: [&str; 5]) -> Option<String> {
+fn send_words<V: VM>(alloc: Global, vm: &mut V, words: [&str; 5]) -> Option<String> {
     let [service, handler, key, parameter, millis] = words;
     let at = moment_or_none(millis)?;
     let parameter = bytes(alloc, parameter)?;
@@ -62,9 +62,9 @@ fn send_words(alloc: Global, vm: &mut CoreVM, words: [&str; 5]) -> Option<String
     send(alloc, vm, target, parameter, at)
 }
 
-fn complete_signal(
+fn complete_signal<V: VM>(
     alloc: Global,
-    vm: &mut CoreVM,
+    vm: &mut V,
     id: &str,
     name: &str,
     value: &str,
@@ -75,9 +75,9 @@ fn complete_signal(
     done(alloc, vm.sys_complete_signal(id, name, value))
 }
 
-pub fn answer(
+pub fn answer<V: VM>(
     alloc: Global,
-    vm: &mut CoreVM,
+    vm: &mut V,
     call_name: &str,
     operands: &[&str],
 ) -> Option<String> {

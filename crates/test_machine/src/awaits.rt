@@ -1,10 +1,10 @@
 //! Awaits: `await WORD ..` with the tree's nodes behind their children: a number is a handle, and `F2`, `A2`, `S2`, `R2` and `U2`
 //! are nodes over the two trees before them, the first completed, all completed, the first succeeded or all failed, all succeeded
 //! or the first failed, and unknown. `completed HANDLE`, `take HANDLE`, `input`.
-use crate::operands::number;
-use crate::told::{Hex, debug, failed, taken};
+use crate::answers::{debug, failed, taken};
 use std::alloc::Global;
-use vm_core::{CoreVM, Input, NotificationHandle, Sequence, UnresolvedFuture, VM};
+use test_rows::{Hex, number};
+use vm_core::{Input, NotificationHandle, Sequence, UnresolvedFuture, VM};
 
 // The last so many trees, in their order.
 fn last(
@@ -12,16 +12,13 @@ fn last(
     trees: &mut Vec<UnresolvedFuture>,
     count: u32,
 ) -> Option<Sequence<UnresolvedFuture>> {
-    let mut children = Sequence::new(alloc);
     let kept = trees.len().saturating_sub(count as usize);
-    for tree in trees.drain(kept..) {
-        children.push(tree).ok()?;
-    }
-    Some(children)
+    let children = trees.drain(kept..).collect(alloc).ok()?;
+    Some(Sequence::from_vec(children))
 }
 
-fn node(word: &str, children: Sequence<UnresolvedFuture>) -> Option<UnresolvedFuture> {
-    match word {
+fn node(kind: &str, children: Sequence<UnresolvedFuture>) -> Option<UnresolvedFuture> {
+    match kind {
         "F" => Some(UnresolvedFuture::FirstCompleted(children)),
         "A" => Some(UnresolvedFuture::AllCompleted(children)),
         "S" => Some(UnresolvedFuture::FirstSucceededOrAllFailed(children)),
@@ -34,25 +31,46 @@ fn node(word: &str, children: Sequence<UnresolvedFuture>) -> Option<UnresolvedFu
     }
 }
 
-/// The tree that words spell, over the handles so far behind the numbers.
-pub fn tree(alloc: Global, words: &[&str], behind: u32) -> Option<UnresolvedFuture> {
-    let mut trees: Vec<UnresolvedFuture> = Vec::new(alloc);
+// The node over the trees before it that a word spells.
+fn over_last(
+    alloc: Global,
+    trees: &mut Vec<UnresolvedFuture>,
+    word: &str,
+) -> Option<UnresolvedFuture> {
+    let (kind, count) = word.split_at_checked(1)?;
+    let count = number(count)?;
+    node(kind, last(alloc, trees, count)?)
+}
+
+fn put(alloc: Global, trees: &mut Vec<UnresolvedFuture>, word: &str, behind: u32) -> Option<()> {
+    let made = match number(word) {
+        Some(number) => UnresolvedFuture::Single(number.wrapping_add(behind).into()),
+        None => over_last(alloc, trees, word)?,
+    };
+    trees.push(made).ok()
+}
+
+fn put_all(
+    alloc: Global,
+    trees: &mut Vec<UnresolvedFuture>,
+    words: &[&str],
+    behind: u32,
+) -> Option<UnresolvedFuture> {
     for word in words {
-        let made = match number(*word) {
-            Some(number) => {
-                UnresolvedFuture::Single(NotificationHandle::from(number.wrapping_add(behind)))
-            }
-            None => {
-                let (kind, count) = word.split_at_checked(1)?;
-                node(kind, last(alloc, &mut trees, number(count)?)?)?
-            }
-        };
-        trees.push(made).ok()?;
+        put(alloc, trees, *word, behind)?;
     }
     trees.pop()
 }
 
-fn wait(alloc: Global, vm: &mut CoreVM, words: &[&str]) -> Option<String> {
+/// The tree that words spell, over the handles so far behind the numbers.
+pub fn tree(alloc: Global, words: &[&str], behind: u32) -> Option<UnresolvedFuture> {
+    let mut trees = Vec::new(alloc);
+    let made = put_all(alloc, &mut trees, words, behind);
+    drop(trees);
+    made
+}
+
+fn wait<V: VM>(alloc: Global, vm: &mut V, words: &[&str]) -> Option<String> {
     match vm.do_await(tree(alloc, words, 0)?) {
         Ok(response) => debug(alloc, response),
         Err(error) => failed(alloc, error),
@@ -72,26 +90,26 @@ fn input(alloc: Global, input: Input) -> Option<String> {
     told
 }
 
-fn read_input(alloc: Global, vm: &mut CoreVM) -> Option<String> {
+fn read_input<V: VM>(alloc: Global, vm: &mut V) -> Option<String> {
     match vm.sys_input() {
         Ok(read) => input(alloc, read),
         Err(error) => failed(alloc, error),
     }
 }
 
-fn completed(alloc: Global, vm: &CoreVM, handle: &str) -> Option<String> {
+fn completed<V: VM>(alloc: Global, vm: &V, handle: &str) -> Option<String> {
     debug(
         alloc,
         vm.is_completed(NotificationHandle::from(number(handle)?)),
     )
 }
 
-fn take(alloc: Global, vm: &mut CoreVM, handle: &str) -> Option<String> {
+fn take<V: VM>(alloc: Global, vm: &mut V, handle: &str) -> Option<String> {
     let handle = NotificationHandle::from(number(handle)?);
     taken(alloc, vm.take_notification(handle))
 }
 
-pub fn answer(alloc: Global, vm: &mut CoreVM, call: &str, operands: &[&str]) -> Option<String> {
+pub fn answer<V: VM>(alloc: Global, vm: &mut V, call: &str, operands: &[&str]) -> Option<String> {
     match (call, operands) {
         ("await", words) => wait(alloc, vm, words),
         ("input", []) => read_input(alloc, vm),

@@ -1,24 +1,24 @@
 //! Commands of an invocation itself: `sleep MILLIS NAME`, `promise KEY`, `peek KEY`, `complete_promise KEY HEX`, `awakeable`,
 //! `complete_awakeable ID HEX`, `signal NAME`, `output HEX`.
+use crate::answers::{done, failed, handle};
 use crate::operands::{byte_str, moment, success};
-use crate::told::{done, failed, handle};
 use std::alloc::Global;
-use vm_core::{CoreVM, PayloadOptions, VM};
+use vm_core::{PayloadOptions, VM};
 
-fn sleep(alloc: Global, vm: &mut CoreVM, millis: &str, name: &str) -> Option<String> {
+fn sleep<V: VM>(alloc: Global, vm: &mut V, millis: &str, name: &str) -> Option<String> {
     let wake_up = moment(millis)?;
     let name = byte_str(alloc, name)?;
     handle(alloc, vm.sys_sleep(name, wake_up, None))
 }
 
-fn complete_promise(alloc: Global, vm: &mut CoreVM, key: &str, value: &str) -> Option<String> {
+fn complete_promise<V: VM>(alloc: Global, vm: &mut V, key: &str, value: &str) -> Option<String> {
     let key = byte_str(alloc, key)?;
     let value = success(alloc, value)?;
     let made = vm.sys_complete_promise(key, value, PayloadOptions::default());
     handle(alloc, made)
 }
 
-fn awakeable(alloc: Global, vm: &mut CoreVM) -> Option<String> {
+fn awakeable<V: VM>(alloc: Global, vm: &mut V) -> Option<String> {
     match vm.sys_awakeable() {
         Ok(made) => {
             let told = format!(in alloc; "{} {}", u32::from(made.handle), made.id).ok();
@@ -29,7 +29,7 @@ fn awakeable(alloc: Global, vm: &mut CoreVM) -> Option<String> {
     }
 }
 
-fn complete_awakeable(alloc: Global, vm: &mut CoreVM, id: &str, value: &str) -> Option<String> {
+fn complete_awakeable<V: VM>(alloc: Global, vm: &mut V, id: &str, value: &str) -> Option<String> {
     let id = byte_str(alloc, id)?;
     let value = success(alloc, value)?;
     done(
@@ -38,12 +38,12 @@ fn complete_awakeable(alloc: Global, vm: &mut CoreVM, id: &str, value: &str) -> 
     )
 }
 
-fn output(alloc: Global, vm: &mut CoreVM, value: &str) -> Option<String> {
+fn output<V: VM>(alloc: Global, vm: &mut V, value: &str) -> Option<String> {
     let value = success(alloc, value)?;
     done(alloc, vm.sys_write_output(value, PayloadOptions::default()))
 }
 
-pub fn answer(alloc: Global, vm: &mut CoreVM, call: &str, operands: &[&str]) -> Option<String> {
+pub fn answer<V: VM>(alloc: Global, vm: &mut V, call: &str, operands: &[&str]) -> Option<String> {
     match (call, operands) {
         ("sleep", [millis, name]) => sleep(alloc, vm, *millis, *name),
         ("promise", [key]) => handle(alloc, vm.sys_get_promise(byte_str(alloc, *key)?)),

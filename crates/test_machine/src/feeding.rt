@@ -1,12 +1,13 @@
 //! What a machine is told, and what is asked of itself. `new VERSION SIGNALS JOURNAL CANCELLATION` with `queued` or `overwrite`,
 //! `replay` or `fresh`, `cancels` or `stays`; `in HEX`, `close`, `fail CODE`, `out`, `head`, `state`, `index`, `ready`.
-use crate::operands::{byte_str, bytes, number};
-use crate::told::{Hex, debug, done, failed, word};
+use crate::answers::{debug, done, failed};
+use crate::operands::{byte_str, bytes};
 use bytes::ByteStr;
 use std::alloc::Global;
+use test_rows::{Hex, number, told};
 use vm_core::{
-    CoreVM, Error, ImplicitCancellationOption, InvocationErrorCode, JournalReplay, SignalDelivery,
-    State, VM, VMOptions, VMResult,
+    Error, ImplicitCancellationOption, InvocationErrorCode, JournalReplay, SignalDelivery, State,
+    VM, VMOptions, VMResult,
 };
 
 fn options(signals: &str, journal: &str, cancellation: &str) -> VMOptions {
@@ -36,28 +37,30 @@ fn headers(alloc: Global, version: &str) -> Option<Vec<(ByteStr, ByteStr)>> {
     Some(headers)
 }
 
-pub fn begin(alloc: Global, operands: &[&str]) -> Option<VMResult<CoreVM>> {
+/// A machine as it is asked for, or what refuses it.
+pub fn begin<V: VM>(alloc: Global, operands: &[&str]) -> Option<VMResult<V>> {
     match operands {
         [version, signals, journal, cancellation] => {
             let headers = headers(alloc, *version)?;
-            let options = options(*signals, *journal, *cancellation);
-            Some(CoreVM::new(alloc, &headers, options))
+            let made = V::new(alloc, &headers, options(*signals, *journal, *cancellation));
+            drop(headers);
+            Some(made)
         }
         _ => None,
     }
 }
 
-fn come(alloc: Global, vm: &mut CoreVM, operand: &str) -> Option<String> {
+fn come<V: VM>(alloc: Global, vm: &mut V, operand: &str) -> Option<String> {
     vm.notify_input(bytes(alloc, operand)?);
     debug(alloc, vm.state())
 }
 
-fn close(alloc: Global, vm: &mut CoreVM) -> Option<String> {
+fn close<V: VM>(alloc: Global, vm: &mut V) -> Option<String> {
     vm.notify_input_closed();
     debug(alloc, vm.state())
 }
 
-fn fail(alloc: Global, vm: &mut CoreVM, code: &str) -> Option<String> {
+fn fail<V: VM>(alloc: Global, vm: &mut V, code: &str) -> Option<String> {
     let code = u16::try_from(number(code)?).ok()?;
     let error = Error::new(
         InvocationErrorCode::new(code),
@@ -67,12 +70,12 @@ fn fail(alloc: Global, vm: &mut CoreVM, code: &str) -> Option<String> {
     debug(alloc, vm.state())
 }
 
-fn out(alloc: Global, vm: &mut CoreVM) -> Option<String> {
+fn out<V: VM>(alloc: Global, vm: &mut V) -> Option<String> {
     let bytes = vm.take_output().ok()?;
     format!(in alloc; "{}", Hex(bytes.as_slice())).ok()
 }
 
-fn head(alloc: Global, vm: &CoreVM) -> Option<String> {
+fn head<V: VM>(alloc: Global, vm: &V) -> Option<String> {
     match vm.get_response_head() {
         Ok(head) => {
             let told = format!(in alloc;
@@ -87,14 +90,14 @@ fn head(alloc: Global, vm: &CoreVM) -> Option<String> {
     }
 }
 
-fn ready(alloc: Global, vm: &CoreVM) -> Option<String> {
+fn ready<V: VM>(alloc: Global, vm: &V) -> Option<String> {
     match vm.is_ready_to_execute() {
         Ok(ready) => debug(alloc, ready),
         Err(error) => failed(alloc, error),
     }
 }
 
-pub fn answer(alloc: Global, vm: &mut CoreVM, call: &str, operands: &[&str]) -> Option<String> {
+pub fn answer<V: VM>(alloc: Global, vm: &mut V, call: &str, operands: &[&str]) -> Option<String> {
     match (call, operands) {
         ("in", [operand]) => come(alloc, vm, *operand),
         ("close", []) => close(alloc, vm),

@@ -1,11 +1,8 @@
 //! Operands of rows. `-` alone is the empty text, no bytes, and no name.
 use bytes::{ByteStr, Bytes};
 use std::alloc::Global;
+use test_rows::text;
 use vm_core::{AttachInvocationTarget, Moment, NonEmptyValue, Sequence, Target};
-
-fn text(operand: &str) -> &str {
-    if operand == "-" { "" } else { operand }
-}
 
 /// A text.
 pub fn byte_str(alloc: Global, operand: &str) -> Option<ByteStr> {
@@ -22,13 +19,8 @@ pub fn optional(alloc: Global, operand: &str) -> Option<Option<ByteStr>> {
 
 /// The bytes of hexadecimal digits.
 pub fn bytes(alloc: Global, operand: &str) -> Option<Bytes> {
-    let bytes = hex::decode(alloc, text(operand).as_bytes()).ok()?;
+    let bytes = test_rows::bytes(alloc, operand)?;
     Bytes::from_vec(bytes).ok()
-}
-
-/// A number of decimal digits.
-pub fn number(operand: &str) -> Option<u32> {
-    operand.parse().ok()
 }
 
 /// A moment in milliseconds.

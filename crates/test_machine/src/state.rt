@@ -1,11 +1,12 @@
 //! The object's state: `get KEY NAME`, `keys NAME`, `set KEY HEX NAME`, `clear KEY NAME`, `clear_all NAME`; and reads that are not
 //! recorded: `ephemeral KEY`, `take_ephemeral NUMBER`.
-use crate::operands::{byte_str, bytes, number, optional};
-use crate::told::{debug, done, failed, handle, taken};
+use crate::answers::{debug, done, failed, handle, taken};
+use crate::operands::{byte_str, bytes, optional};
 use std::alloc::Global;
-use vm_core::{CoreVM, EphemeralCompletionId, PayloadOptions, VM};
+use test_rows::number;
+use vm_core::{EphemeralCompletionId, PayloadOptions, VM};
 
-fn get(alloc: Global, vm: &mut CoreVM, key: &str, name: &str) -> Option<String> {
+fn get<V: VM>(alloc: Global, vm: &mut V, key: &str, name: &str) -> Option<String> {
     let key = byte_str(alloc, key)?;
     let name = optional(alloc, name)?;
     handle(
@@ -14,7 +15,7 @@ fn get(alloc: Global, vm: &mut CoreVM, key: &str, name: &str) -> Option<String> 
     )
 }
 
-fn set(alloc: Global, vm: &mut CoreVM, key: &str, value: &str, name: &str) -> Option<String> {
+fn set<V: VM>(alloc: Global, vm: &mut V, key: &str, value: &str, name: &str) -> Option<String> {
     let key = byte_str(alloc, key)?;
     let value = bytes(alloc, value)?;
     let name = optional(alloc, name)?;
@@ -24,25 +25,25 @@ fn set(alloc: Global, vm: &mut CoreVM, key: &str, value: &str, name: &str) -> Op
     )
 }
 
-fn clear(alloc: Global, vm: &mut CoreVM, key: &str, name: &str) -> Option<String> {
+fn clear<V: VM>(alloc: Global, vm: &mut V, key: &str, name: &str) -> Option<String> {
     let key = byte_str(alloc, key)?;
     let name = optional(alloc, name)?;
     done(alloc, vm.sys_state_clear(key, name))
 }
 
-fn ephemeral(alloc: Global, vm: &mut CoreVM, key: &str) -> Option<String> {
+fn ephemeral<V: VM>(alloc: Global, vm: &mut V, key: &str) -> Option<String> {
     match vm.ephemeral_state_get(byte_str(alloc, key)?) {
         Ok(id) => debug(alloc, id.number),
         Err(error) => failed(alloc, error),
     }
 }
 
-fn take_ephemeral(alloc: Global, vm: &mut CoreVM, id: &str) -> Option<String> {
+fn take_ephemeral<V: VM>(alloc: Global, vm: &mut V, id: &str) -> Option<String> {
     let id = EphemeralCompletionId::from(number(id)?);
     taken(alloc, vm.take_ephemeral_notification(id))
 }
 
-pub fn answer(alloc: Global, vm: &mut CoreVM, call: &str, operands: &[&str]) -> Option<String> {
+pub fn answer<V: VM>(alloc: Global, vm: &mut V, call: &str, operands: &[&str]) -> Option<String> {
     match (call, operands) {
         ("get", [key, name]) => get(alloc, vm, *key, *name),
         ("keys", [name]) => handle(alloc, vm.sys_state_get_keys(optional(alloc, *name)?)),

@@ -1,12 +1,12 @@
 //! `resolve DELIVERIES WORD ..`: a tree over the completions 1 to 4, spelled as `await` has it, is awaited where these have come, `+` one
 //! that succeeded and `-` one that failed, or `-` alone for none. Told is that it wakes, or the frame of what it waits for.
+use crate::answers::failed;
 use crate::awaits::tree;
 use crate::feeding::begin;
-use crate::operands::number;
-use crate::told::{Hex, failed, word};
 use bytes::{ByteStr, Bytes};
 use std::alloc::Global;
-use vm_core::{AwaitResponse, CoreVM, Moment, VM};
+use test_rows::{Hex, number, told};
+use vm_core::{AwaitResponse, Moment, VM};
 
 /// The frames of the start of `inv1` with one known entry, and of an input without a value.
 const OPENING: &[u8] =
@@ -17,7 +17,7 @@ const SUCCEEDED: &[u8] = b"\x2a\x03\x0a\x01\x31";
 const FAILED: &[u8] = b"\x32\x03\x08\xf4\x03";
 
 // The machine reads its input, and makes four sleeps.
-fn fall_asleep(vm: &mut CoreVM) -> Option<()> {
+fn fall_asleep<V: VM>(vm: &mut V) -> Option<()> {
     vm.notify_input(Bytes::from_static(OPENING));
     drop(vm.sys_input().ok()?);
     for _ in 0..4 {
@@ -29,7 +29,7 @@ fn fall_asleep(vm: &mut CoreVM) -> Option<()> {
 }
 
 // The frame of a sleep's completion, which brings this.
-fn deliver(alloc: Global, vm: &mut CoreVM, completion: u8, brought: &[u8]) -> Option<()> {
+fn deliver<V: VM>(alloc: Global, vm: &mut V, completion: u8, brought: &[u8]) -> Option<()> {
     let mut frame: Vec<u8> = Vec::new(alloc);
     frame
         .extend_from_slice(b"\x80\x0c\x00\x00\x00\x00\x00\x07\x08")
@@ -40,7 +40,7 @@ fn deliver(alloc: Global, vm: &mut CoreVM, completion: u8, brought: &[u8]) -> Op
     Some(())
 }
 
-fn deliver_all(alloc: Global, vm: &mut CoreVM, deliveries: &[u8]) -> Option<()> {
+fn deliver_all<V: VM>(alloc: Global, vm: &mut V, deliveries: &[u8]) -> Option<()> {
     for delivery in deliveries.chunks(2) {
         match delivery {
             [b'+', digit] => deliver(alloc, vm, digit.wrapping_sub(b'0'), SUCCEEDED)?,
@@ -51,9 +51,9 @@ fn deliver_all(alloc: Global, vm: &mut CoreVM, deliveries: &[u8]) -> Option<()> 
     Some(())
 }
 
-fn told(alloc: Global, vm: &mut CoreVM, words: &[&str]) -> Option<String> {
+fn awaited<V: VM>(alloc: Global, vm: &mut V, words: &[&str]) -> Option<String> {
     match vm.do_await(tree(alloc, words, 16)?) {
-        Ok(AwaitResponse::AnyCompleted) => word(alloc, "wakes"),
+        Ok(AwaitResponse::AnyCompleted) => told(alloc, "wakes"),
         Ok(_) => {
             let frames = vm.take_output().ok()?;
             format!(in alloc; "{}", Hex(frames.as_slice())).ok()
@@ -62,14 +62,14 @@ fn told(alloc: Global, vm: &mut CoreVM, words: &[&str]) -> Option<String> {
     }
 }
 
-fn resolve(alloc: Global, vm: &mut CoreVM, deliveries: &str, words: &[&str]) -> Option<String> {
+fn resolve<V: VM>(alloc: Global, vm: &mut V, deliveries: &str, words: &[&str]) -> Option<String> {
     fall_asleep(vm)?;
     deliver_all(alloc, vm, deliveries.as_bytes())?;
-    told(alloc, vm, words)
+    awaited(alloc, vm, words)
 }
 
-fn begun(alloc: Global, deliveries: &str, words: &[&str]) -> Option<String> {
-    match begin(alloc, &["7", "queued", "replay", "stays"])? {
+fn begun<V: VM + Drop>(alloc: Global, deliveries: &str, words: &[&str]) -> Option<String> {
+    match begin::<V>(alloc, &["7", "queued", "replay", "stays"])? {
         Ok(mut vm) => {
             let resolved = resolve(alloc, &mut vm, deliveries, words);
             drop(vm);
@@ -79,9 +79,9 @@ fn begun(alloc: Global, deliveries: &str, words: &[&str]) -> Option<String> {
     }
 }
 
-pub fn answer(alloc: Global, operands: &[&str]) -> Option<String> {
+pub fn answer<V: VM + Drop>(alloc: Global, operands: &[&str]) -> Option<String> {
     match operands {
-        [deliveries, words @ ..] => begun(alloc, *deliveries, words),
+        [deliveries, words @ ..] => begun::<V>(alloc, *deliveries, words),
         [] => None,
     }
 }

@@ -2,33 +2,12 @@
 use bytes::ByteStr;
 use std::alloc::Global;
 use std::fmt;
+use test_rows::{Hex, told};
 use vm_core::{Error, NotificationHandle, VMResult, Value};
 
-/// Bytes, printed as hexadecimal digits.
-#[derive(Clone, Copy)]
-pub struct Hex<'a>(pub &'a [u8]);
-
-impl fmt::Display for Hex<'_> {
-    fn fmt<W: fmt::Write>(&self, f: &mut fmt::Formatter<W>) -> fmt::Result {
-        if self.0.is_empty() {
-            return f.write_str("-");
-        }
-        for byte in self.0 {
-            let byte = *byte;
-            write!(f, "{byte:02x}")?;
-        }
-        Ok(())
-    }
-}
-
-/// A word.
-pub fn word(alloc: Global, word: &str) -> Option<String> {
-    String::from_str(alloc, word).ok()
-}
-
 /// What is printed with `{:?}`.
-pub fn debug<T: fmt::Debug + Drop>(alloc: Global, told: T) -> Option<String> {
-    format!(in alloc; "{told:?}").ok()
+pub fn debug<T: fmt::Debug + Drop>(alloc: Global, value: T) -> Option<String> {
+    format!(in alloc; "{value:?}").ok()
 }
 
 /// An error by its code.
@@ -41,7 +20,7 @@ pub fn failed(alloc: Global, error: Error) -> Option<String> {
 /// Nothing, or an error.
 pub fn done(alloc: Global, answer: VMResult<()>) -> Option<String> {
     match answer {
-        Ok(()) => word(alloc, "ok"),
+        Ok(()) => told(alloc, "ok"),
         Err(error) => failed(alloc, error),
     }
 }
@@ -65,7 +44,7 @@ fn joined(alloc: Global, keys: &[ByteStr]) -> Option<String> {
 
 fn value(alloc: Global, value: Value) -> Option<String> {
     match value {
-        Value::Void => word(alloc, "void"),
+        Value::Void => told(alloc, "void"),
         Value::Success(bytes) => format!(in alloc; "success {}", Hex(bytes.as_slice())).ok(),
         Value::Failure(failure) => {
             format!(in alloc; "failure {} {}", failure.code, failure.message).ok()
@@ -79,7 +58,7 @@ fn value(alloc: Global, value: Value) -> Option<String> {
 pub fn taken(alloc: Global, answer: VMResult<Option<Value>>) -> Option<String> {
     match answer {
         Ok(Some(brought)) => value(alloc, brought),
-        Ok(None) => word(alloc, "none"),
+        Ok(None) => told(alloc, "none"),
         Err(error) => failed(alloc, error),
     }
 }
