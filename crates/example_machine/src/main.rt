@@ -13,13 +13,13 @@ use vm_core::{
 };
 
 // A request says by its content type which version of the protocol it is in.
-fn begin(alloc: Global) -> Result<CoreVM> {
+fn begin<V: VM>(alloc: Global) -> Result<V> {
     let mut headers = Vec::new(alloc);
     headers.push((
         ByteStr::from_static("content-type"),
         ByteStr::from_static("application/vnd.restate.invocation.v7"),
     ))?;
-    match CoreVM::new(alloc, &headers, VMOptions::default()) {
+    match V::new(alloc, &headers, VMOptions::default()) {
         Ok(vm) => Ok(vm),
         Err(error) => Err(error.into()),
     }
@@ -37,12 +37,12 @@ fn greeter(alloc: Global) -> Target {
     }
 }
 
-fn wait(vm: &mut CoreVM, handle: NotificationHandle) -> VMResult<AwaitResponse> {
+fn wait<V: VM>(vm: &mut V, handle: NotificationHandle) -> VMResult<AwaitResponse> {
     vm.do_await(UnresolvedFuture::Single(handle))
 }
 
 // The handler: it sleeps, calls another one, and waits for its answer.
-fn run(alloc: Global, vm: &mut CoreVM) -> VMResult<AwaitResponse> {
+fn run<V: VM>(alloc: Global, vm: &mut V) -> VMResult<AwaitResponse> {
     drop(vm.sys_input()?);
     let sleep = vm.sys_sleep(ByteStr::new(), Moment::from_millis(10), None)?;
     wait(vm, sleep)?;
@@ -69,7 +69,7 @@ fn show_frames<R: Print>(rt: &R, alloc: Global, frames: &[u8]) -> Result<()> {
     Ok(())
 }
 
-fn go_on<R: Print>(rt: &R, alloc: Global, vm: &mut CoreVM, journal: Bytes) -> Result<()> {
+fn go_on<R: Print, V: VM>(rt: &R, alloc: Global, vm: &mut V, journal: Bytes) -> Result<()> {
     vm.notify_input(journal);
     vm.notify_input_closed();
     match run(alloc, vm) {
@@ -80,7 +80,7 @@ fn go_on<R: Print>(rt: &R, alloc: Global, vm: &mut CoreVM, journal: Bytes) -> Re
 }
 
 fn attempt<R: Print>(rt: &R, alloc: Global, journal: Bytes) -> Result<()> {
-    let mut vm = begin(alloc)?;
+    let mut vm: CoreVM = begin(alloc)?;
     let gone_on = go_on(rt, alloc, &mut vm, journal);
     drop(vm);
     gone_on
