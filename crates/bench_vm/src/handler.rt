@@ -3,32 +3,34 @@ use anyhow::{Result, bail};
 use bytes::{ByteStr, Bytes};
 use std::alloc::Global;
 use vm_core::{
-    AwaitResponse, CoreVM, Moment, NotificationHandle, PayloadOptions, Sequence, Target,
-    UnresolvedFuture, VM, VMOptions,
+    AwaitResponse, Moment, NotificationHandle, PayloadOptions, Sequence, Target, UnresolvedFuture,
+    VM, VMOptions,
 };
 
 /// How many bytes of a journal come at a time.
 const PIECE: usize = 64 * 1024;
 
 /// A machine that was told nothing yet.
-pub fn begin(alloc: Global) -> Result<CoreVM> {
+pub fn begin<V: VM>(alloc: Global) -> Result<V> {
     let mut headers = Vec::new(alloc);
     headers.push((
         ByteStr::from_static("content-type"),
         ByteStr::from_static("application/vnd.restate.invocation.v7"),
     ))?;
-    match CoreVM::new(alloc, &headers, VMOptions::default()) {
+    let made = V::new(alloc, &headers, VMOptions::default());
+    drop(headers);
+    match made {
         Ok(vm) => Ok(vm),
         Err(error) => Err(error.into()),
     }
 }
 
-fn sleep(vm: &mut CoreVM) -> Result<NotificationHandle> {
+fn sleep<V: VM>(vm: &mut V) -> Result<NotificationHandle> {
     let handle = vm.sys_sleep(ByteStr::new(), Moment::from_millis(10), None)?;
     Ok(handle)
 }
 
-fn call(alloc: Global, vm: &mut CoreVM) -> Result<NotificationHandle> {
+fn call<V: VM>(alloc: Global, vm: &mut V) -> Result<NotificationHandle> {
     let target = Target {
         service: ByteStr::from_static("Greeter"),
         handler: ByteStr::from_static("greet"),
@@ -44,7 +46,7 @@ fn call(alloc: Global, vm: &mut CoreVM) -> Result<NotificationHandle> {
 }
 
 // What the handle stands for has come, and is taken.
-fn take(vm: &mut CoreVM, handle: NotificationHandle) -> Result<()> {
+fn take<V: VM>(vm: &mut V, handle: NotificationHandle) -> Result<()> {
     let response = vm.do_await(UnresolvedFuture::Single(handle))?;
     if response != AwaitResponse::AnyCompleted {
         bail!("an await of the journal is not over");
@@ -53,7 +55,7 @@ fn take(vm: &mut CoreVM, handle: NotificationHandle) -> Result<()> {
     Ok(())
 }
 
-fn take_both(alloc: Global, vm: &mut CoreVM) -> Result<()> {
+fn take_both<V: VM>(alloc: Global, vm: &mut V) -> Result<()> {
     let slept = sleep(vm)?;
     take(vm, slept)?;
     let answer = call(alloc, vm)?;
@@ -61,7 +63,7 @@ fn take_both(alloc: Global, vm: &mut CoreVM) -> Result<()> {
 }
 
 /// Goes over a whole journal of so many sleeps and calls.
-pub fn replay(alloc: Global, vm: &mut CoreVM, journal: &[u8], count: u32) -> Result<()> {
+pub fn replay<V: VM>(alloc: Global, vm: &mut V, journal: &[u8], count: u32) -> Result<()> {
     for piece in journal.chunks(PIECE) {
         vm.notify_input(Bytes::copy_from_slice(alloc, piece)?);
     }
@@ -73,7 +75,7 @@ pub fn replay(alloc: Global, vm: &mut CoreVM, journal: &[u8], count: u32) -> Res
 }
 
 /// Makes so many sleeps and calls anew, and hands out their frames.
-pub fn write(alloc: Global, vm: &mut CoreVM, count: u32) -> Result<Bytes> {
+pub fn write<V: VM>(alloc: Global, vm: &mut V, count: u32) -> Result<Bytes> {
     for _ in 0..count {
         sleep(vm)?;
         call(alloc, vm)?;

@@ -7,7 +7,8 @@ use journal_protocol::messages::{
     SleepCommandMessage, StartMessage, Value, Void,
 };
 use journal_protocol::{
-    Decoder, Encoder, MessageType, RawMessage, RawMessageExt, Sequence, Version, encode_record,
+    Decoder, Encoder, MessageType, RawMessage, RawMessageExt, RestateMessage, Sequence, Version,
+    encode_record,
 };
 use std::alloc::Global;
 use vm_core::{CoreVM, VM};
@@ -82,7 +83,7 @@ fn put_results(alloc: Global, out: &mut Vec<u8>, first: u32) -> Result<()> {
     )
 }
 
-fn write_anew(alloc: Global, vm: &mut CoreVM, count: u32) -> Result<Bytes> {
+fn write_anew<V: VM>(alloc: Global, vm: &mut V, count: u32) -> Result<Bytes> {
     vm.notify_input(start(alloc, 1)?);
     vm.notify_input(Bytes::from_static(INPUT));
     drop(vm.sys_input()?);
@@ -91,30 +92,69 @@ fn write_anew(alloc: Global, vm: &mut CoreVM, count: u32) -> Result<Bytes> {
 
 // The frames of so many sleeps and calls, as the machine writes them.
 fn commands(alloc: Global, count: u32) -> Result<Bytes> {
-    let mut vm = begin(alloc)?;
+    let mut vm: CoreVM = begin(alloc)?;
     let written = write_anew(alloc, &mut vm, count);
     drop(vm);
     written
 }
 
+fn put(out: &mut Vec<u8>, frames: Bytes) -> Result<()> {
+    let put = out.extend_from_slice(frames.as_slice());
+    drop(frames);
+    Ok(put?)
+}
+
+fn put_journal(alloc: Global, out: &mut Vec<u8>, count: u32) -> Result<()> {
+    put(
+        out,
+        start(alloc, count.saturating_mul(5).saturating_add(1))?,
+    )?;
+    out.extend_from_slice(INPUT)?;
+    put(out, commands(alloc, count)?)?;
+    for at in 0..count {
+        put_results(alloc, out, at.wrapping_mul(3).wrapping_add(1))?;
+    }
+    Ok(())
+}
+
 /// A journal of so many sleeps and calls, and their results behind them.
 pub fn make_journal(alloc: Global, count: u32) -> Result<Vec<u8>> {
     let mut journal = Vec::new(alloc);
-    journal.extend_from_slice(start(alloc, count.saturating_mul(5).saturating_add(1))?.as_slice())?;
-    journal.extend_from_slice(INPUT)?;
-    journal.extend_from_slice(commands(alloc, count)?.as_slice())?;
-    for at in 0..count {
-        put_results(alloc, &mut journal, at.wrapping_mul(3).wrapping_add(1))?;
+    match put_journal(alloc, &mut journal, count) {
+        Ok(()) => Ok(journal),
+        Err(error) => {
+            drop(journal);
+            Err(error)
+        }
     }
-    Ok(journal)
+}
+
+fn decode_as<M: RestateMessage>(alloc: Global, message: &RawMessage) -> Result<()> {
+    let record: M = message.decode_to(alloc, 0)?;
+    drop(record);
+    Ok(())
 }
 
 fn decode_one(alloc: Global, message: &RawMessage) -> Result<()> {
     match message.ty() {
-        MessageType::SleepCommand => drop(message.decode_to::<SleepCommandMessage>(alloc, 0)?),
-        MessageType::CallCommand => drop(message.decode_to::<CallCommandMessage>(alloc, 0)?),
-        ty if ty.is_notification() => drop(message.decode_as_notification(alloc)?),
-        _ => {}
+        MessageType::SleepCommand => decode_as::<SleepCommandMessage>(alloc, message),
+        MessageType::CallCommand => decode_as::<CallCommandMessage>(alloc, message),
+        ty if ty.is_notification() => {
+            drop(message.decode_as_notification(alloc)?);
+            Ok(())
+        }
+        _ => Ok(()),
+    }
+}
+
+fn decode_all(alloc: Global, decoder: &mut Decoder) -> Result<()> {
+    for _ in 0..u64::MAX {
+        let Some(message) = decoder.consume_next()? else {
+            break;
+        };
+        let decoded = decode_one(alloc, &message);
+        drop(message);
+        decoded?;
     }
     Ok(())
 }
@@ -123,11 +163,7 @@ fn decode_one(alloc: Global, message: &RawMessage) -> Result<()> {
 pub fn decode(alloc: Global, journal: &[u8]) -> Result<()> {
     let mut decoder = Decoder::new(alloc);
     decoder.push(journal)?;
-    for _ in 0..u64::MAX {
-        let Some(message) = decoder.consume_next()? else {
-            break;
-        };
-        decode_one(alloc, &message)?;
-    }
-    Ok(())
+    let decoded = decode_all(alloc, &mut decoder);
+    drop(decoder);
+    decoded
 }

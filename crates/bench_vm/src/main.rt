@@ -15,7 +15,7 @@ use std::alloc::Global;
 use std::env;
 use std::rt::Env;
 use std::time::{CpuClock, Duration};
-use vm_core::CoreVM;
+use vm_core::{CoreVM, VM};
 
 // The nanoseconds that one of so many takes.
 fn each(took: Duration, count: u32) -> u128 {
@@ -30,10 +30,10 @@ fn time_decoding<R: CpuClock + AllocGlobal>(rt: &R, journal: &[u8]) -> Result<Du
 }
 
 // How long the machine takes to replay the journal, and to make as many calls anew.
-fn time_calls<R: CpuClock>(
+fn time_calls<V: VM, R: CpuClock>(
     rt: &R,
     alloc: Global,
-    vm: &mut CoreVM,
+    vm: &mut V,
     journal: &[u8],
     count: u32,
 ) -> Result<(Duration, Duration)> {
@@ -54,7 +54,7 @@ fn time_machine<R: CpuClock>(
     journal: &[u8],
     count: u32,
 ) -> Result<(Duration, Duration)> {
-    let mut vm = begin(alloc)?;
+    let mut vm: CoreVM = begin(alloc)?;
     let timed = time_calls(rt, alloc, &mut vm, journal, count);
     drop(vm);
     timed
