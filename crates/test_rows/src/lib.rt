@@ -5,7 +5,6 @@
 mod operands;
 
 pub use operands::{Hex, bytes, number, text, told};
-
 use std::alloc::Global;
 use std::process::ExitCode;
 use std::rt::{Env, Files};

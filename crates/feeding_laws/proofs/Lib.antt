@@ -1,0 +1,5 @@
+pub mod Requests
+pub mod Arrivals
+pub mod Sorted
+pub mod Beginning
+pub mod Messages

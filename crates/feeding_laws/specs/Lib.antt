@@ -1,0 +1,5 @@
+pub mod Fitting
+pub mod Requests
+pub mod Arrivals
+pub mod Beginning
+pub mod Messages
