@@ -1,11 +1,11 @@
 // The handler: it sleeps and calls in turn.
 use anyhow::{Result, bail};
 use bytes::{ByteStr, Bytes};
-use std::alloc::Global;
-use vm_core::{
+use invocation_vm::{
     AwaitResponse, Moment, NotificationHandle, PayloadOptions, Sequence, Target, UnresolvedFuture,
     VM, VMOptions,
 };
+use std::alloc::Global;
 
 /// How many bytes of a journal come at a time.
 const PIECE: usize = 64 * 1024;

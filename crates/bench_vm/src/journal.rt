@@ -2,6 +2,7 @@
 use crate::handler::{begin, write};
 use anyhow::Result;
 use bytes::{ByteStr, Bytes};
+use invocation_vm::{CoreVM, VM};
 use journal_protocol::messages::{
     CallCommandMessage, NotificationMessage, NotificationMessageId, NotificationMessageResult,
     SleepCommandMessage, StartMessage, Value, Void,
@@ -11,7 +12,6 @@ use journal_protocol::{
     encode_record,
 };
 use std::alloc::Global;
-use vm_core::{CoreVM, VM};
 
 fn start(alloc: Global, known_entries: u32) -> Result<Bytes> {
     let message = StartMessage {

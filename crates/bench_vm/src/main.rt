@@ -10,12 +10,12 @@ mod journal;
 
 use anyhow::Result;
 use handler::{begin, replay, write};
+use invocation_vm::{CoreVM, VM};
 use journal::{decode, make_journal};
 use std::alloc::Global;
 use std::env;
 use std::rt::Env;
 use std::time::{CpuClock, Duration};
-use vm_core::{CoreVM, VM};
 
 // The nanoseconds that one of so many takes.
 fn each(took: Duration, count: u32) -> u128 {

@@ -6,7 +6,7 @@ use Rattle.journal_model.specs.Run.{Handler}
 use Rattle.journal_model.specs.Event.{Event}
 use Rattle.journal_model.specs.Attempt.{is_live}
 use Rattle.vm_types.specs.declared.options.VMOptions.{VMOptions}
-use Rattle.invocation_vm.specs.View.{AttemptView}
+use Rattle.fresh_attempt.specs.View.{AttemptView}
 use Rattle.store_refusals.specs.declared.refusal.Refusal.{Refusal}
 use Rattle.schedule_model.specs.declared.event.Event as scheduled
 use Rattle.schedule_model.specs.declared.event.Event.TheVariants as event

@@ -5,7 +5,7 @@ use Rattle.std.specs.List.{position}
 use Rattle.sqlite_trees.specs.declared.store.Store.{Ghosts}
 use Rattle.sqlite.specs.Held.{state}
 use Rattle.journal_model.specs.Notification.{Text}
-use Rattle.invocation_vm.specs.View.{AttemptView}
+use Rattle.fresh_attempt.specs.View.{AttemptView}
 use Rattle.schedule_model.specs.declared.event.Reply.{Reply}
 use Rattle.schedule_model.specs.declared.event.Reply.TheVariants as reply
 use Rattle.schedule_model.specs.declared.event.Refusal.TheVariants as refusal

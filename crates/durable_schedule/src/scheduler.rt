@@ -18,7 +18,7 @@ ghost use Rattle.durable_schedule.specs.Scheduled.{AppliesFirst, AppliesWith, Ex
 
 use crate::held::{hand_out, place_of, take_in};
 use bytes::ByteStr;
-use invocation_vm::{Attempt, VMOptions};
+use fresh_attempt::Attempt;
 use journal_model::{Handler, NewInvocation, NonEmptyValue};
 use journal_store::Store;
 use schedule_model::{Event, HeldAttempt, Refusal, Reply};
@@ -26,6 +26,7 @@ use sqlite::Alter;
 use std::alloc::Global;
 use store_reads::RecordedEntry;
 use store_tables::LastError;
+use vm_types::VMOptions;
 
 /// A store, and the attempts that were begun: one that was stopped or overtaken can still make turns, and its bytes are refused.
 #[derive(Drop)]

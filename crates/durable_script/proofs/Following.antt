@@ -5,7 +5,7 @@ use Rattle.built_in_handlers.specs.declared.built_in.BuiltIn.{BuiltIn}
 use Rattle.built_in_handlers.specs.BuiltIn.{function_of}
 use Rattle.journal_model.specs.Notification.{Text}
 use Rattle.journal_model.specs.Run.{Handler}
-use Rattle.invocation_vm.specs.declared.progress.Turn.TheVariants.{Answered}
+use Rattle.fresh_attempt.specs.declared.progress.Turn.TheVariants.{Answered}
 use Rattle.vm_types.specs.Options.{default_options}
 use Rattle.schedule_model.specs.declared.event.Event.{Event}
 use Rattle.schedule_model.specs.declared.event.Event.TheVariants as event

@@ -4,7 +4,7 @@ use Rattle.sqlite_trees.specs.declared.store.Store.{Ghosts}
 use Rattle.built_in_handlers.specs.declared.built_in.BuiltIn.{BuiltIn}
 use Rattle.built_in_handlers.specs.BuiltIn.{function_of}
 use Rattle.journal_model.specs.Notification.{Text}
-use Rattle.invocation_vm.specs.declared.progress.Turn.TheVariants as turn
+use Rattle.fresh_attempt.specs.declared.progress.Turn.TheVariants as turn
 use Rattle.vm_types.specs.Options.{default_options}
 use Rattle.schedule_model.specs.declared.event.Event.TheVariants as event
 use Rattle.schedule_model.specs.declared.event.Reply.{Reply}

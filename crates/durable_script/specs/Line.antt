@@ -7,7 +7,7 @@ use Rattle.journal_model.specs.Run.{Handler}
 use Rattle.journal_model.specs.declared.invocation.NewInvocation.{NewInvocation}
 use Rattle.journal_model.specs.declared.invocation.StateMode as model
 use Rattle.journal_model.specs.declared.invocation.StateMode.TheVariants as mode
-use Rattle.invocation_vm.specs.declared.progress.Turn.TheVariants.{Answered}
+use Rattle.fresh_attempt.specs.declared.progress.Turn.TheVariants.{Answered}
 use Rattle.vm_types.specs.Options.{default_options}
 use Rattle.schedule_model.specs.declared.event.Event.{Event}
 use Rattle.schedule_model.specs.declared.event.Event.TheVariants as event

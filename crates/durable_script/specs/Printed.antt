@@ -1,8 +1,8 @@
 -- What a line prints for the reply that it got, without its line feed.
 use Rattle.std.specs.Prelude.{◌≡◌, ℕ, List, Some, None, Result, IfOk}
-use Rattle.invocation_vm.specs.declared.progress.Turn.{Turn}
-use Rattle.invocation_vm.specs.declared.progress.Turn.TheVariants as turn
-use Rattle.invocation_vm.specs.Failure.{code_of}
+use Rattle.fresh_attempt.specs.declared.progress.Turn.{Turn}
+use Rattle.fresh_attempt.specs.declared.progress.Turn.TheVariants as turn
+use Rattle.fresh_attempt.specs.Failure.{code_of}
 use Rattle.store_refusals.specs.Names as store
 use Rattle.schedule_model.specs.declared.event.Reply.{Reply}
 use Rattle.schedule_model.specs.declared.event.Reply.TheVariants as reply

@@ -11,7 +11,7 @@ use Rattle.journal_model.specs.Event.{Event}
 use Rattle.journal_model.specs.Journal.{invocation_begun, starting_state, recorded_requests}
 use Rattle.journal_model.specs.Run.{Handler}
 use Rattle.vm_types.specs.Options.{default_options}
-use Rattle.invocation_vm.specs.First.{given_by}
+use Rattle.fresh_attempt.specs.First.{given_by}
 use Rattle.journal_store.specs.Stored.{Stored}
 use Rattle.journal_store.specs.Stands.{Stands, IsStanding}
 use Rattle.store_calls.specs.Standing.{Standing}

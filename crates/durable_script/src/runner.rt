@@ -15,7 +15,7 @@ use crate::show::show;
 use built_in_handlers::BuiltIn;
 use bytes::{ByteStr, Bytes};
 use durable_schedule::Scheduler;
-use invocation_vm::{Turn, VMOptions};
+use fresh_attempt::Turn;
 use journal_model::NewInvocation;
 use journal_store::Store;
 use schedule_model::{Event, Reply};
@@ -26,6 +26,7 @@ use sequence::Sequence;
 use sqlite::Alter;
 use std::alloc::{AllocError, Global};
 use std::mem;
+use vm_types::VMOptions;
 
 /// What earlier lines have asked for, whether it was refused or not: a script asks for each once.
 #[derive(Clone, Copy)]

@@ -4,13 +4,13 @@
 
 use anyhow::Result;
 use bytes::{ByteStr, Bytes};
-use journal_protocol::Decoder;
-use std::alloc::Global;
-use std::{env, fs};
-use vm_core::{
+use invocation_vm::{
     AwaitResponse, CoreVM, Moment, NotificationHandle, PayloadOptions, Sequence, Target,
     UnresolvedFuture, VM, VMOptions, VMResult,
 };
+use journal_protocol::Decoder;
+use std::alloc::Global;
+use std::{env, fs};
 
 // A request says by its content type which version of the protocol it is in.
 fn begin<V: VM>(alloc: Global) -> Result<V> {

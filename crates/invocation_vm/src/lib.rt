@@ -1,26 +1,38 @@
-//! The virtual machine of an invocation: one fresh attempt reads its start and its input, asks the handler, and carries
-//! out the calls of a first path: sleep, output, the await of one handle, and the end.
+//! The machine of an invocation, in one crate to name: what a host embeds (`CoreVM` behind the trait `VM`), what it hands over and
+//! is answered, and what a handler is written in.
+//!
+//! Each item is made in a crate of its own below this one and named here. An `Attempt` drives a handler by a machine of its own,
+//! which knows the calls of a first path and no journal; it stands on `CoreVM` as soon as that drives handlers.
 #![tactic(auto)]
 
-mod attempt;
-mod commands;
-mod failure;
-mod output;
-mod preflight;
-mod progress;
+pub mod async_results;
+pub mod context;
+pub mod ephemeral;
+pub mod transitions;
 
-pub use attempt::Attempt;
-pub use failure::{AttemptFailure, CallRefusal};
-pub use journal_model::{
-    Answer, AttachInvocationTarget, AwaitedFuture, CANCEL_NOTIFICATION_HANDLE, Call, Handler,
-    Header, ImplicitCancellationOption, Input, Moment, NonEmptyValue, NotificationHandle,
-    PayloadOptions, RunOptions, SignalDelivery, Target, TerminalFailure, UnresolvedFuture, Value,
-};
-pub use progress::Turn;
-pub use protocol_stream::Version;
-pub use sequence::Sequence;
+// The machine.
+pub use vm_core::{CoreVM, VM, VMResult};
+
+// What a host hands over, and is answered.
 pub use vm_types::{
     AwaitResponse, AwaitingOnPolicy, AwakeableHandle, CallHandle, EphemeralCompletionId,
     JournalMismatchRetryBehavior, JournalReplay, NonDeterministicChecksOption, ResponseHead,
     SendHandle, State, VMOptions,
 };
+
+// What calls carry.
+pub use journal_model::{
+    AttachInvocationTarget, CANCEL_NOTIFICATION_HANDLE, Header, ImplicitCancellationOption, Input,
+    Moment, NonEmptyValue, NotificationHandle, PayloadOptions, RunOptions, SignalDelivery, Target,
+    TerminalFailure, UnresolvedFuture, Value,
+};
+pub use sequence::Sequence;
+
+// Errors, and what a request and a response say of the protocol.
+pub use protocol_differences::CommandRelationship;
+pub use protocol_errors::{Error, ErrorBehavior, InvocationErrorCode, codes};
+pub use protocol_stream::{HeaderMap, Version};
+
+// The handler of an attempt, and the attempt that drives it.
+pub use fresh_attempt::{Attempt, AttemptFailure, Turn};
+pub use journal_model::{Answer, AwaitedFuture, Call, Handler};

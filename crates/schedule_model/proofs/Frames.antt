@@ -5,8 +5,8 @@ use Rattle.std.proofs.lemmas.Grind.{flat_map-append}
 use Rattle.journal_model.specs.Request.{Request}
 use Rattle.journal_model.specs.Spelling.{frame_bytes, request_frame, request_payload}
 use Rattle.protocol_types.specs.declared.message_type.MessageType.{MessageType}
-use Rattle.invocation_vm.specs.Standing.{IsFirstRequest}
-use Rattle.invocation_vm.specs.Frames.{FitsFrame}
+use Rattle.fresh_attempt.specs.Standing.{IsFirstRequest}
+use Rattle.fresh_attempt.specs.Frames.{FitsFrame}
 use Rattle.schedule_model.specs.Flight.{Sent, Asks, Tells, Ends, spelled, stream, FitsSent, request_of, requests_in}
 
 pub each_append : {A : Type 0} (P : A → Type 0) (xs ys : List A) → AllByRecursion P xs → AllByRecursion P ys → AllByRecursion P (xs ++ ys)

@@ -10,10 +10,10 @@ use Rattle.journal_model.specs.Run.{Handler}
 use Rattle.journal_laws.proofs.ObjectState.{tail_of, holds-head, holds-tail, not-false, open_when_accepted}
 use Rattle.store_refusals.specs.declared.refusal.Refusal.{Refusal}
 use Rattle.vm_types.specs.declared.options.VMOptions.{VMOptions}
-use Rattle.invocation_vm.specs.declared.progress.Turn.{Turn}
-use Rattle.invocation_vm.specs.View.{AttemptView, fresh}
-use Rattle.invocation_vm.specs.Attempt.{Feeds, Sends, Turns}
-use Rattle.invocation_vm.proofs.Laws.{took_in}
+use Rattle.fresh_attempt.specs.declared.progress.Turn.{Turn}
+use Rattle.fresh_attempt.specs.View.{AttemptView, fresh}
+use Rattle.fresh_attempt.specs.Attempt.{Feeds, Sends, Turns}
+use Rattle.fresh_attempt.proofs.Laws.{took_in}
 use Rattle.schedule_model.specs.declared.event.Event.{Event}
 use Rattle.schedule_model.specs.declared.event.Event.TheVariants as event
 use Rattle.schedule_model.specs.declared.event.Reply.{Reply}

@@ -5,7 +5,7 @@ use Rattle.journal_model.specs.Notification.{Text, Arrival}
 use Rattle.journal_model.specs.Journal.{recorded_requests, starting_state}
 use Rattle.journal_model.specs.Run.{Handler, run_requests}
 use Rattle.vm_types.specs.declared.options.VMOptions.{VMOptions}
-use Rattle.invocation_vm.specs.First.{given_by}
+use Rattle.fresh_attempt.specs.First.{given_by}
 use Rattle.schedule_model.specs.declared.event.Event.{Event}
 use Rattle.schedule_model.specs.declared.event.Reply.{Reply}
 use Rattle.schedule_model.specs.declared.held.HeldAttempt.{HeldAttempt}

@@ -40,9 +40,9 @@ use Rattle.protocol_stream.proofs.RecordSpellings.{sleeps_spelled, outputs_spell
 use Rattle.store_frames.specs.Meaning.{unless_faulty, command_or_broken, frame_of}
 use Rattle.protocol_spellings.specs.Requests.{request_of_sleep, request_of_output}
 use Rattle.protocol_spellings.proofs.Told.{output_told}
-use Rattle.invocation_vm.specs.Progress.{HasShortCode}
-use Rattle.invocation_vm.specs.Frames.{FitsFrame}
-use Rattle.invocation_vm.proofs.Sizes.{SizeHolds, number_holds, bytes_hold, optional_holds, repeated_hold, fields_are, small_as}
+use Rattle.fresh_attempt.specs.Progress.{HasShortCode}
+use Rattle.fresh_attempt.specs.Frames.{FitsFrame}
+use Rattle.fresh_attempt.proofs.Sizes.{SizeHolds, number_holds, bytes_hold, optional_holds, repeated_hold, fields_are, small_as}
 use Rattle.schedule_model.specs.Flight.{Sent, Asks, Tells, Ends, FitsSent, sent_type, sent_payload}
 
 -- a frame with whose payload something is wrong

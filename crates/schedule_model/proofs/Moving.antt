@@ -6,10 +6,10 @@ use Rattle.journal_model.specs.Request.{Request}
 use Rattle.journal_model.specs.Run.{Handler}
 use Rattle.schedule_model.specs.First.{with_first}
 use Rattle.vm_types.specs.declared.options.VMOptions.{VMOptions}
-use Rattle.invocation_vm.specs.View.{AttemptView}
-use Rattle.invocation_vm.specs.declared.progress.Turn.{Turn}
-use Rattle.invocation_vm.specs.Attempt.{Stands, RunTurn, Feeds, Sends, Turns}
-use Rattle.invocation_vm.proofs.Laws.{took_in, unread_fed, stands_fed, unread_sent, stands_sent}
+use Rattle.fresh_attempt.specs.View.{AttemptView}
+use Rattle.fresh_attempt.specs.declared.progress.Turn.{Turn}
+use Rattle.fresh_attempt.specs.Attempt.{Stands, RunTurn, Feeds, Sends, Turns}
+use Rattle.fresh_attempt.proofs.Laws.{took_in, unread_fed, stands_fed, unread_sent, stands_sent}
 use Rattle.schedule_model.specs.declared.held.HeldAttempt.{HeldAttempt}
 use Rattle.schedule_model.specs.Following.{Seen, SeenAttempt, is_held, held_of, run_given, announced, FollowsSeen}
 use Rattle.schedule_model.proofs.Holding.{some_is, some_none}

@@ -13,9 +13,9 @@ use Rattle.journal_model.specs.Attempt.{entry_piece, journal_pieces, input_bytes
 use Rattle.journal_model.specs.Cause.{causes_of, IsAccepted}
 use Rattle.protocol_types.specs.declared.message_type.MessageType.{MessageType}
 use Rattle.vm_types.specs.declared.options.VMOptions.{VMOptions}
-use Rattle.invocation_vm.specs.View.{AttemptView, fresh}
-use Rattle.invocation_vm.specs.Attempt.{Feeds}
-use Rattle.invocation_vm.proofs.Laws.{unread_at_first}
+use Rattle.fresh_attempt.specs.View.{AttemptView, fresh}
+use Rattle.fresh_attempt.specs.Attempt.{Feeds}
+use Rattle.fresh_attempt.proofs.Laws.{unread_at_first}
 use Rattle.store_calls.specs.declared.begun.BegunAttempt.{BegunAttempt}
 use Rattle.store_calls.specs.Standing.{Standing}
 use Rattle.store_calls.specs.Calls.{Begins}

@@ -10,7 +10,7 @@ use Rattle.journal_model.specs.Event.{Event, Frame}
 use Rattle.journal_model.specs.Journal.{Entry, Recorded, Arrived, is_of, is_tick, begins, invocation_begun, starting_state, requests_in, arrivals_in, read_answer, entries_of, entries_from, entries_added, entries_after, version_of, recorded_requests, recorded_arrivals}
 use Rattle.journal_model.specs.Attempt.{Piece, begins_attempt, attempts_begun, ends_live, live_attempt, acknowledged, later_pieces, event_pieces, input_from, input_bytes, bytes_asked, handed_after, handed_from, input_left}
 use Rattle.journal_laws.proofs.ObjectState.{begun_before, requests_in-append}
-use Rattle.invocation_vm.specs.Standing.{IsFirstRequest}
+use Rattle.fresh_attempt.specs.Standing.{IsFirstRequest}
 use Rattle.schedule_model.specs.Following.{seen_attempt, seen_as, seen_by}
 
 pub itself : (id : Text) → bytes_eq id id ≡ true

@@ -7,11 +7,11 @@ use Rattle.journal_model.specs.State.{StateMap}
 use Rattle.journal_model.specs.Spelling.{request_frame, frame_bytes}
 use Rattle.protocol_types.specs.declared.message_type.MessageType.{MessageType}
 use Rattle.vm_types.specs.declared.options.VMOptions.{VMOptions}
-use Rattle.invocation_vm.specs.View.{AttemptView}
-use Rattle.invocation_vm.specs.declared.progress.Turn.{Turn}
-use Rattle.invocation_vm.specs.declared.progress.Turn.TheVariants as turn
-use Rattle.invocation_vm.specs.First.{given_by}
-use Rattle.invocation_vm.specs.Attempt.{IsUnread, Stands, AnswersCall, WaitsAtCall, RunTurn, ReadTurn}
+use Rattle.fresh_attempt.specs.View.{AttemptView}
+use Rattle.fresh_attempt.specs.declared.progress.Turn.{Turn}
+use Rattle.fresh_attempt.specs.declared.progress.Turn.TheVariants as turn
+use Rattle.fresh_attempt.specs.First.{given_by}
+use Rattle.fresh_attempt.specs.Attempt.{IsUnread, Stands, AnswersCall, WaitsAtCall, RunTurn, ReadTurn}
 use Rattle.schedule_model.specs.Flight.{Sent, Asks, Tells, Ends, stream, FitsSent, requests_in}
 use Rattle.schedule_model.specs.Following.{Seen, SeenAttempt, run_given, announced, IsNotRead, HasRead, Flies}
 use Rattle.schedule_model.proofs.Holding.{some_none}

@@ -5,8 +5,8 @@ use Rattle.journal_model.specs.Notification.{Bytes}
 use Rattle.journal_model.specs.Request.{Request}
 use Rattle.journal_model.specs.Spelling.{frame_bytes, request_type, request_payload}
 use Rattle.protocol_types.specs.declared.message_type.MessageType.{MessageType}
-use Rattle.invocation_vm.specs.Standing.{IsFirstRequest}
-use Rattle.invocation_vm.specs.Frames.{FitsFrame}
+use Rattle.fresh_attempt.specs.Standing.{IsFirstRequest}
+use Rattle.fresh_attempt.specs.Frames.{FitsFrame}
 
 -- what an attempt writes: a request, what it waits for, and that the run has ended
 pub data Sent : Type 0 where

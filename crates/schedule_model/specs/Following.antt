@@ -10,9 +10,9 @@ use Rattle.journal_model.specs.Journal.{invocation_begun, starting_state, record
 use Rattle.journal_model.specs.Attempt.{attempts_begun, live_attempt, input_left}
 use Rattle.journal_model.specs.Run.{Handler, Invocation, run_requests, IsBeginning}
 use Rattle.vm_types.specs.declared.options.VMOptions.{VMOptions}
-use Rattle.invocation_vm.specs.View.{AttemptView}
-use Rattle.invocation_vm.specs.First.{given_by}
-use Rattle.invocation_vm.specs.Attempt.{Announced, IsUnread, Stands}
+use Rattle.fresh_attempt.specs.View.{AttemptView}
+use Rattle.fresh_attempt.specs.First.{given_by}
+use Rattle.fresh_attempt.specs.Attempt.{Announced, IsUnread, Stands}
 use Rattle.schedule_model.specs.declared.held.HeldAttempt.{HeldAttempt}
 use Rattle.store_calls.specs.Standing.{Standing}
 use Rattle.schedule_model.specs.Flight.{Sent, stream, requests_in, FitsSent}

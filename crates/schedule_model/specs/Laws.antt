@@ -6,9 +6,9 @@ use Rattle.journal_model.specs.declared.invocation.NewInvocation.{NewInvocation}
 use Rattle.journal_model.specs.Run.{Handler}
 use Rattle.journal_model.specs.Journal.{invocation_begun, starting_state, recorded_requests}
 use Rattle.vm_types.specs.declared.options.VMOptions.{VMOptions}
-use Rattle.invocation_vm.specs.First.{given_by}
+use Rattle.fresh_attempt.specs.First.{given_by}
 use Rattle.schedule_model.specs.declared.event.Event.{Event}
-use Rattle.invocation_vm.specs.View.{AttemptView}
+use Rattle.fresh_attempt.specs.View.{AttemptView}
 use Rattle.schedule_model.specs.declared.event.Reply.{Reply}
 use Rattle.schedule_model.specs.declared.held.HeldAttempt.{HeldAttempt}
 use Rattle.store_calls.specs.Standing.{Standing}

@@ -5,9 +5,9 @@ use Rattle.journal_model.specs.Run.{Handler}
 use Rattle.store_refusals.specs.declared.refusal.Refusal.{Refusal}
 use Rattle.store_refusals.specs.declared.refusal.Refusal.TheVariants.{OutOfMemory}
 use Rattle.vm_types.specs.declared.options.VMOptions.{VMOptions}
-use Rattle.invocation_vm.specs.declared.progress.Turn.{Turn}
-use Rattle.invocation_vm.specs.View.{AttemptView, fresh}
-use Rattle.invocation_vm.specs.Attempt as machine
+use Rattle.fresh_attempt.specs.declared.progress.Turn.{Turn}
+use Rattle.fresh_attempt.specs.View.{AttemptView, fresh}
+use Rattle.fresh_attempt.specs.Attempt as machine
 use Rattle.schedule_model.specs.declared.event.Event.{Event}
 use Rattle.schedule_model.specs.declared.event.Event.TheVariants as event
 use Rattle.schedule_model.specs.declared.event.Reply.{Reply}

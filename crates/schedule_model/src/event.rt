@@ -3,7 +3,7 @@ ghost use Rattle.std.specs.Prelude.{◌≡◌};
 ghost use Rattle.schedule_model.specs.Names.{name_of};
 
 use bytes::ByteStr;
-use invocation_vm::Turn;
+use fresh_attempt::Turn;
 use journal_model::NewInvocation;
 
 /// What may happen next.

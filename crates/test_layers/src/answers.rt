@@ -1,9 +1,8 @@
 //! The calls and the output of a handler behind answers that words stand for. Nothing is promised here, so that a test stays
 //! short to prove.
 use bytes::{ByteStr, Bytes};
-use invocation_vm::{
-    Answer, Call, Handler, Input, NonEmptyValue, NotificationHandle, Sequence, Value,
-};
+use journal_model::{Answer, Call, Handler, Input, NonEmptyValue, NotificationHandle, Value};
+use sequence::Sequence;
 use std::alloc::{AllocError, Global};
 
 fn input(alloc: Global) -> Input {

@@ -4,7 +4,7 @@ use built_in_handlers::handlers::{
     Ask, Both, Effect, Go, Hook, Keys, Nap, Pair, Race, Read, Twice,
 };
 use bytes::Bytes;
-use invocation_vm::{Call, NonEmptyValue};
+use journal_model::{Call, NonEmptyValue};
 use std::alloc::Global;
 use std::test::Fail;
 use std::time::Duration;

@@ -1,10 +1,9 @@
 //! Attempts of the first path, through the public calls.
 use built_in_handlers::handlers::{Ask, Nap};
-use invocation_vm::{
-    Attempt, AttemptFailure, AwaitingOnPolicy, CallRefusal, Handler, ImplicitCancellationOption,
-    Turn, VMOptions,
-};
+use fresh_attempt::{Attempt, AttemptFailure, CallRefusal, Turn};
+use journal_model::{Handler, ImplicitCancellationOption};
 use std::alloc::Global;
+use vm_types::{AwaitingOnPolicy, VMOptions};
 
 /// The start of an invocation `i1` of the object `o`, with seed 1 and its whole state, and its empty input.
 const START_AND_INPUT: [u8; 33] = [

@@ -1,5 +1,5 @@
 //! An owned list.
-use invocation_vm::Sequence;
+use sequence::Sequence;
 use std::alloc::{AllocError, Global};
 use std::test::Fail;
 

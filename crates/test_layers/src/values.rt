@@ -1,6 +1,6 @@
 //! Values that code and contracts share.
 use bytes::ByteStr;
-use invocation_vm::{
+use journal_model::{
     Answer, AwaitedFuture, CANCEL_NOTIFICATION_HANDLE, Moment, NotificationHandle, PayloadOptions,
     UnresolvedFuture,
 };

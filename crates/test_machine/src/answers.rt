@@ -1,9 +1,9 @@
 //! How answers are printed.
 use bytes::ByteStr;
+use invocation_vm::{Error, NotificationHandle, VMResult, Value};
 use std::alloc::Global;
 use std::fmt;
 use test_rows::{Hex, told};
-use vm_core::{Error, NotificationHandle, VMResult, Value};
 
 /// What is printed with `{:?}`.
 pub fn debug<T: fmt::Debug + Drop>(alloc: Global, value: T) -> Option<String> {

@@ -3,8 +3,8 @@
 use crate::answers::{done, failed, handle};
 use crate::operands::{byte_str, bytes, invocation, moment, optional, success, target};
 use bytes::{ByteStr, Bytes};
+use invocation_vm::{Moment, PayloadOptions, Target, VM};
 use std::alloc::Global;
-use vm_core::{Moment, PayloadOptions, Target, VM};
 
 fn call<V: VM>(
     alloc: Global,

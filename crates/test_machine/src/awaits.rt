@@ -2,9 +2,9 @@
 //! are nodes over the two trees before them, the first completed, all completed, the first succeeded or all failed, all succeeded
 //! or the first failed, and unknown. `completed HANDLE`, `take HANDLE`, `input`.
 use crate::answers::{debug, failed, taken};
+use invocation_vm::{Input, NotificationHandle, Sequence, UnresolvedFuture, VM};
 use std::alloc::Global;
 use test_rows::{Hex, number};
-use vm_core::{Input, NotificationHandle, Sequence, UnresolvedFuture, VM};
 
 // The last so many trees, in their order.
 fn last(

@@ -2,8 +2,8 @@
 //! `complete_awakeable ID HEX`, `signal NAME`, `output HEX`.
 use crate::answers::{done, failed, handle};
 use crate::operands::{byte_str, moment, success};
+use invocation_vm::{PayloadOptions, VM};
 use std::alloc::Global;
-use vm_core::{PayloadOptions, VM};
 
 fn sleep<V: VM>(alloc: Global, vm: &mut V, millis: &str, name: &str) -> Option<String> {
     let wake_up = moment(millis)?;

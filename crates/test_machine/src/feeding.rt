@@ -3,12 +3,12 @@
 use crate::answers::{debug, done, failed};
 use crate::operands::{byte_str, bytes};
 use bytes::ByteStr;
-use std::alloc::Global;
-use test_rows::{Hex, number, told};
-use vm_core::{
+use invocation_vm::{
     Error, ImplicitCancellationOption, InvocationErrorCode, JournalReplay, SignalDelivery, State,
     VM, VMOptions, VMResult,
 };
+use std::alloc::Global;
+use test_rows::{Hex, number, told};
 
 fn options(signals: &str, journal: &str, cancellation: &str) -> VMOptions {
     let mut options = VMOptions::default();

@@ -11,11 +11,11 @@ mod operands;
 mod state;
 mod tables;
 
+use invocation_vm::{CoreVM, VM};
 use std::alloc::Global;
 use std::mem::replace;
 use std::process::ExitCode;
 use test_rows::{Answers, run, told};
-use vm_core::{CoreVM, VM};
 
 /// The machine that the rows of a file are about, where one was made.
 #[derive(Drop)]

@@ -1,8 +1,8 @@
 //! Operands of rows. `-` alone is the empty text, no bytes, and no name.
 use bytes::{ByteStr, Bytes};
+use invocation_vm::{AttachInvocationTarget, Moment, NonEmptyValue, Sequence, Target};
 use std::alloc::Global;
 use test_rows::text;
-use vm_core::{AttachInvocationTarget, Moment, NonEmptyValue, Sequence, Target};
 
 /// A text.
 pub fn byte_str(alloc: Global, operand: &str) -> Option<ByteStr> {

@@ -2,9 +2,9 @@
 //! recorded: `ephemeral KEY`, `take_ephemeral NUMBER`.
 use crate::answers::{debug, done, failed, handle, taken};
 use crate::operands::{byte_str, bytes, optional};
+use invocation_vm::{EphemeralCompletionId, PayloadOptions, VM};
 use std::alloc::Global;
 use test_rows::number;
-use vm_core::{EphemeralCompletionId, PayloadOptions, VM};
 
 fn get<V: VM>(alloc: Global, vm: &mut V, key: &str, name: &str) -> Option<String> {
     let key = byte_str(alloc, key)?;

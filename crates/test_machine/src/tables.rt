@@ -4,9 +4,9 @@ use crate::answers::failed;
 use crate::awaits::tree;
 use crate::feeding::begin;
 use bytes::{ByteStr, Bytes};
+use invocation_vm::{AwaitResponse, Moment, VM};
 use std::alloc::Global;
 use test_rows::{Hex, number, told};
-use vm_core::{AwaitResponse, Moment, VM};
 
 /// The frames of the start of `inv1` with one known entry, and of an input without a value.
 const OPENING: &[u8] =

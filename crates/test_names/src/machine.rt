@@ -1,10 +1,11 @@
-//! The machine: handlers, what they call and are answered, and attempts.
+//! The machine: what a host embeds, handlers, what they call and are answered, and attempts.
 pub use invocation_vm::{
     Answer, AttachInvocationTarget, Attempt, AwaitResponse, AwaitedFuture, AwaitingOnPolicy,
-    AwakeableHandle, CANCEL_NOTIFICATION_HANDLE, Call, CallHandle, EphemeralCompletionId, Handler,
-    ImplicitCancellationOption, Input, JournalMismatchRetryBehavior, JournalReplay, Moment,
-    NonDeterministicChecksOption, NotificationHandle, PayloadOptions, ResponseHead, SendHandle,
-    SignalDelivery, State, Target, Turn, UnresolvedFuture, VMOptions,
+    AwakeableHandle, CANCEL_NOTIFICATION_HANDLE, Call, CallHandle, CoreVM, EphemeralCompletionId,
+    Handler, ImplicitCancellationOption, Input, JournalMismatchRetryBehavior, JournalReplay,
+    Moment, NonDeterministicChecksOption, NotificationHandle, PayloadOptions, ResponseHead,
+    SendHandle, SignalDelivery, State, Target, Turn, UnresolvedFuture, VM, VMOptions, VMResult,
+    async_results, context, ephemeral, transitions,
 };
 
 /// What is called of an attempt.
@@ -13,6 +14,67 @@ pub fn name_attempts<H: Handler>() {
     let _ = Attempt::<H>::feed;
     let _ = Attempt::<H>::turn;
     let _ = Attempt::<H>::take_output;
+}
+
+/// What a host calls of a machine around the handler's calls.
+pub fn name_machines() {
+    let _ = <CoreVM as VM>::get_response_head;
+    let _ = <CoreVM as VM>::notify_input;
+    let _ = <CoreVM as VM>::notify_input_closed;
+    let _ = <CoreVM as VM>::notify_error;
+    let _ = <CoreVM as VM>::take_output;
+    let _ = <CoreVM as VM>::is_ready_to_execute;
+    let _ = <CoreVM as VM>::sys_input;
+    let _ = <CoreVM as VM>::sys_write_output;
+    let _ = <CoreVM as VM>::sys_end;
+    let _ = <CoreVM as VM>::state;
+    let _ = <CoreVM as VM>::last_command_index;
+}
+
+/// What it calls to wait for what comes.
+pub fn name_awaits() {
+    let _ = <CoreVM as VM>::is_completed;
+    let _ = <CoreVM as VM>::do_await;
+    let _ = <CoreVM as VM>::take_notification;
+    let _ = <CoreVM as VM>::sys_sleep;
+    let _ = <CoreVM as VM>::sys_awakeable;
+    let _ = <CoreVM as VM>::sys_complete_awakeable;
+    let _ = <CoreVM as VM>::create_signal_handle;
+    let _ = <CoreVM as VM>::sys_complete_signal;
+    let _ = <CoreVM as VM>::sys_get_promise;
+    let _ = <CoreVM as VM>::sys_peek_promise;
+    let _ = <CoreVM as VM>::sys_complete_promise;
+}
+
+/// What it calls of the object's state, recorded or not.
+pub fn name_reads() {
+    let _ = <CoreVM as VM>::sys_state_get;
+    let _ = <CoreVM as VM>::sys_state_get_keys;
+    let _ = <CoreVM as VM>::sys_state_set;
+    let _ = <CoreVM as VM>::sys_state_clear;
+    let _ = <CoreVM as VM>::sys_state_clear_all;
+    let _ = <CoreVM as VM>::ephemeral_state_get;
+    let _ = <CoreVM as VM>::take_ephemeral_notification;
+}
+
+/// What it calls of other invocations.
+pub fn name_invocations() {
+    let _ = <CoreVM as VM>::sys_call;
+    let _ = <CoreVM as VM>::sys_send;
+    let _ = <CoreVM as VM>::sys_cancel_invocation;
+    let _ = <CoreVM as VM>::sys_attach_invocation;
+    let _ = <CoreVM as VM>::sys_get_invocation_output;
+}
+
+/// What is called of the parts of a machine.
+pub fn name_parts() {
+    let _ = async_results::AsyncResultsState::enqueue;
+    let _ = async_results::AsyncResultsState::create_handle_mapping;
+    let _ = async_results::AsyncResultsState::try_resolve_future;
+    let _ = async_results::AsyncResultsState::is_handle_completed;
+    let _ = async_results::AsyncResultsState::take_handle;
+    let _ = async_results::AsyncResultsState::copy_handle;
+    let _ = async_results::AsyncResultsState::resolve_unresolved_future;
 }
 
 /// What handles and futures are made of.

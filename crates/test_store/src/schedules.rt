@@ -5,10 +5,11 @@ use crate::fault::Fault;
 use built_in_handlers::handlers::Nap;
 use bytes::{ByteStr, Bytes};
 use durable_schedule::{Event, Reply, Scheduler, run_schedule};
-use invocation_vm::{Sequence, VMOptions};
 use journal_store::{NewInvocation, StateMode};
+use sequence::Sequence;
 use sqlite::MemStore;
 use std::alloc::{AllocError, Global};
+use vm_types::VMOptions;
 
 fn i1() -> ByteStr {
     ByteStr::from_static("i1")

@@ -1,8 +1,8 @@
 //! Words of a line, as values.
 use crate::fault::Fault;
 use bytes::{ByteStr, Bytes};
-use invocation_vm::Sequence;
 use journal_store::{Failure, NewInvocation, NotificationResult, StateMode};
+use sequence::Sequence;
 use std::alloc::Global;
 
 /// A word, of which `-` is the empty text.

@@ -1,5 +1,5 @@
 use Rattle.std.proofs.Common.{List, ℕ, refl, subst}
-use Rattle.invocation_vm.specs.Attempt.{Feeds}
+use Rattle.fresh_attempt.specs.Attempt.{Feeds}
 use Rattle.durable_schedule.proofs.held.hand_out.Goals as goal
 
 pub returns-in-Ok-clause-does : goal.returns-in-Ok-clause-does

@@ -1,8 +1,8 @@
 use Rattle.std.proofs.Common.{List, ℕ, refl, sym, subst, inl, inr}
 use Rattle.sqlite.specs.Held.{state}
 use Rattle.journal_model.specs.Event as model
-use Rattle.invocation_vm.specs.View.{AttemptView}
-use Rattle.invocation_vm.specs.Attempt.{Feeds}
+use Rattle.fresh_attempt.specs.View.{AttemptView}
+use Rattle.fresh_attempt.specs.Attempt.{Feeds}
 use Rattle.journal_store.specs.Stands.{Outlasts}
 use Rattle.journal_store.proofs.Enduring.{begin_endures}
 use Rattle.durable_schedule.proofs.scheduler.Scheduler.begin.Goals as goal

@@ -1,0 +1,2 @@
+//! The reads of which nothing is recorded.
+pub use vm_ephemeral::{EphemeralCommands, RegisterError};
