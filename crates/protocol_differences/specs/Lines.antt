@@ -18,17 +18,17 @@ pub record Compared : Type 0 where
   pub shown : text ≡ [] → same ≡ true
   pub none : same ≡ true → text ≡ []
 
-line_shown : (same : Bool) (field actual expected : List ℕ) → compared_line same field actual expected ≡ [] → same ≡ true
+pub line_shown : (same : Bool) (field actual expected : List ℕ) → compared_line same field actual expected ≡ [] → same ≡ true
 unfolding compared_line
 line_shown true field actual expected h = refl
 line_shown false field actual expected h = cc
 
-line_none : (same : Bool) (field actual expected : List ℕ) → same ≡ true → compared_line same field actual expected ≡ []
+pub line_none : (same : Bool) (field actual expected : List ℕ) → same ≡ true → compared_line same field actual expected ≡ []
 unfolding compared_line
 line_none true field actual expected h = refl
 line_none false field actual expected h = cc
 
-parts_empty : (a b : List ℕ) → a ++ b ≡ [] → (a ≡ []) × (b ≡ [])
+pub parts_empty : (a b : List ℕ) → a ++ b ≡ [] → (a ≡ []) × (b ≡ [])
 parts_empty [] b h = (refl, h)
 parts_empty (x ∷ a) b h = cc
 

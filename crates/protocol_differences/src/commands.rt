@@ -11,9 +11,20 @@ ghost use Rattle.protocol_differences.specs.Lines.{silent_told};
 
 use crate::CommandMessageHeaderDiff;
 use crate::lines::{write_field, write_id, write_payload};
+use protocol_calls::{
+    AttachInvocationCommandMessage, CallCommandMessage, CompleteAwakeableCommandMessage,
+    GetInvocationOutputCommandMessage, OneWayCallCommandMessage, SendSignalCommandMessage,
+};
+use protocol_commands::{
+    ClearAllStateCommandMessage, ClearStateCommandMessage, CompletePromiseCommandMessage,
+    GetEagerStateCommandMessage, GetEagerStateKeysCommandMessage, GetLazyStateCommandMessage,
+    GetLazyStateKeysCommandMessage, GetPromiseCommandMessage, PeekPromiseCommandMessage,
+    RunCommandMessage, SetStateCommandMessage,
+};
+use protocol_records::{InputCommandMessage, OutputCommandMessage, SleepCommandMessage};
 use std::fmt;
 
-impl CommandMessageHeaderDiff for protocol_records::InputCommandMessage {
+impl CommandMessageHeaderDiff for InputCommandMessage {
     ghost difference = { input_command_difference };
 
     fn write_diff<W: fmt::Write>(&self, expected: &Self, f: &mut fmt::Formatter<W>) -> fmt::Result {
@@ -23,7 +34,7 @@ impl CommandMessageHeaderDiff for protocol_records::InputCommandMessage {
     ghost silent = { λ x y. (λ h. refl, λ h. refl) };
 }
 
-impl CommandMessageHeaderDiff for protocol_records::OutputCommandMessage {
+impl CommandMessageHeaderDiff for OutputCommandMessage {
     ghost difference = { output_command_difference };
 
     fn write_diff<W: fmt::Write>(&self, expected: &Self, f: &mut fmt::Formatter<W>) -> fmt::Result {
@@ -34,7 +45,7 @@ impl CommandMessageHeaderDiff for protocol_records::OutputCommandMessage {
     ghost silent = { silent_told (output_command_tells false) output_command_lines (λ x y. refl) };
 }
 
-impl CommandMessageHeaderDiff for protocol_records::SleepCommandMessage {
+impl CommandMessageHeaderDiff for SleepCommandMessage {
     ghost difference = { sleep_command_difference };
 
     fn write_diff<W: fmt::Write>(&self, expected: &Self, f: &mut fmt::Formatter<W>) -> fmt::Result {
@@ -45,7 +56,7 @@ impl CommandMessageHeaderDiff for protocol_records::SleepCommandMessage {
     ghost silent = { silent_told (sleep_command_tells false) sleep_command_lines (λ x y. refl) };
 }
 
-impl CommandMessageHeaderDiff for protocol_commands::GetLazyStateCommandMessage {
+impl CommandMessageHeaderDiff for GetLazyStateCommandMessage {
     ghost difference = { get_lazy_state_command_difference };
 
     fn write_diff<W: fmt::Write>(&self, expected: &Self, f: &mut fmt::Formatter<W>) -> fmt::Result {
@@ -57,7 +68,7 @@ impl CommandMessageHeaderDiff for protocol_commands::GetLazyStateCommandMessage 
     ghost silent = { silent_told (get_lazy_state_command_tells false) get_lazy_state_command_lines (λ x y. refl) };
 }
 
-impl CommandMessageHeaderDiff for protocol_commands::GetLazyStateKeysCommandMessage {
+impl CommandMessageHeaderDiff for GetLazyStateKeysCommandMessage {
     ghost difference = { get_lazy_state_keys_command_difference };
 
     fn write_diff<W: fmt::Write>(&self, expected: &Self, f: &mut fmt::Formatter<W>) -> fmt::Result {
@@ -68,7 +79,7 @@ impl CommandMessageHeaderDiff for protocol_commands::GetLazyStateKeysCommandMess
     ghost silent = { silent_told (get_lazy_state_keys_command_tells false) get_lazy_state_keys_command_lines (λ x y. refl) };
 }
 
-impl CommandMessageHeaderDiff for protocol_commands::GetEagerStateCommandMessage {
+impl CommandMessageHeaderDiff for GetEagerStateCommandMessage {
     ghost difference = { get_eager_state_command_difference };
 
     fn write_diff<W: fmt::Write>(&self, expected: &Self, f: &mut fmt::Formatter<W>) -> fmt::Result {
@@ -80,7 +91,7 @@ impl CommandMessageHeaderDiff for protocol_commands::GetEagerStateCommandMessage
     ghost silent = { silent_told (get_eager_state_command_tells false) get_eager_state_command_lines (λ x y. refl) };
 }
 
-impl CommandMessageHeaderDiff for protocol_commands::GetEagerStateKeysCommandMessage {
+impl CommandMessageHeaderDiff for GetEagerStateKeysCommandMessage {
     ghost difference = { get_eager_state_keys_command_difference };
 
     fn write_diff<W: fmt::Write>(&self, expected: &Self, f: &mut fmt::Formatter<W>) -> fmt::Result {
@@ -91,7 +102,7 @@ impl CommandMessageHeaderDiff for protocol_commands::GetEagerStateKeysCommandMes
     ghost silent = { silent_told (get_eager_state_keys_command_tells false) get_eager_state_keys_command_lines (λ x y. refl) };
 }
 
-impl CommandMessageHeaderDiff for protocol_commands::SetStateCommandMessage {
+impl CommandMessageHeaderDiff for SetStateCommandMessage {
     ghost difference = { set_state_command_difference };
 
     fn write_diff<W: fmt::Write>(&self, expected: &Self, f: &mut fmt::Formatter<W>) -> fmt::Result {
@@ -103,7 +114,7 @@ impl CommandMessageHeaderDiff for protocol_commands::SetStateCommandMessage {
     ghost silent = { silent_told (set_state_command_tells false) set_state_command_lines (λ x y. refl) };
 }
 
-impl CommandMessageHeaderDiff for protocol_commands::ClearStateCommandMessage {
+impl CommandMessageHeaderDiff for ClearStateCommandMessage {
     ghost difference = { clear_state_command_difference };
 
     fn write_diff<W: fmt::Write>(&self, expected: &Self, f: &mut fmt::Formatter<W>) -> fmt::Result {
@@ -114,7 +125,7 @@ impl CommandMessageHeaderDiff for protocol_commands::ClearStateCommandMessage {
     ghost silent = { silent_told (clear_state_command_tells false) clear_state_command_lines (λ x y. refl) };
 }
 
-impl CommandMessageHeaderDiff for protocol_commands::ClearAllStateCommandMessage {
+impl CommandMessageHeaderDiff for ClearAllStateCommandMessage {
     ghost difference = { clear_all_state_command_difference };
 
     fn write_diff<W: fmt::Write>(&self, expected: &Self, f: &mut fmt::Formatter<W>) -> fmt::Result {
@@ -124,7 +135,7 @@ impl CommandMessageHeaderDiff for protocol_commands::ClearAllStateCommandMessage
     ghost silent = { silent_told (clear_all_state_command_tells false) clear_all_state_command_lines (λ x y. refl) };
 }
 
-impl CommandMessageHeaderDiff for protocol_commands::GetPromiseCommandMessage {
+impl CommandMessageHeaderDiff for GetPromiseCommandMessage {
     ghost difference = { get_promise_command_difference };
 
     fn write_diff<W: fmt::Write>(&self, expected: &Self, f: &mut fmt::Formatter<W>) -> fmt::Result {
@@ -136,7 +147,7 @@ impl CommandMessageHeaderDiff for protocol_commands::GetPromiseCommandMessage {
     ghost silent = { silent_told (get_promise_command_tells false) get_promise_command_lines (λ x y. refl) };
 }
 
-impl CommandMessageHeaderDiff for protocol_commands::PeekPromiseCommandMessage {
+impl CommandMessageHeaderDiff for PeekPromiseCommandMessage {
     ghost difference = { peek_promise_command_difference };
 
     fn write_diff<W: fmt::Write>(&self, expected: &Self, f: &mut fmt::Formatter<W>) -> fmt::Result {
@@ -148,7 +159,7 @@ impl CommandMessageHeaderDiff for protocol_commands::PeekPromiseCommandMessage {
     ghost silent = { silent_told (peek_promise_command_tells false) peek_promise_command_lines (λ x y. refl) };
 }
 
-impl CommandMessageHeaderDiff for protocol_commands::CompletePromiseCommandMessage {
+impl CommandMessageHeaderDiff for CompletePromiseCommandMessage {
     ghost difference = { complete_promise_command_difference };
 
     fn write_diff<W: fmt::Write>(&self, expected: &Self, f: &mut fmt::Formatter<W>) -> fmt::Result {
@@ -161,7 +172,7 @@ impl CommandMessageHeaderDiff for protocol_commands::CompletePromiseCommandMessa
     ghost silent = { silent_told (complete_promise_command_tells false) complete_promise_command_lines (λ x y. refl) };
 }
 
-impl CommandMessageHeaderDiff for protocol_commands::RunCommandMessage {
+impl CommandMessageHeaderDiff for RunCommandMessage {
     ghost difference = { run_command_difference };
 
     fn write_diff<W: fmt::Write>(&self, expected: &Self, f: &mut fmt::Formatter<W>) -> fmt::Result {
@@ -172,7 +183,7 @@ impl CommandMessageHeaderDiff for protocol_commands::RunCommandMessage {
     ghost silent = { silent_told (run_command_tells false) run_command_lines (λ x y. refl) };
 }
 
-impl CommandMessageHeaderDiff for protocol_calls::SendSignalCommandMessage {
+impl CommandMessageHeaderDiff for SendSignalCommandMessage {
     ghost difference = { send_signal_command_difference };
 
     fn write_diff<W: fmt::Write>(&self, expected: &Self, f: &mut fmt::Formatter<W>) -> fmt::Result {
@@ -190,7 +201,7 @@ impl CommandMessageHeaderDiff for protocol_calls::SendSignalCommandMessage {
     ghost silent = { silent_told (send_signal_command_tells false) send_signal_command_lines (λ x y. refl) };
 }
 
-impl CommandMessageHeaderDiff for protocol_calls::AttachInvocationCommandMessage {
+impl CommandMessageHeaderDiff for AttachInvocationCommandMessage {
     ghost difference = { attach_invocation_command_difference };
 
     fn write_diff<W: fmt::Write>(&self, expected: &Self, f: &mut fmt::Formatter<W>) -> fmt::Result {
@@ -202,7 +213,7 @@ impl CommandMessageHeaderDiff for protocol_calls::AttachInvocationCommandMessage
     ghost silent = { silent_told (attach_invocation_command_tells false) attach_invocation_command_lines (λ x y. refl) };
 }
 
-impl CommandMessageHeaderDiff for protocol_calls::GetInvocationOutputCommandMessage {
+impl CommandMessageHeaderDiff for GetInvocationOutputCommandMessage {
     ghost difference = { get_invocation_output_command_difference };
 
     fn write_diff<W: fmt::Write>(&self, expected: &Self, f: &mut fmt::Formatter<W>) -> fmt::Result {
@@ -214,7 +225,7 @@ impl CommandMessageHeaderDiff for protocol_calls::GetInvocationOutputCommandMess
     ghost silent = { silent_told (get_invocation_output_command_tells false) get_invocation_output_command_lines (λ x y. refl) };
 }
 
-impl CommandMessageHeaderDiff for protocol_calls::CompleteAwakeableCommandMessage {
+impl CommandMessageHeaderDiff for CompleteAwakeableCommandMessage {
     ghost difference = { complete_awakeable_command_difference };
 
     fn write_diff<W: fmt::Write>(&self, expected: &Self, f: &mut fmt::Formatter<W>) -> fmt::Result {
@@ -231,7 +242,7 @@ impl CommandMessageHeaderDiff for protocol_calls::CompleteAwakeableCommandMessag
     ghost silent = { silent_told (complete_awakeable_command_tells false) complete_awakeable_command_lines (λ x y. refl) };
 }
 
-impl CommandMessageHeaderDiff for protocol_calls::CallCommandMessage {
+impl CommandMessageHeaderDiff for CallCommandMessage {
     ghost difference = { call_command_difference };
 
     fn write_diff<W: fmt::Write>(&self, expected: &Self, f: &mut fmt::Formatter<W>) -> fmt::Result {
@@ -271,7 +282,7 @@ impl CommandMessageHeaderDiff for protocol_calls::CallCommandMessage {
     ghost silent = { silent_told (call_command_tells false) call_command_lines (λ x y. refl) };
 }
 
-impl CommandMessageHeaderDiff for protocol_calls::OneWayCallCommandMessage {
+impl CommandMessageHeaderDiff for OneWayCallCommandMessage {
     ghost difference = { one_way_call_command_difference };
 
     fn write_diff<W: fmt::Write>(&self, expected: &Self, f: &mut fmt::Formatter<W>) -> fmt::Result {
