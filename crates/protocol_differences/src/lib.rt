@@ -5,15 +5,11 @@
 ghost use Rattle.std.specs.Prelude.{◌≡◌, ◌↔◌, ℕ, List, [], false};
 ghost use Rattle.std.specs.Fmt.{WritesOnOk};
 
-mod calls;
-mod control;
-mod invocations;
+mod commands;
 mod laws;
 mod lines;
 mod mismatch;
-mod promises;
 mod relationship;
-mod state;
 
 pub use laws::differences_are_shown;
 pub use mismatch::CommandMismatchError;

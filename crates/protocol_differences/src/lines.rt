@@ -1,7 +1,7 @@
 // The line of a field, which is written where the field differs.
 ghost use Rattle.std.specs.Fmt.{WritesOnOk};
 ghost use Rattle.std.specs.Prelude.{false};
-ghost use Rattle.protocol_differences.specs.Lines.{compared_line};
+ghost use Rattle.protocol_differences.specs.Lines.{compared_line, id_line};
 
 use protocol_headers::{Same, SameBesidesPayload};
 use protocol_shown::{Shown, show_labelled};
@@ -42,4 +42,15 @@ pub(crate) fn write_payload<T: SameBesidesPayload + Shown, W: fmt::Write>(
     write!(f, "\n   {field}")?;
     show_labelled(": ", actual, f)?;
     show_labelled(" != ", expected, f)
+}
+
+/// Writes the number of the completion that answers the command, where it is not the same in both.
+pub(crate) fn write_id<W: fmt::Write>(
+    f: &mut fmt::Formatter<W>,
+    actual: u32,
+    expected: u32,
+) -> fmt::Result
+    ensures { WritesOnOk W.write_str_gives f.old result (id_line actual expected).text f.new }
+{
+    write_field(f, "result_completion_id", &actual, &expected)
 }

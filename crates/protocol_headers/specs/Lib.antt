@@ -1,11 +1,8 @@
 pub mod Calls
 pub mod Choices
-pub mod Control
-pub mod Invocations
+pub mod Commands
 pub mod Laws
 pub mod Parts
 pub mod Payloads
-pub mod Promises
 pub mod Records
-pub mod State
 pub mod Tells

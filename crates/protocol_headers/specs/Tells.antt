@@ -9,6 +9,10 @@ pub record Tells {A B : Type 0} (test : A → A → Bool) (erased : A → B) : T
   pub alike : (x y : A) → test x y ≡ true → erased x ≡ erased y
   pub found : (x y : A) → erased x ≡ erased y → test x y ≡ true
 
+-- a test for where something is ignored and one for where it is not, each with its erasure
+abbrev pub ToldBy : {A : Type 0} → (Bool → A → A → Bool) → (Bool → A → A) → Type 0
+ToldBy test erased = (ignoring : Bool) → Tells (test ignoring) (erased ignoring)
+
 -- the test is true exactly where both are the same
 abbrev pub Decides : {A : Type 0} → (A → A → Bool) → Type 0
 Decides {A} test = (x y : A) → (test x y ≡ true → x ≡ y) × (x ≡ y → test x y ≡ true)

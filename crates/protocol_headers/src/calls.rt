@@ -2,7 +2,7 @@
 ghost use Rattle.std.specs.Prelude.{◌≡◌};
 ghost use Rattle.protocol_headers.specs.Calls.{erased_call_command, call_command_coarser, same_call_command, erased_one_way_call_command, one_way_call_command_coarser, same_one_way_call_command};
 
-use crate::{CommandMessageHeaderEq, NamedCommandMessage, Same, SameBesidesPayload};
+use crate::{CommandMessageHeaderEq, Same, SameBesidesPayload};
 use protocol_calls::{CallCommandMessage, OneWayCallCommandMessage};
 
 fn is_same_call(one: &CallCommandMessage, two: &CallCommandMessage, ignoring: bool) -> bool
@@ -23,14 +23,6 @@ fn is_same_call(one: &CallCommandMessage, two: &CallCommandMessage, ignoring: bo
             .is_same(&two.invocation_id_notification_idx)
         && one.result_completion_id.is_same(&two.result_completion_id)
         && one.name.is_same(&two.name)
-}
-
-impl NamedCommandMessage for CallCommandMessage {
-    ghost name_of = { λ command. command.name };
-
-    fn name(&self) -> &str {
-        self.name.as_str()
-    }
 }
 
 impl CommandMessageHeaderEq for CallCommandMessage {
@@ -64,14 +56,6 @@ fn is_same_one_way_call(
             .invocation_id_notification_idx
             .is_same(&two.invocation_id_notification_idx)
         && one.name.is_same(&two.name)
-}
-
-impl NamedCommandMessage for OneWayCallCommandMessage {
-    ghost name_of = { λ command. command.name };
-
-    fn name(&self) -> &str {
-        self.name.as_str()
-    }
 }
 
 impl CommandMessageHeaderEq for OneWayCallCommandMessage {

@@ -6,15 +6,13 @@ ghost use Rattle.std.specs.Prelude.{◌≡◌, ℕ, Bool, true, false, IsTrue, �
 
 mod calls;
 mod choices;
-mod control;
-mod invocations;
+mod commands;
 mod laws;
+mod names;
 mod parts;
 mod payloads;
-mod promises;
 mod records;
 mod same;
-mod state;
 
 pub use laws::header_equality_is_an_equivalence;
 pub use same::{Same, SameBesidesPayload};

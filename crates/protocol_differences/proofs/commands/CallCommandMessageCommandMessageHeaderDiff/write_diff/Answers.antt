@@ -1,0 +1,16 @@
+use Rattle.std.proofs.Common.{refl}
+use Rattle.protocol_differences.proofs.Behind.{behind}
+use Rattle.protocol_differences.proofs.commands.CallCommandMessageCommandMessageHeaderDiff.write_diff.Goals as goal
+
+pub returns : goal.returns
+returns g c = λ p ok. behind (behind (behind (behind (behind (behind (behind (behind (behind (behind (c.in_ok-write_field.ensures p refl)
+    (λ q. c.in_ok-write_field-2.ensures q refl))
+    (λ q. c.in_ok-write_payload.ensures q refl))
+    (λ q. c.in_ok-write_field-3.ensures q refl))
+    (λ q. c.in_ok-write_field-4.ensures q refl))
+    (λ q. c.in_ok-write_field-5.ensures q refl))
+    (λ q. c.in_ok-write_field-6.ensures q refl))
+    (λ q. c.in_ok-write_field-7.ensures q refl))
+    (λ q. c.in_ok-write_field-8.ensures q refl))
+    (λ q. c.in_ok-write_id.ensures q refl))
+    (λ q. c.write_field-9.ensures q ok)

@@ -1,0 +1,8 @@
+use Rattle.std.proofs.Common.{refl}
+use Rattle.protocol_differences.proofs.Behind.{behind}
+use Rattle.protocol_differences.proofs.commands.PeekPromiseCommandMessageCommandMessageHeaderDiff.write_diff.Goals as goal
+
+pub returns : goal.returns
+returns g c = λ p ok. behind (behind (c.in_ok-write_field.ensures p refl)
+    (λ q. c.in_ok-write_id.ensures q refl))
+    (λ q. c.write_field-2.ensures q ok)

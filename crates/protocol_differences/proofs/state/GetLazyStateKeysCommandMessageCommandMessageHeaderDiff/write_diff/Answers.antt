@@ -1,7 +1,0 @@
-use Rattle.std.proofs.Common.{refl}
-use Rattle.protocol_differences.proofs.Behind.{behind}
-use Rattle.protocol_differences.proofs.state.GetLazyStateKeysCommandMessageCommandMessageHeaderDiff.write_diff.Goals as goal
-
-pub returns : goal.returns
-returns g c = λ p ok. behind (c.in_ok-write_field.ensures p refl)
-    (λ q. c.write_field-2.ensures q ok)
