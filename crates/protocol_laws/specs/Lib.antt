@@ -1,9 +1,7 @@
 pub mod Choices
 pub mod Fits
 pub mod FitsFuture
-pub mod JoinsCalls
 pub mod JoinsCommands
-pub mod JoinsControls
 pub mod JoinsFuture
 pub mod JoinsRecords
 pub mod ReadFits

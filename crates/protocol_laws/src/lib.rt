@@ -10,9 +10,6 @@ ghost use Rattle.protocol_wire.specs.Decodes.{IsRead};
 ghost use Rattle.protocol_wire.specs.declared.record.TheConstants.{LEVELS};
 ghost use Rattle.protocol_laws.specs.ReadFits.{AreBytes};
 
-mod calls;
-mod commands;
-mod controls;
 mod records;
 
 use protocol_wire::Record;
