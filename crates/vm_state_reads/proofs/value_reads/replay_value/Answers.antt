@@ -1,5 +1,6 @@
 use Rattle.journal_model.specs.Request.{Request}
 use Rattle.attempt_model.specs.Machine.{Machine}
+use Rattle.protocol_commands.specs.declared.get_eager_state_command.GetEagerStateCommandResult.{GetEagerStateCommandResult}
 use Rattle.vm_commands.specs.Recorded.{as_recorded}
 use Rattle.vm_state_reads.specs.Replaying.{value_known}
 use Rattle.vm_state_reads.proofs.Answering.{number_fails}
@@ -33,7 +34,7 @@ returns-clause-spent c = λ spent. absurd (c.in_ok-read.ensures.spent (none_then
 
 pub returns-in_err-read-clause-spent : goal.returns-in_err-read-clause-spent
 returns-in_err-read-clause-spent c = λ spent.
-    spent_unmatched _ c.args.active.now c.in_ok-id.ensures.taken spent _ c.in_err-read.field-0.0 c.in_err-read.ensures.spent
+    spent_unmatched _ c.args.active.now c.in_ok-id.ensures.taken spent GetEagerStateCommandResult c.in_err-read.field-0.0 c.in_err-read.ensures.spent
     c.from_residual-in_err-read.result c.from_residual-in_err-read.ensures.1 c.match_read.new.active c.match_read.ensures.output
 
 pub returns-in_err-ready_at_once-clause-spent : goal.returns-in_err-ready_at_once-clause-spent
