@@ -1,5 +1,5 @@
 -- What each call that takes one completion asks for.
-use Rattle.std.proofs.Common.{◌≡◌, ◌∷◌, ℕ, Bool, true, false, ◌||◌, [], Option, None, Result, Err, refl, subst, sym}
+use Rattle.std.proofs.Common.{◌≡◌, ◌≤◌, ◌<◌, ◌+◌, ◌^◌, ◌⊎◌, ◌∷◌, inl, inr, arith, length, ℕ, Bool, true, false, ◌||◌, [], Option, None, Result, Err, refl, subst, sym}
 use Rattle.journal_model.specs.declared.options.ImplicitCancellationOption.{ImplicitCancellationOption}
 use Rattle.journal_model.specs.declared.options.ImplicitCancellationOption.TheVariants.{Disabled, Enabled}
 use Rattle.journal_model.specs.declared.call.Call.{Call}
@@ -17,7 +17,9 @@ use Rattle.vm_calls.specs.declared.call_error.CallError.{CallError}
 use Rattle.vm_calls.specs.declared.call_error.CallError.TheVariants.{Number}
 use Rattle.vm_calls.specs.declared.call_error.NumberError.{NumberError}
 use Rattle.vm_calls.specs.declared.call_error.NumberError.TheVariants.{IdsExhausted}
-use Rattle.vm_calls.specs.Active.{LacksCompletions}
+use Rattle.vm_awaits.specs.Views.{slots_of}
+use Rattle.vm_calls.specs.Active.{LacksCompletions, HasCompletions}
+use Rattle.vm_calls.specs.Handles.{LacksSignal}
 use Rattle.vm_calls.specs.Making.{CompletesOne, FailsAs, Makes}
 
 -- a call without options is compared as the machine's option says
@@ -38,6 +40,21 @@ pub sleep_completes : (given : Invocation) (m : Machine) (name : Text) (wake_up 
     → refusal_of given.version (Call.Sleep name wake_up now) ≡ None → copy ≡ name → milliseconds wake_up ≡ time → id ≡ m.completions
     → CompletesOne given m (Call.Sleep name wake_up now) (Request.Sleep time id copy)
 sleep_completes given m name wake_up now copy time id refused copied millis taken = record { asks = record { refused = refused; work = refl; requests = λ i. Request.Sleep (millis i) (sym taken i) (sym copied i) ∷ []; children = brings_none (Call.Sleep name wake_up now) m.completions refl refl refl refl refl given.options.implicit_cancellation }; completions = refl; signals = refl; ids = refl; known = refl; keeps = refl; answer = λ text handle signal. refl }
+
+-- ---- numbers that are left
+
+pub one_before : (n most : ℕ) → most < n + 1 → most ≤ n
+one_before n most h = omega (arith, h)
+
+pub neither : {A B : Type 0} → (A → ⊥) → (B → ⊥) → A ⊎ B → ⊥
+neither a b (inl h) = a h
+neither a b (inr h) = b h
+
+pub has_one : (old : Active) → (2 ^ 32 ≤ old.journal.completions → ⊥) → (2 ^ 32 ≤ 17 + length (slots_of old.results) → ⊥) → HasCompletions 1 old
+has_one old id handle = neither (λ none. id (one_before old.journal.completions (2 ^ 32) none)) (λ none. handle (one_before (17 + length (slots_of old.results)) (2 ^ 32) none))
+
+pub has_signal : (old : Active) → (2 ^ 32 ≤ old.journal.signals → ⊥) → (2 ^ 32 ≤ 17 + length (slots_of old.results) → ⊥) → LacksSignal old → ⊥
+has_signal old id handle = neither id (λ none. handle (one_before (17 + length (slots_of old.results)) (2 ^ 32) none))
 
 -- a call for which no number was taken fails so
 pub number_fails : {M Taken : Type 0} (checks_off : Bool) (given : Invocation) (m : Machine) (call : Call) (answer : Taken → Answer) (old new : Active) (error : NumberError) (result : Result Taken (CallError M))

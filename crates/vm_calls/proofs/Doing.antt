@@ -1,5 +1,5 @@
 -- A call that takes no number, puts one request and is answered at once does what the abstract machine does.
-use Rattle.std.proofs.Common.{◌≡◌, ◌++◌, append-nil, Bool, false, ◌||◌, List, map, Some, Err, sym, ap, ◌∙◌, subst}
+use Rattle.std.proofs.Common.{◌≡◌, ◌++◌, append-nil, ℕ, Bool, false, ◌||◌, List, map, Some, Err, sym, ap, ◌∙◌, subst}
 use Rattle.journal_model.specs.declared.notification.NotificationId.{NotificationId}
 use Rattle.journal_model.specs.Notification.{Text}
 use Rattle.journal_model.specs.declared.call.Call.{Call}
@@ -18,7 +18,7 @@ use Rattle.vm_commands.specs.HeaderEquality.{is_unstable}
 use Rattle.vm_calls.specs.declared.active.Active.{Active}
 use Rattle.vm_calls.specs.declared.put_error.PutError.{PutError}
 use Rattle.vm_calls.specs.declared.call_error.CallError.TheVariants.{Put}
-use Rattle.vm_calls.specs.Active.{Sees, IsSettled, left_of, asking, PutsOne, PutsIn}
+use Rattle.vm_calls.specs.Active.{Sees, IsSettled, left_of, asking, HasCompletions, PutsOne, PutsIn}
 use Rattle.vm_calls.specs.Making.{Replies, FailsAs, IsReady}
 use Rattle.vm_calls.specs.Doing.{DoesOne, HasAsked}
 use Rattle.vm_calls.proofs.Making.{no_more, put_answers, put_fails_as}
@@ -40,6 +40,7 @@ module _ (given : Invocation) (m : Machine) (call : Call) (request : Request) (o
     opened = ap (λ (a : Active). a.output.is_closed) has.others ∙ has.sees.opened;
     children = has.sees.children;
     output = ap (λ (a : Active). a.output) has.others;
+    has = subst (λ (n : ℕ). HasCompletions n old) (sym one.completions) (λ lacks. lacks);
   }
 
   module _ (checks_off ignoring : Bool) (ignores : ignoring ≡ (checks_off || is_unstable call)) (new : Active) where

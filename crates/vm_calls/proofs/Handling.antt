@@ -19,7 +19,7 @@ use Rattle.vm_context.specs.Eager.{KnownState}
 use Rattle.vm_context.specs.Following.{KnowsState}
 use Rattle.vm_commands.specs.HeaderEquality.{same_header}
 use Rattle.vm_calls.specs.declared.active.Active.{Active}
-use Rattle.vm_calls.specs.Active.{Sees, left_of}
+use Rattle.vm_calls.specs.Active.{Sees, HasCompletions, left_of}
 use Rattle.vm_calls.specs.Making.{Replies}
 use Rattle.vm_calls.specs.Handles.{HandlesOne}
 use Rattle.vm_calls.proofs.Calls.{brings_none}
@@ -72,8 +72,9 @@ module _ (checks_off : Bool) (given : Invocation) (m : Machine) (call : Call) (i
   pub same_output : new.output ≡ old.output
   same_output = ap (λ (a : Active). a.output) others
 
-  pub handles : (answer : Answer) → answer_by given.input.invocation_id (next_slot m) m.signals call ≡ answer → Replies checks_off given m call answer old new × (new.output ≡ old.output)
-  handles answer is = (
+  pub handles : {Lacks : Type 0} → (Lacks → ⊥) → (answer : Answer) → answer_by given.input.invocation_id (next_slot m) m.signals call ≡ answer
+      → Replies checks_off given m call answer old new × (new.output ≡ old.output) × (Lacks → ⊥)
+  handles has answer is = (
     record {
       machine = machine_then;
       replies = replies ∙ ap (λ (a : Answer). Answered a machine_then) is;
@@ -81,8 +82,11 @@ module _ (checks_off : Bool) (given : Invocation) (m : Machine) (call : Call) (i
       more = [];
       written = sym (append-nil m.written);
       frames = same_output ∙ ap (λ (bytes : List ℕ). record old.output { bytes = bytes }) (sym (append-nil old.output.bytes));
+      fit = tt;
+      has = subst (λ (n : ℕ). HasCompletions n old) (sym one.completions) (λ lacks. lacks);
     },
     same_output,
+    has,
   )
 
 pub slot_is : (given : Invocation) (old : Active) (m : Machine) → Sees given old m → 17 + length (slots_of old.results) ≡ next_slot m

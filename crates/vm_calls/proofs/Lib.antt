@@ -6,3 +6,4 @@ pub mod Handling
 pub mod Doing
 pub mod DoneCalls
 pub mod PromiseCalls
+pub mod Spending

@@ -30,8 +30,8 @@ use Rattle.vm_calls.specs.declared.active.Active.{Active}
 use Rattle.vm_calls.specs.declared.put_error.PutError.{PutError}
 use Rattle.vm_calls.specs.declared.put_error.PutError.TheVariants.{Replay, Encoding}
 use Rattle.vm_calls.specs.declared.call_error.CallError.TheVariants.{Put}
-use Rattle.vm_calls.specs.Active.{Sees, IsSettled, left_of, has_left, writes_frames, PutsOne, PutsIn}
-use Rattle.vm_calls.specs.Making.{Replies, FailsAs, AsksOne, IsReady, CompletesOne, HasBegun}
+use Rattle.vm_calls.specs.Active.{Sees, IsSettled, left_of, has_left, writes_frames, HasCompletions, PutsOne, PutsIn}
+use Rattle.vm_calls.specs.Making.{Replies, FailsAs, PutFailsAs, AsksOne, IsReady, CompletesOne, HasBegun}
 
 -- ---- the abstract machine, where one request is put
 
@@ -78,16 +78,18 @@ module _ (checks_off ignoring : Bool) (given : Invocation) (m : Machine) (call :
   mismatches : put_one (header_equal ignoring) request (left_of mid) m.written ≡ None → reply_to (same_header checks_off) given m call ≡ FailedBy Mismatch
   mismatches none = replied (same_header checks_off) given m call request None asks.refused asks.work asks.requests (put_as None none)
 
-  fails_as : {M : Type 0} (error : PutError M) (new : Active) → PutsIn ignoring request m.written mid (Err error) new → FailsAs checks_off given m call old (Put error) × (new.output ≡ old.output)
+  fails_as : {M : Type 0} (error : PutError M) (new : Active) → PutsIn ignoring request m.written mid (Err error) new → PutFailsAs checks_off given m call error × (new.output ≡ old.output)
   fails_as (Replay (unmatched.Unavailable error)) new puts = absurd puts.0
   fails_as (Replay (unmatched.Decoding error)) new puts = (mismatches puts.0, puts.1 ∙ ready.output)
   fails_as (Replay (unmatched.Mismatch error)) new puts = (mismatches puts.0, puts.1 ∙ ready.output)
   fails_as (Replay unmatched.OutOfMemory) new puts = (tt, puts.1 ∙ ready.output)
   fails_as (Encoding unsent.PayloadTooLong) new puts = ((sym ready.left ∙ puts.0.0, record { request = request; requests = asks.requests; long = puts.0.1 }), puts.1 ∙ ready.output)
-  fails_as (Encoding unsent.OutOfMemory) new puts = (tt, puts.1 ∙ ready.output)
+  fails_as (Encoding unsent.OutOfMemory) new puts = ((sym ready.left ∙ puts.0.0, record { request = request; requests = asks.requests; fits = puts.0.1 }), puts.1 ∙ ready.output)
 
   pub put_fails_as : {M : Type 0} (error : PutError M) (new : Active) → (IsSettled mid → PutsIn ignoring request m.written mid (Err error) new) → FailsAs checks_off given m call old (Put error) × (new.output ≡ old.output)
-  put_fails_as error new puts = fails_as error new (puts settled_then)
+  put_fails_as error new puts =
+      let fails = fails_as error new (puts settled_then) in
+      ((fails.0, ready.has), fails.1)
 
   module _ (answer : Answer) (answered : answer_by given.input.invocation_id (next_slot m) m.signals call ≡ answer) (new : Active) where
     sees_then : (puts : PutsOne ignoring request m.written mid new) → Sees given new (machine_with puts.put)
@@ -113,6 +115,8 @@ module _ (checks_off ignoring : Bool) (given : Invocation) (m : Machine) (call :
           more = puts.more;
           written = puts.requests;
           frames = puts.frames ∙ ap (λ (w : Written). writes_frames puts.more w) ready.output;
+          fit = puts.fit;
+          has = ready.has;
         }
 
 -- ---- numbers were taken
@@ -122,11 +126,11 @@ no_more n more none = omega (arith, none)
 
 -- where so many completions were taken, and handles that stand for these ids, nothing is left but to put the request
 pub is_ready : (given : Invocation) (m : Machine) (call : Call) (request : Request) (old : Active) → Sees given old m → (ty : MessageType) (name : Text) (taken : ℕ) (ids : List NotificationId)
-    → changes_state request ≡ false → known_result m.completions (request ∷ []) ≡ [] → ids_of m.completions m.signals call ≡ ids → completions_of call ≡ taken → signals_of call ≡ 0
+    → changes_state request ≡ false → known_result m.completions (request ∷ []) ≡ [] → ids_of m.completions m.signals call ≡ ids → completions_of call ≡ taken → signals_of call ≡ 0 → HasCompletions taken old
     → (mid : Active) → mid ≡ record old { journal = after_completions taken (after_command ty name old.journal); results = mid.results }
     → results_of mid.results ≡ record { delivery = given.options.signal_delivery; queue = m.queue; ready = m.ready; slots = m.slots ++ map Some ids }
     → IsReady given m call request old mid
-is_ready given m call request old sees ty name taken ids keeps known named counts none mid others results = record {
+is_ready given m call request old sees ty name taken ids keeps known named counts none has mid others results = record {
   left = ap (λ (a : Active). left_of a) others ∙ sees.left;
   replaying = ap (λ (a : Active). a.is_replaying) others ∙ sees.replaying;
   results = results ∙ (λ i. record {
@@ -141,6 +145,7 @@ is_ready given m call request old sees ty name taken ids keeps known named count
   opened = ap (λ (a : Active). a.output.is_closed) others ∙ sees.opened;
   children = sees.children;
   output = ap (λ (a : Active). a.output) others;
+  has = subst (λ (n : ℕ). HasCompletions n old) (sym counts) has;
 }
 
 -- ---- calls of one completion
@@ -154,7 +159,7 @@ module _ (given : Invocation) (m : Machine) (call : Call) (request : Request) (o
       ∙ ap (λ (n : ℕ). with_handle (CompletionId n) (results_of old.results)) begun.sees.completions ∙ ap (λ (r : AsyncResults). with_handle (CompletionId m.completions) r) begun.sees.results
 
   pub one_is_ready : IsReady given m call request old mid
-  one_is_ready = is_ready given m call request old begun.sees begun.ty begun.name 1 (CompletionId m.completions ∷ []) one.keeps one.known one.ids one.completions one.signals mid begun.takes.others results_are
+  one_is_ready = is_ready given m call request old begun.sees begun.ty begun.name 1 (CompletionId m.completions ∷ []) one.keeps one.known one.ids one.completions one.signals begun.takes.has mid begun.takes.others results_are
 
   module _ (checks_off ignoring : Bool) (ignores : ignoring ≡ (checks_off || is_unstable call)) (new : Active) where
     pub fails : {M : Type 0} (error : PutError M) → (IsSettled mid → PutsIn ignoring request m.written mid (Err error) new) → FailsAs checks_off given m call old (Put error) × (new.output ≡ old.output)

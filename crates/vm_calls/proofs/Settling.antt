@@ -1,8 +1,8 @@
 -- A command that was put leaves an attempt settled.
-use Rattle.std.proofs.Common.{◌≡◌, Bool, true, false, ℕ, if◌then◌else◌, inl, inr, List, [], ◌∷◌, ◌++◌, append-nil, Ok, Err, refl, sym, ap, ◌∙◌, subst}
-use Rattle.std.proofs.lemmas.Bool.{cases_Bool}
+use Rattle.std.proofs.Common.{◌≡◌, ◌≤◌, ◌<◌, ◌^◌, Bool, true, false, ℕ, if◌then◌else◌, inl, inr, List, [], ◌∷◌, ◌++◌, length, append-nil, Result, Ok, Err, refl, sym, ap, ◌∙◌, subst}
+use Rattle.std.proofs.lemmas.Bool.{cases_Bool, cases_lt}
 use Rattle.journal_model.specs.Request.{Request}
-use Rattle.journal_model.specs.Spelling.{request_frame}
+use Rattle.journal_model.specs.Spelling.{request_frame, request_payload}
 use Rattle.attempt_model.specs.Requests.{Commands, put_one}
 use Rattle.protocol_stream.specs.declared.decoder.RawMessage.{RawMessage}
 use Rattle.protocol_stream.specs.declared.encoder.EncodingError.TheVariants as unsent
@@ -13,8 +13,8 @@ use Rattle.vm_commands.specs.Recorded.{commands_of}
 use Rattle.vm_calls.specs.declared.active.Active.{Active}
 use Rattle.vm_calls.specs.declared.put_error.PutError.{PutError}
 use Rattle.vm_calls.specs.declared.put_error.PutError.TheVariants.{Replay, Encoding}
-use Rattle.vm_calls.specs.Putting.{Puts}
-use Rattle.vm_calls.specs.Active.{has_left, left_of, still_replays, IsSettled, PutsOne, PutFails}
+use Rattle.vm_calls.specs.Putting.{Puts, RefusesLong}
+use Rattle.vm_calls.specs.Active.{Fits, has_left, left_of, still_replays, IsSettled, PutsOne, PutFails}
 
 while_left : (messages : List RawMessage) → still_replays true messages ≡ has_left (commands_of messages)
 while_left [] = refl
@@ -49,15 +49,24 @@ module _ {M : Type 0} (ignoring : Bool) (request : Request) (written : List Requ
     };
     more = [];
     requests = sym (append-nil written);
+    fit = tt;
     frames = puts.1 ∙ ap (λ (bytes : List ℕ). record old.output { bytes = bytes }) (sym (append-nil old.output.bytes));
     others = others;
   }
 
+  -- what is not refused for its length fits a frame
+  not_long : (result : Result M (PutError M)) → (result ≡ Err (Encoding unsent.PayloadTooLong) → ⊥) → RefusesLong false request old.output result → Fits request
+  not_long result other refuses =
+      elim (cases_lt (length (request_payload request)) (2 ^ 32)) [
+        | inl lt ↦ lt
+        | inr ge ↦ absurd (other (refuses (settled.opened, ge)))
+      ]
+
   -- behind the journal it was written
-  sent : (new : Active) (stands : M) → old.is_replaying ≡ false → new.is_replaying ≡ still_replays old.is_replaying new.commands.items
+  sent : (new : Active) (stands : M) → old.is_replaying ≡ false → RefusesLong false request old.output (Ok stands) → new.is_replaying ≡ still_replays old.is_replaying new.commands.items
       → Puts ignoring false request written old.commands.items old.output (Ok stands) new.commands.items new.output
       → new ≡ record old { is_replaying = new.is_replaying; commands = new.commands; output = new.output } → PutsOne ignoring request written old new
-  sent new stands f replays puts others =
+  sent new stands f refuses replays puts others =
       let none : left_of old ≡ [] = nothing_recorded old settled f in
       let left : left_of new ≡ [] = ap commands_of puts.1 ∙ none in
       let frame : new.output ≡ record old.output { bytes = old.output.bytes ++ request_frame request } = puts.0 ∙ opened_frame (request_frame request) old.output settled.opened in
@@ -71,17 +80,18 @@ module _ {M : Type 0} (ignoring : Bool) (request : Request) (written : List Requ
         };
         more = request ∷ [];
         requests = refl;
+        fit = (not_long (Ok stands) (λ wrong. cc wrong) refuses, tt);
         frames = frame ∙ ap (λ (bytes : List ℕ). record old.output { bytes = old.output.bytes ++ bytes }) (sym (append-nil (request_frame request)));
         others = others;
       }
 
-  pub put_settles : (new : Active) (stands : M) → new.is_replaying ≡ still_replays old.is_replaying new.commands.items
+  pub put_settles : (new : Active) (stands : M) → RefusesLong old.is_replaying request old.output (Ok stands) → new.is_replaying ≡ still_replays old.is_replaying new.commands.items
       → Puts ignoring old.is_replaying request written old.commands.items old.output (Ok stands) new.commands.items new.output
       → new ≡ record old { is_replaying = new.is_replaying; commands = new.commands; output = new.output } → PutsOne ignoring request written old new
-  put_settles new stands replays puts others =
+  put_settles new stands refuses replays puts others =
       elim (cases_Bool old.is_replaying) [
         | inl t ↦ matched new stands t replays (subst (λ (b : Bool). Puts ignoring b request written old.commands.items old.output (Ok stands) new.commands.items new.output) t puts) others
-        | inr f ↦ sent new stands f replays (subst (λ (b : Bool). Puts ignoring b request written old.commands.items old.output (Ok stands) new.commands.items new.output) f puts) others
+        | inr f ↦ sent new stands f (subst (λ (b : Bool). RefusesLong b request old.output (Ok stands)) f refuses) replays (subst (λ (b : Bool). Puts ignoring b request written old.commands.items old.output (Ok stands) new.commands.items new.output) f puts) others
       ]
 
   -- ---- why it is not
@@ -95,16 +105,16 @@ module _ {M : Type 0} (ignoring : Bool) (request : Request) (written : List Requ
   replay_fails (Replay unmatched.OutOfMemory) queue output t puts = puts
   replay_fails (Encoding error) queue output t puts = absurd puts.0
 
-  write_fails : (error : PutError M) (queue : List RawMessage) (output : Written) → old.is_replaying ≡ false
+  write_fails : (error : PutError M) (queue : List RawMessage) (output : Written) → old.is_replaying ≡ false → RefusesLong false request old.output (Err error)
       → Puts ignoring false request written old.commands.items old.output (Err error) queue output → PutFails ignoring request written old error × (output ≡ old.output)
-  write_fails (Replay error) queue output f puts = absurd puts.0
-  write_fails (Encoding unsent.PayloadTooLong) queue output f puts = ((nothing_recorded old settled f, puts.0.1.1), puts.0.0)
-  write_fails (Encoding unsent.OutOfMemory) queue output f puts = (tt, puts.0)
+  write_fails (Replay error) queue output f refuses puts = absurd puts.0
+  write_fails (Encoding unsent.PayloadTooLong) queue output f refuses puts = ((nothing_recorded old settled f, puts.0.1.1), puts.0.0)
+  write_fails (Encoding unsent.OutOfMemory) queue output f refuses puts = ((nothing_recorded old settled f, not_long (Err (Encoding unsent.OutOfMemory)) (λ wrong. cc wrong) refuses), puts.0)
 
-  pub put_fails : (error : PutError M) (queue : List RawMessage) (output : Written)
+  pub put_fails : (error : PutError M) (queue : List RawMessage) (output : Written) → RefusesLong old.is_replaying request old.output (Err error)
       → Puts ignoring old.is_replaying request written old.commands.items old.output (Err error) queue output → PutFails ignoring request written old error × (output ≡ old.output)
-  put_fails error queue output puts =
+  put_fails error queue output refuses puts =
       elim (cases_Bool old.is_replaying) [
         | inl t ↦ replay_fails error queue output t (subst (λ (b : Bool). Puts ignoring b request written old.commands.items old.output (Err error) queue output) t puts)
-        | inr f ↦ write_fails error queue output f (subst (λ (b : Bool). Puts ignoring b request written old.commands.items old.output (Err error) queue output) f puts)
+        | inr f ↦ write_fails error queue output f (subst (λ (b : Bool). RefusesLong b request old.output (Err error)) f refuses) (subst (λ (b : Bool). Puts ignoring b request written old.commands.items old.output (Err error) queue output) f puts)
       ]

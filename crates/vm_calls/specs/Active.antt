@@ -1,6 +1,6 @@
 -- When what an attempt keeps is what the abstract machine keeps, and what each step of a call does to it.
-use Rattle.std.specs.Prelude.{◌≡◌, ◌≤◌, ◌<◌, ◌+◌, ◌^◌, ◌⊎◌, ℕ, Bool, true, false, List, [], ◌∷◌, ◌++◌, length, Some, None, Result, Ok, Err}
-use Rattle.std.specs.List.{flat_map}
+use Rattle.std.specs.Prelude.{◌≡◌, ◌≤◌, ◌<◌, ◌+◌, ◌^◌, ◌⊎◌, ℕ, zero, suc, Bool, true, false, List, [], ◌∷◌, ◌++◌, length, Some, None, Result, Ok, Err}
+use Rattle.std.specs.List.{flat_map, AllByRecursion}
 use Rattle.journal_model.specs.declared.notification.NotificationId.TheVariants.{CompletionId}
 use Rattle.journal_model.specs.Notification.{Text}
 use Rattle.journal_model.specs.Request.{Request}
@@ -51,6 +51,10 @@ pub record Sees (given : Invocation) (active : Active) (m : Machine) : Type 0 wh
 abbrev pub writes_frames : List Request → Written → Written
 writes_frames requests written = record written { bytes = written.bytes ++ flat_map request_frame requests }
 
+-- 32 bits tell how long its frame's payload is
+abbrev pub Fits : Request → Type 0
+Fits request = length (request_payload request) < 2 ^ 32
+
 -- ---- the steps
 
 -- what the last command is told by, in both
@@ -67,16 +71,22 @@ IsAtCommand ty name old new = TellsSame (after_command ty name old) new
 abbrev pub asking : MessageType → Text → Active → Active
 asking ty name active = record active { journal = after_command ty name active.journal }
 
+-- so many completion ids, or handles for them, are not left; where none is taken none is lacking
+abbrev pub LacksCompletions : ℕ → Active → Type 0
+LacksCompletions zero old = ⊥
+LacksCompletions (suc more) old = (2 ^ 32 < old.journal.completions + suc more) ⊎ (2 ^ 32 < 17 + length (slots_of old.results) + suc more)
+
+-- so many are left
+abbrev pub HasCompletions : ℕ → Active → Type 0
+HasCompletions taken old = LacksCompletions taken old → ⊥
+
 -- the next completion id and its handle are taken
 pub record TakesCompletion (made : ℕ × ℕ) (old new : Active) : Type 0 where
   pub id : made.0 ≡ old.journal.completions
   pub handle : made.1 ≡ 17 + length (slots_of old.results)
   pub results : results_of new.results ≡ with_handle (CompletionId old.journal.completions) (results_of old.results)
   pub others : new ≡ record old { journal = after_completions 1 old.journal; results = new.results }
-
--- so many completion ids, or handles for them, are not left
-abbrev pub LacksCompletions : ℕ → Active → Type 0
-LacksCompletions taken old = (2 ^ 32 < old.journal.completions + taken) ⊎ (2 ^ 32 < 17 + length (slots_of old.results) + taken)
+  pub has : HasCompletions 1 old
 
 -- an attempt replays until the last recorded command is matched
 abbrev pub still_replays : Bool → List RawMessage → Bool
@@ -96,17 +106,19 @@ pub record PutsOne (ignoring : Bool) (request : Request) (written : List Request
   pub settled : IsSettled new
   pub more : List Request
   pub requests : put.written ≡ written ++ more
+  -- what is written fits a frame
+  pub fit : AllByRecursion Fits more
   pub frames : new.output ≡ writes_frames more old.output
   pub others : new ≡ record old { is_replaying = new.is_replaying; commands = new.commands; output = new.output }
 
--- why it is not: by the abstract machine, for its length, or for want of memory
+-- why it is not: by the abstract machine, exactly for its length, or for want of memory
 abbrev pub PutFails : {M : Type 0} → (ignoring : Bool) → Request → (written : List Request) → (old : Active) → PutError M → Type 0
 PutFails ignoring request written old (Replay (unmatched.Unavailable error)) = ⊥
 PutFails ignoring request written old (Replay (unmatched.Decoding error)) = put_one (header_equal ignoring) request (left_of old) written ≡ None
 PutFails ignoring request written old (Replay (unmatched.Mismatch error)) = put_one (header_equal ignoring) request (left_of old) written ≡ None
 PutFails ignoring request written old (Replay unmatched.OutOfMemory) = Unit {0}
 PutFails ignoring request written old (Encoding unsent.PayloadTooLong) = (left_of old ≡ []) × (2 ^ 32 ≤ length (request_payload request))
-PutFails ignoring request written old (Encoding unsent.OutOfMemory) = Unit {0}
+PutFails ignoring request written old (Encoding unsent.OutOfMemory) = (left_of old ≡ []) × Fits request
 
 abbrev pub PutsIn : {M : Type 0} → (ignoring : Bool) → Request → (written : List Request) → (old : Active) → Result M (PutError M) → (new : Active) → Type 0
 PutsIn ignoring request written old (Ok stands) new = PutsOne ignoring request written old new

@@ -32,11 +32,13 @@ pub record TakesSignal (made : ℕ × ℕ) (old new : Active) : Type 0 where
   pub handle : made.1 ≡ 17 + length (slots_of old.results)
   pub results : results_of new.results ≡ with_handle (SignalId old.journal.signals) (results_of old.results)
   pub others : new ≡ record old { journal = after_signal old.journal; results = new.results }
+  pub has : LacksSignal old → ⊥
 
--- It is answered as the abstract machine answers it, and nothing is written; or a number is lacking, or memory was refused.
+-- It is answered as the abstract machine answers it, and nothing is written; or a number is lacking, exactly then, or memory was
+-- refused.
 abbrev pub MakesHandle : (checks_off : Bool) (given : Invocation) (m : Machine) (call : Call) → {Taken : Type 0} → (Taken → Answer) → (Lacks : Active → Type 0)
     → (old : Active) → Result Taken NumberError → (new : Active) → Type 0
-MakesHandle checks_off given m call answer Lacks old (Ok taken) new = Replies checks_off given m call (answer taken) old new × (new.output ≡ old.output)
+MakesHandle checks_off given m call answer Lacks old (Ok taken) new = Replies checks_off given m call (answer taken) old new × (new.output ≡ old.output) × (Lacks old → ⊥)
 MakesHandle checks_off given m call answer Lacks old (Err IdsExhausted) new = Lacks old × (new.output ≡ old.output)
 MakesHandle checks_off given m call answer Lacks old (Err OutOfMemory) new = new.output ≡ old.output
 

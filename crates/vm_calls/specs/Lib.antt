@@ -4,3 +4,4 @@ pub mod Active
 pub mod Making
 pub mod Handles
 pub mod Doing
+pub mod Spent

@@ -1,5 +1,6 @@
 -- What a call does that puts one command: what it answers, and why it fails.
 use Rattle.std.specs.Prelude.{◌≡◌, ◌≤◌, ◌^◌, ◌+◌, ℕ, Bool, false, List, [], ◌∷◌, ◌++◌, length, map, Some, None, Result, Ok, Err}
+use Rattle.std.specs.List.{AllByRecursion}
 use Rattle.journal_model.specs.declared.notification.NotificationId.TheVariants.{CompletionId}
 use Rattle.journal_model.specs.Notification.{Text}
 use Rattle.journal_model.specs.declared.call.Call.{Call}
@@ -24,12 +25,13 @@ use Rattle.vm_calls.specs.declared.active.Active.{Active}
 use Rattle.vm_calls.specs.declared.call_error.CallError.{CallError}
 use Rattle.vm_calls.specs.declared.call_error.CallError.TheVariants.{Number, Put, OutOfMemory}
 use Rattle.vm_calls.specs.declared.call_error.NumberError.TheVariants as numbers
+use Rattle.vm_calls.specs.declared.put_error.PutError.{PutError}
 use Rattle.vm_calls.specs.declared.put_error.PutError.TheVariants.{Replay, Encoding}
-use Rattle.vm_calls.specs.Active.{Sees, has_left, left_of, asking, LacksCompletions, TakesCompletion, writes_frames}
+use Rattle.vm_calls.specs.Active.{Sees, Fits, has_left, left_of, asking, LacksCompletions, HasCompletions, TakesCompletion, writes_frames}
 
 module _ (checks_off : Bool) (given : Invocation) (m : Machine) (call : Call) where
   -- The call is answered as the abstract machine answers it, which is seen afterwards; written are exactly the frames of the
-  -- requests by which it has written more.
+  -- requests by which it has written more, and each fits its frame. The numbers that it takes were left.
   pub record Replies (answer : Answer) (old new : Active) : Type 0 where
     pub machine : Machine
     pub replies : reply_to (same_header checks_off) given m call ≡ Answered answer machine
@@ -37,6 +39,8 @@ module _ (checks_off : Bool) (given : Invocation) (m : Machine) (call : Call) wh
     pub more : List Request
     pub written : machine.written ≡ m.written ++ more
     pub frames : new.output ≡ writes_frames more old.output
+    pub fit : AllByRecursion Fits more
+    pub has : HasCompletions (completions_of call) old
 
   -- the call's one request is longer than a frame can be
   pub record IsLong : Type 0 where
@@ -44,17 +48,27 @@ module _ (checks_off : Bool) (given : Invocation) (m : Machine) (call : Call) wh
     pub requests : requests_by m.start m.done m.left m.completions call ≡ request ∷ []
     pub long : 2 ^ 32 ≤ length (request_payload request)
 
-  -- Why it fails: no number is left; the abstract machine fails; its request, which would be written, is too long; or memory
-  -- was refused.
+  -- it is not
+  pub record IsShort : Type 0 where
+    pub request : Request
+    pub requests : requests_by m.start m.done m.left m.completions call ≡ request ∷ []
+    pub fits : Fits request
+
+  -- Why its request is not put: the abstract machine fails; the request would be written, and is too long, or memory was refused
+  -- for its frame; or memory was refused for what is recorded.
+  abbrev pub PutFailsAs : {M : Type 0} → PutError M → Type 0
+  PutFailsAs (Replay (unmatched.Unavailable error)) = ⊥
+  PutFailsAs (Replay (unmatched.Decoding error)) = reply_to (same_header checks_off) given m call ≡ FailedBy Mismatch
+  PutFailsAs (Replay (unmatched.Mismatch error)) = reply_to (same_header checks_off) given m call ≡ FailedBy Mismatch
+  PutFailsAs (Replay unmatched.OutOfMemory) = Unit {0}
+  PutFailsAs (Encoding unsent.PayloadTooLong) = (m.left ≡ []) × IsLong
+  PutFailsAs (Encoding unsent.OutOfMemory) = (m.left ≡ []) × IsShort
+
+  -- Why it fails: a number is lacking; or none is, and its request is not put; or memory was refused.
   abbrev pub FailsAs : {M : Type 0} → (old : Active) → CallError M → Type 0
   FailsAs old (Number numbers.IdsExhausted) = LacksCompletions (completions_of call) old
   FailsAs old (Number numbers.OutOfMemory) = Unit {0}
-  FailsAs old (Put (Replay (unmatched.Unavailable error))) = ⊥
-  FailsAs old (Put (Replay (unmatched.Decoding error))) = reply_to (same_header checks_off) given m call ≡ FailedBy Mismatch
-  FailsAs old (Put (Replay (unmatched.Mismatch error))) = reply_to (same_header checks_off) given m call ≡ FailedBy Mismatch
-  FailsAs old (Put (Replay unmatched.OutOfMemory)) = Unit {0}
-  FailsAs old (Put (Encoding unsent.PayloadTooLong)) = (m.left ≡ []) × IsLong
-  FailsAs old (Put (Encoding unsent.OutOfMemory)) = Unit {0}
+  FailsAs old (Put error) = PutFailsAs error × HasCompletions (completions_of call) old
   FailsAs old OutOfMemory = Unit {0}
 
   -- what such a call does, where it makes its answer of what it takes
@@ -85,6 +99,7 @@ pub record IsReady (given : Invocation) (m : Machine) (call : Call) (request : R
   pub opened : ready.output.is_closed ≡ false
   pub children : m.children ≡ []
   pub output : ready.output ≡ old.output
+  pub has : HasCompletions (completions_of call) old
 
 -- a call that takes one completion id and a handle for it, and puts one request, which changes nothing of the state
 pub record CompletesOne (given : Invocation) (m : Machine) (call : Call) (request : Request) : Type 0 where

@@ -1,9 +1,10 @@
 // What an attempt keeps while calls are made of it, and the steps that each call is made of.
-ghost use Rattle.std.specs.Prelude.{◌≡◌, ◌+◌, ◌<◌, ◌^◌, ◌↔◌, ◌||◌, Bool, List, Some, OnOk, OnErr, IfOk, IfErr, length};
+ghost use Rattle.std.specs.Prelude.{◌≡◌, ◌+◌, ◌≤◌, ◌<◌, ◌^◌, ◌↔◌, ◌||◌, ℕ, Bool, List, Some, OnOk, OnErr, IfOk, IfErr, length};
 ghost use Rattle.vm_calls.specs.Words.{Call, Answer, Request, Invocation, Machine};
 ghost use Rattle.vm_commands.specs.HeaderEquality.{is_unstable};
-ghost use Rattle.vm_calls.specs.Active.{left_of, still_replays, asking, TellsSame, IsAtCommand, IsSettled, TakesCompletion, LacksCompletions, PutsIn};
+ghost use Rattle.vm_calls.specs.Active.{left_of, still_replays, asking, TellsSame, IsAtCommand, IsSettled, TakesCompletion, LacksCompletions, HasCompletions, PutsIn};
 ghost use Rattle.vm_calls.specs.Making.{CompletesOne, HasBegun, Makes};
+ghost use Rattle.vm_calls.specs.Spent.{IsSpent, FindsNone, FailsSpent, KeepsRest};
 ghost use Rattle.vm_awaits.specs.Views.{results_of, slots_of};
 ghost use Rattle.vm_awaits.specs.Calls.{with_handle};
 ghost use Rattle.vm_awaits.specs.declared.state.CreateHandleError.TheVariants.{HandlesExhausted};
@@ -49,6 +50,7 @@ pub fn handle_for(
 ) -> Result<NotificationHandle, NumberError>
     ensures handle { IfOk result (λ handle. handle ≡ 17 + length (slots_of results.old)) }
     ensures made { IfOk result (λ handle. results_of results.new ≡ with_handle id (results_of results.old)) }
+    ensures left { OnOk result (2 ^ 32 ≤ 17 + length (slots_of results.old) → ⊥) }
     ensures err { IfErr result (λ error. error ≡ IdsExhausted → 2 ^ 32 < 17 + length (slots_of results.old) + 1) }
 {
     match results.create_handle_mapping(id) {
@@ -120,6 +122,7 @@ impl Active {
     ) -> Result<M, PutError<M>>
         ensures put { (request : Request) (written : List Request) → M.request_of command ≡ Some request → IsSettled self.old
             → PutsIn ignore_payload_equality request written self.old result self.new }
+        ensures spent { (request : Request) → M.request_of command ≡ Some request → IsSpent self.old → FindsNone result × (self.new.output ≡ self.old.output) }
         ensures journal { self.new.journal ≡ self.old.journal }
     {
         let index = self.journal.command_index();
@@ -151,6 +154,8 @@ impl Active {
         ensures makes { (checks_off : Bool) (given : Invocation) (m : Machine) (call : Call) (request : Request) (old : Active) → M.request_of command ≡ Some request
             → CompletesOne given m call request → ignore_payload_equality ≡ (checks_off || is_unstable call) → HasBegun given m handle old self.old
             → Makes checks_off given m call (λ handle. Answer.Handle handle) old result self.new }
+        ensures spent { (request : Request) (taken : ℕ) (old : Active) → M.request_of command ≡ Some request → KeepsRest old self.old → HasCompletions taken old
+            → IsSpent old → FailsSpent taken old result self.new }
         ensures journal { self.new.journal ≡ self.old.journal }
     {
         match self.put(alloc, command, ignore_payload_equality) {

@@ -1,9 +1,11 @@
 // What is left of a call that takes no number once its command is made.
-ghost use Rattle.std.specs.Prelude.{◌≡◌, ◌||◌, Bool, Some};
+ghost use Rattle.std.specs.Prelude.{◌≡◌, ◌||◌, ℕ, Bool, Some};
 ghost use Rattle.vm_calls.specs.Words.{Call, Answer, Request, Invocation, Machine};
 ghost use Rattle.vm_commands.specs.HeaderEquality.{is_unstable};
+ghost use Rattle.vm_calls.specs.Active.{HasCompletions};
 ghost use Rattle.vm_calls.specs.Making.{Makes};
 ghost use Rattle.vm_calls.specs.Doing.{DoesOne, HasAsked};
+ghost use Rattle.vm_calls.specs.Spent.{IsSpent, FailsSpent, KeepsRest};
 
 use crate::{Active, CallError};
 use std::alloc::Global;
@@ -20,6 +22,8 @@ impl Active {
         ensures makes { (checks_off : Bool) (given : Invocation) (m : Machine) (call : Call) (request : Request) (old : Active) → M.request_of command ≡ Some request
             → DoesOne given m call request → ignore_payload_equality ≡ (checks_off || is_unstable call) → HasAsked given m request old self.old
             → Makes checks_off given m call (λ done. Answer.Done) old result self.new }
+        ensures spent { (request : Request) (taken : ℕ) (old : Active) → M.request_of command ≡ Some request → KeepsRest old self.old → HasCompletions taken old
+            → IsSpent old → FailsSpent taken old result self.new }
         ensures journal { self.new.journal ≡ self.old.journal }
     {
         match self.put(alloc, command, ignore_payload_equality) {

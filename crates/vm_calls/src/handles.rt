@@ -1,7 +1,7 @@
 // The calls that make a handle and put no command.
 ghost use Rattle.std.specs.Prelude.{◌≡◌, Bool, IfOk, IfErr};
 ghost use Rattle.vm_calls.specs.Words.{Call, Answer, Invocation, Machine};
-ghost use Rattle.vm_calls.specs.Active.{Sees};
+ghost use Rattle.vm_calls.specs.Active.{Sees, TellsSame};
 ghost use Rattle.vm_calls.specs.Handles.{LacksHandle, LacksSignal, TakesSignal, MakesHandle};
 ghost use Rattle.vm_calls.specs.declared.call_error.NumberError.TheVariants.{IdsExhausted};
 
@@ -18,6 +18,7 @@ impl Active {
         ensures ok { IfOk result (λ made. TakesSignal made self.old self.new) }
         ensures err { IfErr result (λ error. error ≡ IdsExhausted → LacksSignal self.old) }
         ensures output { self.new.output ≡ self.old.output }
+        ensures told { TellsSame self.old.journal self.new.journal }
     {
         let Ok(id) = self.journal.next_signal_notification_id() else {
             return Err(NumberError::IdsExhausted);
@@ -26,9 +27,10 @@ impl Active {
         Ok((id, handle))
     }
 
-    /// The handle of a signal of this name. Nothing is recorded of it.
+    /// The handle of a signal of this name. Nothing is recorded of it, and no command is counted.
     pub fn create_signal_handle(&mut self, name: ByteStr) -> Result<NotificationHandle, NumberError>
-        ensures { (checks_off : Bool) (given : Invocation) (m : Machine) → Sees given self.old m
+        ensures told { TellsSame self.old.journal self.new.journal }
+        ensures made { (checks_off : Bool) (given : Invocation) (m : Machine) → Sees given self.old m
             → MakesHandle checks_off given m (Call.Signal name) (λ handle. Answer.Handle handle) LacksHandle self.old result self.new }
     {
         match handle_for(&mut self.results, NotificationId::SignalName(name)) {
@@ -38,13 +40,14 @@ impl Active {
     }
 
     /// A signal that the outside completes by the text that names it: the invocation's id and the signal's number. Nothing is
-    /// recorded of it.
+    /// recorded of it, and no command is counted.
     pub fn awakeable(
         &mut self,
         alloc: Global,
         invocation_id: &Bytes,
     ) -> Result<AwakeableHandle, NumberError>
-        ensures { (checks_off : Bool) (given : Invocation) (m : Machine) → given.input.invocation_id ≡ invocation_id.now → Sees given self.old m
+        ensures told { TellsSame self.old.journal self.new.journal }
+        ensures made { (checks_off : Bool) (given : Invocation) (m : Machine) → given.input.invocation_id ≡ invocation_id.now → Sees given self.old m
             → MakesHandle checks_off given m Call.Awakeable (λ made. Answer.Awakeable made.id made.handle) LacksSignal self.old result self.new }
     {
         let (signal, handle) = self.next_signal()?;

@@ -1,6 +1,7 @@
 // The calls that are about a promise.
 ghost use Rattle.std.specs.Prelude.{◌≡◌, [], Some, None, IfOk};
 ghost use Rattle.vm_calls.specs.Making.{Makes};
+ghost use Rattle.vm_calls.specs.Spent.{IsSpent, FailsSpent};
 ghost use Rattle.vm_calls.specs.Words.{Call, Answer, Request, Invocation, Machine};
 ghost use Rattle.journal_model.specs.Refusal.{refusal_of};
 ghost use Rattle.protocol_types.specs.declared.message_type.MessageType.TheVariants.{GetPromiseCommand, PeekPromiseCommand, CompletePromiseCommand};
@@ -46,6 +47,7 @@ impl Active {
     ) -> Result<NotificationHandle, CallError<GetPromiseCommandMessage>>
         ensures made { (given : Invocation) (m : Machine) → Sees given self.old m
             → Makes checks_off given m (Call.GetPromise key) (λ handle. Answer.Handle handle) self.old result self.new }
+        ensures spent { IsSpent self.old → FailsSpent 1 self.old result self.new }
         ensures told { IsAtCommand GetPromiseCommand [] self.old.journal self.new.journal }
     {
         let (name, id, handle) = self.begin(MessageType::GetPromiseCommand, ByteStr::new())?;
@@ -67,6 +69,7 @@ impl Active {
         ensures told { IsAtCommand PeekPromiseCommand [] self.old.journal self.new.journal }
         ensures made { (given : Invocation) (m : Machine) → Sees given self.old m
             → Makes checks_off given m (Call.PeekPromise key) (λ handle. Answer.Handle handle) self.old result self.new }
+        ensures spent { IsSpent self.old → FailsSpent 1 self.old result self.new }
     {
         let (name, result_completion_id, handle) = self.begin(
             MessageType::PeekPromiseCommand,
@@ -95,6 +98,7 @@ impl Active {
     ) -> Result<NotificationHandle, CallError<CompletePromiseCommandMessage>>
         ensures made { (given : Invocation) (m : Machine) → refusal_of given.version (Call.CompletePromise key value options) ≡ None → Sees given self.old m
             → Makes checks_off given m (Call.CompletePromise key value options) (λ handle. Answer.Handle handle) self.old result self.new }
+        ensures spent { IsSpent self.old → FailsSpent 1 self.old result self.new }
         ensures told { IsAtCommand CompletePromiseCommand [] self.old.journal self.new.journal }
     {
         let (name, id, handle) = self.begin(MessageType::CompletePromiseCommand, ByteStr::new())?;

@@ -6,6 +6,7 @@ ghost use Rattle.protocol_types.specs.declared.message_type.MessageType.TheVaria
 ghost use Rattle.vm_context.specs.Following.{Follows};
 ghost use Rattle.vm_calls.specs.Active.{Sees, IsAtCommand};
 ghost use Rattle.vm_calls.specs.Making.{Makes};
+ghost use Rattle.vm_calls.specs.Spent.{IsSpent, FailsSpent};
 
 use crate::{Active, CallError, ignores, or_empty};
 use bytes::{ByteStr, Bytes};
@@ -45,6 +46,7 @@ impl Active {
     ) -> Result<(), CallError<SetStateCommandMessage>>
         ensures made { (given : Invocation) (m : Machine) → Sees given self.old m
             → Makes checks_off given m (Call.StateSet key value name options) (λ done. Answer.Done) self.old result self.new }
+        ensures spent { IsSpent self.old → FailsSpent 0 self.old result self.new }
         ensures told { IsAtCommand SetStateCommand (name_or_empty name) self.old.journal self.new.journal }
     {
         let name = self.ask(MessageType::SetStateCommand, or_empty(name))?;
@@ -67,6 +69,7 @@ impl Active {
     ) -> Result<(), CallError<ClearStateCommandMessage>>
         ensures made { (given : Invocation) (m : Machine) → Sees given self.old m
             → Makes checks_off given m (Call.StateClear key name) (λ done. Answer.Done) self.old result self.new }
+        ensures spent { IsSpent self.old → FailsSpent 0 self.old result self.new }
         ensures told { IsAtCommand ClearStateCommand (name_or_empty name) self.old.journal self.new.journal }
     {
         let name = self.ask(MessageType::ClearStateCommand, or_empty(name))?;
@@ -87,6 +90,7 @@ impl Active {
     ) -> Result<(), CallError<ClearAllStateCommandMessage>>
         ensures made { (given : Invocation) (m : Machine) → Sees given self.old m
             → Makes checks_off given m (Call.StateClearAll name) (λ done. Answer.Done) self.old result self.new }
+        ensures spent { IsSpent self.old → FailsSpent 0 self.old result self.new }
         ensures told { IsAtCommand ClearAllStateCommand (name_or_empty name) self.old.journal self.new.journal }
     {
         let name = self.ask(MessageType::ClearAllStateCommand, or_empty(name))?;

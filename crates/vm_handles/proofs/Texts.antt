@@ -45,7 +45,7 @@ sees_named id given active m sees = record {
 text_of : (id : Bytes) (old new : Active) (made : AwakeableHandle) → MakesAwakeable id old (Ok made) new → (given : Invocation) (m : Machine) → Sees given old m
     → made.id ≡ awakeable_id id old.journal.signals
 text_of id old new made makes given m sees =
-    let replies = (makes false (named id given) m refl (sees_named id given old m sees)).0.replies in
+    let replies = (makes.0 false (named id given) m refl (sees_named id given old m sees)).0.replies in
     sym (ap reply_text replies) ∙ ap (λ (n : ℕ). awakeable_id id n) (sym sees.signals)
 
 answered_text : (id : Bytes) (old : MachineState) (made : Result AwakeableHandle NumberError) (active : Active) (result : Result AwakeableHandle Error) (new : MachineState)

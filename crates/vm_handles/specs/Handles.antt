@@ -21,7 +21,7 @@ use Rattle.vm_types.specs.declared.options.JournalReplay.TheVariants.{Enabled, D
 use Rattle.vm_awaits.specs.Views.{results_of, slots_of, ready_of}
 use Rattle.vm_awaits.specs.Calls.{after_take}
 use Rattle.vm_commands.specs.HeaderEquality.{same_header}
-use Rattle.vm_calls.specs.Active.{Sees}
+use Rattle.vm_calls.specs.Active.{Sees, TellsSame}
 use Rattle.vm_calls.specs.Handles.{LacksHandle, LacksSignal, MakesHandle}
 use Rattle.vm_calls.specs.declared.active.Active.{Active}
 use Rattle.vm_calls.specs.declared.call_error.NumberError.{NumberError}
@@ -36,10 +36,11 @@ use Rattle.vm_handles.specs.Calling.{IsCalled}
 
 -- ---- signals
 
--- as the abstract machine makes it, which was seen before
+-- as the abstract machine makes it, which was seen before; no command is counted
 abbrev pub MakesSignal : Text → (old : Active) → Result ℕ NumberError → (new : Active) → Type 0
-MakesSignal name old made new = (checks_off : Bool) (given : Invocation) (m : Machine) → Sees given old m
-    → MakesHandle checks_off given m (Call.Signal name) (λ handle. Answer.Handle handle) LacksHandle old made new
+MakesSignal name old made new =
+    ((checks_off : Bool) (given : Invocation) (m : Machine) → Sees given old m → MakesHandle checks_off given m (Call.Signal name) (λ handle. Answer.Handle handle) LacksHandle old made new)
+    × TellsSame old.journal new.journal
 
 -- ---- awakeables
 
@@ -49,8 +50,9 @@ id_of None = []
 id_of (Some start) = start.id
 
 abbrev pub MakesAwakeable : (id : Bytes) → (old : Active) → Result AwakeableHandle NumberError → (new : Active) → Type 0
-MakesAwakeable id old made new = (checks_off : Bool) (given : Invocation) (m : Machine) → given.input.invocation_id ≡ id → Sees given old m
-    → MakesHandle checks_off given m Call.Awakeable (λ made. Answer.Awakeable made.id made.handle) LacksSignal old made new
+MakesAwakeable id old made new =
+    ((checks_off : Bool) (given : Invocation) (m : Machine) → given.input.invocation_id ≡ id → Sees given old m
+    → MakesHandle checks_off given m Call.Awakeable (λ made. Answer.Awakeable made.id made.handle) LacksSignal old made new) × TellsSame old.journal new.journal
 
 -- in an attempt that was seen, the text is that of the invocation and of the next signal
 abbrev pub IsNamed : (id : Bytes) → (old : Active) → Result AwakeableHandle Error → Type 0

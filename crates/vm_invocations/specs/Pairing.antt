@@ -16,7 +16,7 @@ use Rattle.vm_awaits.specs.Calls.{with_handle}
 use Rattle.vm_context.specs.Journal.{after_completions}
 use Rattle.vm_context.specs.Following.{changes_state}
 use Rattle.vm_calls.specs.declared.active.Active.{Active}
-use Rattle.vm_calls.specs.Active.{Sees, asking}
+use Rattle.vm_calls.specs.Active.{Sees, asking, HasCompletions}
 use Rattle.vm_calls.specs.Making.{AsksOne}
 
 -- the next two completion ids are taken, and the two handles
@@ -27,6 +27,7 @@ pub record TakesTwo (first second : ℕ) (handles : ℕ × ℕ) (old new : Activ
   pub second_handle : handles.1 ≡ suc (17 + length (slots_of old.results))
   pub results : results_of new.results ≡ with_handle (CompletionId (old.journal.completions + 1)) (with_handle (CompletionId old.journal.completions) (results_of old.results))
   pub others : new ≡ record old { journal = after_completions 2 old.journal; results = new.results }
+  pub has : HasCompletions 2 old
 
 -- a call that takes two completion ids and two handles for them, and puts one request, which changes nothing of the state
 pub record CompletesTwo (given : Invocation) (m : Machine) (call : Call) (request : Request) : Type 0 where

@@ -5,6 +5,7 @@ ghost use Rattle.protocol_types.specs.declared.message_type.MessageType.TheVaria
 ghost use Rattle.vm_calls.specs.Words.{Call, Answer, Invocation, Machine};
 ghost use Rattle.vm_calls.specs.Active.{Sees, IsAtCommand};
 ghost use Rattle.vm_calls.specs.Making.{Makes};
+ghost use Rattle.vm_calls.specs.Spent.{IsSpent, FailsSpent};
 
 use crate::targets::to_invocation_target;
 use bytes::ByteStr;
@@ -23,6 +24,7 @@ pub fn attach(
 ) -> Result<NotificationHandle, CallError<AttachInvocationCommandMessage>>
     ensures made { (given : Invocation) (m : Machine) → refusal_of given.version (Call.Attach target) ≡ None → Sees given active.old m
         → Makes checks_off given m (Call.Attach target) (λ handle. Answer.Handle handle) active.old result active.new }
+    ensures spent { IsSpent active.old → FailsSpent 1 active.old result active.new }
     ensures told { IsAtCommand AttachInvocationCommand [] active.old.journal active.new.journal }
 {
     let target = to_invocation_target(target);
@@ -48,6 +50,7 @@ pub fn get_output(
     ensures made { (given : Invocation) (m : Machine) → refusal_of given.version (Call.GetOutput target) ≡ None
         → Sees given active.old m
         → Makes checks_off given m (Call.GetOutput target) (λ handle. Answer.Handle handle) active.old result active.new }
+    ensures spent { IsSpent active.old → FailsSpent 1 active.old result active.new }
     ensures told { IsAtCommand GetInvocationOutputCommand [] active.old.journal active.new.journal }
 {
     let (name, id, handle) = active.begin(MessageType::GetInvocationOutputCommand, ByteStr::new())?;

@@ -1,13 +1,14 @@
 // A call of another handler, which takes two completions.
-ghost use Rattle.std.specs.Prelude.{◌≡◌, ◌||◌, Bool, Some, None, [], IfOk, IfErr};
+ghost use Rattle.std.specs.Prelude.{◌≡◌, ◌||◌, ℕ, Bool, Some, None, [], IfOk, IfErr};
 ghost use Rattle.journal_model.specs.Run.{call_record, name_or_empty};
 ghost use Rattle.journal_model.specs.Refusal.{refusal_of};
 ghost use Rattle.journal_model.specs.Await.{child_of};
 ghost use Rattle.protocol_spellings.specs.Requests.{request_of_call};
 ghost use Rattle.vm_commands.specs.HeaderEquality.{is_unstable};
 ghost use Rattle.vm_calls.specs.Words.{Call, Answer, Request, Invocation, Machine};
-ghost use Rattle.vm_calls.specs.Active.{Sees, asking, IsAtCommand, TellsSame, LacksCompletions};
+ghost use Rattle.vm_calls.specs.Active.{Sees, asking, IsAtCommand, TellsSame, LacksCompletions, HasCompletions};
 ghost use Rattle.vm_calls.specs.Making.{Makes};
+ghost use Rattle.vm_calls.specs.Spent.{IsSpent, FailsSpent, KeepsRest};
 ghost use Rattle.vm_calls.specs.declared.call_error.NumberError.TheVariants.{IdsExhausted};
 ghost use Rattle.vm_invocations.specs.Pairing.{TakesTwo, CompletesTwo, HasBegunTwo};
 
@@ -120,6 +121,8 @@ fn put_call<M: Command>(
         → CompletesTwo given m call request → ignore ≡ (checks_off || is_unstable call)
         → HasBegunTwo given m (handles.invocation_id_notification_handle, handles.call_notification_handle) old active.old
         → Makes checks_off given m call (λ made. Answer.Handles made.invocation_id_notification_handle made.call_notification_handle) old result active.new }
+    ensures spent { (request : Request) (taken : ℕ) (old : Active) → M.request_of command ≡ Some request → KeepsRest old active.old → HasCompletions taken old
+        → IsSpent old → FailsSpent taken old result active.new }
 {
     match active.put(alloc, command, ignore) {
         Err(error) => Err(CallError::Put(error)),
@@ -146,6 +149,7 @@ pub fn call(
         → child_of given.options.implicit_cancellation m.completions (Call.Call target parameter name options) ≡ [] → Sees given active.old m
         → Makes checks_off given m (Call.Call target parameter name options)
         (λ made. Answer.Handles made.invocation_id_notification_handle made.call_notification_handle) active.old result active.new }
+    ensures spent { IsSpent active.old → FailsSpent 2 active.old result active.new }
     ensures told { IsAtCommand MessageType.CallCommand (name_or_empty name) active.old.journal active.new.journal }
 {
     let (name, first, second, handles) = begin_two(

@@ -9,6 +9,7 @@ ghost use Rattle.protocol_spellings.specs.Requests.{request_of_one_way_call};
 ghost use Rattle.vm_calls.specs.Words.{Call, Answer, Request, Invocation, Machine};
 ghost use Rattle.vm_calls.specs.Active.{Sees, IsAtCommand};
 ghost use Rattle.vm_calls.specs.Making.{Makes};
+ghost use Rattle.vm_calls.specs.Spent.{IsSpent, FailsSpent};
 
 use bytes::{ByteStr, Bytes};
 use journal_model::{NotificationHandle, PayloadOptions, Target};
@@ -75,6 +76,7 @@ pub fn send(
         → refusal_of given.version (Call.Send target parameter moment name options) ≡ None
         → child_of given.options.implicit_cancellation m.completions (Call.Send target parameter moment name options) ≡ [] → Sees given active.old m
         → Makes checks_off given m (Call.Send target parameter moment name options) (λ handle. Answer.Handle handle) active.old result active.new }
+    ensures spent { IsSpent active.old → FailsSpent 1 active.old result active.new }
     ensures told { IsAtCommand OneWayCallCommand (name_or_empty name) active.old.journal active.new.journal }
 {
     let (name, id, handle) = active.begin(MessageType::OneWayCallCommand, or_empty(name))?;

@@ -2,6 +2,7 @@
 use Rattle.std.proofs.Common.{◌≡◌, ℕ, Bool, List, [], Option, Some, None, option_map, Result, Err, refl, sym, ap, subst, ◌∙◌}
 use Rattle.journal_model.specs.Notification.{Text}
 use Rattle.journal_model.specs.Await.{child_of}
+use Rattle.journal_model.specs.History.{completions_of}
 use Rattle.journal_model.specs.Refusal.{refusal_of}
 use Rattle.journal_model.specs.Run.{Invocation}
 use Rattle.journal_model.specs.declared.call.Answer.{Answer}
@@ -13,6 +14,7 @@ use Rattle.protocol_types.specs.declared.version.Version.{Version}
 use Rattle.protocol_types.specs.declared.message_type.MessageType.{MessageType}
 use Rattle.vm_calls.specs.Active.{Sees, IsAtCommand}
 use Rattle.vm_calls.specs.Making.{Makes}
+use Rattle.vm_calls.specs.Spent.{IsSpent, FailsSpent}
 use Rattle.vm_calls.specs.declared.active.Active.{Active}
 use Rattle.vm_calls.specs.declared.call_error.CallError.{CallError}
 use Rattle.vm_errors.specs.Phases.{kept_error}
@@ -72,12 +74,14 @@ module _ {Taken : Type 0} (IsDone : MachineState → Result Taken Error → Mach
 pub made_by : {M Taken : Type 0} (difference : M → M → List ℕ) (call : Call) (answer : Taken → Answer) (ty : MessageType) (name : Text) (off : Bool) (old : MachineState)
     (made : Result Taken (CallError M)) (active : Active) (result : Result Taken Error) (new : MachineState) → off ≡ checks_off old.options.non_determinism_checks
     → ((given : Invocation) (m : Machine) → IsOf given old → child_of given.options.implicit_cancellation m.completions call ≡ [] → Sees given old.active m → Makes off given m call answer old.active made active)
-    → IsAtCommand ty name old.active.journal active.journal → Settles difference made (record old { active = active }) result new → IsMade difference call answer ty name old result new
-made_by {M = M} {Taken = Taken} difference call answer ty name off old made active result new is makes told settles = record {
+    → IsAtCommand ty name old.active.journal active.journal → (IsSpent old.active → FailsSpent (completions_of call) old.active made active)
+    → Settles difference made (record old { active = active }) result new → IsMade difference call answer ty name old result new
+made_by {M = M} {Taken = Taken} difference call answer ty name off old made active result new is makes told spent settles = record {
   made = made;
   between = record old { active = active };
   others = refl;
   makes = λ given m is_of childless sees. subst (λ (off : Bool). Makes off given m call answer old.active made active) is (makes given m is_of childless sees);
+  spent = spent;
   told = told;
   settles = settles;
 }

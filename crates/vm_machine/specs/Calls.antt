@@ -1,6 +1,7 @@
 -- What a call does that puts one command, in every state of the machine.
 use Rattle.std.specs.Prelude.{◌≡◌, ℕ, Bool, true, false, List, [], Option, Some, None, Result}
 use Rattle.journal_model.specs.Await.{child_of}
+use Rattle.journal_model.specs.History.{completions_of}
 use Rattle.journal_model.specs.Notification.{Text}
 use Rattle.journal_model.specs.Refusal.{milliseconds, first_refusal, moment_tests, refusal_of}
 use Rattle.journal_model.specs.Run.{Invocation}
@@ -14,6 +15,7 @@ use Rattle.protocol_types.specs.declared.version.Version.{Version}
 use Rattle.protocol_types.specs.declared.message_type.MessageType.{MessageType}
 use Rattle.vm_calls.specs.Active.{Sees, IsAtCommand}
 use Rattle.vm_calls.specs.Making.{Makes}
+use Rattle.vm_calls.specs.Spent.{IsSpent, FailsSpent}
 use Rattle.vm_calls.specs.declared.call_error.CallError.{CallError}
 use Rattle.vm_refusals.specs.Refusals.{refusal_meant}
 use Rattle.vm_refusals.specs.declared.refusal_error.RefusalError.{RefusalError}
@@ -39,8 +41,8 @@ IsRefusalOf version call event None = refusal_of (version_number version) call �
 IsRefusalOf version call event (Some error) = (refusal_of (version_number version) call ≡ Some (refusal_meant error.refusal)) × (error.version ≡ version) × (error.event.now ≡ event)
 
 module _ {M Taken : Type 0} (difference : M → M → List ℕ) (call : Call) (answer : Taken → Answer) (ty : MessageType) (name : Text) where
-  -- The call is made as the abstract machine makes it, which was seen before; or the machine fails with why it is not. An error is
-  -- about this command.
+  -- The call is made as the abstract machine makes it, which was seen before; or the machine fails with why it is not. Where nothing
+  -- recorded is left although it still replays, it finds no entry. An error is about this command.
   pub record IsMade (old : MachineState) (result : Result Taken Error) (new : MachineState) : Type 0 where
     pub made : Result Taken (CallError M)
     pub between : MachineState
@@ -48,6 +50,7 @@ module _ {M Taken : Type 0} (difference : M → M → List ℕ) (call : Call) (a
     -- no child is tracked yet that a cancellation is passed on to
     pub makes : (given : Invocation) (m : Machine) → IsOf given old → child_of given.options.implicit_cancellation m.completions call ≡ [] → Sees given old.active m
         → Makes (checks_off old.options.non_determinism_checks) given m call answer old.active made between.active
+    pub spent : IsSpent old.active → FailsSpent (completions_of call) old.active made between.active
     pub told : IsAtCommand ty name old.active.journal between.active.journal
     pub settles : Settles difference made between result new
 

@@ -24,7 +24,9 @@ use Rattle.vm_calls.specs.declared.active.Active.{Active}
 use Rattle.vm_context.specs.Journal.{JournalCounts, command_told}
 use Rattle.vm_errors.specs.Phases.{unexpected_error}
 use Rattle.vm_errors.specs.declared.phase.Phase.{Phase}
+use Rattle.vm_calls.specs.Spent.{IsSpent}
 use Rattle.vm_state_reads.specs.Reading.{Reads}
+use Rattle.vm_state_reads.specs.Spent.{ReadFailsSpent}
 use Rattle.vm_state_reads.specs.Telling.{IsAtRead}
 use Rattle.vm_state_reads.specs.declared.read_error.ReadError.{ReadError}
 use Rattle.vm_machine.specs.Calls.{checks_off, IsOf}
@@ -97,6 +99,8 @@ module _ {L E : Type 0} (kind : ReadKind L E) (call : Call) (known : Active → 
     pub others : between ≡ record old { active = between.active }
     pub reads : (given : Invocation) (m : Machine) → IsOf given old → Sees given old.active m
         → Reads (checks_off old.options.non_determinism_checks) given m call old.active made between.active
+    -- where nothing recorded is left although it still replays
+    pub spent : IsSpent old.active → ReadFailsSpent old.active made between.active
     pub told : IsAtRead kind.eager kind.lazy old.active.is_replaying (known old.active) name old.active between.active
     pub settles : SettlesRead kind.lazy_difference kind.eager_difference kind.empty made between result new
 

@@ -22,7 +22,6 @@ use Rattle.vm_context.specs.Journal.{after_command, after_completions}
 use Rattle.vm_context.specs.Following.{KnowsState}
 use Rattle.vm_context.proofs.Keeping.{others_keep}
 use Rattle.vm_commands.specs.HeaderEquality.{is_unstable}
-use Rattle.vm_commands.specs.declared.replay_error.ReplayError.TheVariants as unmatched
 use Rattle.protocol_stream.specs.declared.encoder.EncodingError.TheVariants as unsent
 use Rattle.vm_calls.specs.declared.active.Active.{Active}
 use Rattle.vm_calls.specs.declared.put_error.PutError.{PutError}
@@ -30,7 +29,7 @@ use Rattle.vm_calls.specs.declared.put_error.PutError.TheVariants as puts
 use Rattle.vm_calls.specs.declared.call_error.CallError.TheVariants.{Put}
 use Rattle.vm_calls.specs.declared.call_error.NumberError.{NumberError}
 use Rattle.vm_calls.specs.declared.call_error.NumberError.TheVariants as numbers
-use Rattle.vm_calls.specs.Active.{Sees, asking, TakesCompletion, has_left, left_of, LacksCompletions, IsSettled, PutsOne, PutsIn}
+use Rattle.vm_calls.specs.Active.{Sees, asking, TakesCompletion, has_left, left_of, LacksCompletions, HasCompletions, IsSettled, PutsOne, PutsIn}
 use Rattle.vm_calls.specs.Making.{Replies, FailsAs, IsReady, HasBegun}
 use Rattle.vm_calls.proofs.Making.{no_more, put_answers, put_fails_as}
 use Rattle.vm_state_reads.specs.declared.read_error.ReadError.{ReadError}
@@ -81,6 +80,7 @@ module _ (given : Invocation) (m : Machine) (call : Call) (request : Request) (o
         opened = ap (λ (a : Active). a.output.is_closed) others ∙ begins.sees.opened;
         children = begins.sees.children;
         output = ap (λ (a : Active). a.output) others;
+        has = subst (λ (n : ℕ). HasCompletions n old) (sym one.completions) begins.takes.has;
       }
 
   module _ (checks_off ignoring : Bool) (ignores : ignoring ≡ (checks_off || is_unstable call)) (read : Active)
@@ -98,10 +98,7 @@ module _ (checks_off : Bool) (given : Invocation) (m : Machine) (call : Call) (o
   either_put : {P : Type 0} (Q : Type 0) (put : Result ℕ (PutError P)) → PutsRead checks_off given m call old put new
       → Reads checks_off given m call {L = P} {E = Q} old (lazy_read put) new × Reads checks_off given m call {L = Q} {E = P} old (eager_read put) new
   either_put Q (Ok handle) put = (put, put)
-  either_put Q (Err (puts.Replay (unmatched.Unavailable error))) put = (put, put)
-  either_put Q (Err (puts.Replay (unmatched.Decoding error))) put = (put, put)
-  either_put Q (Err (puts.Replay (unmatched.Mismatch error))) put = (put, put)
-  either_put Q (Err (puts.Replay unmatched.OutOfMemory)) put = (put, put)
+  either_put Q (Err (puts.Replay error)) put = (put, put)
   either_put Q (Err (puts.Encoding unsent.PayloadTooLong)) put = (put, put)
   either_put Q (Err (puts.Encoding unsent.OutOfMemory)) put = (put, put)
 

@@ -3,3 +3,4 @@ pub mod Matching
 pub mod Replayed
 pub mod Knowing
 pub mod Asked
+pub mod Spending

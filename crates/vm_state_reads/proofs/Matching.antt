@@ -1,5 +1,5 @@
 -- What taking the recorded read does to an attempt, and what was known of it.
-use Rattle.std.proofs.Common.{◌≡◌, ℕ, ℤ, Bool, true, false, List, [], ◌∷◌, Option, Some, None, Ok, Err, refl, sym, ap, ◌∙◌, subst}
+use Rattle.std.proofs.Common.{◌≡◌, ℕ, ℤ, Bool, true, false, List, [], ◌∷◌, Option, Some, None, Result, Ok, Err, refl, sym, ap, ◌∙◌, subst}
 use Rattle.protocol_table.specs.declared.table.RecordType.{RecordType}
 use Rattle.protocol_wire.specs.Wire.{Field}
 use Rattle.protocol_wire.specs.Parts.{Part}
@@ -17,10 +17,11 @@ use Rattle.vm_commands.specs.Popping.{next_of}
 use Rattle.vm_commands.specs.StateReads.{ReadsAs, MatchesRead}
 use Rattle.vm_commands.proofs.Popping.{read_as}
 use Rattle.vm_calls.specs.declared.active.Active.{Active}
-use Rattle.vm_calls.specs.Putting.{Puts}
+use Rattle.vm_calls.specs.Putting.{Puts, RefusesLong}
 use Rattle.vm_calls.specs.Active.{has_left, left_of, still_replays, IsSettled, PutsOne}
 use Rattle.vm_calls.proofs.Settling.{put_settles}
 use Rattle.vm_state_reads.specs.Replaying.{MatchFails, TellsNext}
+use Rattle.vm_state_reads.specs.Spent.{MatchFindsNone}
 
 module _ (ignoring : Bool) (made : Request) (written : List Request) (old : Active) (t : old.is_replaying ≡ true) (settled : IsSettled old) where
   pub match_settles : {K : Type 0} (L E : Type 0) (read : StateRead K) (new : Active) → new.is_replaying ≡ still_replays true new.commands.items
@@ -28,6 +29,7 @@ module _ (ignoring : Bool) (made : Request) (written : List Request) (old : Acti
       → new ≡ record old { is_replaying = new.is_replaying; commands = new.commands; output = new.output } → PutsOne ignoring (as_recorded (left_of old) made) written old new
   match_settles L E read new replays matches output others =
       put_settles {M = Unit {0}} ignoring (as_recorded (left_of old) made) written old settled new tt
+      (subst (λ (b : Bool). RefusesLong {M = Unit {0}} b (as_recorded (left_of old) made) old.output (Ok tt)) (sym t) tt)
       (replays ∙ ap (λ (b : Bool). still_replays b new.commands.items) (sym t))
       (subst (λ (b : Bool). Puts {M = Unit {0}} ignoring b (as_recorded (left_of old) made) written old.commands.items old.output (Ok tt) new.commands.items new.output) (sym t) (matches, output))
       others
@@ -69,6 +71,22 @@ module _ {K L E : Type 0} {eager lazy : RecordType} {of_eager : ℕ → List Fie
     };
     is_known = reads_as.is_known;
   }
+
+  -- where none is left it is told so
+  pub none_read : (queue : List RawMessage) (result : Result (StateRead K) (StateReadError L E)) → queue ≡ []
+      → ReadsAs eager lazy of_eager of_lazy erased erased_lazy known bare asked index ignoring expected (next_of queue) result → MatchFindsNone result
+  none_read queue result none reads_as =
+      by_result result (subst (λ (q : List RawMessage). ReadsAs eager lazy of_eager of_lazy erased erased_lazy known bare asked index ignoring expected (next_of q) result) none reads_as)
+    where
+      by_result : (r : Result (StateRead K) (StateReadError L E)) → ReadsAs eager lazy of_eager of_lazy erased erased_lazy known bare asked index ignoring expected None r → MatchFindsNone r
+      by_result (Ok read) h = h
+      by_result (Err (errors.Lazy (unmatched.Unavailable error))) h = tt
+      by_result (Err (errors.Lazy (unmatched.Decoding error))) h = h
+      by_result (Err (errors.Lazy (unmatched.Mismatch error))) h = h
+      by_result (Err (errors.Lazy unmatched.OutOfMemory)) h = h
+      by_result (Err (errors.Eager error)) h = h
+      by_result (Err (errors.OtherType error)) h = h
+      by_result (Err errors.Empty) h = h
 
   -- that none is left is told of a read whose answer is to come alone
   pub never_unavailable : (next : Option RawMessage) (error : StateReadError L E)

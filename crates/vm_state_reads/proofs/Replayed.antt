@@ -21,12 +21,12 @@ use Rattle.vm_commands.specs.declared.state_read.StateReadError.{StateReadError}
 use Rattle.vm_commands.specs.declared.state_read.StateReadError.TheVariants as errors
 use Rattle.vm_commands.specs.Recorded.{as_recorded}
 use Rattle.vm_calls.specs.declared.active.Active.{Active}
-use Rattle.vm_calls.specs.Active.{Sees, asking, TakesCompletion, left_of, IsSettled, PutsOne}
+use Rattle.vm_calls.specs.Active.{Sees, asking, TakesCompletion, HasCompletions, left_of, IsSettled, PutsOne}
 use Rattle.vm_calls.specs.Making.{Replies, HasBegun}
 use Rattle.vm_calls.proofs.Making.{replied}
 use Rattle.vm_state_reads.specs.declared.read_error.ReadError.TheVariants.{Replay, OutOfMemory}
 use Rattle.vm_state_reads.specs.declared.read_error.ReadError.{ReadError}
-use Rattle.vm_state_reads.specs.Reading.{ReadFailsAs, Reads, ReadsFor, ReadsOne, arrivals_of, with_known}
+use Rattle.vm_state_reads.specs.Reading.{MatchFailsAs, Reads, ReadsFor, ReadsOne, arrivals_of, with_known}
 use Rattle.vm_state_reads.specs.Replaying.{MatchFails, TellsNext}
 use Rattle.vm_state_reads.proofs.Answering.{left_is, output_is, settled_is, read_answers}
 
@@ -43,6 +43,7 @@ module _ (checks_off ignoring : Bool) (given : Invocation) (m : Machine) (call :
     more = puts.more;
     requests = puts.requests;
     frames = puts.frames;
+    fit = puts.fit;
     others = ap (λ (a : Active). record a { results = results }) puts.others;
   }
 
@@ -65,7 +66,7 @@ module _ (checks_off ignoring : Bool) (given : Invocation) (m : Machine) (call :
   none_then made is none = ap (λ (r : Request). put_one (header_equal ignoring) r (left_of begun) m.written) (sym is) ∙ none
 
   pub unreplayed : {L E : Type 0} (made : Request) → as_recorded (left_of begun) made ≡ request → (error : StateReadError L E) → MatchFails ignoring made m.written (left_of begun) error
-      → ReadFailsAs checks_off given m call old (Replay error)
+      → MatchFailsAs checks_off given m call error
   unreplayed made is (errors.Lazy (unmatched.Unavailable error)) fails = fails
   unreplayed made is (errors.Lazy unmatched.OutOfMemory) fails = tt
   unreplayed made is (errors.Lazy (unmatched.Decoding error)) fails = mismatches (none_then made is fails)
@@ -82,7 +83,7 @@ module _ (checks_off ignoring : Bool) (given : Invocation) (m : Machine) (call :
       → (result : Result ℕ (ReadError L E)) → result ≡ Err (Replay error) → (new : Active) → new.output ≡ begun.output → Reads checks_off given m call old result new
   fails_unreplayed {L} {E} made same error fails result is new output =
       subst (λ (r : Result ℕ (ReadError L E)). Reads checks_off given m call old r new) (sym is)
-      (unreplayed made same error fails, output ∙ output_is given m call request one handle old begun begins)
+      ((unreplayed made same error fails, subst (λ (n : ℕ). HasCompletions n old) (sym one.completions) begins.takes.has), output ∙ output_is given m call request one handle old begun begins)
 
   -- memory was refused behind it
   pub fails_for_memory : {L E : Type 0} (result : Result ℕ (ReadError L E)) → result ≡ Err OutOfMemory → (new : Active) → new.output ≡ begun.output → Reads checks_off given m call old result new

@@ -2,3 +2,4 @@ pub mod Errors
 pub mod Telling
 pub mod Reading
 pub mod Replaying
+pub mod Spent

@@ -12,34 +12,34 @@ use Rattle.journal_model.specs.Run.{Invocation}
 use Rattle.attempt_model.specs.Requests.{answer_by}
 use Rattle.attempt_model.specs.Results.{ready_after_all}
 use Rattle.attempt_model.specs.Machine.{Machine, FailedBy, Mismatch, reply_to}
-use Rattle.protocol_stream.specs.declared.encoder.EncodingError.TheVariants as unsent
 use Rattle.vm_awaits.specs.Views.{AsyncResults, results_of}
 use Rattle.vm_context.specs.Following.{changes_state}
 use Rattle.vm_commands.specs.HeaderEquality.{same_header, is_unstable}
-use Rattle.vm_commands.specs.declared.replay_error.ReplayError.TheVariants as unmatched
+use Rattle.vm_commands.specs.declared.state_read.StateReadError.{StateReadError}
 use Rattle.vm_commands.specs.declared.state_read.StateReadError.TheVariants as errors
 use Rattle.vm_calls.specs.declared.active.Active.{Active}
 use Rattle.vm_calls.specs.declared.call_error.CallError.TheVariants.{Put}
 use Rattle.vm_calls.specs.declared.call_error.NumberError.TheVariants as numbers
 use Rattle.vm_calls.specs.declared.put_error.PutError.{PutError}
-use Rattle.vm_calls.specs.Active.{Sees, LacksCompletions}
-use Rattle.vm_calls.specs.Making.{Replies, IsLong, FailsAs, AsksOne, HasBegun}
+use Rattle.vm_calls.specs.declared.put_error.PutError.TheVariants as puts
+use Rattle.vm_calls.specs.Active.{Sees, LacksCompletions, HasCompletions}
+use Rattle.vm_calls.specs.Making.{Replies, FailsAs, PutFailsAs, AsksOne, HasBegun}
 use Rattle.vm_state_reads.specs.declared.read_error.ReadError.{ReadError}
 use Rattle.vm_state_reads.specs.declared.read_error.ReadError.TheVariants.{Number, Replay, Encoding, OutOfMemory}
 
 module _ (checks_off : Bool) (given : Invocation) (m : Machine) (call : Call) where
-  -- Why it fails: no number is left; the abstract machine fails; its request, which would be written, is too long; or memory
-  -- was refused.
+  -- why the recorded command is not the read
+  abbrev pub MatchFailsAs : {L E : Type 0} → StateReadError L E → Type 0
+  MatchFailsAs (errors.Lazy error) = PutFailsAs checks_off given m call (puts.Replay error)
+  MatchFailsAs (errors.Eager error) = PutFailsAs checks_off given m call (puts.Replay error)
+  MatchFailsAs _ = reply_to (same_header checks_off) given m call ≡ FailedBy Mismatch
+
+  -- Why it fails: a number is lacking; or none is, and it is not matched, or not written; or memory was refused.
   abbrev pub ReadFailsAs : {L E : Type 0} → (old : Active) → ReadError L E → Type 0
   ReadFailsAs old (Number numbers.IdsExhausted) = LacksCompletions (completions_of call) old
   ReadFailsAs old (Number numbers.OutOfMemory) = Unit {0}
-  ReadFailsAs old (Replay (errors.Lazy (unmatched.Unavailable error))) = ⊥
-  ReadFailsAs old (Replay (errors.Lazy unmatched.OutOfMemory)) = Unit {0}
-  ReadFailsAs old (Replay (errors.Eager (unmatched.Unavailable error))) = ⊥
-  ReadFailsAs old (Replay (errors.Eager unmatched.OutOfMemory)) = Unit {0}
-  ReadFailsAs old (Replay _) = reply_to (same_header checks_off) given m call ≡ FailedBy Mismatch
-  ReadFailsAs old (Encoding unsent.PayloadTooLong) = (m.left ≡ []) × IsLong checks_off given m call
-  ReadFailsAs old (Encoding unsent.OutOfMemory) = Unit {0}
+  ReadFailsAs old (Replay error) = MatchFailsAs error × HasCompletions (completions_of call) old
+  ReadFailsAs old (Encoding error) = PutFailsAs checks_off given m call {M = Unit {0}} (puts.Encoding error) × HasCompletions (completions_of call) old
   ReadFailsAs old OutOfMemory = Unit {0}
 
   -- what a read does

@@ -6,8 +6,10 @@ ghost use Rattle.attempt_model.specs.Requests.{fresh_keys};
 ghost use Rattle.protocol_types.specs.declared.message_type.MessageType.TheVariants.{GetEagerStateKeysCommand, GetLazyStateKeysCommand};
 ghost use Rattle.vm_commands.specs.Recorded.{as_recorded};
 ghost use Rattle.vm_calls.specs.Active.{IsAtCommand};
+ghost use Rattle.vm_calls.specs.Spent.{IsSpent};
 ghost use Rattle.vm_state_reads.specs.Reading.{ReadsByCall, ReadsFor};
 ghost use Rattle.vm_state_reads.specs.Replaying.{keys_known};
+ghost use Rattle.vm_state_reads.specs.Spent.{ReadFailsSpent};
 ghost use Rattle.vm_state_reads.specs.Telling.{type_in_replay, type_behind, IsAtRead};
 
 use crate::ReadError;
@@ -73,6 +75,7 @@ fn replay_keys(
     name: ByteStr,
 ) -> Result<NotificationHandle, KeysReadError>
     ensures made { active.old.is_replaying ≡ true → ReadsFor (λ m. as_recorded m.left (Request.GetLazyStateKeys m.completions name)) ignoring active.old result active.new }
+    ensures spent { IsSpent active.old → ReadFailsSpent active.old result active.new }
     ensures told { IsAtCommand (type_in_replay GetEagerStateKeysCommand GetLazyStateKeysCommand active.old.commands.items) [] active.old.journal active.new.journal }
 {
     let (id, handle) = begin_in_replay(
@@ -162,6 +165,7 @@ pub fn state_get_keys(
     name: Option<ByteStr>,
 ) -> Result<NotificationHandle, KeysReadError>
     ensures made { ReadsByCall checks_off (Call.StateGetKeys name) active.old result active.new }
+    ensures spent { IsSpent active.old → ReadFailsSpent active.old result active.new }
     ensures told { IsAtRead GetEagerStateKeysCommand GetLazyStateKeysCommand active.old.is_replaying (not active.old.state.is_partial) (name_or_empty name) active.old active.new }
 {
     let name = or_empty(name);

@@ -1,8 +1,9 @@
 // Taking the recorded read.
-ghost use Rattle.std.specs.Prelude.{◌≡◌, true, List, Some, IfOk};
+ghost use Rattle.std.specs.Prelude.{◌≡◌, true, List, [], Some, IfOk};
 ghost use Rattle.vm_calls.specs.Words.{Request};
 ghost use Rattle.vm_calls.specs.Active.{left_of, still_replays, IsSettled};
 ghost use Rattle.vm_state_reads.specs.Replaying.{MatchesIn, TellsNext};
+ghost use Rattle.vm_state_reads.specs.Spent.{MatchFindsNone};
 
 use protocol_stream::RawMessage;
 use std::alloc::Global;
@@ -28,6 +29,7 @@ pub(crate) fn match_read<E: EagerRead>(
     ensures matched { (made : Request) (written : List Request) → E.Lazy.request_of expected ≡ Some made → active.old.is_replaying ≡ true → IsSettled active.old
         → MatchesIn ignoring made written active.old result active.new }
     ensures next { IfOk result (TellsNext E.Lazy.request_of E.request_of E.known (left_of active.old)) }
+    ensures spent { active.old.commands.items ≡ [] → MatchFindsNone result }
     ensures output { active.new.output ≡ active.old.output }
     ensures journal { active.new.journal ≡ active.old.journal }
 {

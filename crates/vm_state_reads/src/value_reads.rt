@@ -9,8 +9,10 @@ ghost use Rattle.protocol_spellings.specs.Requests.{state_told};
 ghost use Rattle.vm_context.specs.Eager.{is_known};
 ghost use Rattle.vm_commands.specs.Recorded.{as_recorded};
 ghost use Rattle.vm_calls.specs.Active.{IsAtCommand};
+ghost use Rattle.vm_calls.specs.Spent.{IsSpent};
 ghost use Rattle.vm_state_reads.specs.Reading.{ReadsByCall, ReadsFor};
 ghost use Rattle.vm_state_reads.specs.Replaying.{value_known};
+ghost use Rattle.vm_state_reads.specs.Spent.{ReadFailsSpent};
 ghost use Rattle.vm_state_reads.specs.Telling.{type_in_replay, type_behind, IsAtRead};
 
 use crate::ReadError;
@@ -77,6 +79,7 @@ fn replay_value(
     name: ByteStr,
 ) -> Result<NotificationHandle, ValueReadError>
     ensures made { active.old.is_replaying ≡ true → ReadsFor (λ m. as_recorded m.left (Request.GetLazyState key m.completions name)) ignoring active.old result active.new }
+    ensures spent { IsSpent active.old → ReadFailsSpent active.old result active.new }
     ensures told { IsAtCommand (type_in_replay GetEagerStateCommand GetLazyStateCommand active.old.commands.items) [] active.old.journal active.new.journal }
 {
     let (id, handle) = begin_in_replay(
@@ -179,6 +182,7 @@ pub fn state_get(
     options: PayloadOptions,
 ) -> Result<NotificationHandle, ValueReadError>
     ensures made { ReadsByCall checks_off (Call.StateGet key name options) active.old result active.new }
+    ensures spent { IsSpent active.old → ReadFailsSpent active.old result active.new }
     ensures told { IsAtRead GetEagerStateCommand GetLazyStateCommand active.old.is_replaying (is_known active.old.state key) (name_or_empty name) active.old active.new }
 {
     let ignoring = ignores(checks_off, options);

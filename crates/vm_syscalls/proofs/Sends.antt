@@ -8,6 +8,7 @@ use Rattle.journal_model.specs.declared.call.Moment.{Moment}
 use Rattle.journal_model.specs.declared.call.Target.{Target}
 use Rattle.vm_calls.specs.Words.{Machine}
 use Rattle.vm_calls.specs.Making.{Makes}
+use Rattle.vm_calls.specs.Spent.{FailsSpent}
 use Rattle.vm_calls.specs.declared.active.Active.{Active}
 use Rattle.vm_calls.specs.declared.call_error.CallError.{CallError}
 use Rattle.vm_types.specs.declared.handles.SendHandle.{SendHandle}
@@ -35,3 +36,10 @@ pub makes_sent : {M : Type 0} (checks_off : Bool) (given : Invocation) (m : Mach
 makes_sent {M} checks_off given m call old new put made is makes =
     subst (λ (r : Result SendHandle (CallError M)). Makes checks_off given m call (λ (made : SendHandle). Answer.Handle made.invocation_id_notification_handle) old r new) (sym is)
     (makes_put checks_off given m call old new put makes)
+
+spent_put : {M : Type 0} (old new : Active) (put : Result ℕ (CallError M)) → FailsSpent 1 old put new → FailsSpent 1 old (sent put) new
+spent_put old new (Ok handle) fails = fails
+spent_put old new (Err error) fails = fails
+
+pub spent_sent : {M : Type 0} (old new : Active) (put : Result ℕ (CallError M)) (made : Result SendHandle (CallError M)) → made ≡ sent put → FailsSpent 1 old put new → FailsSpent 1 old made new
+spent_sent {M} old new put made is fails = subst (λ (r : Result SendHandle (CallError M)). FailsSpent 1 old r new) (sym is) (spent_put old new put fails)

@@ -3,6 +3,8 @@ use Rattle.protocol_types.specs.declared.message_type.MessageType.TheVariants.{C
 use Rattle.std.proofs.lemmas.Result.{err_from_is_err_and}
 use Rattle.vm_calls.proofs.Calls.{number_fails}
 use Rattle.vm_invocations.proofs.Calls.{call_completes}
+use Rattle.vm_invocations.proofs.Pairing.{two_rest}
+use Rattle.vm_calls.proofs.Spending.{number_spent}
 use Rattle.vm_invocations.proofs.calling.call.Goals as goal
 
 pub returns-clause-made : goal.returns-clause-made
@@ -20,3 +22,14 @@ returns-in_err-name-clause-made c =
     λ given m refused untracked sees.
     let told = err_from_is_err_and c.from_residual.result c.from_residual.ensures.1 in
     number_fails c.args.checks_off given m _ _ c.args.active.now c.begin_two.new.active c.in_err-name.field-0.0 c.from_residual.result c.in_err-name.ensures.err c.begin_two.ensures.output (told.1 ∙ ap Err told.2)
+
+pub returns-clause-spent : goal.returns-clause-spent
+returns-clause-spent c =
+    let begun = c.in_ok-name.ensures in
+    c.put_call.ensures.spent _ 2 c.args.active.now refl (two_rest CallCommand c.or_empty.result c.args.active.now begun.taken) begun.taken.has
+
+pub returns-in_err-name-clause-spent : goal.returns-in_err-name-clause-spent
+returns-in_err-name-clause-spent c =
+    λ spent.
+    let told = err_from_is_err_and c.from_residual.result c.from_residual.ensures.1 in
+    number_spent 2 c.args.active.now c.begin_two.new.active c.in_err-name.field-0.0 c.from_residual.result c.in_err-name.ensures.err c.begin_two.ensures.output (told.1 ∙ ap Err told.2)

@@ -1,4 +1,5 @@
 use Rattle.vm_invocations.proofs.Pairing.{both_complete, both_fail}
+use Rattle.vm_calls.proofs.Spending.{none_for, none_stands}
 use Rattle.vm_invocations.proofs.calling.put_call.Goals as goal
 
 pub returns-in-Ok-clause-makes : goal.returns-in-Ok-clause-makes
@@ -10,3 +11,9 @@ pub returns-in-Err-clause-makes : goal.returns-in-Err-clause-makes
 returns-in-Err-clause-makes g c =
     λ checks_off given m call request old h two ignores begun.
     both_fail given m call request two _ old c.args.active.now begun checks_off c.args.ignore ignores c.put.new.self c.in-Err.error (c.in-Err.ensures.put request m.written h)
+
+pub returns-in-Ok-clause-spent : goal.returns-in-Ok-clause-spent
+returns-in-Ok-clause-spent g c = λ request taken old h keeps has spent. none_stands old c.args.active.now keeps spent c.in-Ok.stands _ (c.in-Ok.ensures.spent request h)
+
+pub returns-in-Err-clause-spent : goal.returns-in-Err-clause-spent
+returns-in-Err-clause-spent g c = λ request taken old h keeps has spent. none_for taken old c.args.active.now c.put.new.self keeps has spent c.in-Err.error (c.in-Err.ensures.spent request h)

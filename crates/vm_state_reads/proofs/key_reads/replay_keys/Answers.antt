@@ -1,10 +1,12 @@
 use Rattle.journal_model.specs.Request.{Request}
 use Rattle.attempt_model.specs.Machine.{Machine}
+use Rattle.protocol_records.specs.declared.state_keys.StateKeys.{StateKeys}
 use Rattle.vm_commands.specs.Recorded.{as_recorded}
 use Rattle.vm_state_reads.specs.Replaying.{keys_known}
 use Rattle.vm_state_reads.proofs.Answering.{number_fails}
 use Rattle.vm_state_reads.proofs.Knowing.{keys_are_known}
 use Rattle.vm_state_reads.proofs.Replayed.{reads_recorded, fails_unmatched, fails_unready}
+use Rattle.vm_state_reads.proofs.Spending.{none_then, spent_unmatched, spent_unready, spent_number}
 use Rattle.vm_state_reads.proofs.key_reads.replay_keys.Goals as goal
 
 pub returns-clause-made : goal.returns-clause-made
@@ -26,3 +28,20 @@ pub returns-in_err-id-clause-made : goal.returns-in_err-id-clause-made
 returns-in_err-id-clause-made c = λ replays.
     number_fails (λ (m : Machine). as_recorded m.left (Request.GetLazyStateKeys m.completions c.args.name)) c.args.ignoring c.args.active.now c.begin_in_replay.new.active
     c.in_err-id.field-0.0 c.from_residual.result c.in_err-id.ensures.err c.begin_in_replay.ensures.output c.from_residual.ensures.1
+
+pub returns-clause-spent : goal.returns-clause-spent
+returns-clause-spent c = λ spent. absurd (c.in_ok-read.ensures.spent (none_then _ c.args.active.now c.in_ok-id.ensures.taken spent))
+
+pub returns-in_err-read-clause-spent : goal.returns-in_err-read-clause-spent
+returns-in_err-read-clause-spent c = λ spent.
+    spent_unmatched _ c.args.active.now c.in_ok-id.ensures.taken spent StateKeys c.in_err-read.field-0.0 c.in_err-read.ensures.spent
+    c.from_residual-in_err-read.result c.from_residual-in_err-read.ensures.1 c.match_read.new.active c.match_read.ensures.output
+
+pub returns-in_err-ready_at_once-clause-spent : goal.returns-in_err-ready_at_once-clause-spent
+returns-in_err-ready_at_once-clause-spent c = λ spent.
+    spent_unready _ c.args.active.now c.in_ok-id.ensures.taken spent
+    c.from_residual-in_err-ready_at_once.result c.from_residual-in_err-ready_at_once.ensures.1 _ c.match_read.ensures.output
+
+pub returns-in_err-id-clause-spent : goal.returns-in_err-id-clause-spent
+returns-in_err-id-clause-spent c = λ spent.
+    spent_number c.args.active.now c.begin_in_replay.new.active c.in_err-id.field-0.0 c.from_residual.result c.in_err-id.ensures.err c.begin_in_replay.ensures.output c.from_residual.ensures.1

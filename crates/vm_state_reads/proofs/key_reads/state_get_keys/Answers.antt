@@ -1,4 +1,4 @@
-use Rattle.std.proofs.Common.{◌∙◌, sym}
+use Rattle.std.proofs.Common.{◌≡◌, ◌∙◌, true, false, sym}
 use Rattle.journal_model.specs.declared.call.Call.{Call}
 use Rattle.vm_calls.proofs.Calls.{unchecked}
 use Rattle.vm_state_reads.proofs.Asked.{replays_keys, writes_keys}
@@ -17,3 +17,6 @@ returns-clause-made c =
     c.write_keys.ensures.made c.args.checks_off given m (Call.StateGetKeys c.args.name)
     (writes_keys given m c.args.name c.or_empty-name.result c.or_empty-name.ensures (sym sees.replaying ∙ c.if-active.false))
     (unchecked c.args.checks_off) sees
+
+pub returns-clause-spent : goal.returns-clause-spent
+returns-clause-spent c = λ spent. let wrong : true ≡ false = sym spent.replaying ∙ c.if-active.false in cc

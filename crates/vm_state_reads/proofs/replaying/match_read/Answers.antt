@@ -1,5 +1,5 @@
-use Rattle.std.proofs.Common.{refl}
-use Rattle.vm_state_reads.proofs.Matching.{match_settles, match_fails, tells_next, never_unavailable}
+use Rattle.std.proofs.Common.{Ok, Err, refl}
+use Rattle.vm_state_reads.proofs.Matching.{match_settles, match_fails, tells_next, none_read, never_unavailable}
 use Rattle.vm_state_reads.proofs.replaying.match_read.Goals as goal
 
 pub returns-in-Ok-clause-matched : goal.returns-in-Ok-clause-matched
@@ -15,3 +15,11 @@ returns-in-Err-clause-matched g c =
 pub returns-in-Ok-clause-next : goal.returns-in-Ok-clause-next
 returns-in-Ok-clause-next g c =
     tells_next g.met.E.Command.means g.met.E.Lazy.Command.means g.E.EagerRead.known g.E.EagerRead.bare g.E.EagerRead.asked _ c.args.ignoring c.args.expected c.args.active.now.commands.items c.in-Ok.read c.in-Ok.ensures.read
+
+pub returns-in-Ok-clause-spent : goal.returns-in-Ok-clause-spent
+returns-in-Ok-clause-spent g c = λ none.
+    none_read g.met.E.Command.means g.met.E.Lazy.Command.means g.E.EagerRead.known g.E.EagerRead.bare g.E.EagerRead.asked _ c.args.ignoring c.args.expected c.args.active.now.commands.items (Ok c.in-Ok.read) none c.in-Ok.ensures.read
+
+pub returns-in-Err-clause-spent : goal.returns-in-Err-clause-spent
+returns-in-Err-clause-spent g c = λ none.
+    none_read g.met.E.Command.means g.met.E.Lazy.Command.means g.E.EagerRead.known g.E.EagerRead.bare g.E.EagerRead.asked _ c.args.ignoring c.args.expected c.args.active.now.commands.items (Err c.in-Err.error) none c.in-Err.ensures.read

@@ -1,4 +1,4 @@
-use Rattle.std.proofs.Common.{◌∙◌, sym, subst}
+use Rattle.std.proofs.Common.{◌≡◌, ◌∙◌, true, false, sym, subst}
 use Rattle.journal_model.specs.declared.call.Call.{Call}
 use Rattle.journal_model.specs.Notification.{Bytes}
 use Rattle.journal_model.specs.Request.{Request}
@@ -23,3 +23,6 @@ returns-clause-made c =
     c.write_value.ensures.made c.args.checks_off given m call
     (writes_value given m c.args.key c.args.name c.args.options c.or_empty-name.result c.or_empty-name.ensures (sym sees.replaying ∙ c.if-active.false))
     c.ignores-ignoring.ensures sees
+
+pub returns-clause-spent : goal.returns-clause-spent
+returns-clause-spent c = λ spent. let wrong : true ≡ false = sym spent.replaying ∙ c.if-active.false in cc

@@ -9,8 +9,8 @@ use Rattle.vm_calls.specs.declared.active.Active.{Active}
 use Rattle.vm_calls.proofs.Handling.{handles, awakeable_handles, slot_is}
 use Rattle.vm_calls.proofs.active.Active.awakeable.Goals as goal
 
-pub returns-in-Ok : goal.returns-in-Ok
-returns-in-Ok c =
+pub returns-in-Ok-clause-made : goal.returns-in-Ok-clause-made
+returns-in-Ok-clause-made c =
     λ checks_off given m named sees.
     let old = c.args.self.now in
     let new = c.next_signal.new.self in
@@ -22,4 +22,4 @@ returns-in-Ok c =
     (takes.results ∙ ap (λ (n : ℕ). with_handle (SignalId n) (results_of old.results)) sees.signals)
     (ap (λ (a : Active). a.journal.completions) takes.others) (ap (λ (a : Active). a.journal.signals) takes.others)
     (takes.others ∙ ap (λ (counts : JournalCounts). record old { journal = counts; results = new.results }) (sym (ap (λ (a : Active). a.journal) takes.others)))
-    (Answer.Awakeable c.in-Ok.id c.in_ok-signal.handle) (λ i. Answer.Awakeable (text i) (handle i))
+    takes.has (Answer.Awakeable c.in-Ok.id c.in_ok-signal.handle) (λ i. Answer.Awakeable (text i) (handle i))

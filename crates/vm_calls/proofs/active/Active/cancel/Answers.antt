@@ -3,6 +3,7 @@ use Rattle.protocol_types.specs.declared.message_type.MessageType.TheVariants.{S
 use Rattle.vm_calls.proofs.Calls.{unchecked}
 use Rattle.vm_calls.proofs.Doing.{asks_to_keep}
 use Rattle.vm_calls.proofs.DoneCalls.{cancel_does}
+use Rattle.vm_calls.proofs.Spending.{asks_rest}
 use Rattle.vm_calls.proofs.active.Active.cancel.Goals as goal
 
 pub returns-clause-made : goal.returns-clause-made
@@ -12,3 +13,6 @@ returns-clause-made c =
     (cancel_does given m c.args.target_id c.in_ok-entry_name.entry_name (c.in_ok-entry_name.ensures.copy ∙ c.new.ensures))
     (unchecked c.args.checks_off)
     (asks_to_keep given m c.args.self.now c.ask.new.self sees SendSignalCommand c.new.result c.in_ok-entry_name.ensures.journal _ refl)
+
+pub returns-clause-spent : goal.returns-clause-spent
+returns-clause-spent c = c.put_done.ensures.spent _ 0 c.args.self.now refl (asks_rest SendSignalCommand c.new.result c.args.self.now c.in_ok-entry_name.ensures.journal) (λ lacks. lacks)

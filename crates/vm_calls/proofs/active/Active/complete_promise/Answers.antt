@@ -1,6 +1,7 @@
 use Rattle.std.proofs.Common.{◌∙◌}
 use Rattle.protocol_types.specs.declared.message_type.MessageType.TheVariants.{CompletePromiseCommand}
 use Rattle.vm_calls.proofs.PromiseCalls.{promise_completes}
+use Rattle.vm_calls.proofs.Spending.{takes_rest}
 use Rattle.vm_calls.proofs.active.Active.complete_promise.Goals as goal
 
 pub returns-clause-made : goal.returns-clause-made
@@ -11,3 +12,6 @@ returns-clause-made c =
     (promise_completes given m c.args.key c.args.value c.args.options c.in_ok-name.name c.in_ok-name.id refused (c.in_ok-name.ensures.name ∙ c.new.ensures) id)
     c.ignores-ignoring.ensures
     (record { sees = sees; ty = CompletePromiseCommand; name = c.new.result; id = c.in_ok-name.id; takes = c.in_ok-name.ensures.taken })
+
+pub returns-clause-spent : goal.returns-clause-spent
+returns-clause-spent c = c.put_completable.ensures.spent _ 1 c.args.self.now c.in_ok-command.ensures (takes_rest CompletePromiseCommand c.new.result c.args.self.now c.in_ok-name.ensures.taken) c.in_ok-name.ensures.taken.has

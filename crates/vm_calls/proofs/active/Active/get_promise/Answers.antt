@@ -2,6 +2,7 @@ use Rattle.std.proofs.Common.{refl, ◌∙◌}
 use Rattle.protocol_types.specs.declared.message_type.MessageType.TheVariants.{GetPromiseCommand}
 use Rattle.vm_calls.proofs.Calls.{unchecked}
 use Rattle.vm_calls.proofs.PromiseCalls.{get_completes}
+use Rattle.vm_calls.proofs.Spending.{takes_rest}
 use Rattle.vm_calls.proofs.active.Active.get_promise.Goals as goal
 
 pub returns-clause-made : goal.returns-clause-made
@@ -12,3 +13,6 @@ returns-clause-made c =
     (get_completes given m c.args.key c.in_ok-name.name c.in_ok-name.id (c.in_ok-name.ensures.name ∙ c.new.ensures) id)
     (unchecked c.args.checks_off)
     (record { sees = sees; ty = GetPromiseCommand; name = c.new.result; id = c.in_ok-name.id; takes = c.in_ok-name.ensures.taken })
+
+pub returns-clause-spent : goal.returns-clause-spent
+returns-clause-spent c = c.put_completable.ensures.spent _ 1 c.args.self.now refl (takes_rest GetPromiseCommand c.new.result c.args.self.now c.in_ok-name.ensures.taken) c.in_ok-name.ensures.taken.has

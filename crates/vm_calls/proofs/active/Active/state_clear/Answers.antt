@@ -6,6 +6,7 @@ use Rattle.vm_context.specs.Following.{Follows}
 use Rattle.vm_calls.proofs.Calls.{unchecked}
 use Rattle.vm_calls.proofs.Doing.{asks_to_change}
 use Rattle.vm_calls.proofs.DoneCalls.{clear_does}
+use Rattle.vm_calls.proofs.Spending.{changes_rest}
 use Rattle.vm_calls.proofs.active.Active.state_clear.Goals as goal
 
 pub returns-clause-made : goal.returns-clause-made
@@ -18,3 +19,6 @@ returns-clause-made c =
     (asks_to_change given m c.args.self.now c.ask.new.self sees ClearStateCommand c.or_empty.result c.in_ok-name.ensures.journal
     (Request.ClearState c.into_bytes.result) copy c.clear_known.new.state
     (subst (λ (key : Bytes). Follows (Request.ClearState key) c.ask.new.self.state c.clear_known.new.state) (sym c.into_bytes.ensures.value) c.in_ok-clear_known.ensures))
+
+pub returns-clause-spent : goal.returns-clause-spent
+returns-clause-spent c = c.put_done.ensures.spent _ 0 c.args.self.now refl (changes_rest ClearStateCommand c.or_empty.result c.args.self.now c.in_ok-name.ensures.journal c.clear_known.new.state) (λ lacks. lacks)

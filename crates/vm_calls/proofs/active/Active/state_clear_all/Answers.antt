@@ -4,6 +4,7 @@ use Rattle.protocol_types.specs.declared.message_type.MessageType.TheVariants.{C
 use Rattle.vm_calls.proofs.Calls.{unchecked}
 use Rattle.vm_calls.proofs.Doing.{asks_to_change}
 use Rattle.vm_calls.proofs.DoneCalls.{clear_all_does}
+use Rattle.vm_calls.proofs.Spending.{changes_rest}
 use Rattle.vm_calls.proofs.active.Active.state_clear_all.Goals as goal
 
 pub returns-clause-made : goal.returns-clause-made
@@ -15,3 +16,6 @@ returns-clause-made c =
     (unchecked c.args.checks_off)
     (asks_to_change given m c.args.self.now c.ask.new.self sees ClearAllStateCommand c.or_empty.result c.in_ok-name.ensures.journal
     Request.ClearAllState copy c.clear_all.new.self c.clear_all.ensures.knows)
+
+pub returns-clause-spent : goal.returns-clause-spent
+returns-clause-spent c = c.put_done.ensures.spent _ 0 c.args.self.now refl (changes_rest ClearAllStateCommand c.or_empty.result c.args.self.now c.in_ok-name.ensures.journal c.clear_all.new.self) (λ lacks. lacks)

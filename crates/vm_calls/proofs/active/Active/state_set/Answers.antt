@@ -5,6 +5,7 @@ use Rattle.protocol_types.specs.declared.message_type.MessageType.TheVariants.{S
 use Rattle.vm_context.specs.Following.{Follows}
 use Rattle.vm_calls.proofs.Doing.{asks_to_change}
 use Rattle.vm_calls.proofs.DoneCalls.{set_does}
+use Rattle.vm_calls.proofs.Spending.{changes_rest}
 use Rattle.vm_calls.proofs.active.Active.state_set.Goals as goal
 
 pub returns-clause-made : goal.returns-clause-made
@@ -17,3 +18,6 @@ returns-clause-made c =
     (asks_to_change given m c.args.self.now c.ask.new.self sees SetStateCommand c.or_empty.result c.in_ok-name.ensures.journal
     (Request.SetState c.into_bytes.result c.args.value) copy c.set_known.new.state
     (subst (λ (key : Bytes). Follows (Request.SetState key c.args.value) c.ask.new.self.state c.set_known.new.state) (sym c.into_bytes.ensures.value) c.in_ok-set_known.ensures))
+
+pub returns-clause-spent : goal.returns-clause-spent
+returns-clause-spent c = c.put_done.ensures.spent _ 0 c.args.self.now refl (changes_rest SetStateCommand c.or_empty.result c.args.self.now c.in_ok-name.ensures.journal c.set_known.new.state) (λ lacks. lacks)
