@@ -158,7 +158,7 @@ unknown_never child m after left (command ∷ commands) e = cc
 
 children_never : (same : Request → Request → Bool) (given : Invocation) (m after : Machine) (left : AwaitTree ℕ) (outcome : ChildrenOutcome)
     → reply_to_children same given m outcome ≡ AwaitsTree left after → ⊥
-children_never same given m after left (AllKnown queue ready) e = 
+children_never same given m after left (AllKnown queue ready) e =
     cancelled_never same given (record m { queue = queue; ready = ready }) after left (cancel_requests_for ready m.children)
     (put_all same (cancel_requests_for ready m.children) (record { left = m.left; written = m.written })) e
 children_never same given m after left (FirstUnknown child ready) e = unknown_never child (record m { queue = []; ready = ready }) after left m.left e
@@ -178,7 +178,7 @@ awaits_leave same_header given m after tree left e = by_refusal (refusal_of give
     by_resolution : (resolution : Resolution)
         → resolution_of given.options.signal_delivery m.slots (awaited_tree given.options.implicit_cancellation tree) m.queue m.ready ≡ resolution
         → reply_to_await (same_header (Call.Await tree)) given m resolution ≡ AwaitsTree left after → IsLeft (awaited_tree given.options.implicit_cancellation tree) m after left
-    by_resolution (Awake queue ready) is e = 
+    by_resolution (Awake queue ready) is e =
         absurd (awake_never (same_header (Call.Await tree)) given (record m { queue = queue; ready = ready }) after left (is_cancelled given (record m { queue = queue; ready = ready })) e)
     by_resolution (Asleep some ready) is e =
         let both = asleep_is some left (record m { queue = []; ready = ready }) after m.left e in

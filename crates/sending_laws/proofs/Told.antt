@@ -117,8 +117,6 @@ each_of : (all : Trees) (trees : List Tree) → AllByRecursion (λ tree. IsAmong
 each_of all [] h = no_more
 each_of all (tree ∷ trees) h = one_more h.0 (each_of all trees h.1)
 
-
-
 all_made : {A B : Type 0} (P : B → Type 0) (made : A → B) (xs : List A) → AllByRecursion (λ x. P (made x)) xs → AllByRecursion P (map made xs)
 all_made P made [] h = tt
 all_made P made (x ∷ xs) h = (h.0, all_made P made xs h.1)

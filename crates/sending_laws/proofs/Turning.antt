@@ -80,14 +80,17 @@ suspensions_send m after left old new opens slots fits asleep is =
     let one = frames_are_written.suspensions left old new opens fits is in
     let has_lists = lacks_feature (version_number old.output.version) TellsTrees in
     let same : only_leaves (λ (leaf : Option NotificationId). leaf) (map_leaves (slot_of after.slots) left) ≡ over_ids old left =
-        left_out (slot_of after.slots) left ∙ ap (λ (s : Slots). only_leaves (slot_of s) left) (sym slots) in
+    left_out (slot_of after.slots) left ∙ ap (λ (s : Slots). only_leaves (slot_of s) left) (sym slots) in
     record {
       coming = Suspends (over_ids old left) ∷ [];
       fit = (one.fits, tt);
       written = one.sends;
-      sends = (suspension_told has_lists (over_ids old left), refl,
-          subst (λ (t : AwaitTree NotificationId). Tells (version_number old.output.version) (map_leaves (slot_of after.slots) left) (Some (suspension_told has_lists t))) same
-          (suspensions_tell (version_number old.output.version) (map_leaves (slot_of after.slots) left) asleep));
+      sends = (
+        suspension_told has_lists (over_ids old left),
+        refl,
+        subst (λ (t : AwaitTree NotificationId). Tells (version_number old.output.version) (map_leaves (slot_of after.slots) left) (Some (suspension_told has_lists t))) same
+            (suspensions_tell (version_number old.output.version) (map_leaves (slot_of after.slots) left) asleep),
+      );
     }
 
 ends_send : EndsSend

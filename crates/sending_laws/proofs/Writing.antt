@@ -54,7 +54,7 @@ suspensions_written tree old new opens fits is =
 errors_written : ErrorsAreWritten
 errors_written error old new opens fits short writes =
     let frame : spelled (message_of types.Error (payload_of (error_parts (told_error error)))) ≡ sent_frame old.version (Fails (told_error error)) =
-        spelled-frame_bytes types.Error (payload_of (error_parts (told_error error))) (omega arith) short in
+    spelled-frame_bytes types.Error (payload_of (error_parts (told_error error))) (omega arith) short in
     record {
       fits = record { told = fits; short = short };
       sends = sends_one (Fails (told_error error)) old new opens (writes ∙ ap (λ (s : List ℕ). with_frame s old) frame);
