@@ -1,4 +1,3 @@
-pub mod Requests
 pub mod Arrivals
 pub mod Sorted
 pub mod Beginning

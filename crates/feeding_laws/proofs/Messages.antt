@@ -34,7 +34,7 @@ use Rattle.vm_machine.specs.Receiving.{Takes, TakesAs, TakesNot, Receives, Recei
 use Rattle.vm_machine.specs.declared.machine_state.MachineState.{MachineState}
 use Rattle.feeding_laws.specs.Messages.{raw_of, KeepsMessage, phase_then, Kept, Unkept, IsWaitedFor, MessagesAreKept}
 use Rattle.feeding_laws.proofs.Arrivals.{decodes}
-use Rattle.feeding_laws.proofs.Requests.{payload_read}
+use Rattle.request_laws.proofs.Requests.{payload_read}
 
 -- ---- memory was refused
 

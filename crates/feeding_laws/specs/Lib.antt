@@ -1,5 +1,3 @@
-pub mod Fitting
-pub mod Requests
 pub mod Arrivals
 pub mod Beginning
 pub mod Messages

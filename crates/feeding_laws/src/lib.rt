@@ -1,17 +1,11 @@
 //! What a machine that is fed the frames of an attempt's input keeps of them. Each function does nothing: its contract is the law.
 #![tactic(auto)]
 
-ghost use Rattle.feeding_laws.specs.Requests.{RequestsReadBack};
 ghost use Rattle.feeding_laws.specs.Arrivals.{ArrivalsReadBack};
 ghost use Rattle.feeding_laws.specs.Messages.{MessagesAreKept};
 ghost use Rattle.feeding_laws.specs.Beginning.{InputsReadBack, StartsReadBack};
 
 use vm_entries::entries_are_gathered;
-
-/// A machine that is fed a request's frame is handed that request.
-pub fn requests_read_back()
-    ensures { RequestsReadBack }
-{}
 
 /// A machine that is fed an arrival's frame, as the notification that completes what a recorded request asked for, is handed that arrival.
 pub fn arrivals_read_back()

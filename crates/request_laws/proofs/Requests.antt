@@ -35,8 +35,8 @@ use Rattle.protocol_spellings.specs.Requests.{request_of_output, request_of_get_
 use Rattle.protocol_spellings.proofs.Told.{requests_told}
 use Rattle.protocol_spellings.proofs.Requests.{requests_spelled}
 use Rattle.vm_commands.specs.Recorded.{request_read, command_by, command_of}
-use Rattle.feeding_laws.specs.Fitting.{RequestFits}
-use Rattle.feeding_laws.specs.Requests.{RequestsReadBack}
+use Rattle.request_laws.specs.Fitting.{RequestFits}
+use Rattle.request_laws.specs.Requests.{RequestsReadBack}
 
 -- what a record that fits stands for is read of its payload
 read : {R : Type 0} (t : RecordType) (of : ℕ → List Field → R) (parts : R → List Part) (Fits : ℕ → R → Type 0) (request_of : R → Option Request)

@@ -1,6 +1,0 @@
--- Proved in `Requests`.
-use Rattle.feeding_laws.proofs.Requests.{requests_read_back}
-use Rattle.feeding_laws.proofs.requests_read_back.Goals as goal
-
-pub returns : goal.returns
-returns c = requests_read_back

@@ -1,0 +1,4 @@
+pub mod Fitting
+pub mod Requests
+pub mod Calls
+pub mod Making

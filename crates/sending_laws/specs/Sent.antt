@@ -1,0 +1,105 @@
+-- What an attempt writes: frames as they are spelled, and which frame of an attempt each is.
+use Rattle.std.specs.Prelude.{◌<◌, ◌^◌, Bool, true, false, if◌then◌else◌, List, [], length, Some}
+use Rattle.std.specs.List.{AllByRecursion, flat_map}
+use Rattle.protocol_wire.specs.Parts.{payload_of}
+use Rattle.protocol_wire.specs.declared.record.TheConstants.{LEVELS}
+use Rattle.protocol_types.specs.declared.message_type.MessageType.{MessageType}
+use Rattle.protocol_types.specs.declared.message_type.MessageType.TheVariants as types
+use Rattle.protocol_types.specs.declared.version.Version.{Version}
+use Rattle.protocol_types.specs.declared.feature.Feature.TheVariants.{AwaitTree as TellsTrees}
+use Rattle.protocol_types.specs.Version.{version_number}
+use Rattle.protocol_types.specs.Feature.{lacks_feature}
+use Rattle.journal_model.specs.Notification.{Bytes}
+use Rattle.journal_model.specs.declared.notification.NotificationId.{NotificationId}
+use Rattle.journal_model.specs.AwaitTree.{AwaitTree}
+use Rattle.journal_model.specs.Request.{Request}
+use Rattle.journal_model.specs.Event.{Suspension, ForTree, ForAny, Frame}
+use Rattle.journal_model.specs.Spelling.{completions_in, signals_in, names_in, request_type, request_payload, awaiting_on_payload, frame_bytes}
+use Rattle.protocol_controls.specs.declared.error.ErrorMessage.{ErrorMessage}
+use Rattle.protocol_controls.specs.Error.{error_parts, ErrorFits}
+use Rattle.protocol_stream.specs.declared.decoder.RawMessage.{RawMessage}
+use Rattle.protocol_stream.specs.Frame.{message_of}
+use Rattle.protocol_stream.specs.Records.{future_record}
+use Rattle.protocol_trees.specs.Future.{ids_in, future_tree}
+use Rattle.store_frames.specs.declared.kind.FrameKind.{FrameKind}
+use Rattle.store_frames.specs.declared.kind.FrameKind.TheVariants as kinds
+use Rattle.store_frames.specs.Kind.{kind_of}
+use Rattle.store_frames.specs.Meaning.{error_frame}
+use Rattle.vm_waiting.specs.Suspending.{listed, suspension_payload_in}
+use Rattle.request_laws.specs.Fitting.{RequestFits}
+use Rattle.sending_laws.specs.Trees.{TreeFits}
+
+-- a request, what is waited for while the attempt stays and where it is suspended, an error, and the end
+pub data Sent : Type 0 where
+  Asks : Request → Sent
+  Awaits : AwaitTree NotificationId → Sent
+  Suspends : AwaitTree NotificationId → Sent
+  Fails : ErrorMessage → Sent
+  Ends : Sent
+
+-- ---- as it is spelled
+
+abbrev pub sent_type : Sent → MessageType
+sent_type (Asks request) = request_type request
+sent_type (Awaits tree) = types.AwaitingOn
+sent_type (Suspends tree) = types.Suspension
+sent_type (Fails error) = types.Error
+sent_type Ends = types.End
+
+abbrev pub sent_payload : Version → Sent → Bytes
+sent_payload version (Asks request) = request_payload request
+sent_payload version (Awaits tree) = awaiting_on_payload tree false
+sent_payload version (Suspends tree) = suspension_payload_in version tree
+sent_payload version (Fails error) = payload_of (error_parts error)
+sent_payload version Ends = []
+
+abbrev pub sent_frame : Version → Sent → Bytes
+sent_frame version sent = frame_bytes (sent_type sent) (sent_payload version sent)
+
+abbrev pub sent_stream : Version → List Sent → Bytes
+sent_stream version coming = flat_map (sent_frame version) coming
+
+-- the message that its bytes bring
+abbrev pub sent_message : Version → Sent → RawMessage
+sent_message version sent = message_of (sent_type sent) (sent_payload version sent)
+
+-- ---- where the protocol can tell it
+
+abbrev pub IsTold : Sent → Type 0
+IsTold (Asks request) = RequestFits request
+IsTold (Awaits tree) = TreeFits tree
+IsTold (Suspends tree) = TreeFits tree
+IsTold (Fails error) = ErrorFits LEVELS error
+IsTold Ends = Unit {0}
+
+-- and the length of its payload is one that a header tells
+pub record SentFits (version : Version) (sent : Sent) : Type 0 where
+  pub told : IsTold sent
+  pub short : length (sent_payload version sent) < 2 ^ 32
+
+abbrev pub AllFit : Version → List Sent → Type 0
+AllFit version coming = AllByRecursion (SentFits version) coming
+
+-- ---- what it is meant as
+
+-- the commands that a store records so far
+abbrev pub is_command : FrameKind → Bool
+is_command kinds.Sleep = true
+is_command kinds.Call = true
+is_command kinds.Output = true
+is_command _ = false
+
+abbrev pub is_recorded : Request → Bool
+is_recorded request = is_command (kind_of (request_type request))
+
+-- from version 7 on a suspension tells the tree, and before that the three lists of its ids
+abbrev pub suspension_told : (has_lists : Bool) → AwaitTree NotificationId → Suspension
+suspension_told true tree = ForAny (ids_in (listed completions_in tree) (listed signals_in tree) (listed names_in tree))
+suspension_told false tree = ForTree (future_tree (future_record tree))
+
+abbrev pub frame_meant : Version → Sent → Frame
+frame_meant version (Asks request) = if is_recorded request then Frame.Command request else Frame.NotAccepted
+frame_meant version (Awaits tree) = Frame.AwaitingOn
+frame_meant version (Suspends tree) = Frame.Suspend (Some (suspension_told (lacks_feature (version_number version) TellsTrees) tree))
+frame_meant version (Fails error) = error_frame (version_number version) error
+frame_meant version Ends = Frame.End

@@ -1,0 +1,54 @@
+-- What is written is what is sent, and what a turn sends.
+use Rattle.std.specs.Prelude.{◌≡◌, ◌<◌, ◌^◌, ℕ, true, false, List, [], ◌∷◌, ◌++◌, length, map, Ok}
+use Rattle.protocol_wire.specs.Parts.{payload_of}
+use Rattle.protocol_wire.specs.declared.record.TheConstants.{LEVELS}
+use Rattle.protocol_types.specs.declared.message_type.MessageType.TheVariants as types
+use Rattle.journal_model.specs.AwaitTree.{AwaitTree}
+use Rattle.journal_model.specs.Request.{Request}
+use Rattle.protocol_controls.specs.Error.{error_parts, ErrorFits}
+use Rattle.protocol_errors.specs.declared.error.Error.{Error}
+use Rattle.vm_context.specs.Output.{Written}
+use Rattle.vm_calls.specs.declared.active.Active.{Active}
+use Rattle.vm_calls.specs.Active.{writes_frames}
+use Rattle.vm_waiting.specs.Suspending.{over_ids, Writes, IsSuspended, TellsIf}
+use Rattle.vm_errors.specs.Failure.{told_error}
+use Rattle.vm_errors.specs.Failing as failing
+use Rattle.sending_laws.specs.Trees.{TreeFits}
+use Rattle.sending_laws.specs.Sent.{Sent, Asks, Awaits, Suspends, Fails, Ends, sent_stream, SentFits}
+
+-- these frames are behind what was written, and no other
+pub record Sends (coming : List Sent) (old new : Written) : Type 0 where
+  pub version : new.version ≡ old.version
+  pub bytes : new.bytes ≡ old.bytes ++ sent_stream old.version coming
+
+-- one frame is, which fits
+pub record SendsOne (sent : Sent) (old new : Written) : Type 0 where
+  pub fits : SentFits old.version sent
+  pub sends : Sends (sent ∷ []) old new
+
+abbrev pub CommandsAreWritten : Type 0
+CommandsAreWritten = (requests : List Request) (old : Written) → Sends (map Asks requests) old (writes_frames requests old)
+
+abbrev pub AwaitsAreWritten : Type 0
+AwaitsAreWritten = (tree : AwaitTree ℕ) (done : Unit {0}) (old new : Active) → old.output.is_closed ≡ false → TreeFits (over_ids old tree) → TellsIf true tree old (Ok done) new
+    → SendsOne (Awaits (over_ids old tree)) old.output new.output
+
+abbrev pub SuspensionsAreWritten : Type 0
+SuspensionsAreWritten = (tree : AwaitTree ℕ) (old new : Active) → old.output.is_closed ≡ false → TreeFits (over_ids old tree) → IsSuspended tree old new
+    → SendsOne (Suspends (over_ids old tree)) old.output new.output
+
+-- of an error whose payload is not longer than one can be
+abbrev pub ErrorsAreWritten : Type 0
+ErrorsAreWritten = (error : Error) (old new : Written) → old.is_closed ≡ false → ErrorFits LEVELS (told_error error) → length (payload_of (error_parts (told_error error))) < 2 ^ 32
+    → failing.Writes error old new → SendsOne (Fails (told_error error)) old new
+
+abbrev pub EndsAreWritten : Type 0
+EndsAreWritten = (done : Unit {0}) (old new : Written) → old.is_closed ≡ false → Writes types.End [] old (Ok done) new → SendsOne Ends old new
+
+-- what each relation of a machine's calls writes, while frames can be written, is such a frame
+pub record FramesAreWritten : Type 0 where
+  pub commands : CommandsAreWritten
+  pub awaits : AwaitsAreWritten
+  pub suspensions : SuspensionsAreWritten
+  pub errors : ErrorsAreWritten
+  pub ends : EndsAreWritten
