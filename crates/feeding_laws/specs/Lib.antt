@@ -2,4 +2,7 @@ pub mod Fitting
 pub mod Requests
 pub mod Arrivals
 pub mod Beginning
+pub mod Memory
 pub mod Messages
+pub mod Starting
+pub mod Inputs
