@@ -1,4 +1,10 @@
 pub mod Arrivals
 pub mod Sorted
 pub mod Beginning
+pub mod Memory
 pub mod Messages
+pub mod Reading
+pub mod Starting
+pub mod Staying
+pub mod Inputs
+pub mod Holding

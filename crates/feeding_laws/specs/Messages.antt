@@ -1,6 +1,7 @@
 -- What a machine makes of the next message of its attempt's input.
-use Rattle.std.specs.Prelude.{◌≡◌, ◌⊎◌, Some, None}
+use Rattle.std.specs.Prelude.{◌≡◌, ◌⊎◌, List, [], ◌∷◌, ◌++◌, Some, None, Ok}
 use Rattle.protocol_types.specs.declared.message_type.MessageType.TheVariants as types
+use Rattle.protocol_stream.specs.Decoder.{ConsumesNext}
 use Rattle.protocol_stream.specs.declared.decoder.RawMessage.{RawMessage}
 use Rattle.protocol_stream.specs.Frame.{message_of}
 use Rattle.journal_model.specs.Run.{Invocation}
@@ -25,6 +26,12 @@ raw_of (CarriesInput new) = message_of types.InputCommand (input_payload new.hea
 raw_of (CarriesRequest request) = message_of (request_type request) (request_payload request)
 raw_of (CarriesArrival ty arrival) = message_of ty (notification_payload arrival)
 raw_of (CarriesOutcome number value) = message_of types.ProposeRunCompletionAck (acknowledgement_payload number)
+
+-- what of it is left for the calls to match, the input among that
+abbrev pub command_in : InputMessage → List RawMessage
+command_in (CarriesInput new) = raw_of (CarriesInput new) ∷ []
+command_in (CarriesRequest request) = raw_of (CarriesRequest request) ∷ []
+command_in _ = []
 
 -- it is one that the protocol can carry; no acknowledgement is taken, since no run is executed
 abbrev pub MessageFits : InputMessage → Type 0
@@ -52,8 +59,11 @@ phase_then (phases.WaitingReplayEntries left) = phase_after_entry left
 phase_then phase = phase
 
 pub record Kept (given : Invocation) (message : InputMessage) (old new : MachineState) : Type 0 where
+  -- its bytes leave, and those behind it stay
+  pub bytes : ConsumesNext old.decoder (Ok (Some (raw_of message))) new.decoder
   pub phase : new.phase ≡ phase_then old.phase
   pub output : new.active.output ≡ old.active.output
+  pub commands : new.active.commands.items ≡ old.active.commands.items ++ command_in message
   pub keeps : KeepsMessage given message old.active new.active
   pub others : new ≡ record old { decoder = new.decoder; phase = new.phase; active = new.active }
 

@@ -4,8 +4,10 @@
 ghost use Rattle.feeding_laws.specs.Arrivals.{ArrivalsReadBack};
 ghost use Rattle.feeding_laws.specs.Messages.{MessagesAreKept};
 ghost use Rattle.feeding_laws.specs.Beginning.{InputsReadBack, StartsReadBack};
+ghost use Rattle.feeding_laws.specs.Starting.{StartsAreKept};
+ghost use Rattle.feeding_laws.specs.Inputs.{InputsAreKept, FailedMachinesStay, NoArrivalIsHeld};
 
-use vm_entries::entries_are_gathered;
+use vm_entries::{entries_are_gathered, starts_begin_attempts};
 
 /// A machine that is fed an arrival's frame, as the notification that completes what a recorded request asked for, is handed that arrival.
 pub fn arrivals_read_back()
@@ -24,3 +26,29 @@ pub fn messages_are_kept()
 {
     entries_are_gathered();
 }
+
+/// A machine that waits for its start stands, once it has taken it, as the abstract machine stands at that start, or it fails for want
+/// of memory.
+pub fn starts_are_kept()
+    ensures { StartsAreKept }
+{
+    starts_begin_attempts();
+}
+
+/// Of the messages of its input, in any cut of their bytes, a machine keeps what the abstract machine keeps of those that have come
+/// whole, and the bytes of the others; or it fails for want of memory.
+pub fn inputs_are_kept()
+    ensures { InputsAreKept }
+{
+    messages_are_kept();
+}
+
+/// A machine that has failed takes bytes and stays failed with the same error.
+pub fn failed_machines_stay()
+    ensures { FailedMachinesStay }
+{}
+
+/// Where no whole message is held, no arrival's is.
+pub fn no_arrival_is_held()
+    ensures { NoArrivalIsHeld }
+{}
