@@ -1,5 +1,5 @@
 -- A machine that has failed takes bytes and stays so.
-use Rattle.std.proofs.Common.{◌≡◌, ◌⊎◌, inl, inr, ◌∙◌, ℕ, Bool, true, true≢false, List, [], ◌∷◌, Err, Option, refl, sym, ap, subst}
+use Rattle.std.proofs.Common.{◌≡◌, ◌⊎◌, inl, inr, ◌∙◌, ℕ, Bool, true, true≢false, List, [], ◌∷◌, Err, Option, sym, ap, subst}
 use Rattle.std.specs.declared.alloc.AllocError.{AllocError}
 use Rattle.protocol_errors.specs.declared.error.Error.{Error}
 use Rattle.protocol_stream.specs.declared.decoder.RawMessage.{RawMessage}
@@ -9,7 +9,7 @@ use Rattle.vm_errors.specs.declared.phase.Phase.TheVariants as phases
 use Rattle.vm_feeding.specs.Feeding.{has_failed, with_input, TakesEach, RestsWhere, TakesAll, IsFed}
 use Rattle.vm_feeding.specs.Failing.{HasFailed}
 use Rattle.vm_machine.specs.declared.machine_state.MachineState.{MachineState}
-use Rattle.feeding_laws.specs.Inputs.{IsFedEach, StaysFailed, FailedMachinesStay}
+use Rattle.feeding_laws.specs.Inputs.{StaysFailed, FailedMachinesStay}
 
 -- it fails again with nothing
 again : (error : Error) (refused : AllocError) (old new : MachineState) → old.phase ≡ phases.Failed error → HasFailed (Err refused) old new → new ≡ old

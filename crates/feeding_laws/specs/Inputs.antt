@@ -1,5 +1,5 @@
 -- What a machine makes of the messages of its attempt's input, in any cut of their bytes.
-use Rattle.std.specs.Prelude.{◌≡◌, ◌⊎◌, ℕ, false, List, [], ◌∷◌, ◌++◌, map, length, None}
+use Rattle.std.specs.Prelude.{◌≡◌, ◌⊎◌, false, List, [], ◌∷◌, ◌++◌, map, length, None}
 use Rattle.std.specs.List.{AllByRecursion}
 use Rattle.protocol_errors.specs.declared.error.Error.{Error}
 use Rattle.protocol_stream.specs.Item.{item_at}

@@ -1,19 +1,18 @@
 -- Trees that fit have records that fit, as trees and as three lists.
-use Rattle.std.proofs.Common.{◌≡◌, ◌<◌, ◌^◌, ℕ, zero, suc, arith, List, [], ◌∷◌, ◌++◌, map, Option, Some, None, sym, subst}
+use Rattle.std.proofs.Common.{◌<◌, ◌^◌, ℕ, zero, suc, List, [], ◌∷◌, ◌++◌, sym, subst}
 use Rattle.std.specs.Prelude.{IsUtf8}
 use Rattle.std.specs.List.{AllByRecursion}
-use Rattle.protocol_wire.specs.declared.record.TheConstants.{LEVELS}
 use Rattle.journal_model.specs.declared.notification.NotificationId.{NotificationId}
 use Rattle.journal_model.specs.declared.notification.NotificationId.TheVariants.{CompletionId, SignalId, SignalName}
 use Rattle.journal_model.specs.AwaitTree.{AwaitTree, Single, Combined, AwaitTrees, no_trees, and_trees, Combinator, Unknown, FirstCompleted, AllCompleted, FirstSucceededOrAllFailed, AllSucceededOrFirstFailed}
 use Rattle.journal_model.specs.Spelling.{completions_in, signals_in, names_in}
-use Rattle.protocol_records.specs.declared.future.Future.{Future, out-Future, roll-Future}
+use Rattle.protocol_records.specs.declared.future.Future.{Future, roll-Future}
 use Rattle.protocol_records.specs.declared.future.Future.TheOpen.{Future-F}
 use Rattle.protocol_records.specs.declared.future.Future.TheViews.{out-roll-Future}
 use Rattle.protocol_records.specs.Future.{CombinatorFits, LayerFits, FutureFits}
 use Rattle.protocol_stream.specs.Records.{combinator_record, future_record, nested_records}
 use Rattle.vm_waiting.specs.Suspending.{below, listed}
-use Rattle.sending_laws.specs.Trees.{IdFits, LeavesFit, AllLeavesFit, IsWithin, AreWithin, TreeFits}
+use Rattle.sending_laws.specs.Trees.{LeavesFit, AllLeavesFit, IsWithin, AreWithin}
 
 pub all_append : {A : Type 0} (P : A → Type 0) (xs ys : List A) → AllByRecursion P xs → AllByRecursion P ys → AllByRecursion P (xs ++ ys)
 all_append P [] ys p q = q

@@ -1,12 +1,12 @@
 -- Trees over handles, over what these stand for, and what is left of them.
-use Rattle.std.proofs.Common.{◌≡◌, ◌<◌, ◌-◌, ◌==◌, nat_lt, ℕ, zero, suc, arith, Bool, true, false, List, [], ◌∷◌, Option, Some, None, refl, sym, ap, ◌∙◌, subst}
+use Rattle.std.proofs.Common.{◌≡◌, ◌-◌, ◌==◌, nat_lt, ℕ, zero, suc, arith, Bool, true, false, List, [], ◌∷◌, Option, Some, None, refl, sym, ap, ◌∙◌, subst}
 use Rattle.std.specs.Prelude.{if◌then◌else◌, IfSome, slice_get}
 use Rattle.std.proofs.Math.Path.{fun_ext}
 use Rattle.journal_model.specs.declared.notification.NotificationId.{NotificationId}
 use Rattle.journal_model.specs.declared.call.Call.{Call}
 use Rattle.journal_model.specs.declared.options.SignalDelivery.{SignalDelivery}
 use Rattle.journal_model.specs.Notification.{Arrival, cancel_id}
-use Rattle.journal_model.specs.AwaitTree.{AwaitTree, AwaitState, Pending, Succeeded, Failed, is_completed, Single, Combined, AwaitTrees, no_trees, and_trees, Combinator, FirstCompleted, await_state, is_awake, map_leaves}
+use Rattle.journal_model.specs.AwaitTree.{AwaitTree, AwaitState, Pending, Succeeded, Failed, is_completed, Single, Combined, AwaitTrees, no_trees, and_trees, await_state, is_awake}
 use Rattle.journal_model.specs.Await.{awaited_tree}
 use Rattle.journal_model.specs.History.{cancel_handle}
 use Rattle.journal_model.specs.Request.{Request}
@@ -17,7 +17,7 @@ use Rattle.journal_laws.proofs.Pruning.{pruned-awake}
 use Rattle.attempt_model.specs.Children.{ChildrenOutcome, AllKnown, FirstUnknown, OneIsNoId, children_outcome, cancel_requests_for}
 use Rattle.attempt_model.specs.Requests.{Commands, PutState, put_all}
 use Rattle.attempt_model.specs.Results.{Slots, Ready, slot_in, slot_of, handle_state, Resolution, Awake, Asleep, ready_after, resolution_of}
-use Rattle.attempt_model.specs.Machine.{Machine, Reply, Answered, AwaitsTree, FailedBy, is_cancelled, reply_where_asleep, reply_where_cancelled, reply_where_unknown, reply_to_children, reply_where_awake, reply_to_await, reply_unless_refused, reply_to}
+use Rattle.attempt_model.specs.Machine.{Machine, AwaitsTree, is_cancelled, reply_where_asleep, reply_where_cancelled, reply_where_unknown, reply_to_children, reply_where_awake, reply_to_await, reply_unless_refused}
 use Rattle.attempt_tables.proofs.Waking.{awake-map}
 use Rattle.sending_laws.specs.Trees.{IdFits, LeavesFit, AllLeavesFit, IsWithin, AreWithin, SlotsFit}
 use Rattle.sending_laws.specs.Telling.{HandlesFit, IsLeft, AwaitsLeave, AwaitedTreesFit}

@@ -1,5 +1,5 @@
 -- Each frame is read as what it was meant as.
-use Rattle.std.proofs.Common.{◌≡◌, ◌<◌, ◌-◌, ◌^◌, ℕ, arith, Bool, true, false, List, [], ◌∷◌, ◌++◌, length, Option, Some, None, refl, sym, ap, ◌∙◌, subst}
+use Rattle.std.proofs.Common.{◌≡◌, ◌<◌, ◌-◌, ◌^◌, ℕ, arith, Bool, true, false, List, [], length, Option, Some, None, refl, sym, ap, ◌∙◌, subst}
 use Rattle.std.specs.Prelude.{if◌then◌else◌}
 use Rattle.protocol_table.specs.declared.table.RecordType.{RecordType}
 use Rattle.protocol_table.specs.declared.table.RecordType.TheVariants as records
@@ -11,7 +11,6 @@ use Rattle.protocol_wire.specs.Decodes.{IsRead}
 use Rattle.protocol_wire.specs.declared.check.Fault.{Fault}
 use Rattle.protocol_wire.specs.declared.record.TheConstants.{LEVELS}
 use Rattle.protocol_wire.proofs.Holds.{Reads}
-use Rattle.protocol_types.specs.declared.message_type.MessageType.{MessageType}
 use Rattle.protocol_types.specs.declared.version.Version.{Version}
 use Rattle.protocol_types.specs.declared.feature.Feature.TheVariants.{AwaitTree as TellsTrees}
 use Rattle.protocol_types.specs.Version.{version_number}
@@ -46,7 +45,7 @@ use Rattle.protocol_stream.proofs.Frames.{item_at-frame_bytes}
 use Rattle.protocol_stream.proofs.RecordSpellings.{awaiting_on_spelled}
 use Rattle.protocol_spellings.specs.Requests.{request_of_output, request_of_get_lazy_state, request_of_get_eager_state, request_of_get_lazy_state_keys, request_of_get_eager_state_keys, request_of_set_state, request_of_clear_state, request_of_clear_all_state, request_of_get_promise, request_of_peek_promise, request_of_complete_promise, request_of_sleep, request_of_call, request_of_one_way_call, request_of_send_signal, request_of_run, request_of_attach_invocation, request_of_get_invocation_output, request_of_complete_awakeable}
 use Rattle.protocol_spellings.proofs.Notifications.{suspensions_spelled}
-use Rattle.vm_commands.specs.Recorded.{unless_wrong, request_read, command_by}
+use Rattle.vm_commands.specs.Recorded.{unless_wrong, request_read}
 use Rattle.store_frames.specs.Meaning.{unless_faulty, read_as, command_or_broken, error_frame, suspension_frame, frame_of}
 use Rattle.store_frames.specs.Requests.{suspension_of_tree, suspension_of_lists}
 use Rattle.store_frames.proofs.Payloads.{lists_payload as lists_spelled}
@@ -55,8 +54,8 @@ use Rattle.vm_waiting.specs.Suspending.{listed, lists_payload}
 use Rattle.request_laws.specs.Fitting.{RequestFits}
 use Rattle.request_laws.proofs.Requests.{payload_read}
 use Rattle.sending_laws.specs.Trees.{TreeFits}
-use Rattle.sending_laws.specs.Sent.{Sent, Asks, Awaits, Suspends, Fails, Ends, sent_type, sent_payload, sent_frame, sent_message, SentFits, suspension_told, frame_meant}
-use Rattle.sending_laws.specs.Reading.{IsReadAs, FramesAreRead, IsMeant, ErrorsAreMeant}
+use Rattle.sending_laws.specs.Sent.{Sent, Asks, Awaits, Suspends, Fails, Ends, sent_type, sent_payload, sent_message, SentFits, suspension_told, frame_meant}
+use Rattle.sending_laws.specs.Reading.{FramesAreRead, ErrorsAreMeant}
 use Rattle.sending_laws.proofs.Fitting.{future_fits, completions_listed, signals_listed, names_listed}
 
 -- ---- payloads

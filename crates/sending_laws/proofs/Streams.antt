@@ -2,12 +2,11 @@
 use Rattle.std.proofs.Common.{◌≡◌, ℕ, List, [], ◌∷◌, ◌++◌, map, Option, Some, None, refl, sym, ap, ◌∙◌, subst}
 use Rattle.std.proofs.lemmas.Grind.{flat_map-append}
 use Rattle.protocol_types.specs.declared.version.Version.{Version}
-use Rattle.journal_model.specs.Event.{Frame}
 use Rattle.protocol_stream.specs.Item.{Item, message, item_at}
 use Rattle.protocol_stream.proofs.Fronts.{item_at_extends}
 use Rattle.protocol_wire.proofs.Extends.{Extends}
 use Rattle.sending_laws.specs.Sent.{Sent, sent_frame, sent_stream, sent_message, SentFits, AllFit, frame_meant}
-use Rattle.sending_laws.specs.Reading.{TakesFirst, StreamsAreRead, Joins, StreamsJoin}
+use Rattle.sending_laws.specs.Reading.{TakesFirst, StreamsAreRead, StreamsJoin}
 use Rattle.sending_laws.proofs.Fitting.{all_append}
 use Rattle.sending_laws.proofs.Reading.{frames_are_read, read_as_meant}
 

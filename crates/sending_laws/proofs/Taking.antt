@@ -1,5 +1,5 @@
 -- No frame that an attempt has sent is refused for a cause that lies in it.
-use Rattle.std.proofs.Common.{◌≡◌, ◌⊎◌, inl, inr, true≢false, ℕ, Bool, true, false, not, ◌||◌, ◌&&◌, List, [], ◌∷◌, ◌++◌, length, Option, Some, None, is_some, Result, Ok, Err, refl, sym, ap, ◌∙◌, subst}
+use Rattle.std.proofs.Common.{◌≡◌, ◌⊎◌, inl, inr, true≢false, ℕ, Bool, true, false, not, ◌||◌, List, [], ◌∷◌, Some, Result, Ok, Err, refl, sym, ap, ◌∙◌, subst}
 use Rattle.std.specs.Prelude.{if◌then◌else◌, IfErr, IsTrue}
 use Rattle.std.specs.List.{AllByRecursion, list_any, list_all}
 use Rattle.std.specs.Str.{is_utf8}
@@ -8,8 +8,8 @@ use Rattle.journal_model.specs.Notification.{Text, Arrival}
 use Rattle.journal_model.specs.Run.{Handler, Invocation}
 use Rattle.journal_model.specs.Request.{Request, completions_asked}
 use Rattle.journal_model.specs.Event.{Event, Frame}
-use Rattle.journal_model.specs.Journal.{Entry, requests_in, entries_of, entries_of_event, starting_state, invocation_begun, is_open, recorded_requests}
-use Rattle.journal_model.specs.Attempt.{is_input_closed, is_live}
+use Rattle.journal_model.specs.Journal.{recorded_requests}
+use Rattle.journal_model.specs.Attempt.{is_input_closed}
 use Rattle.journal_model.specs.Cause.{Cause, Tests, those_that_hold, is_of_frame, causes_of, open_tests, live_tests, frame_tests, adding_tests, entry_tests, tests_of, UnknownInvocation, InvocationClosed, AttemptNotLive, BadCompletion, KeyNotText, InputNotClosed, BrokenPayload, NumbersUsedUp, PayloadTooLong, do_ascend, last_completion, keys_of}
 use Rattle.journal_model.specs.Cause as cause
 use Rattle.run_laws.proofs.Ascending.{next_ascends}
@@ -18,13 +18,13 @@ use Rattle.store_frames.specs.declared.frame.AttemptFrame.{AttemptFrame}
 use Rattle.store_frames.specs.Answer.{IsFrame}
 use Rattle.store_refusals.specs.declared.refusal.Refusal.{Refusal}
 use Rattle.store_refusals.specs.declared.refusal.Refusal.TheVariants as refusal
-use Rattle.store_refusals.specs.Refused.{refusal_of, first_of, is_circumstance, IsRefused}
+use Rattle.store_refusals.specs.Refused.{refusal_of, is_circumstance, IsRefused}
 use Rattle.store_steps.specs.declared.frame.LiveFacts.{LiveFacts}
 use Rattle.store_steps.specs.declared.frame.PreparedFrame.{PreparedFrame}
 use Rattle.store_steps.specs.Stateless.{LeavesState}
 use Rattle.store_steps.specs.Taken.{IsLive, Takes, lies_in_frame}
 use Rattle.sending_laws.specs.Sent.{Sent, Asks, Awaits, Suspends, Fails, Ends, is_recorded, frame_meant}
-use Rattle.sending_laws.specs.Taking.{IsOfStore, IsSentOfRun, LiesNotIn, NoneLieInFrames}
+use Rattle.sending_laws.specs.Taking.{IsOfStore, IsSentOfRun, NoneLieInFrames}
 
 -- ---- tests
 

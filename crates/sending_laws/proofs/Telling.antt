@@ -1,14 +1,13 @@
 -- What suspensions tell: the tree that is left, or before version 7 all its ids.
-use Rattle.std.proofs.Common.{◌≡◌, ℕ, Bool, true, false, true≢false, ◌||◌, List, [], ◌∷◌, ◌++◌, map, Option, Some, None, refl, sym, ap, ap₂, ◌∙◌, subst}
+use Rattle.std.proofs.Common.{◌≡◌, ℕ, Bool, true, false, true≢false, ◌||◌, List, [], ◌∷◌, ◌++◌, map, Option, Some, None, refl, sym, ap, ◌∙◌, subst}
 use Rattle.std.specs.List.{AllByRecursion, list_any}
 use Rattle.protocol_types.specs.declared.feature.Feature.TheVariants.{AwaitTree as TellsTrees}
 use Rattle.protocol_types.specs.Feature.{lacks_feature}
 use Rattle.journal_model.specs.declared.notification.NotificationId.{NotificationId}
 use Rattle.journal_model.specs.declared.notification.NotificationId.TheVariants as ids
-use Rattle.journal_model.specs.AwaitTree.{AwaitTree, AwaitState, Pending, Single, Combined, AwaitTrees, no_trees, and_trees, FirstCompleted, is_awake}
-use Rattle.journal_model.specs.Event.{ForTree, ForAny}
+use Rattle.journal_model.specs.AwaitTree.{AwaitTree, AwaitState, Pending, Single, Combined, AwaitTrees, no_trees, and_trees, is_awake}
 use Rattle.journal_model.specs.Spelling.{completions_in, signals_in, names_in}
-use Rattle.journal_model.specs.Waiting.{only_leaves, only_children, leaf_or_nothing}
+use Rattle.journal_model.specs.Waiting.{only_leaves, only_children}
 use Rattle.journal_laws.proofs.Leaving.{or-false}
 use Rattle.protocol_stream.specs.Records.{future_record}
 use Rattle.protocol_trees.specs.Future.{ids_in, future_tree}

@@ -1,5 +1,5 @@
 -- What one turn sends is a list of such frames.
-use Rattle.std.proofs.Common.{◌≡◌, inl, inr, ℕ, Bool, true, false, List, [], ◌∷◌, ◌++◌, map, Option, Some, Ok, refl, sym, ap, ◌∙◌, subst, append-nil}
+use Rattle.std.proofs.Common.{◌≡◌, inl, inr, Bool, true, false, List, [], ◌∷◌, map, Option, Some, refl, sym, ap, ◌∙◌, subst, append-nil}
 use Rattle.std.specs.Prelude.{if◌then◌else◌}
 use Rattle.std.specs.List.{AllByRecursion}
 use Rattle.protocol_types.specs.declared.version.Version.{Version}
@@ -12,18 +12,17 @@ use Rattle.journal_model.specs.Event.{Frame}
 use Rattle.journal_model.specs.Request.{Request}
 use Rattle.journal_model.specs.Waiting.{and_leaf, only_leaves, only_children}
 use Rattle.attempt_model.specs.Results.{Slots, slot_of}
-use Rattle.attempt_model.specs.Machine.{Machine, Reply, Answered}
+use Rattle.attempt_model.specs.Machine.{Reply}
 use Rattle.position_laws.specs.Replies.{SendsReply}
 use Rattle.waking_laws.specs.Suspended.{Tells}
-use Rattle.vm_awaits.specs.Views.{slots_of}
 use Rattle.vm_context.specs.Output.{Written}
 use Rattle.vm_calls.specs.declared.active.Active.{Active}
 use Rattle.vm_waiting.specs.Suspending.{over_ids}
 use Rattle.vm_errors.specs.Failure.{told_error}
 use Rattle.request_laws.specs.Fitting.{RequestFits}
-use Rattle.sending_laws.specs.Sent.{Sent, Asks, Awaits, Suspends, Fails, Ends, SentFits, AllFit, is_recorded, suspension_told, frame_meant}
-use Rattle.sending_laws.specs.Writing.{Sends, SendsOne}
-use Rattle.sending_laws.specs.Turning.{TurnSends, AnswersSend, StaysSend, SuspensionsSend, EndsSend, FailuresSend, TurnsSend}
+use Rattle.sending_laws.specs.Sent.{Asks, Awaits, Suspends, Fails, Ends, AllFit, is_recorded, suspension_told, frame_meant}
+use Rattle.sending_laws.specs.Writing.{Sends}
+use Rattle.sending_laws.specs.Turning.{AnswersSend, StaysSend, SuspensionsSend, EndsSend, FailuresSend, TurnsSend}
 use Rattle.sending_laws.proofs.Telling.{suspensions_tell}
 use Rattle.sending_laws.proofs.Writing.{frames_are_written}
 

@@ -1,5 +1,5 @@
 -- What is written is what is sent.
-use Rattle.std.proofs.Common.{◌≡◌, ◌<◌, ◌^◌, ℕ, arith, Bool, true, false, List, [], ◌∷◌, ◌++◌, length, map, Ok, refl, sym, ap, ◌∙◌, append-nil}
+use Rattle.std.proofs.Common.{◌≡◌, ℕ, arith, Bool, false, List, [], ◌∷◌, ◌++◌, map, refl, sym, ap, ◌∙◌, append-nil}
 use Rattle.std.specs.Prelude.{if◌then◌else◌}
 use Rattle.std.specs.List.{flat_map}
 use Rattle.protocol_wire.specs.Parts.{payload_of}
@@ -12,11 +12,10 @@ use Rattle.protocol_stream.specs.Frame.{spelled, message_of}
 use Rattle.protocol_stream.proofs.Spellings.{spelled-frame_bytes}
 use Rattle.vm_context.specs.Output.{Written, with_frame}
 use Rattle.vm_calls.specs.declared.active.Active.{Active}
-use Rattle.vm_calls.specs.Active.{writes_frames}
 use Rattle.vm_waiting.specs.Suspending.{over_ids}
 use Rattle.vm_errors.specs.Failure.{told_error}
 use Rattle.sending_laws.specs.Sent.{Sent, Asks, Awaits, Suspends, Fails, Ends, sent_frame, sent_stream}
-use Rattle.sending_laws.specs.Writing.{Sends, SendsOne, CommandsAreWritten, AwaitsAreWritten, SuspensionsAreWritten, ErrorsAreWritten, EndsAreWritten, FramesAreWritten}
+use Rattle.sending_laws.specs.Writing.{Sends, CommandsAreWritten, AwaitsAreWritten, SuspensionsAreWritten, ErrorsAreWritten, EndsAreWritten, FramesAreWritten}
 
 stream_of : (version : Version) (requests : List Request) → flat_map request_frame requests ≡ sent_stream version (map Asks requests)
 stream_of version [] = refl

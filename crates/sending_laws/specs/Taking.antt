@@ -1,5 +1,5 @@
 -- No frame that an attempt has sent is refused for a cause that lies in it.
-use Rattle.std.specs.Prelude.{◌≡◌, ℕ, Bool, true, false, List, Result, IfErr}
+use Rattle.std.specs.Prelude.{◌≡◌, ℕ, true, false, List, Result, IfErr}
 use Rattle.std.specs.List.{list_any}
 use Rattle.protocol_types.specs.declared.version.Version.{Version}
 use Rattle.journal_model.specs.Notification.{Text, Arrival}

@@ -1,13 +1,11 @@
 -- What one turn sends is a list of such frames: by the relation of the call that it made, what the abstract machine's reply sends.
 use Rattle.std.specs.Prelude.{◌≡◌, ℕ, Bool, true, false, List, [], map, Ok}
 use Rattle.std.specs.List.{AllByRecursion}
-use Rattle.protocol_types.specs.declared.version.Version.{Version}
 use Rattle.protocol_types.specs.declared.message_type.MessageType.TheVariants as types
 use Rattle.protocol_types.specs.Version.{version_number}
 use Rattle.journal_model.specs.declared.call.Call.{Call}
 use Rattle.journal_model.specs.declared.call.Answer.{Answer}
 use Rattle.journal_model.specs.AwaitTree.{AwaitTree, Pending, is_awake, map_leaves}
-use Rattle.journal_model.specs.Request.{Request}
 use Rattle.journal_model.specs.Run.{Invocation}
 use Rattle.attempt_model.specs.Results.{slot_of}
 use Rattle.attempt_model.specs.Machine.{Machine, Reply, AwaitsTree, Finished, FailedBy, Fault, reply_to}
