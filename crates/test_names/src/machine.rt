@@ -5,7 +5,7 @@ pub use invocation_vm::{
     Handler, ImplicitCancellationOption, Input, JournalMismatchRetryBehavior, JournalReplay,
     Moment, NonDeterministicChecksOption, NotificationHandle, PayloadOptions, ResponseHead,
     SendHandle, SignalDelivery, State, Target, Turn, UnresolvedFuture, VM, VMOptions, VMResult,
-    async_results, context, ephemeral, transitions,
+    async_results, context, ephemeral,
 };
 
 /// What is called of an attempt.
