@@ -16,7 +16,7 @@ use vm_waiting::{suspend, tell_awaiting_on};
 
 /// How an await goes on that waits.
 #[derive(Clone, Copy, Debug, PartialEq, Eq)]
-pub(crate) enum Sleep {
+pub enum Sleep {
     /// More input can come.
     Stays,
     /// None can, and a read has no answer.

@@ -17,7 +17,7 @@ use vm_machine::MachineState;
 
 /// Where a machine that has not failed stands to an end.
 #[derive(Clone, Copy, Debug, PartialEq, Eq)]
-pub(crate) enum EndPlace {
+pub enum EndPlace {
     /// It has ended, or was suspended.
     Behind,
     /// It is behind its journal.

@@ -10,5 +10,6 @@ mod ending;
 mod lists;
 mod uncompleted;
 
+pub use asleep::Sleep;
 pub use awaiting::do_await;
-pub use ending::sys_end;
+pub use ending::{EndPlace, sys_end};
