@@ -8,6 +8,7 @@
 pub mod async_results;
 pub mod context;
 pub mod ephemeral;
+pub mod transitions;
 
 // The machine.
 pub use vm_core::{CoreVM, VM, VMResult};
