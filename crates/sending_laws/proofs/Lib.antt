@@ -3,7 +3,6 @@ pub mod Reading
 pub mod Streams
 pub mod Told
 pub mod Telling
-pub mod Handles
 pub mod Writing
 pub mod Taking
 pub mod Turning

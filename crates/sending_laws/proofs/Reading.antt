@@ -53,10 +53,11 @@ use Rattle.vm_errors.specs.Failure.{told_error}
 use Rattle.vm_waiting.specs.Suspending.{listed, lists_payload}
 use Rattle.request_laws.specs.Fitting.{RequestFits}
 use Rattle.request_laws.proofs.Requests.{payload_read}
-use Rattle.sending_laws.specs.Trees.{TreeFits}
+use Rattle.handle_laws.specs.Trees.{TreeFits}
 use Rattle.sending_laws.specs.Sent.{Sent, Asks, Awaits, Suspends, Fails, Ends, sent_type, sent_payload, sent_message, SentFits, suspension_told, frame_meant}
 use Rattle.sending_laws.specs.Reading.{FramesAreRead, ErrorsAreMeant}
-use Rattle.sending_laws.proofs.Fitting.{future_fits, completions_listed, signals_listed, names_listed}
+use Rattle.handle_laws.proofs.Fitting.{future_fits}
+use Rattle.sending_laws.proofs.Fitting.{completions_listed, signals_listed, names_listed}
 
 -- ---- payloads
 

@@ -7,7 +7,7 @@ use Rattle.protocol_stream.proofs.Fronts.{item_at_extends}
 use Rattle.protocol_wire.proofs.Extends.{Extends}
 use Rattle.sending_laws.specs.Sent.{Sent, sent_frame, sent_stream, sent_message, SentFits, AllFit, frame_meant}
 use Rattle.sending_laws.specs.Reading.{TakesFirst, StreamsAreRead, StreamsJoin}
-use Rattle.sending_laws.proofs.Fitting.{all_append}
+use Rattle.handle_laws.proofs.Fitting.{all_append}
 use Rattle.sending_laws.proofs.Reading.{frames_are_read, read_as_meant}
 
 nothing_at_none : (x : Item × List ℕ) → None ≡ Some x → ⊥

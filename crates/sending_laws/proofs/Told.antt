@@ -13,7 +13,7 @@ use Rattle.protocol_stream.specs.Records.{combinator_record, future_record, nest
 use Rattle.protocol_trees.specs.Shape.{combinator_of, forest, node}
 use Rattle.protocol_trees.specs.Future.{shape_in, ids_in, future_tree}
 use Rattle.protocol_trees.specs.FutureShape.{future_tree_is}
-use Rattle.sending_laws.proofs.Fitting.{all_append}
+use Rattle.handle_laws.proofs.Fitting.{all_append}
 
 abbrev Tree : Type 0
 Tree = AwaitTree NotificationId

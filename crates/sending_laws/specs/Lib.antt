@@ -1,4 +1,3 @@
-pub mod Trees
 pub mod Sent
 pub mod Reading
 pub mod Telling

@@ -27,7 +27,7 @@ use Rattle.store_frames.specs.Kind.{kind_of}
 use Rattle.store_frames.specs.Meaning.{error_frame}
 use Rattle.vm_waiting.specs.Suspending.{listed, suspension_payload_in}
 use Rattle.request_laws.specs.Fitting.{RequestFits}
-use Rattle.sending_laws.specs.Trees.{TreeFits}
+use Rattle.handle_laws.specs.Trees.{TreeFits}
 
 -- a request, what is waited for while the attempt stays and where it is suspended, an error, and the end
 pub data Sent : Type 0 where

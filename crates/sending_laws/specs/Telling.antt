@@ -1,52 +1,15 @@
--- What suspensions tell, and which trees can be told.
-use Rattle.std.specs.Prelude.{◌≡◌, ℕ, Bool, false, Option, Some}
+-- What suspensions tell.
+use Rattle.std.specs.Prelude.{◌≡◌, ℕ, false, Option, Some}
 use Rattle.protocol_types.specs.declared.feature.Feature.TheVariants.{AwaitTree as TellsTrees}
 use Rattle.protocol_types.specs.Feature.{lacks_feature}
 use Rattle.journal_model.specs.declared.notification.NotificationId.{NotificationId}
-use Rattle.journal_model.specs.declared.call.Call.{Call}
-use Rattle.journal_model.specs.AwaitTree.{AwaitTree, Pending, is_awake, map_leaves}
-use Rattle.journal_model.specs.Await.{awaited_tree}
-use Rattle.journal_model.specs.Request.{Request}
-use Rattle.journal_model.specs.Run.{Invocation}
+use Rattle.journal_model.specs.AwaitTree.{AwaitTree, Pending, is_awake}
 use Rattle.journal_model.specs.Waiting.{only_leaves}
-use Rattle.attempt_model.specs.Results.{Slots, slot_of}
-use Rattle.attempt_model.specs.Machine.{Machine, AwaitsTree, reply_to}
-use Rattle.protocol_records.specs.Future.{FutureFits}
-use Rattle.protocol_stream.specs.Records.{future_record}
 use Rattle.waking_laws.specs.Suspended.{Tells}
-use Rattle.sending_laws.specs.Trees.{LeavesFit, IsWithin, SlotsFit}
 use Rattle.sending_laws.specs.Sent.{suspension_told}
-
--- ---- suspensions
 
 -- A suspension tells the tree over the ids that are left, or before version 7 all of them in three lists; that is what a run waits for
 -- which waits for that tree, if the tree is not awake by itself.
 abbrev pub SuspensionsTell : Type 0
 SuspensionsTell = (version : ℕ) (tree : AwaitTree (Option NotificationId)) → is_awake tree (λ leaf. Pending) ≡ false
     → Tells version tree (Some (suspension_told (lacks_feature version TellsTrees) (only_leaves (λ leaf. leaf) tree)))
-
--- ---- trees
-
--- a tree whose ids fit has a record that fits, if it has no more levels
-abbrev pub RecordsFit : Type 0
-RecordsFit = (levels : ℕ) (tree : AwaitTree NotificationId) → LeavesFit tree → IsWithin levels tree → FutureFits levels (future_record tree)
-
--- a tree over handles fits, over what they stand for
-abbrev pub HandlesFit : Type 0
-HandlesFit = (levels : ℕ) (slots : Slots) (tree : AwaitTree ℕ) → SlotsFit slots → IsWithin levels tree
-    → LeavesFit (only_leaves (slot_of slots) tree) × IsWithin levels (only_leaves (slot_of slots) tree)
-
--- what is left of an awaited tree has no more levels than that tree; its handles stand for what they stood for; and it is not awake by itself
-pub record IsLeft (cancelled : AwaitTree ℕ) (m after : Machine) (left : AwaitTree ℕ) : Type 0 where
-  pub levels : (levels : ℕ) → IsWithin levels cancelled → IsWithin levels left
-  pub slots : after.slots ≡ m.slots
-  pub asleep : is_awake (map_leaves (slot_of after.slots) left) (λ leaf. Pending) ≡ false
-
-abbrev pub AwaitsLeave : Type 0
-AwaitsLeave = (same_header : Call → Request → Request → Bool) (given : Invocation) (m after : Machine) (tree left : AwaitTree ℕ) → reply_to same_header given m (Call.Await tree) ≡ AwaitsTree left after
-    → IsLeft (awaited_tree given.options.implicit_cancellation tree) m after left
-
-pub record AwaitedTreesFit : Type 0 where
-  pub records : RecordsFit
-  pub handles : HandlesFit
-  pub awaits : AwaitsLeave

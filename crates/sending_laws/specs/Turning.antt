@@ -20,7 +20,7 @@ use Rattle.vm_errors.specs.Failing as failing
 use Rattle.vm_errors.specs.Failure.{told_error}
 use Rattle.protocol_errors.specs.declared.error.Error.{Error}
 use Rattle.request_laws.specs.Fitting.{RequestFits}
-use Rattle.sending_laws.specs.Trees.{TreeFits}
+use Rattle.handle_laws.specs.Trees.{TreeFits}
 use Rattle.sending_laws.specs.Sent.{Sent, Fails, SentFits, AllFit, is_recorded, frame_meant}
 use Rattle.sending_laws.specs.Writing.{Sends}
 

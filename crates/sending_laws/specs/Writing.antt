@@ -13,7 +13,7 @@ use Rattle.vm_calls.specs.Active.{writes_frames}
 use Rattle.vm_waiting.specs.Suspending.{over_ids, Writes, IsSuspended, TellsIf}
 use Rattle.vm_errors.specs.Failure.{told_error}
 use Rattle.vm_errors.specs.Failing as failing
-use Rattle.sending_laws.specs.Trees.{TreeFits}
+use Rattle.handle_laws.specs.Trees.{TreeFits}
 use Rattle.sending_laws.specs.Sent.{Sent, Asks, Awaits, Suspends, Fails, Ends, sent_stream, SentFits}
 
 -- these frames are behind what was written, and no other

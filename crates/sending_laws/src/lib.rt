@@ -3,7 +3,7 @@
 
 ghost use Rattle.sending_laws.specs.Reading.{ErrorsAreMeant, FramesAreRead, StreamsAreRead, StreamsJoin};
 ghost use Rattle.sending_laws.specs.Taking.{NoneLieInFrames};
-ghost use Rattle.sending_laws.specs.Telling.{AwaitedTreesFit, SuspensionsTell};
+ghost use Rattle.sending_laws.specs.Telling.{SuspensionsTell};
 ghost use Rattle.sending_laws.specs.Turning.{TurnsSend};
 ghost use Rattle.sending_laws.specs.Writing.{FramesAreWritten};
 
@@ -25,11 +25,6 @@ pub fn streams_join()
 /// A suspension tells the tree that is left, or before version 7 all its ids.
 pub fn suspensions_tell()
     ensures { SuspensionsTell }
-{}
-
-/// Trees over handles can be told, if what these stand for fits and no tree is nested too deep; so can what is left of them.
-pub fn awaited_trees_fit()
-    ensures { AwaitedTreesFit }
 {}
 
 /// An error is read with its code, its text, the command that it is about, its delay and its behaviour.

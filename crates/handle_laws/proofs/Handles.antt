@@ -19,13 +19,13 @@ use Rattle.attempt_model.specs.Requests.{Commands, PutState, put_all}
 use Rattle.attempt_model.specs.Results.{Slots, Ready, slot_in, slot_of, handle_state, Resolution, Awake, Asleep, ready_after, resolution_of}
 use Rattle.attempt_model.specs.Machine.{Machine, AwaitsTree, is_cancelled, reply_where_asleep, reply_where_cancelled, reply_where_unknown, reply_to_children, reply_where_awake, reply_to_await, reply_unless_refused}
 use Rattle.attempt_tables.proofs.Waking.{awake-map}
-use Rattle.sending_laws.specs.Trees.{IdFits, LeavesFit, AllLeavesFit, IsWithin, AreWithin, SlotsFit}
-use Rattle.sending_laws.specs.Telling.{HandlesFit, IsLeft, AwaitsLeave, AwaitedTreesFit}
-use Rattle.sending_laws.proofs.Fitting.{future_fits}
+use Rattle.handle_laws.specs.Trees.{IdFits, LeavesFit, AllLeavesFit, IsWithin, AreWithin, SlotsFit}
+use Rattle.handle_laws.specs.Awaiting.{HandlesFit, IsLeft, AwaitsLeave, AwaitedTreesFit}
+use Rattle.handle_laws.proofs.Fitting.{future_fits}
 
 -- ---- what handles stand for
 
-abbrev FitsIfSome : Option NotificationId → Type 0
+abbrev pub FitsIfSome : Option NotificationId → Type 0
 FitsIfSome o = IfSome o IdFits
 
 found_fits : (slots : Slots) (place : ℕ) → SlotsFit slots → FitsIfSome (slot_in (slice_get slots place))
@@ -33,11 +33,11 @@ found_fits [] place h = tt
 found_fits (slot ∷ slots) zero h = h.0
 found_fits (slot ∷ slots) (suc place) h = found_fits slots place h.1
 
-chosen_fits : (b : Bool) (one other : Option NotificationId) → FitsIfSome one → FitsIfSome other → FitsIfSome (if b then one else other)
+pub chosen_fits : (b : Bool) (one other : Option NotificationId) → FitsIfSome one → FitsIfSome other → FitsIfSome (if b then one else other)
 chosen_fits true one other first second = first
 chosen_fits false one other first second = second
 
-cancel_fits : FitsIfSome (Some cancel_id)
+pub cancel_fits : FitsIfSome (Some cancel_id)
 cancel_fits = omega arith
 
 slot_fits : (slots : Slots) → SlotsFit slots → (handle : ℕ) → FitsIfSome (slot_of slots handle)
@@ -85,7 +85,7 @@ module _ {A B : Type 0} (stands : A → Option B) where
     tree_within (suc levels) (Single leaf) h = alone_within levels (stands leaf)
     tree_within (suc levels) (Combined combinator children) h = children_within levels children h
 
-handles_fit : HandlesFit
+pub handles_fit : HandlesFit
 handles_fit levels slots tree h within = (tree_fits (slot_of slots) (slot_fits slots h) tree, tree_within (slot_of slots) levels tree within)
 
 module _ {A : Type 0} (states : A → AwaitState) where

@@ -1,0 +1,6 @@
+-- Proved in `Handles`.
+use Rattle.handle_laws.proofs.Handles.{awaited_trees_fit}
+use Rattle.handle_laws.proofs.awaited_trees_fit.Goals as goal
+
+pub returns : goal.returns
+returns c = awaited_trees_fit

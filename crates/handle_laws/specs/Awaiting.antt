@@ -1,0 +1,38 @@
+-- Which trees over handles can be told, and what is left of an awaited one.
+use Rattle.std.specs.Prelude.{◌≡◌, ℕ, Bool, false}
+use Rattle.journal_model.specs.declared.notification.NotificationId.{NotificationId}
+use Rattle.journal_model.specs.declared.call.Call.{Call}
+use Rattle.journal_model.specs.AwaitTree.{AwaitTree, Pending, is_awake, map_leaves}
+use Rattle.journal_model.specs.Await.{awaited_tree}
+use Rattle.journal_model.specs.Request.{Request}
+use Rattle.journal_model.specs.Run.{Invocation}
+use Rattle.journal_model.specs.Waiting.{only_leaves}
+use Rattle.attempt_model.specs.Results.{Slots, slot_of}
+use Rattle.attempt_model.specs.Machine.{Machine, AwaitsTree, reply_to}
+use Rattle.protocol_records.specs.Future.{FutureFits}
+use Rattle.protocol_stream.specs.Records.{future_record}
+use Rattle.handle_laws.specs.Trees.{LeavesFit, IsWithin, SlotsFit}
+
+-- a tree whose ids fit has a record that fits, if it has no more levels
+abbrev pub RecordsFit : Type 0
+RecordsFit = (levels : ℕ) (tree : AwaitTree NotificationId) → LeavesFit tree → IsWithin levels tree → FutureFits levels (future_record tree)
+
+-- a tree over handles fits, over what they stand for
+abbrev pub HandlesFit : Type 0
+HandlesFit = (levels : ℕ) (slots : Slots) (tree : AwaitTree ℕ) → SlotsFit slots → IsWithin levels tree
+    → LeavesFit (only_leaves (slot_of slots) tree) × IsWithin levels (only_leaves (slot_of slots) tree)
+
+-- what is left of an awaited tree has no more levels than that tree; its handles stand for what they stood for; and it is not awake by itself
+pub record IsLeft (cancelled : AwaitTree ℕ) (m after : Machine) (left : AwaitTree ℕ) : Type 0 where
+  pub levels : (levels : ℕ) → IsWithin levels cancelled → IsWithin levels left
+  pub slots : after.slots ≡ m.slots
+  pub asleep : is_awake (map_leaves (slot_of after.slots) left) (λ leaf. Pending) ≡ false
+
+abbrev pub AwaitsLeave : Type 0
+AwaitsLeave = (same_header : Call → Request → Request → Bool) (given : Invocation) (m after : Machine) (tree left : AwaitTree ℕ) → reply_to same_header given m (Call.Await tree) ≡ AwaitsTree left after
+    → IsLeft (awaited_tree given.options.implicit_cancellation tree) m after left
+
+pub record AwaitedTreesFit : Type 0 where
+  pub records : RecordsFit
+  pub handles : HandlesFit
+  pub awaits : AwaitsLeave

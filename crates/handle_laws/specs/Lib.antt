@@ -1,0 +1,3 @@
+pub mod Trees
+pub mod Awaiting
+pub mod Machines

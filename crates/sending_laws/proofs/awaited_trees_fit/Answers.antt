@@ -1,6 +1,0 @@
--- Proved in `Handles`.
-use Rattle.sending_laws.proofs.Handles.{awaited_trees_fit}
-use Rattle.sending_laws.proofs.awaited_trees_fit.Goals as goal
-
-pub returns : goal.returns
-returns c = awaited_trees_fit
