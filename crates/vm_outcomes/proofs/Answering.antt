@@ -1,0 +1,62 @@
+-- The machine stands to the abstract machine after a call as it did before.
+use Rattle.std.proofs.Common.{◌≡◌, List, [], append-nil, refl, sym, ap, ◌∙◌, ℕ}
+use Rattle.journal_model.specs.Run.{Invocation}
+use Rattle.journal_model.specs.declared.call.Answer.{Answer}
+use Rattle.journal_model.specs.declared.call.Call.{Call}
+use Rattle.attempt_model.specs.Machine.{Machine, Answered}
+use Rattle.vm_calls.specs.Active.{Sees, writes_frames}
+use Rattle.vm_calls.specs.Making.{Replies}
+use Rattle.vm_calls.specs.declared.active.Active.{Active}
+use Rattle.vm_context.specs.Output.{Written}
+use Rattle.vm_waiting.specs.Waiting.{Becomes}
+use Rattle.vm_machine.specs.Calls.{checks_off}
+use Rattle.vm_machine.specs.declared.machine_state.MachineState.{MachineState}
+use Rattle.vm_outcomes.specs.Carrying.{Answers}
+use Rattle.vm_outcomes.specs.Driven.{IsDriven, reply_of}
+
+-- what a call has changed is what it keeps for calls alone
+pub driven_on : (given : Invocation) (m machine : Machine) (old : MachineState) (active : Active) → IsDriven given m old → Sees given active machine
+    → active.output.version ≡ old.active.output.version → IsDriven given machine (record old { active = active })
+driven_on given m machine old active driven sees same = record {
+  sees = sees;
+  phase = driven.phase;
+  version = driven.version;
+  written = same ∙ driven.written;
+  id = driven.id;
+  cancellation = driven.cancellation;
+  reads = driven.reads;
+}
+
+pub nothing_written : (written : Written) → written ≡ writes_frames [] written
+nothing_written written = ap (λ (bytes : List ℕ). record written { bytes = bytes }) (sym (append-nil written.bytes))
+
+module _ (given : Invocation) (m : Machine) (call : Call) (old : MachineState) (driven : IsDriven given m old) where
+  -- a call that puts a request, or makes a handle
+  pub answered : (answer : Answer) (active : Active) → Replies (checks_off old.options.non_determinism_checks) given m call answer old.active active
+      → Answers given m call old answer (record old { active = active })
+  answered answer active replies = record {
+    machine = replies.machine;
+    replies = replies.replies;
+    driven = driven_on given m replies.machine old active driven replies.sees (ap (λ (w : Written). w.version) replies.frames);
+    more = replies.more;
+    written = replies.written;
+    frames = replies.frames;
+    others = refl;
+  }
+
+  -- one that writes nothing
+  pub answered_quietly : (answer : Answer) (active : Active) → Becomes given m (reply_of old given m call) (Answered answer) active → active.output ≡ old.active.output
+      → Answers given m call old answer (record old { active = active })
+  answered_quietly answer active becomes unwritten = record {
+    machine = becomes.machine;
+    replies = becomes.replies;
+    driven = driven_on given m becomes.machine old active driven becomes.sees (ap (λ (w : Written). w.version) unwritten);
+    more = [];
+    written = becomes.written ∙ sym (append-nil m.written);
+    frames = unwritten ∙ nothing_written old.active.output;
+    others = refl;
+  }
+
+-- what is changed beside is what is kept for calls alone
+pub only_active : (old between : MachineState) (active : Active) → between ≡ record old { active = active } → between ≡ record old { active = between.active }
+only_active old between active others = others ∙ sym (ap (λ (vm : MachineState). record old { active = vm.active }) others)

@@ -1,0 +1,139 @@
+-- Calls that put one command.
+use Rattle.std.proofs.Common.{◌≡◌, ◌<◌, ◌+◌, ◌^◌, ◌⊎◌, inl, inr, ℕ, zero, suc, List, length, Option, Some, None, Result, Ok, Err, refl, sym, ap, subst, ◌∙◌}
+use Rattle.std.specs.declared.alloc.AllocError.{AllocError}
+use Rattle.journal_model.specs.History.{completions_of, ids_of}
+use Rattle.journal_model.specs.Notification.{Text}
+use Rattle.journal_model.specs.Refusal.{refusal_of}
+use Rattle.journal_model.specs.Run.{Invocation}
+use Rattle.journal_model.specs.declared.call.Answer.{Answer}
+use Rattle.journal_model.specs.declared.call.Call.{Call}
+use Rattle.attempt_model.specs.Machine.{Machine, next_slot}
+use Rattle.attempt_model.specs.Results.{Slots}
+use Rattle.protocol_errors.specs.Code.{internal, journal_mismatch}
+use Rattle.protocol_errors.specs.Error.{decoding_code}
+use Rattle.protocol_errors.specs.declared.error.Error.{Error}
+use Rattle.protocol_stream.specs.declared.encoder.EncodingError.TheVariants as unsent
+use Rattle.protocol_types.specs.declared.message_type.MessageType.{MessageType}
+use Rattle.vm_awaits.specs.Views.{AsyncResults}
+use Rattle.vm_calls.specs.Active.{Sees, LacksCompletions}
+use Rattle.vm_calls.specs.Making.{FailsAs, Makes}
+use Rattle.vm_calls.specs.declared.active.Active.{Active}
+use Rattle.vm_calls.specs.declared.call_error.CallError.{CallError}
+use Rattle.vm_calls.specs.declared.call_error.CallError.TheVariants.{Number, Put, OutOfMemory}
+use Rattle.vm_calls.specs.declared.call_error.NumberError.TheVariants as numbers
+use Rattle.vm_calls.specs.declared.put_error.PutError.TheVariants.{Replay, Encoding}
+use Rattle.vm_causes.specs.Causes.{CallCauses}
+use Rattle.vm_commands.specs.declared.replay_error.ReplayError.TheVariants as unmatched
+use Rattle.vm_context.specs.Journal.{JournalCounts}
+use Rattle.vm_refusals.specs.Refusals.{refusal_meant}
+use Rattle.vm_refusals.specs.declared.refusal_error.RefusalError.{RefusalError}
+use Rattle.vm_machine.specs.Admitting.{IsElsewhere}
+use Rattle.vm_machine.specs.Calls.{checks_off, IsOf, IsRefusalOf, IsMade, Calls}
+use Rattle.vm_machine.specs.Settling.{Settles}
+use Rattle.vm_machine.specs.declared.machine_state.MachineState.{MachineState}
+use Rattle.vm_outcomes.specs.Carrying.{Answers, Comes, CarriesOut}
+use Rattle.vm_outcomes.specs.Causes.{NoNumber, TooLong, LacksNumber, HasCause}
+use Rattle.vm_outcomes.specs.Driven.{IsDriven, TracksNone}
+use Rattle.vm_outcomes.specs.Outcomes.{answered_as}
+use Rattle.vm_outcomes.specs.declared.outcome.CallOutcome.{CallOutcome}
+use Rattle.vm_outcomes.proofs.Answering.{answered}
+use Rattle.vm_outcomes.proofs.Failing.{no_memory, last_code, decoding_fault, mismatches, failed, refused_call}
+use Rattle.vm_outcomes.proofs.Steps.{steps_of}
+
+-- so many completions lack in what is kept exactly where they lack in the abstract machine
+lacks_so_many : (given : Invocation) (m : Machine) (active : Active) (taken : ℕ) → Sees given active m → LacksCompletions taken active → (2 ^ 32 < m.completions + taken) ⊎ (2 ^ 32 < next_slot m + taken)
+lacks_so_many given m active zero sees lacks = absurd lacks
+lacks_so_many given m active (suc more) sees (inl lacks) = inl (subst (λ (n : ℕ). 2 ^ 32 < n + suc more) sees.completions lacks)
+lacks_so_many given m active (suc more) sees (inr lacks) =
+    inr (subst (λ (slots : Slots). 2 ^ 32 < 17 + length slots + suc more) (ap (λ (r : AsyncResults). r.slots) sees.results) lacks)
+
+lacks_number : (m : Machine) (call : Call) → length (ids_of m.completions m.signals call) ≡ completions_of call
+    → (2 ^ 32 < m.completions + completions_of call) ⊎ (2 ^ 32 < next_slot m + completions_of call) → LacksNumber m call
+lacks_number m call same (inl lacks) = inl lacks
+lacks_number m call same (inr lacks) = inr (inr (subst (λ (n : ℕ). 2 ^ 32 < next_slot m + n) (sym same) lacks))
+
+-- where as many handles are made as completions are taken
+pub lacks_completions : (given : Invocation) (m : Machine) (call : Call) (active : Active) → Sees given active m → length (ids_of m.completions m.signals call) ≡ completions_of call
+    → LacksCompletions (completions_of call) active → LacksNumber m call
+lacks_completions given m call active sees same lacks = lacks_number m call same (lacks_so_many given m active (completions_of call) sees lacks)
+
+-- what is refused of this version is no call of this invocation
+refusal_none : (given : Invocation) (call : Call) (event : List ℕ) (refusal : Option RefusalError) (old : MachineState) → IsOf given old → IsRefusalOf old.version call event refusal → refusal ≡ None
+    → refusal_of given.version call ≡ None
+refusal_none given call event None old is_of refuses none = ap (λ (n : ℕ). refusal_of n call) is_of ∙ refuses
+refusal_none given call event (Some error) old is_of refuses none = cc
+
+refusal_some : (given : Invocation) (call : Call) (event : List ℕ) (refusal : Option RefusalError) (error : RefusalError) (old : MachineState) → IsOf given old → IsRefusalOf old.version call event refusal
+    → refusal ≡ Some error → refusal_of given.version call ≡ Some (refusal_meant error.refusal)
+refusal_some given call event refusal error old is_of refuses some =
+    ap (λ (n : ℕ). refusal_of n call) is_of ∙ (subst (λ (r : Option RefusalError). IsRefusalOf old.version call event r) some refuses).0
+
+module _ (given : Invocation) (m : Machine) (call : Call) (old : MachineState) (driven : IsDriven given m old) where
+  module _ (unrefused : refusal_of given.version call ≡ None) (same : length (ids_of m.completions m.signals call) ≡ completions_of call) where
+    call_cause : {M : Type 0} (difference : M → M → List ℕ) (journal : JournalCounts) (error : CallError M) (told : Result Error AllocError)
+        → FailsAs (checks_off old.options.non_determinism_checks) given m call old.active error → CallCauses difference journal error told → HasCause given m call old told
+    call_cause difference journal (Number numbers.IdsExhausted) told fails causes = record {
+      cause = NoNumber;
+      when = (unrefused, lacks_completions given m call old.active driven.sees same fails);
+      tells = last_code journal internal None told causes;
+    }
+    call_cause difference journal (Number numbers.OutOfMemory) told fails causes = no_memory given m call old told causes
+    call_cause difference journal (Put (Replay (unmatched.Unavailable error))) told fails causes = absurd fails.0
+    call_cause difference journal (Put (Replay (unmatched.Decoding error))) told fails causes =
+        mismatches given m call old (decoding_code error) told fails.0 (decoding_fault error) (last_code journal _ _ told causes)
+    call_cause difference journal (Put (Replay (unmatched.Mismatch error))) told fails causes =
+        mismatches given m call old journal_mismatch told fails.0 (inl refl) (last_code journal _ _ told causes)
+    call_cause difference journal (Put (Replay unmatched.OutOfMemory)) told fails causes = no_memory given m call old told causes
+    call_cause difference journal (Put (Encoding unsent.PayloadTooLong)) told fails causes = record {
+      cause = TooLong;
+      when = (unrefused, inl fails.0);
+      tells = last_code journal internal _ told causes;
+    }
+    call_cause difference journal (Put (Encoding unsent.OutOfMemory)) told fails causes = no_memory given m call old told causes
+    call_cause difference journal OutOfMemory told fails causes = no_memory given m call old told causes
+
+    call_settles : {M Taken : Type 0} (difference : M → M → List ℕ) (answer : Taken → Answer) (made : Result Taken (CallError M)) (active : Active) (result : Result Taken Error) (new : MachineState)
+        → Makes (checks_off old.options.non_determinism_checks) given m call answer old.active made active → Settles difference made (record old { active = active }) result new
+        → Comes given m call old (answered_as answer result) new
+    call_settles {Taken = Taken} difference answer (Ok taken) active (Ok got) new makes settles =
+        subst (λ (t : Taken). Answers given m call old (answer t) new) (sym settles.0)
+        (subst (λ (vm : MachineState). Answers given m call old (answer taken) vm) (sym settles.1) (answered given m call old driven (answer taken) active makes))
+    call_settles difference answer (Ok taken) active (Err told) new makes settles = absurd settles
+    call_settles difference answer (Err error) active (Ok got) new makes settles = absurd settles
+    call_settles difference answer (Err error) active (Err told) new makes settles =
+        failed given m call old driven.phase settles.cause active told new (call_cause difference active.journal error settles.cause makes.0 settles.causes) makes.1 settles.fails
+
+    call_made : {M Taken : Type 0} (difference : M → M → List ℕ) (answer : Taken → Answer) (ty : MessageType) (name : Text) (result : Result Taken Error) (new : MachineState)
+        → TracksNone given m call → IsMade difference call answer ty name old result new → Comes given m call old (answered_as answer result) new
+    call_made difference answer ty name result new none made =
+        call_settles difference answer made.made made.between.active result new (made.makes given m driven.version none driven.sees)
+        (subst (λ (vm : MachineState). Settles difference made.made vm result new) made.others made.settles)
+
+  call_comes : {M Taken : Type 0} (difference : M → M → List ℕ) (answer : Taken → Answer) (event : List ℕ) (ty : MessageType) (name : Text) (result : Result Taken Error) (new : MachineState)
+      → length (ids_of m.completions m.signals call) ≡ completions_of call → TracksNone given m call → Calls difference call answer event ty name old result new
+      → Comes given m call old (answered_as answer result) new
+  call_comes {Taken = Taken} difference answer event ty name result new same none calls =
+      steps_of (IsMade difference call answer ty name) (IsElsewhere ty name) calls.refusal old driven.phase (λ (r : Result Taken Error) (vm : MachineState). Comes given m call old (answered_as answer r) vm)
+      (λ r vm free made. call_made (refusal_none given call event calls.refusal old driven.version calls.refuses free) same difference answer ty name r vm none made)
+      (λ error told vm some refused. refused_call given m call old driven.phase error told vm (refusal_some given call event calls.refusal error old driven.version calls.refuses some) refused)
+      result new calls.steps
+
+-- a call of one command is carried out
+pub carried : {M Taken : Type 0} {difference : M → M → List ℕ} {event : List ℕ} {ty : MessageType} {name : Text} (call : Call) (answer : Taken → Answer) (old : MachineState) (result : Result Taken Error)
+    (new : MachineState) (outcome : CallOutcome) → outcome ≡ answered_as answer result → ((n signal : ℕ) → length (ids_of n signal call) ≡ completions_of call)
+    → Calls difference call answer event ty name old result new → CarriesOut call old outcome new
+carried {difference = difference} {event = event} {ty = ty} {name = name} call answer old result new outcome is same calls = λ given m none driven.
+    subst (λ (o : CallOutcome). Comes given m call old o new) (sym is)
+    (call_comes given m call old driven difference answer event ty name result new (same m.completions m.signals) none calls)
+
+-- one that is answered without a value
+pub done_carried : {M : Type 0} {difference : M → M → List ℕ} {event : List ℕ} {ty : MessageType} {name : Text} (call : Call) (old : MachineState) (result : Result (Unit {0}) Error) (new : MachineState)
+    (outcome : CallOutcome) → outcome ≡ answered_as (λ done. Answer.Done) result → ((n signal : ℕ) → length (ids_of n signal call) ≡ completions_of call)
+    → Calls difference call (λ done. Answer.Done) event ty name old result new → CarriesOut call old outcome new
+done_carried call old result new outcome is same calls = carried call (λ done. Answer.Done) old result new outcome is same calls
+
+-- one that is answered by a handle
+pub handle_carried : {M : Type 0} {difference : M → M → List ℕ} {event : List ℕ} {ty : MessageType} {name : Text} (call : Call) (old : MachineState) (result : Result ℕ Error) (new : MachineState)
+    (outcome : CallOutcome) → outcome ≡ answered_as (λ handle. Answer.Handle handle) result → ((n signal : ℕ) → length (ids_of n signal call) ≡ completions_of call)
+    → Calls difference call (λ handle. Answer.Handle handle) event ty name old result new → CarriesOut call old outcome new
+handle_carried call old result new outcome is same calls = carried call (λ handle. Answer.Handle handle) old result new outcome is same calls

@@ -1,0 +1,161 @@
+-- Calls that make handles, take what they stand for, and look at it.
+use Rattle.std.proofs.Common.{◌≡◌, ◌≤◌, ◌<◌, ◌+◌, ◌^◌, inl, inr, ℕ, Bool, [], length, codes, Option, None, Result, Ok, Err, IfOk, refl, sym, ap, subst, arith, append-nil}
+use Rattle.std.specs.declared.alloc.AllocError.{AllocError}
+use Rattle.journal_model.specs.Notification.{Text}
+use Rattle.journal_model.specs.Refusal.{refusal_of}
+use Rattle.journal_model.specs.Run.{Invocation}
+use Rattle.journal_model.specs.declared.call.Answer.{Answer}
+use Rattle.journal_model.specs.declared.call.Call.{Call}
+use Rattle.journal_model.specs.declared.value.Value.{Value}
+use Rattle.attempt_model.specs.Machine.{Machine, KeysNotText}
+use Rattle.attempt_model.specs.Results.{Slots}
+use Rattle.protocol_errors.specs.Code.{internal}
+use Rattle.protocol_errors.specs.declared.error.Error.{Error}
+use Rattle.protocol_messages.specs.declared.taken.TakeError.{TakeError}
+use Rattle.protocol_messages.specs.declared.taken.TakeError.TheVariants as untaken
+use Rattle.vm_awaits.specs.Views.{AsyncResults}
+use Rattle.vm_calls.specs.Active.{Sees}
+use Rattle.vm_calls.specs.Handles.{LacksHandle, LacksSignal, MakesHandle}
+use Rattle.vm_calls.specs.declared.active.Active.{Active}
+use Rattle.vm_calls.specs.declared.call_error.NumberError.{NumberError}
+use Rattle.vm_calls.specs.declared.call_error.NumberError.TheVariants as numbers
+use Rattle.vm_causes.specs.Causes.{NumberCauses}
+use Rattle.vm_errors.specs.declared.phase.Phase.{Phase}
+use Rattle.vm_handles.specs.Calling.{AnswersBy, IsCalled}
+use Rattle.vm_handles.specs.Handles.{MakesSignal, IsAwakeableWhere, IsAwakeable, IsNoAwakeable, TakesFirst, TakeCauses, Looks}
+use Rattle.vm_types.specs.declared.handles.AwakeableHandle.{AwakeableHandle}
+use Rattle.vm_types.specs.declared.options.JournalReplay.{JournalReplay}
+use Rattle.vm_types.specs.declared.options.JournalReplay.TheVariants.{Enabled, Disabled}
+use Rattle.vm_machine.specs.Calls.{checks_off}
+use Rattle.vm_machine.specs.Steps.{IsUnexpected, Steps}
+use Rattle.vm_machine.specs.declared.machine_state.MachineState.{MachineState}
+use Rattle.vm_outcomes.specs.Carrying.{Answers, Comes, CarriesOut}
+use Rattle.vm_outcomes.specs.Causes.{ByFault, NoNumber, NoReplay, NoMemory, LacksNumber, HasCause}
+use Rattle.vm_outcomes.specs.Driven.{IsDriven}
+use Rattle.vm_outcomes.specs.Outcomes.{answered_as}
+use Rattle.vm_outcomes.specs.declared.outcome.CallOutcome.{CallOutcome}
+use Rattle.vm_outcomes.specs.declared.outcome.CallOutcome.TheVariants.{Answered}
+use Rattle.vm_outcomes.proofs.Answering.{answered, answered_quietly, nothing_written}
+use Rattle.vm_outcomes.proofs.Failing.{no_memory, unless_plain, failed}
+use Rattle.vm_outcomes.proofs.Steps.{steps_of}
+
+-- ---- numbers
+
+lacks_handle : (given : Invocation) (m : Machine) (active : Active) → Sees given active m → LacksHandle active → 2 ^ 32 < 17 + length m.slots + 1
+lacks_handle given m active sees lacks = subst (λ (slots : Slots). 2 ^ 32 < 17 + length slots + 1) (ap (λ (r : AsyncResults). r.slots) sees.results) lacks
+
+lacks_signal : (given : Invocation) (m : Machine) (active : Active) → Sees given active m → LacksSignal active → LacksNumber m Call.Awakeable
+lacks_signal given m active sees (inl lacks) =
+    let past : 2 ^ 32 ≤ m.signals = subst (λ (n : ℕ). 2 ^ 32 ≤ n) sees.signals lacks in
+    inr (inl (omega (arith, past)))
+lacks_signal given m active sees (inr lacks) = inr (inr (lacks_handle given m active sees lacks))
+
+-- ---- what makes a handle
+
+module _ (given : Invocation) (m : Machine) (call : Call) (old : MachineState) (driven : IsDriven given m old) (unrefused : refusal_of given.version call ≡ None) where
+  handle_settles : {Taken : Type 0} (answer : Taken → Answer) (Lacks : Active → Type 0) (lacks : Lacks old.active → LacksNumber m call) (made : Result Taken NumberError) (active : Active)
+      (result : Result Taken Error) (new : MachineState) → MakesHandle (checks_off old.options.non_determinism_checks) given m call answer Lacks old.active made active
+      → AnswersBy NumberCauses made (record old { active = active }) result new → Comes given m call old (answered_as answer result) new
+  handle_settles {Taken = Taken} answer Lacks lacks (Ok taken) active (Ok got) new makes answers =
+      subst (λ (t : Taken). Answers given m call old (answer t) new) (sym answers.0)
+      (subst (λ (vm : MachineState). Answers given m call old (answer taken) vm) (sym answers.1) (answered given m call old driven (answer taken) active makes.0))
+  handle_settles answer Lacks lacks (Ok taken) active (Err told) new makes answers = absurd answers
+  handle_settles answer Lacks lacks (Err lack) active (Ok got) new makes answers = absurd answers
+  handle_settles answer Lacks lacks (Err numbers.IdsExhausted) active (Err told) new makes answers =
+      failed given m call old driven.phase answers.cause active told new
+      (record { cause = NoNumber; when = (unrefused, lacks makes.0); tells = unless_plain internal None answers.cause answers.causes }) makes.1 answers.fails
+  handle_settles answer Lacks lacks (Err numbers.OutOfMemory) active (Err told) new makes answers =
+      failed given m call old driven.phase answers.cause active told new (no_memory given m call old answers.cause answers.causes) makes answers.fails
+
+signal_comes : (given : Invocation) (m : Machine) (name : Text) (old : MachineState) (driven : IsDriven given m old) (result : Result ℕ Error) (new : MachineState)
+    → Steps (IsCalled (MakesSignal name) NumberCauses) (IsUnexpected (codes "named awakeable")) None old result new
+    → Comes given m (Call.Signal name) old (answered_as (λ handle. Answer.Handle handle) result) new
+signal_comes given m name old driven result new steps =
+    steps_of (IsCalled (MakesSignal name) NumberCauses) (IsUnexpected (codes "named awakeable")) None old driven.phase
+    (λ (r : Result ℕ Error) (vm : MachineState). Comes given m (Call.Signal name) old (answered_as (λ handle. Answer.Handle handle) r) vm)
+    (λ r vm free called. handle_settles given m (Call.Signal name) old driven refl (λ handle. Answer.Handle handle) LacksHandle (λ lacks. inr (inr (lacks_handle given m old.active driven.sees lacks)))
+    called.made called.active r vm (called.does.0 (checks_off old.options.non_determinism_checks) given m driven.sees) called.answers)
+    (λ error told vm some refused. cc) result new steps
+
+-- a signal's handle is made
+pub signal_carried : (name : Text) (old : MachineState) (result : Result ℕ Error) (new : MachineState) (outcome : CallOutcome) → outcome ≡ answered_as (λ handle. Answer.Handle handle) result
+    → Steps (IsCalled (MakesSignal name) NumberCauses) (IsUnexpected (codes "named awakeable")) None old result new → CarriesOut (Call.Signal name) old outcome new
+signal_carried name old result new outcome is steps = λ given m none driven.
+    subst (λ (o : CallOutcome). Comes given m (Call.Signal name) old o new) (sym is) (signal_comes given m name old driven result new steps)
+
+-- ---- awakeables
+
+abbrev awakeable_answer : AwakeableHandle → Answer
+awakeable_answer made = Answer.Awakeable made.id made.handle
+
+awakeable_made : (given : Invocation) (m : Machine) (old : MachineState) (driven : IsDriven given m old) (replay : JournalReplay) (result : Result AwakeableHandle Error) (new : MachineState)
+    → old.options.journal_replay ≡ replay → IsAwakeableWhere replay old result new → Comes given m Call.Awakeable old (answered_as awakeable_answer result) new
+awakeable_made given m old driven Enabled result new is called =
+    handle_settles given m Call.Awakeable old driven refl awakeable_answer LacksSignal (λ lacks. lacks_signal given m old.active driven.sees lacks)
+    called.made called.active result new (called.does.0 (checks_off old.options.non_determinism_checks) given m driven.id driven.sees) called.answers
+awakeable_made given m old driven Disabled (Ok made) new is fails = absurd fails
+awakeable_made given m old driven Disabled (Err answer) new is fails =
+    failed given m Call.Awakeable old driven.phase _ old.active answer new (record { cause = NoReplay; when = (refl, is); tells = refl }) refl fails
+
+awakeable_comes : (given : Invocation) (m : Machine) (old : MachineState) (driven : IsDriven given m old) (result : Result AwakeableHandle Error) (new : MachineState)
+    → Steps IsAwakeable IsNoAwakeable None old result new → Comes given m Call.Awakeable old (answered_as awakeable_answer result) new
+awakeable_comes given m old driven result new steps =
+    steps_of IsAwakeable IsNoAwakeable None old driven.phase
+    (λ (r : Result AwakeableHandle Error) (vm : MachineState). Comes given m Call.Awakeable old (answered_as awakeable_answer r) vm)
+    (λ r vm free made. awakeable_made given m old driven old.options.journal_replay r vm refl made) (λ error told vm some refused. cc) result new steps
+
+-- an awakeable is made
+pub awakeable_carried : (old : MachineState) (result : Result AwakeableHandle Error) (new : MachineState) → Steps IsAwakeable IsNoAwakeable None old result new
+    → CarriesOut Call.Awakeable old (answered_as (λ made. Answer.Awakeable made.id made.handle) result) new
+awakeable_carried old result new steps = λ given m none driven. awakeable_comes given m old driven result new steps
+
+-- ---- takes
+
+module _ (given : Invocation) (m : Machine) (handle : ℕ) (old : MachineState) (driven : IsDriven given m old) where
+  no_take : (told : Result Error AllocError) → TakeCauses untaken.OutOfMemory told → HasCause given m (Call.Take handle) old told
+  no_take (Ok error) causes = absurd causes
+  no_take (Err refused) causes = record { cause = NoMemory; when = tt; tells = tt }
+
+  take_settles : (made : Result (Option Value) TakeError) (active : Active) (result : Result (Option Value) Error) (new : MachineState) → TakesFirst handle old.active made active
+      → AnswersBy TakeCauses made (record old { active = active }) result new → Comes given m (Call.Take handle) old (answered_as (λ taken. Answer.Taken taken) result) new
+  take_settles (Ok taken) active (Ok got) new does answers =
+      subst (λ (t : Option Value). Answers given m (Call.Take handle) old (Answer.Taken t) new) (sym answers.0)
+      (subst (λ (vm : MachineState). Answers given m (Call.Take handle) old (Answer.Taken taken) vm) (sym answers.1)
+      (answered_quietly given m (Call.Take handle) old driven (Answer.Taken taken) active (does.taken given m (checks_off old.options.non_determinism_checks) driven.sees) (ap (λ (a : Active). a.output) does.others)))
+  take_settles (Ok taken) active (Err told) new does answers = absurd answers
+  take_settles (Err error) active (Ok got) new does answers = absurd answers
+  take_settles (Err untaken.KeyNotText) active (Err told) new does answers =
+      failed given m (Call.Take handle) old driven.phase answers.cause active told new (record {
+        cause = ByFault KeysNotText;
+        when = does.taken given m (checks_off old.options.non_determinism_checks) driven.sees;
+        tells = subst (λ (r : Result Error AllocError). IfOk r (λ error. error.code.0 ≡ internal)) (sym answers.causes) refl;
+      }) (ap (λ (a : Active). a.output) does.others) answers.fails
+  take_settles (Err untaken.OutOfMemory) active (Err told) new does answers =
+      failed given m (Call.Take handle) old driven.phase answers.cause active told new (no_take answers.cause answers.causes) (ap (λ (a : Active). a.output) does.others) answers.fails
+
+  take_comes : (result : Result (Option Value) Error) (new : MachineState) → Steps (IsCalled (TakesFirst handle) TakeCauses) (IsUnexpected (codes "TakeNotification")) None old result new
+      → Comes given m (Call.Take handle) old (answered_as (λ taken. Answer.Taken taken) result) new
+  take_comes result new steps =
+      steps_of (IsCalled (TakesFirst handle) TakeCauses) (IsUnexpected (codes "TakeNotification")) None old driven.phase
+      (λ (r : Result (Option Value) Error) (vm : MachineState). Comes given m (Call.Take handle) old (answered_as (λ taken. Answer.Taken taken) r) vm)
+      (λ r vm free called. take_settles called.made called.active r vm called.does called.answers) (λ error told vm some refused. cc) result new steps
+
+-- what has come is taken
+pub take_carried : (handle : ℕ) (old : MachineState) (result : Result (Option Value) Error) (new : MachineState)
+    → Steps (IsCalled (TakesFirst handle) TakeCauses) (IsUnexpected (codes "TakeNotification")) None old result new
+    → CarriesOut (Call.Take handle) old (answered_as (λ taken. Answer.Taken taken) result) new
+take_carried handle old result new steps = λ given m none driven. take_comes given m handle old driven result new steps
+
+-- ---- looks
+
+-- it is looked at
+pub look_carried : (handle : ℕ) (completed : Bool) (old : MachineState) → Looks old.phase old.active handle completed → CarriesOut (Call.IsCompleted handle) old (Answered (Answer.Completed completed)) old
+look_carried handle completed old looks = λ given m none driven. record {
+  machine = m;
+  replies = (subst (λ (p : Phase). Looks p old.active handle completed) driven.phase looks) given m (checks_off old.options.non_determinism_checks) driven.sees;
+  driven = driven;
+  more = [];
+  written = sym (append-nil m.written);
+  frames = nothing_written old.active.output;
+  others = refl;
+}

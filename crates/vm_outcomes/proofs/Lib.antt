@@ -1,0 +1,10 @@
+pub mod Steps
+pub mod Failing
+pub mod Answering
+pub mod Calling
+pub mod Reading
+pub mod Handling
+pub mod Telling
+pub mod Awaiting
+pub mod Ending
+pub mod Running

@@ -1,0 +1,94 @@
+-- Reads of the object's state.
+use Rattle.std.proofs.Common.{◌≡◌, ℕ, Bool, inl, inr, List, length, None, Result, Ok, Err, refl, sym, subst}
+use Rattle.std.specs.declared.alloc.AllocError.{AllocError}
+use Rattle.journal_model.specs.History.{completions_of, ids_of}
+use Rattle.journal_model.specs.Notification.{Text}
+use Rattle.journal_model.specs.Refusal.{refusal_of}
+use Rattle.journal_model.specs.Run.{Invocation}
+use Rattle.journal_model.specs.declared.call.Answer.{Answer}
+use Rattle.journal_model.specs.declared.call.Call.{Call}
+use Rattle.attempt_model.specs.Machine.{Machine}
+use Rattle.protocol_errors.specs.Code.{internal, journal_mismatch, protocol_violation}
+use Rattle.protocol_errors.specs.Error.{decoding_code}
+use Rattle.protocol_errors.specs.Fixed.{fixed_code}
+use Rattle.protocol_errors.specs.declared.error.Error.{Error}
+use Rattle.protocol_errors.specs.declared.fixed.FixedError.{FixedError}
+use Rattle.protocol_stream.specs.declared.encoder.EncodingError.TheVariants as unsent
+use Rattle.vm_calls.specs.declared.active.Active.{Active}
+use Rattle.vm_calls.specs.declared.call_error.NumberError.TheVariants as numbers
+use Rattle.vm_commands.specs.declared.replay_error.ReplayError.TheVariants as unmatched
+use Rattle.vm_commands.specs.declared.state_read.StateReadError.TheVariants as errors
+use Rattle.vm_context.specs.Journal.{JournalCounts}
+use Rattle.vm_reading.specs.Causes.{ReadCauses}
+use Rattle.vm_reading.specs.Reading.{ReadKind, IsRead, MissesNext, SettlesRead, StepsOfRead}
+use Rattle.vm_state_reads.specs.Reading.{ReadFailsAs, Reads}
+use Rattle.vm_state_reads.specs.declared.read_error.ReadError.{ReadError}
+use Rattle.vm_state_reads.specs.declared.read_error.ReadError.TheVariants.{Number, Replay, Encoding, OutOfMemory}
+use Rattle.vm_machine.specs.Calls.{checks_off}
+use Rattle.vm_machine.specs.declared.machine_state.MachineState.{MachineState}
+use Rattle.vm_outcomes.specs.Carrying.{Answers, Comes, CarriesOut}
+use Rattle.vm_outcomes.specs.Causes.{NoNumber, TooLong, HasCause}
+use Rattle.vm_outcomes.specs.Driven.{IsDriven}
+use Rattle.vm_outcomes.specs.Outcomes.{answered_as}
+use Rattle.vm_outcomes.specs.declared.outcome.CallOutcome.{CallOutcome}
+use Rattle.vm_outcomes.proofs.Answering.{answered}
+use Rattle.vm_outcomes.proofs.Calling.{lacks_completions}
+use Rattle.vm_outcomes.proofs.Failing.{no_memory, last_code, decoding_fault, mismatches, failed}
+use Rattle.vm_outcomes.proofs.Steps.{steps_of}
+
+module _ (given : Invocation) (m : Machine) (call : Call) (old : MachineState) (driven : IsDriven given m old) (unrefused : refusal_of given.version call ≡ None)
+    (same : length (ids_of m.completions m.signals call) ≡ completions_of call) where
+  module _ {L E : Type 0} (lazy_difference : L → L → List ℕ) (eager_difference : E → E → List ℕ) (empty : FixedError) (violates : fixed_code empty ≡ protocol_violation) where
+    read_cause : (journal : JournalCounts) (error : ReadError L E) (told : Result Error AllocError) → ReadFailsAs (checks_off old.options.non_determinism_checks) given m call old.active error
+        → ReadCauses lazy_difference eager_difference empty journal error told → HasCause given m call old told
+    read_cause journal (Number numbers.IdsExhausted) told fails causes = record {
+      cause = NoNumber;
+      when = (unrefused, lacks_completions given m call old.active driven.sees same fails);
+      tells = last_code journal internal None told causes;
+    }
+    read_cause journal (Number numbers.OutOfMemory) told fails causes = no_memory given m call old told causes
+    read_cause journal (Replay (errors.OtherType error)) told fails causes = mismatches given m call old journal_mismatch told fails.0 (inl refl) (last_code journal _ _ told causes)
+    read_cause journal (Replay errors.Empty) told fails causes = mismatches given m call old (fixed_code empty) told fails.0 (inr (inl violates)) (last_code journal _ _ told causes)
+    read_cause journal (Replay (errors.Lazy (unmatched.Unavailable error))) told fails causes = absurd fails.0
+    read_cause journal (Replay (errors.Lazy (unmatched.Decoding error))) told fails causes =
+        mismatches given m call old (decoding_code error) told fails.0 (decoding_fault error) (last_code journal _ _ told causes)
+    read_cause journal (Replay (errors.Lazy (unmatched.Mismatch error))) told fails causes = mismatches given m call old journal_mismatch told fails.0 (inl refl) (last_code journal _ _ told causes)
+    read_cause journal (Replay (errors.Lazy unmatched.OutOfMemory)) told fails causes = no_memory given m call old told causes
+    read_cause journal (Replay (errors.Eager (unmatched.Unavailable error))) told fails causes = absurd fails.0
+    read_cause journal (Replay (errors.Eager (unmatched.Decoding error))) told fails causes =
+        mismatches given m call old (decoding_code error) told fails.0 (decoding_fault error) (last_code journal _ _ told causes)
+    read_cause journal (Replay (errors.Eager (unmatched.Mismatch error))) told fails causes = mismatches given m call old journal_mismatch told fails.0 (inl refl) (last_code journal _ _ told causes)
+    read_cause journal (Replay (errors.Eager unmatched.OutOfMemory)) told fails causes = no_memory given m call old told causes
+    read_cause journal (Encoding unsent.PayloadTooLong) told fails causes = record { cause = TooLong; when = (unrefused, inl fails.0); tells = last_code journal internal _ told causes }
+    read_cause journal (Encoding unsent.OutOfMemory) told fails causes = no_memory given m call old told causes
+    read_cause journal OutOfMemory told fails causes = no_memory given m call old told causes
+
+    pub read_settles : (made : Result ℕ (ReadError L E)) (active : Active) (result : Result ℕ Error) (new : MachineState)
+        → Reads (checks_off old.options.non_determinism_checks) given m call old.active made active → SettlesRead lazy_difference eager_difference empty made (record old { active = active }) result new
+        → Comes given m call old (answered_as (λ handle. Answer.Handle handle) result) new
+    read_settles (Ok handle) active (Ok got) new reads settles =
+        subst (λ (n : ℕ). Answers given m call old (Answer.Handle n) new) (sym settles.0)
+        (subst (λ (vm : MachineState). Answers given m call old (Answer.Handle handle) vm) (sym settles.1) (answered given m call old driven (Answer.Handle handle) active reads))
+    read_settles (Ok handle) active (Err told) new reads settles = absurd settles
+    read_settles (Err error) active (Ok got) new reads settles = absurd settles
+    read_settles (Err error) active (Err told) new reads settles =
+        failed given m call old driven.phase settles.cause active told new (read_cause active.journal error settles.cause reads.0 settles.causes) reads.1 settles.fails
+
+  module _ {L E : Type 0} (kind : ReadKind L E) (known : Active → Bool) (name : Text) (violates : fixed_code kind.empty ≡ protocol_violation) where
+    read_made : (result : Result ℕ Error) (new : MachineState) → IsRead kind call known name old result new → Comes given m call old (answered_as (λ handle. Answer.Handle handle) result) new
+    read_made result new read =
+        read_settles kind.lazy_difference kind.eager_difference kind.empty violates read.made read.between.active result new (read.reads given m driven.version driven.sees)
+        (subst (λ (vm : MachineState). SettlesRead kind.lazy_difference kind.eager_difference kind.empty read.made vm result new) read.others read.settles)
+
+    pub read_comes : (result : Result ℕ Error) (new : MachineState) → StepsOfRead kind call known name old result new → Comes given m call old (answered_as (λ handle. Answer.Handle handle) result) new
+    read_comes result new steps =
+        steps_of (IsRead kind call known name) (MissesNext kind.ty) None old driven.phase (λ (r : Result ℕ Error) (vm : MachineState). Comes given m call old (answered_as (λ handle. Answer.Handle handle) r) vm)
+        (λ r vm free made. read_made r vm made) (λ error told vm some refused. cc) result new steps
+
+-- a read is carried out
+pub read_carried : {L E : Type 0} (kind : ReadKind L E) (call : Call) (known : Active → Bool) (name : Text) (old : MachineState) (result : Result ℕ Error) (new : MachineState) (outcome : CallOutcome)
+    → outcome ≡ answered_as (λ handle. Answer.Handle handle) result → fixed_code kind.empty ≡ protocol_violation → ((version : ℕ) → refusal_of version call ≡ None)
+    → ((n signal : ℕ) → length (ids_of n signal call) ≡ completions_of call) → StepsOfRead kind call known name old result new → CarriesOut call old outcome new
+read_carried kind call known name old result new outcome is violates unrefused same steps = λ given m none driven.
+    subst (λ (o : CallOutcome). Comes given m call old o new) (sym is)
+    (read_comes given m call old driven (unrefused given.version) (same m.completions m.signals) kind known name violates result new steps)

@@ -1,0 +1,96 @@
+-- What a handler's call comes to, in the words of the abstract machine of its invocation.
+use Rattle.std.specs.Prelude.{◌≡◌, ℕ, true, false, List, [], ◌++◌, Option, Some, None, Result, Ok}
+use Rattle.std.specs.declared.alloc.AllocError.{AllocError}
+use Rattle.journal_model.specs.AwaitTree.{AwaitTree}
+use Rattle.journal_model.specs.Request.{Request}
+use Rattle.journal_model.specs.Run.{Invocation}
+use Rattle.journal_model.specs.Spelling.{frame_bytes}
+use Rattle.journal_model.specs.declared.call.Answer.{Answer}
+use Rattle.journal_model.specs.declared.call.Call.{Call}
+use Rattle.attempt_model.specs.Machine.{Machine, Answered, AwaitsTree, Finished}
+use Rattle.protocol_errors.specs.declared.error.Error.{Error}
+use Rattle.protocol_types.specs.declared.message_type.MessageType.TheVariants as messages
+use Rattle.vm_calls.specs.Active.{Sees, writes_frames}
+use Rattle.vm_calls.specs.declared.active.Active.{Active}
+use Rattle.vm_context.specs.Output.{with_frame}
+use Rattle.vm_errors.specs.Failing.{FailsNow, IsCopy}
+use Rattle.vm_errors.specs.declared.phase.Phase.TheVariants as phases
+use Rattle.vm_waiting.specs.Suspending.{tells_awaiting, TellsIf, TellsAsRun, IsSuspended}
+use Rattle.vm_machine.specs.declared.machine_state.MachineState.{MachineState}
+use Rattle.vm_outcomes.specs.Causes.{HasCause}
+use Rattle.vm_outcomes.specs.Driven.{IsDriven, TracksNone, reply_of}
+use Rattle.vm_outcomes.specs.declared.outcome.CallOutcome.{CallOutcome}
+use Rattle.vm_outcomes.specs.declared.outcome.CallOutcome.TheVariants as outcomes
+
+module _ (given : Invocation) (m : Machine) (call : Call) (old : MachineState) where
+  -- It is answered as the abstract machine answers it, which the machine stands to afterwards; written are exactly the frames of the
+  -- requests by which that has written more.
+  pub record Answers (answer : Answer) (new : MachineState) : Type 0 where
+    pub machine : Machine
+    pub replies : reply_of old given m call ≡ Answered answer machine
+    pub driven : IsDriven given machine new
+    pub more : List Request
+    pub written : machine.written ≡ m.written ++ more
+    pub frames : new.active.output ≡ writes_frames more old.active.output
+    pub others : new ≡ record old { active = new.active }
+
+  -- It is an await for which nothing is left to look at, and more input can come: what is left of its tree is told, where that is to
+  -- be told, and no request is written.
+  pub record Waits (new : MachineState) : Type 0 where
+    pub is_open : old.is_input_closed ≡ false
+    pub tree : AwaitTree ℕ
+    pub machine : Machine
+    pub replies : reply_of old given m call ≡ AwaitsTree tree machine
+    pub driven : IsDriven given machine new
+    pub written : machine.written ≡ m.written
+    -- before it is told
+    pub resolved : Active
+    pub unwritten : resolved.output ≡ old.active.output
+    pub tells : TellsIf (tells_awaiting old.version old.options.awaiting_on_policy false tree) tree resolved (Ok tt) new.active
+    pub run : TellsAsRun tree resolved
+    pub others : new ≡ record old { active = new.active }
+
+  -- It is such an await, and no more input can come: what is left of its tree is written as the suspension, behind which nothing is.
+  pub record Suspends (new : MachineState) : Type 0 where
+    pub is_closed : old.is_input_closed ≡ true
+    pub tree : AwaitTree ℕ
+    pub machine : Machine
+    pub replies : reply_of old given m call ≡ AwaitsTree tree machine
+    pub written : machine.written ≡ m.written
+    -- before it is written
+    pub resolved : Active
+    pub sees : Sees given resolved machine
+    pub unwritten : resolved.output ≡ old.active.output
+    pub suspended : IsSuspended tree resolved new.active
+    pub run : TellsAsRun tree resolved
+    pub others : new ≡ record old { phase = phases.Closed; active = new.active }
+
+  -- It is the end, behind all that was recorded: its frame is written, behind which nothing is.
+  pub record Ends (new : MachineState) : Type 0 where
+    pub replies : reply_of old given m call ≡ Finished m
+    pub output : new.active.output ≡ record (with_frame (frame_bytes messages.End []) old.active.output) { is_closed = true }
+    pub others : new ≡ record old { phase = phases.Closed; active = record old.active { output = new.active.output } }
+
+  -- The machine fails, by a cause that there is: the one frame of an error is written, or none, and nothing behind it.
+  pub record Fails (answer : Error) (new : MachineState) : Type 0 where
+    pub told : Result Error AllocError
+    pub has_cause : HasCause given m call old told
+    pub fails : FailsNow old.version old.options.journal_mismatch_retry_behavior told old.active.output answer new.phase new.active.output
+    pub others : new ≡ record old { phase = new.phase; active = new.active }
+
+  abbrev pub Comes : CallOutcome → (new : MachineState) → Type 0
+  Comes (outcomes.Answered answer) new = Answers answer new
+  Comes outcomes.Waiting new = Waits new
+  Comes outcomes.Suspended new = Suspends new
+  Comes outcomes.Ended new = Ends new
+  Comes (outcomes.Failed answer) new = Fails answer new
+
+-- What a call comes to of a machine that stands to an abstract machine, whichever that is.
+abbrev pub CarriesOut : Call → (old : MachineState) → CallOutcome → (new : MachineState) → Type 0
+CarriesOut call old outcome new = (given : Invocation) (m : Machine) → TracksNone given m call → IsDriven given m old → Comes given m call old outcome new
+
+-- A machine that has failed answers what it has failed with, and stays as it is.
+abbrev pub StaysFailed : (kept : Option Error) → (old : MachineState) → CallOutcome → (new : MachineState) → Type 0
+StaysFailed None old outcome new = Unit {0}
+StaysFailed (Some kept) old (outcomes.Failed answer) new = IsCopy kept answer × (new ≡ old)
+StaysFailed (Some kept) old _ new = ⊥

@@ -1,0 +1,4 @@
+pub mod Driven
+pub mod Causes
+pub mod Carrying
+pub mod Outcomes
