@@ -14,7 +14,7 @@
 
 enum statement {
     BEGIN, COMMIT, INVOCATION_BY_ID, OPEN_INVOCATION, ENTRY_BY_ANSWERED, ENTRY_BY_COMPLETION, ENTRY_BY_SECOND_COMPLETION,
-    JOURNAL, STATES, ADD_INVOCATION, SET_PROGRESS, ADD_ENTRY, STATEMENTS
+    JOURNAL, STATES, ADD_INVOCATION, SET_PROGRESS, ADD_ENTRY, OPEN_SLEEP, STATEMENTS
 };
 
 static const char *const TEXTS[STATEMENTS] = {
@@ -30,6 +30,7 @@ static const char *const TEXTS[STATEMENTS] = {
     "INSERT INTO invocation VALUES (?1, ?2, ?3, ?4, ?5, ?6, ?7, ?8, ?9, ?10, ?11, ?12, ?13, ?14, ?15, ?16, ?17, ?18, ?19)",
     "UPDATE invocation SET open_object = ?2, suspension = ?3, handed = ?4, closing = ?5, answer = ?6, error_code = ?7, error_behavior = ?8, error_delay = ?9, error_message = ?10, attempts = ?11, attempts_since_entry = ?12, first_moment = ?13, last_completion = ?14, entries = ?15 WHERE id = ?1",
     "INSERT INTO entry VALUES (?1, ?2, ?3, ?4, ?5, ?6, ?7, ?8)",
+    "INSERT INTO sleep VALUES (?1, ?2, ?3)",
 };
 
 static const char *const SCHEMA[] = {
@@ -37,6 +38,7 @@ static const char *const SCHEMA[] = {
     "CREATE TABLE invocation (id TEXT NOT NULL UNIQUE, object TEXT NOT NULL, version INTEGER NOT NULL, seed INTEGER NOT NULL, mode INTEGER NOT NULL, open_object TEXT, suspension BLOB, handed INTEGER, closing INTEGER, answer BLOB, error_code INTEGER, error_behavior INTEGER, error_delay INTEGER, error_message TEXT, attempts INTEGER NOT NULL, attempts_since_entry INTEGER NOT NULL, first_moment INTEGER NOT NULL, last_completion INTEGER NOT NULL, entries INTEGER NOT NULL, UNIQUE (open_object, id)) STRICT",
     "CREATE TABLE entry (invocation TEXT NOT NULL, place INTEGER NOT NULL, kind INTEGER NOT NULL, payload BLOB NOT NULL, completion INTEGER, second_completion INTEGER, answered INTEGER, moment INTEGER NOT NULL, UNIQUE (invocation, place), UNIQUE (invocation, completion, place), UNIQUE (invocation, second_completion, place), UNIQUE (invocation, answered, place)) STRICT",
     "CREATE TABLE state (object TEXT NOT NULL, key BLOB NOT NULL, value BLOB NOT NULL, UNIQUE (object, key)) STRICT",
+    "CREATE TABLE sleep (moment INTEGER NOT NULL, invocation TEXT NOT NULL, completion INTEGER NOT NULL, UNIQUE (moment, invocation, completion), UNIQUE (invocation, completion)) STRICT",
     "INSERT INTO meta VALUES ('journal_store', 1)",
 };
 
@@ -208,7 +210,15 @@ static void begin(struct progress *p) {
     run(COMMIT);
 }
 
-/* One more entry behind the others. */
+/* A sleep of a second, which is open then. */
+static void open_sleep(struct progress *p) {
+    number(OPEN_SLEEP, 1, 1000);
+    text(OPEN_SLEEP, 2, p->id);
+    number(OPEN_SLEEP, 3, p->last_completion);
+    run(OPEN_SLEEP);
+}
+
+/* One more entry behind the others, and of a sleep that it is open. */
 static void record(struct progress *p, uint32_t kind, const unsigned char *payload, int len, uint32_t completion, uint32_t second, uint32_t answered) {
     run(BEGIN);
     add_entry(p, p->entries, kind, payload, len, completion, second, answered);
@@ -216,6 +226,7 @@ static void record(struct progress *p, uint32_t kind, const unsigned char *paylo
     p->since_entry = 0;
     p->first_moment = 0;
     set_progress(p);
+    if (kind == 0x040c) open_sleep(p);
     run(COMMIT);
 }
 

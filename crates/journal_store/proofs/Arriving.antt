@@ -17,7 +17,8 @@ use Rattle.store_arrivals.specs.declared.arrival.PreparedArrival.{PreparedArriva
 use Rattle.store_arrivals.specs.Arrivals.{IsMadeReady}
 use Rattle.store_live.specs.Attempts.{ByInvocation, Changes, after_put}
 use Rattle.store_live_laws.specs.Agrees.{Brings}
-use Rattle.journal_store.specs.Stands.{Stands, AreAsBefore}
+use Rattle.store_live.specs.Before.{AreAsBefore}
+use Rattle.journal_store.specs.Stands.{Stands}
 use Rattle.journal_store.proofs.Leading.{Does}
 use Rattle.journal_store.proofs.Standing.{store_still, stands_arrived, stands_still, written}
 

@@ -6,6 +6,7 @@ pub mod Enduring
 pub mod Quiet
 pub mod Recording
 pub mod Arriving
+pub mod Ticking
 pub mod Beginning
 pub mod Calls
 pub mod Taking

@@ -28,7 +28,9 @@ use Rattle.store_live.specs.Attempts.{ByInvocation, attempt_of, IsNow, Changes, 
 use Rattle.store_live_laws.specs.Agrees.{Agrees, Brings}
 use Rattle.store_live_laws.proofs.Steps.{arrived, elsewhere}
 use Rattle.store_live_laws.proofs.Begun.{invoked}
-use Rattle.journal_store.specs.Stands.{Stands, KeepsAll, Commits, IsAsBefore, AreAsBefore}
+use Rattle.store_live.specs.Before.{IsAsBefore, AreAsBefore}
+use Rattle.store_live.proofs.Adding.{as_it_is}
+use Rattle.journal_store.specs.Stands.{Stands, KeepsAll, Commits}
 
 pub true_or_false : (b : Bool) → (b ≡ true) ⊎ (b ≡ false)
 true_or_false true = inl refl
@@ -119,10 +121,6 @@ put_in_room id len place frame old mid new room put = record {
     same None = refl
     same (Some attempt) = refl
 
-pub as_it_is : (o : Option LiveAttempt) → IsAsBefore o o
-as_it_is None = tt
-as_it_is (Some attempt) = refl
-
 with_room_only : (len : ℕ) (o : Option LiveAttempt) → IsAsBefore o (option_map (after_reserve len) o)
 with_room_only len None = tt
 with_room_only len (Some attempt) = refl
@@ -134,7 +132,7 @@ room_only id len old new room other = elim (true_or_false (bytes_eq id other)) [
   | inr apart ↦ subst (IsAsBefore (attempt_of old other)) (sym (room.others other apart)) (as_it_is (attempt_of old other))
 ]
 
-agrees_still : (events : List Event) (id : Text) (one other : Option LiveAttempt) → IsAsBefore one other → Agrees events id one → Agrees events id other
+pub agrees_still : (events : List Event) (id : Text) (one other : Option LiveAttempt) → IsAsBefore one other → Agrees events id one → Agrees events id other
 agrees_still events id None None same agrees = agrees
 agrees_still events id (Some one) (Some other) same agrees = subst (λ (o : LiveAttempt). Agrees events id (Some o)) (sym same)
     (record { number = agrees.number; version = agrees.version; bytes = agrees.bytes; pieces = agrees.pieces; handed = agrees.handed; closed = agrees.closed })

@@ -1,11 +1,14 @@
 -- What waits of what attempts wrote.
-use Rattle.std.proofs.Common.{◌≡◌, ℕ, refl, ap, subst, ◌∙◌, inl, inr, Option, Some, None, option_map, Result, Ok, Err, bytes_eq, OnOk, OnErr}
+use Rattle.std.proofs.Common.{◌≡◌, ℕ, refl, ap, subst, ◌∙◌, inl, inr, List, [], ◌∷◌, filter, Option, Some, None, option_map, Result, Ok, Err, bytes_eq, OnOk, OnErr}
 use Rattle.std.proofs.lemmas.Slice.Eq.{bytes_eq-Decides}
 use Rattle.journal_model.specs.Notification.{Bytes, Text}
 use Rattle.store_refusals.specs.declared.refusal.Refusal.{Refusal}
 use Rattle.store_live.specs.declared.attempt.LiveAttempt.{LiveAttempt}
-use Rattle.store_live.specs.Attempts.{ByInvocation, attempt_of, IsNow, Changes, after_hand_out, after_put, after_close}
-use Rattle.journal_store.specs.Stands.{output_of, KeepsOutputs, WaitsNow, IsAsBefore, AreAsBefore}
+use Rattle.store_live.specs.Attempts.{ByInvocation, attempt_of, IsNow, Changes, after_hand_out, after_put, after_put_in_room, after_close}
+use Rattle.store_live.specs.declared.added.AddedFrames.{AddedFrames}
+use Rattle.store_live.specs.Before.{IsAsBefore, AreAsBefore}
+use Rattle.store_live.specs.Added.{ArePut, is_added_to, put_in_turn}
+use Rattle.journal_store.specs.Stands.{output_of, KeepsOutputs, WaitsNow}
 use Rattle.journal_store.proofs.Standing.{true_or_false}
 
 abbrev output_in : LiveAttempt → Bytes
@@ -36,7 +39,7 @@ pub closed_waits : (id : Text) (old new : ByInvocation) → Changes id after_clo
 closed_waits id old new changes = changed_waits id after_close old new (λ one. refl) changes
 
 -- an arrival is put behind, or room was made for it
-before_waits : (old new : ByInvocation) → AreAsBefore old new → KeepsOutputs old new
+pub before_waits : (old new : ByInvocation) → AreAsBefore old new → KeepsOutputs old new
 before_waits old new same id = by_both (attempt_of old id) (attempt_of new id) (same id)
   where
     by_both : (one other : Option LiveAttempt) → IsAsBefore one other → option_map output_in other ≡ option_map output_in one
@@ -44,6 +47,15 @@ before_waits old new same id = by_both (attempt_of old id) (attempt_of new id) (
     by_both (Some one) (Some other) is = ap (λ (a : LiveAttempt). Some a.output) is
     by_both None (Some other) is = absurd is
     by_both (Some one) None is = absurd is
+
+-- frames are put behind
+put_output : (own : List AddedFrames) (o : Option LiveAttempt) → option_map output_in (put_in_turn own o) ≡ option_map output_in o
+put_output [] o = refl
+put_output (one ∷ own) o =
+    put_output own (option_map (after_put_in_room one.place one.frames.items) o) ∙ same_output (after_put_in_room one.place one.frames.items) (λ attempt. refl) o
+
+pub put_waits : (added : List AddedFrames) (old new : ByInvocation) → ArePut added old new → KeepsOutputs old new
+put_waits added old new put id = ap (option_map output_in) (put id) ∙ put_output (filter (is_added_to id) added) (attempt_of old id)
 
 pub arrived_waits : {A : Type 0} (id : Text) (place : ℕ) (frame : Bytes) (old new : ByInvocation) (result : Result A Refusal)
     → OnOk result (Changes id (after_put place frame) old new) → OnErr result (AreAsBefore old new) → KeepsOutputs old new

@@ -7,7 +7,10 @@ use Rattle.store_refusals.specs.Refused.{refusal_of, is_circumstance}
 use Rattle.store_begins.specs.declared.attempt.PreparedAttempt.{PreparedAttempt}
 use Rattle.store_begins.specs.declared.frames.JournalFrames.{JournalFrames}
 use Rattle.store_live.specs.declared.attempt.LiveAttempt.{LiveAttempt}
+use Rattle.store_live.specs.declared.added.AddedFrames.{AddedFrames}
 use Rattle.store_live.specs.Input.{journal_left}
+use Rattle.store_live.specs.Before.{AreAsBefore}
+use Rattle.store_live.specs.Added.{AreAlone, ArePut, HaveRoomFor}
 use Rattle.store_live.specs.Attempts.{ByInvocation, IsNow}
 use Rattle.store_live_laws.specs.Agrees.{cause_of_stale}
 use Rattle.store_calls.specs.declared.begun.BegunAttempt.{BegunAttempt}
@@ -24,6 +27,13 @@ has_closed (Some attempt) = attempt.is_input_closed
 abbrev pub has_rest : Option LiveAttempt → Bool
 has_rest None = false
 has_rest (Some attempt) = not (length attempt.input.bytes == 0)
+
+-- room was made for frames, and each was put behind the input of its live attempt, if there is one
+pub record PutsAll (added : List AddedFrames) (old new : ByInvocation) : Type 0 where
+  pub between : ByInvocation
+  pub before : AreAsBefore old between
+  pub room : AreAlone added → HaveRoomFor between added
+  pub put : ArePut added between new
 
 -- ---- beginning
 

@@ -42,15 +42,6 @@ abbrev pub WaitsAfter : {A : Type 0} → Text → Option Bytes → Result A Refu
 WaitsAfter id output (Ok answer) old new = WaitsNow id output old new
 WaitsAfter id output (Err why) old new = KeepsOutputs old new
 
--- a live attempt is as before, but for room that was made for its input
-abbrev pub IsAsBefore : Option LiveAttempt → Option LiveAttempt → Type 0
-IsAsBefore None None = Unit {0}
-IsAsBefore (Some one) (Some other) = other ≡ record one { input = record (one.input) { reserved = other.input.reserved } }
-IsAsBefore _ _ = ⊥
-
-abbrev pub AreAsBefore : ByInvocation → ByInvocation → Type 0
-AreAsBefore old new = (id : Text) → IsAsBefore (attempt_of old id) (attempt_of new id)
-
 -- the tables hold what is kept of these events, of which each frame that was taken is that of a message
 pub record KeepsAll (events : List Event) (trees : Trees) : Type 0 where
   pub read : AreRead events

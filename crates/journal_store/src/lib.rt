@@ -12,6 +12,7 @@ pub mod parts;
 mod read;
 mod step;
 mod store;
+mod tick;
 
 pub use accept::Accepted;
 pub use journal_model::{

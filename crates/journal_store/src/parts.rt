@@ -12,5 +12,7 @@ pub use store_lookups as lookups;
 pub use store_model as model;
 pub use store_reads as reads;
 pub use store_refusals as refusals;
+pub use store_sleeps as sleeps;
 pub use store_steps as steps;
 pub use store_tables as tables;
+pub use store_ticks as ticks;

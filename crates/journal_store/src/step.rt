@@ -78,7 +78,10 @@ fn first_of(alloc: Global, live: &LiveAttempts, id: &ByteStr) -> Result<FirstSee
 }
 
 /// Writes in one transaction what is to be written, if there is anything.
-fn commit_some<S: Alter>(tables: &mut StoreTables<S>, writes: &[Write]) -> Result<(), Refusal>
+pub(crate) fn commit_some<S: Alter>(
+    tables: &mut StoreTables<S>,
+    writes: &[Write],
+) -> Result<(), Refusal>
     ensures { WritesSome S.Store writes.now tables.old tables.new result }
 {
     if writes.is_empty() {

@@ -1,7 +1,7 @@
 -- What tests and casts make of cells.
 use Rattle.std.proofs.Common.{◌≡◌, ◌==◌, ◌&&◌, ℕ, ℤ, pos, Bool, true, false, List, Option, None, Some, refl, sym, ap, ◌∙◌, bytes_eq}
 use Rattle.std.specs.Prelude.{nat_abs}
-use Rattle.std.specs.Ordering.{int_eq, is_eq}
+use Rattle.std.specs.Ordering.{int_cmp, int_eq, is_eq, is_le}
 use Rattle.std.proofs.lemmas.Bool.{eq-eqb, eqb-true}
 use Rattle.std.proofs.lemmas.Bool.Decides.{Decides-int_eq}
 use Rattle.sqlite_keyed.proofs.KeyedLemmas.{same_int}
@@ -13,7 +13,7 @@ use Rattle.sqlite.specs.Cast.{cast}
 use Rattle.sqlite.specs.Kind.{Kind}
 use Rattle.sqlite_sql.specs.Ops.{binary, is_true, from_truth}
 use Rattle.sqlite_sql.specs.declared.ops.BinaryOp.TheVariants.{Compare}
-use Rattle.sqlite_sql.specs.declared.ops.CompareOp.TheVariants.{Eq}
+use Rattle.sqlite_sql.specs.declared.ops.CompareOp.TheVariants.{Eq, Le}
 use Rattle.sqlite_value.specs.declared.keys.Collation.TheVariants.{Binary}
 use Rattle.sqlite_value.specs.Order.{value_cmp}
 use Rattle.sqlite_value.proofs.OrderLemmas.{value_cmp-Text, value_cmp-Blob, value_cmp-Int}
@@ -52,6 +52,14 @@ same_numbers a b = same_tests (int_eq (pos a) (pos b)) (a == b)
 pub same_short : (a b : ℕ) → are_same (short_cell a) (short_cell b) ≡ (a == b)
 unfolding binary
 same_short a b = truth_of (is_eq (value_cmp (short_cell a) (short_cell b))) ∙ ap is_eq (value_cmp-Int (pos a) (pos b)) ∙ same_numbers a b
+
+abbrev pub is_at_most : Value → Value → Bool
+is_at_most a b = is_true (binary (Compare Le Binary) a b)
+
+-- a number is at most another in the order of numbers with a sign
+pub at_most_int : (m n : ℤ) → is_at_most (Int m) (Int n) ≡ is_le (int_cmp m n)
+unfolding binary
+at_most_int m n = truth_of (is_le (value_cmp (Int m) (Int n))) ∙ ap is_le (value_cmp-Int m n)
 
 -- nothing is the same as null
 pub same_null-Int : (n : ℤ) → are_same Null (Int n) ≡ false

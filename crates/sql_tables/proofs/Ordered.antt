@@ -1,21 +1,23 @@
--- What a query over one table answers in the order of a column.
-use Rattle.std.proofs.Common.{◌≡◌, ℕ, Bool, false, List, [], ◌∷◌, map, filter, drop, Less, Equal, sym, ap, subst, ◌∙◌}
-use Rattle.std.specs.Ordering.{ordering_then}
+-- What a query over one table answers in the order of columns.
+use Rattle.std.proofs.Common.{◌≡◌, ℕ, suc, Bool, false, List, [], ◌∷◌, map, filter, drop, Ordering, Less, refl, sym, ap, ap₂, subst, ◌∙◌}
+use Rattle.std.specs.List.{AllByRecursion}
+use Rattle.std.specs.Ordering.{is_eq, ordering_then}
 use Rattle.std.specs.List.Sorted.{IsPermutation}
 use Rattle.std.proofs.lemmas.List.Sorted.{IsPermutation-map, IsPermutation-sym, IsPermutation-trans}
 use Rattle.sqlite_trees.specs.Tree.{IsAscending}
 use Rattle.sqlite_keyed.proofs.ListLemmas.{map-map, map_same, filter-map, filter_same, IsPermutation-filter, ascending-map, ascending_weaker}
-use Rattle.sqlite_keyed.proofs.SortLemmas.{sorted_unique}
+use Rattle.sqlite_keyed.specs.Lists.{insert_sorted, sort_by}
+use Rattle.sqlite_keyed.proofs.SortLemmas.{sorted_is-sort_by, sort_by-map}
 use Rattle.sqlite_sql.proofs.QueryLemmas.{output_cmp_total}
 use Rattle.sqlite_sql.specs.Program.{overlay, IsProgramAnswer}
 use Rattle.sqlite.specs.declared.types.Value.{Value}
 use Rattle.sqlite.specs.declared.types.Value.TheVariants.{Null}
 use Rattle.sqlite_value.specs.Order.{Row, column, value_cmp}
-use Rattle.sqlite_value.specs.Keys.{ascending}
-use Rattle.sqlite_value.specs.declared.keys.Collation.TheVariants.{Binary}
+use Rattle.sqlite_value.specs.Keys.{by_key}
 use Rattle.sqlite_value.specs.declared.keys.Key.{Key}
-use Rattle.sqlite.specs.Term.{Term, col, eval_all}
+use Rattle.sqlite.specs.Term.{Term, eval_all}
 use Rattle.sqlite.specs.Query.{Query, Output, output, output_cmp}
+use Rattle.sqlite_sql.specs.Query.{key_cmp}
 use Rattle.sqlite.specs.Schema.{Schema}
 use Rattle.sqlite.specs.Tree.{Trees}
 use Rattle.sqlite.specs.Command.TheVariants.{Select}
@@ -24,59 +26,95 @@ use Rattle.sqlite.specs.Listing.{understood, reads_listing}
 use Rattle.sqlite.proofs.Callers.{IsPlain, command_of}
 use Rattle.sql_tables.specs.Asking.{IsAnswer}
 use Rattle.sql_tables.specs.Content.{HasRows}
-use Rattle.sql_tables.specs.Statements.{rows_of, program_of}
+use Rattle.sql_tables.specs.Statements.{by_columns, cells_cmp, rows_of, program_of}
 use Rattle.sql_tables.proofs.Answers.{answered, no_let, passes}
 use Rattle.sql_tables.proofs.Queries.{answer_as}
 
--- by one column, the least first
-abbrev pub by_column : ℕ → List (Term × Key)
-by_column at = (col 1 at, ascending Binary) ∷ []
+-- ---- rows that are told apart by their cells have one order
 
--- each row is before those that come later, by that cell
-abbrev pub DoRise : ℕ → List Row → Type 0
-DoRise c = IsAscending (λ a b. value_cmp (column a c) (column b c) ≡ Less)
+-- no two are alike
+abbrev pub AreApart : {X : Type 0} → (X → X → Ordering) → List X → Type 0
+AreApart cmp = IsAscending (λ a b. is_eq (cmp a b) ≡ false)
 
-abbrev pair_of : Value → Row → Output
-pair_of v shown = (v ∷ [], shown)
+module _ {X : Type 0} (cmp : X → X → Ordering) where
+  pub rising_apart : (xs : List X) → IsAscending (λ a b. cmp a b ≡ Less) xs → AreApart cmp xs
+  rising_apart xs up = ascending_weaker (λ a b. cmp a b ≡ Less) (λ a b. is_eq (cmp a b) ≡ false) (λ a b less. ap is_eq less) xs up
 
-abbrev out_of : ℕ → (Row → Row) → Row → Output
-out_of c pick cells = pair_of (column cells c) (pick cells)
+  -- what is in order already stays as it is
+  pub rising_sorted : (xs : List X) → IsAscending (λ a b. cmp a b ≡ Less) xs → sort_by cmp xs ≡ xs
+  rising_sorted [] up = refl
+  rising_sorted (x ∷ xs) up = ap (insert_sorted cmp x) (rising_sorted xs up.1) ∙ at_front xs up.0
+    where
+      at_front : (ys : List X) → AllByRecursion (λ y. cmp x y ≡ Less) ys → insert_sorted cmp x ys ≡ x ∷ ys
+      at_front [] all = refl
+      at_front (y ∷ ys) all = rw all.0 refl
 
--- the rows that pass, as they are shown, in the one order by that cell
-pub rows_ordered : (tree : ℕ) (tests project : List Term) (at c : ℕ) (db : Trees) (params : Row) (rows : List Row) (keeps : Row → Bool) (pick : Row → Row)
-    → ((r : Row) → passes params tests r ≡ keeps (drop 1 r)) → ((r : Row) → eval_all project (params ∷ r ∷ []) ≡ pick (drop 1 r)) → ((r : Row) → column r at ≡ column (drop 1 r) c)
-    → IsProgramAnswer [] (rows_of tree tests project (by_column at)) db params rows → (held : List Row) → HasRows (db tree) held
-    → (zs : List Row) → IsPermutation (filter keeps held) zs → DoRise c zs → rows ≡ map pick zs
-rows_ordered tree tests project at c db params rows keeps pick same shown keyed answer held h zs arranged rising =
-    let q : Query = rows_of tree tests project (by_column at) in
-    let a = answered tree tests project (by_column at) (overlay db []) params rows (answer Null) in
+-- a key that stands one place later, in rows that are one cell longer
+key_later : (keys : List Key) (at : ℕ) (x y : Value) (a b : Row) → key_cmp (suc at) keys (x ∷ a) (y ∷ b) ≡ key_cmp at keys a b
+key_later [] at x y a b = refl
+key_later (k ∷ keys) at x y a b = ap (ordering_then (by_key k (column a at) (column b at))) (key_later keys (suc at) x y a b)
+
+abbrev keys_of : List ℕ → List Key
+keys_of cs = map (λ (k : Term × Key). k.1) (by_columns (map suc cs))
+
+picked_cmp : (cs : List ℕ) (a b : Row) → key_cmp 0 (keys_of cs) (map (column a) cs) (map (column b) cs) ≡ cells_cmp cs a b
+picked_cmp [] a b = refl
+picked_cmp (c ∷ cs) a b =
+    ap (ordering_then (value_cmp (column a c) (column b c)))
+    (key_later (keys_of cs) 0 (column a c) (column b c) (map (column a) cs) (map (column b) cs) ∙ picked_cmp cs a b)
+
+abbrev pair_of : Row → Row → Output
+pair_of keys shown = (keys, shown)
+
+abbrev out_of : List ℕ → (Row → Row) → Row → Output
+out_of cs pick cells = pair_of (map (column cells) cs) (pick cells)
+
+keys_there : (params r : Row) → ((c : ℕ) → column r (suc c) ≡ column (drop 1 r) c) → (cs : List ℕ)
+    → eval_all (map (λ (k : Term × Key). k.0) (by_columns (map suc cs))) (params ∷ r ∷ []) ≡ map (column (drop 1 r)) cs
+keys_there params r keyed [] = refl
+keys_there params r keyed (c ∷ cs) = ap₂ (λ (v : Value) (vs : Row). v ∷ vs) (keyed c) (keys_there params r keyed cs)
+
+-- the rows that pass, as they are shown, in the one order by these cells
+pub rows_ordered : (tree : ℕ) (tests project : List Term) (cs : List ℕ) (db : Trees) (params : Row) (rows : List Row) (keeps : Row → Bool) (pick : Row → Row)
+    → ((r : Row) → passes params tests r ≡ keeps (drop 1 r)) → ((r : Row) → eval_all project (params ∷ r ∷ []) ≡ pick (drop 1 r)) → ((r : Row) (c : ℕ) → column r (suc c) ≡ column (drop 1 r) c)
+    → IsProgramAnswer [] (rows_of tree tests project (by_columns (map suc cs))) db params rows → (held : List Row) → HasRows (db tree) held
+    → (zs : List Row) → IsPermutation (filter keeps held) zs → AreApart (cells_cmp cs) zs → rows ≡ map pick (sort_by (cells_cmp cs) zs)
+rows_ordered tree tests project cs db params rows keeps pick same shown keyed answer held h zs arranged apart =
+    let q : Query = rows_of tree tests project (by_columns (map suc cs)) in
+    let a = answered tree tests project (by_columns (map suc cs)) (overlay db []) params rows (answer Null) in
     let outs = a.outs in
     let listed : IsPermutation (map (λ r. output q (params ∷ r ∷ [])) (filter (passes params tests) (db tree))) outs = rw (no_let db tree) at a.same in
     let kept : IsPermutation (map (drop 1) (filter (passes params tests) (db tree))) (filter keeps held) =
     subst (λ l. IsPermutation l (filter keeps held)) (filter-map keeps (drop 1) (db tree) ∙ ap (map (drop 1)) (filter_same _ _ (λ r. sym (same r)) (db tree))) (IsPermutation-filter keeps _ _ h.same) in
-    let pointwise : (r : Row) → output q (params ∷ r ∷ []) ≡ out_of c pick (drop 1 r) = λ r.
-    ap (λ (v : Value). pair_of v (eval_all project (params ∷ r ∷ []))) (keyed r) ∙ ap (λ (s : Row). pair_of (column (drop 1 r) c) s) (shown r) in
-    let seen : map (λ r. output q (params ∷ r ∷ [])) (filter (passes params tests) (db tree)) ≡ map (out_of c pick) (map (drop 1) (filter (passes params tests) (db tree))) =
-    map_same _ _ pointwise _ ∙ sym (map-map (out_of c pick) (drop 1) _) in
-    let out : IsPermutation (map (out_of c pick) zs) outs =
-    IsPermutation-trans _ _ _ (IsPermutation-sym _ _ (IsPermutation-map (out_of c pick) _ _ (IsPermutation-trans _ _ _ kept arranged))) (subst (λ l. IsPermutation l outs) seen listed) in
-    let rises : IsAscending (λ x y. output_cmp q x y ≡ Less) (map (out_of c pick) zs) =
-    ascending-map (λ x y. output_cmp q x y ≡ Less) (out_of c pick) zs (ascending_weaker (λ a b. value_cmp (column a c) (column b c) ≡ Less) (λ a b. output_cmp q (out_of c pick a) (out_of c pick b) ≡ Less) (λ a b less. ap (λ o. ordering_then o Equal) less) zs rising) in
-    let is : outs ≡ map (out_of c pick) zs = sorted_unique (output_cmp q) (output_cmp_total q) (map (out_of c pick) zs) outs rises out a.sorted in
-    a.shown ∙ ap (map (λ (o : Output). o.1)) is ∙ map-map (λ (o : Output). o.1) (out_of c pick) zs
+    let pointwise : (r : Row) → output q (params ∷ r ∷ []) ≡ out_of cs pick (drop 1 r) = λ r.
+    ap (λ (keys : Row). pair_of keys (eval_all project (params ∷ r ∷ []))) (keys_there params r (keyed r) cs) ∙ ap (λ (s : Row). pair_of (map (column (drop 1 r)) cs) s) (shown r) in
+    let seen : map (λ r. output q (params ∷ r ∷ [])) (filter (passes params tests) (db tree)) ≡ map (out_of cs pick) (map (drop 1) (filter (passes params tests) (db tree))) =
+    map_same _ _ pointwise _ ∙ sym (map-map (out_of cs pick) (drop 1) _) in
+    let out : IsPermutation (map (out_of cs pick) zs) outs =
+    IsPermutation-trans _ _ _ (IsPermutation-sym _ _ (IsPermutation-map (out_of cs pick) _ _ (IsPermutation-trans _ _ _ kept arranged))) (subst (λ l. IsPermutation l outs) seen listed) in
+    let out_cmp : (x y : Row) → output_cmp q (out_of cs pick x) (out_of cs pick y) ≡ cells_cmp cs x y = picked_cmp cs in
+    let told : AreApart (output_cmp q) (map (out_of cs pick) zs) =
+    ascending-map (λ x y. is_eq (output_cmp q x y) ≡ false) (out_of cs pick) zs
+    (ascending_weaker (λ x y. is_eq (cells_cmp cs x y) ≡ false) (λ x y. is_eq (output_cmp q (out_of cs pick x) (out_of cs pick y)) ≡ false) (λ x y other. ap is_eq (out_cmp x y) ∙ other) zs apart) in
+    let is : outs ≡ map (out_of cs pick) (sort_by (cells_cmp cs) zs) =
+    sorted_is-sort_by (output_cmp q) (output_cmp_total q) (map (out_of cs pick) zs) outs told out a.sorted
+    ∙ sort_by-map (output_cmp q) (out_of cs pick) zs
+    ∙ ap (λ (cmp : Row → Row → Ordering). map (out_of cs pick) (sort_by cmp zs)) (λ i x y. out_cmp x y i) in
+    a.shown ∙ ap (map (λ (o : Output). o.1)) is ∙ map-map (λ (o : Output). o.1) (out_of cs pick) (sort_by (cells_cmp cs) zs)
 
--- the rows of records, in the one order of theirs by that cell
-module _ {X : Type 0} (schema : Schema) (sql : List ℕ) (params : Row) (old : State) (rows : List Row) (tree : ℕ) (tests project : List Term) (at c : ℕ) (names : List (List ℕ)) where
+-- the rows of records, in the one order of theirs by these cells
+module _ {X : Type 0} (schema : Schema) (sql : List ℕ) (params : Row) (old : State) (rows : List Row) (tree : ℕ) (tests project : List Term) (cs : List ℕ) (names : List (List ℕ)) where
   pub records_ordered : old.now.schema ≡ schema → IsPlain (understood schema sql) → reads_listing schema sql ≡ false
-      → command_of (understood schema sql) ≡ Select (program_of (rows_of tree tests project (by_column at))) names
-      → (keeps : Row → Bool) (pick : Row → Row) → ((r : Row) → passes params tests r ≡ keeps (drop 1 r)) → ((r : Row) → eval_all project (params ∷ r ∷ []) ≡ pick (drop 1 r)) → ((r : Row) → column r at ≡ column (drop 1 r) c)
+      → command_of (understood schema sql) ≡ Select (program_of (rows_of tree tests project (by_columns (map suc cs)))) names
+      → (keeps : Row → Bool) (pick : Row → Row) → ((r : Row) → passes params tests r ≡ keeps (drop 1 r)) → ((r : Row) → eval_all project (params ∷ r ∷ []) ≡ pick (drop 1 r)) → ((r : Row) (c : ℕ) → column r (suc c) ≡ column (drop 1 r) c)
       → (cells : X → Row) (test : X → Bool) → ((x : X) → keeps (cells x) ≡ test x) → ((x : X) → pick (cells x) ≡ cells x)
       → IsAnswer sql params old rows → (held : List X) → HasRows (old.now.trees tree) (map cells held)
-      → (zs : List X) → IsPermutation (filter test held) zs → IsAscending (λ a b. value_cmp (column (cells a) c) (column (cells b) c) ≡ Less) zs → rows ≡ map cells zs
-  records_ordered has plain unlisted is keeps pick there shown keyed cells test kept picked answer held h zs same rising =
+      → (zs : List X) → IsPermutation (filter test held) zs → AreApart (λ a b. cells_cmp cs (cells a) (cells b)) zs → rows ≡ map cells (sort_by (λ a b. cells_cmp cs (cells a) (cells b)) zs)
+  records_ordered has plain unlisted is keeps pick there shown keyed cells test kept picked answer held h zs same apart =
       let read = answer_as sql params old schema has _ is plain unlisted rows answer in
       let arranged : IsPermutation (filter keeps (map cells held)) (map cells zs) =
       subst (λ l. IsPermutation l (map cells zs)) (sym (filter-map keeps cells held ∙ ap (map cells) (filter_same _ _ kept held))) (IsPermutation-map cells _ _ same) in
-      rows_ordered tree tests project at c old.now.trees params rows keeps pick there shown keyed read.answer (map cells held) h (map cells zs) arranged
-      (ascending-map (λ a b. value_cmp (column a c) (column b c) ≡ Less) cells zs rising)
-      ∙ map-map pick cells zs ∙ map_same _ _ picked zs
+      rows_ordered tree tests project cs old.now.trees params rows keeps pick there shown keyed read.answer (map cells held) h (map cells zs) arranged
+      (ascending-map (λ a b. is_eq (cells_cmp cs a b) ≡ false) cells zs apart)
+      ∙ ap (map pick) (sort_by-map (cells_cmp cs) cells zs)
+      ∙ map-map pick cells (sort_by (λ a b. cells_cmp cs (cells a) (cells b)) zs) ∙ map_same _ _ picked (sort_by (λ a b. cells_cmp cs (cells a) (cells b)) zs)

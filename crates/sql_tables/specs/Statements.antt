@@ -1,9 +1,14 @@
 -- Statements over one table, as the resolver understands them.
-use Rattle.std.specs.Prelude.{false, [], None, List, ℕ, pos, negsuc}
+use Rattle.std.specs.Prelude.{false, [], ◌∷◌, None, List, ℕ, pos, negsuc}
+use Rattle.std.specs.declared.cmp.Ordering.{Ordering}
+use Rattle.std.specs.declared.cmp.Ordering.TheVariants.{Equal}
+use Rattle.std.specs.Ordering.{ordering_then}
 use Rattle.sqlite.specs.declared.types.Value.TheVariants.{Int}
 use Rattle.sqlite.specs.Term.{Term, lit, col, op2}
 use Rattle.sqlite_sql.specs.declared.ops.BinaryOp.TheVariants.{Compare}
-use Rattle.sqlite_sql.specs.declared.ops.CompareOp.TheVariants.{Eq}
+use Rattle.sqlite_sql.specs.declared.ops.CompareOp.TheVariants.{Eq, Le}
+use Rattle.sqlite_value.specs.Keys.{ascending}
+use Rattle.sqlite_value.specs.Order.{Row, column, value_cmp}
 use Rattle.sqlite_value.specs.declared.keys.Collation.TheVariants.{Binary}
 use Rattle.sqlite_value.specs.declared.keys.Key.{Key}
 use Rattle.sqlite.specs.Query.{Query, inner, end}
@@ -29,3 +34,17 @@ program_of q = record { lets = []; body = q }
 -- a column equals a parameter
 abbrev pub equals : ℕ → ℕ → Term
 equals column parameter = op2 (Compare Eq Binary) (col 1 column) (col 0 parameter)
+
+-- a column is at most a parameter
+abbrev pub at_most : ℕ → ℕ → Term
+at_most column parameter = op2 (Compare Le Binary) (col 1 column) (col 0 parameter)
+
+-- by these columns in turn, the least first
+abbrev pub by_columns : List ℕ → List (Term × Key)
+by_columns [] = []
+by_columns (at ∷ ats) = (col 1 at, ascending Binary) ∷ by_columns ats
+
+-- the order of rows by these of their cells in turn
+abbrev pub cells_cmp : List ℕ → Row → Row → Ordering
+cells_cmp [] a b = Equal
+cells_cmp (at ∷ ats) a b = ordering_then (value_cmp (column a at) (column b at)) (cells_cmp ats a b)

@@ -37,8 +37,12 @@ fn answered_id(id: &NotificationId) -> Option<u32>
     }
 }
 
-/// The frame of an arrival.
-fn arrival_frame(alloc: Global, ty: MessageType, arrival: Notification) -> Result<Bytes, Refusal>
+/// The frame of an arrival, as a message of this type.
+pub fn arrival_frame(
+    alloc: Global,
+    ty: MessageType,
+    arrival: Notification,
+) -> Result<Bytes, Refusal>
     ensures { Decides (payload_tests (notification_payload arrival)) (λ frame. frame ≡ frame_bytes ty (notification_payload arrival)) result }
 {
     let payload = payload_of(alloc, arrival)?;

@@ -7,5 +7,5 @@ mod asking;
 mod payload;
 mod result;
 
-pub use arrival::{PreparedArrival, prepare_arrival};
+pub use arrival::{PreparedArrival, arrival_frame, prepare_arrival};
 pub use result::prepare_result;

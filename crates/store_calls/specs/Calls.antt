@@ -6,7 +6,7 @@ use Rattle.journal_model.specs.declared.notification.NotificationResult.{Notific
 use Rattle.journal_model.specs.Event.{Event}
 use Rattle.journal_model.specs.Spelling.{frame_bytes}
 use Rattle.journal_model.specs.Journal.{version_of, entries_of}
-use Rattle.journal_model.specs.Attempt.{attempts_begun, is_live, input_left}
+use Rattle.journal_model.specs.Attempt.{attempts_begun, completions_of_tick, is_live, input_left}
 use Rattle.journal_model.specs.Start.{start_payload}
 use Rattle.journal_model.specs.Cause.{causes_of}
 use Rattle.protocol_types.specs.declared.message_type.MessageType.{MessageType}
@@ -24,6 +24,11 @@ Invokes one (Err why) old new = Refuses (Event.Invoke one) why old new
 abbrev pub Completes : Text → (completion : ℕ) → NotificationResult → Result ℕ Refusal → Standing → Standing → Type 0
 Completes id completion brought (Ok place) old new = (place ≡ 1 + length (entries_of old.events id)) × Adds (Event.Complete id completion brought) old new
 Completes id completion brought (Err why) old new = Refuses (Event.Complete id completion brought) why old new
+
+-- a tick ends the sleeps that are due, of all open invocations, and tells how many
+abbrev pub Ticks : (now : ℕ) → Result ℕ Refusal → Standing → Standing → Type 0
+Ticks now (Ok count) old new = (count ≡ completions_of_tick old.events now) × Adds (Event.Tick now) old new
+Ticks now (Err why) old new = Refuses (Event.Tick now) why old new
 
 -- the attempt has the next number, and is told the state and the journal of this moment; nothing waits of it
 pub record Begins (id : Text) (now : ℕ) (begun : BegunAttempt) (old new : Standing) : Type 0 where

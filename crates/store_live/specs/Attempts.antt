@@ -2,7 +2,7 @@
 use Rattle.std.specs.Prelude.{◌≡◌, ℕ, true, false, List, [], ◌++◌, take, drop, Option, Some, None, option_map, bytes_eq}
 use Rattle.std.specs.Map.{lookup}
 use Rattle.store_live.specs.declared.attempt.LiveAttempt.{LiveAttempt}
-use Rattle.store_live.specs.Input.{handed_out, with_room, with_frame}
+use Rattle.store_live.specs.Input.{handed_out, one_frame, put_in_room, room_of, with_frame, with_frames, with_room}
 
 -- live attempts, each behind its invocation's id
 abbrev pub ByInvocation : Type 0
@@ -36,10 +36,19 @@ abbrev pub after_hand_out : ℕ → LiveAttempt → LiveAttempt
 after_hand_out most attempt = record attempt { input = handed_out most attempt.input }
 
 abbrev pub after_reserve : ℕ → LiveAttempt → LiveAttempt
-after_reserve len attempt = record attempt { input = with_room len attempt.input }
+after_reserve len attempt = record attempt { input = with_room (one_frame len) attempt.input }
+
+abbrev pub after_reserve_all : List (List ℕ) → LiveAttempt → LiveAttempt
+after_reserve_all frames attempt = record attempt { input = with_room (room_of frames) attempt.input }
 
 abbrev pub after_put : ℕ → List ℕ → LiveAttempt → LiveAttempt
 after_put place frame attempt = record attempt { input = with_frame place frame attempt.input }
+
+abbrev pub after_put_all : ℕ → List (List ℕ) → LiveAttempt → LiveAttempt
+after_put_all place frames attempt = record attempt { input = with_frames place frames attempt.input }
+
+abbrev pub after_put_in_room : ℕ → List (List ℕ) → LiveAttempt → LiveAttempt
+after_put_in_room place frames attempt = record attempt { input = put_in_room place frames attempt.input }
 
 abbrev pub after_close : LiveAttempt → LiveAttempt
 after_close attempt = record attempt { is_input_closed = true }

@@ -1,6 +1,7 @@
 -- What is left of an attempt's input.
-use Rattle.std.specs.Prelude.{ℕ, ◌+◌, ◌-◌, min, nat_le, if◌then◌else◌, List, [], ◌∷◌, ◌++◌, length, drop, Option, None, Some}
+use Rattle.std.specs.Prelude.{ℕ, ◌+◌, ◌-◌, ◌==◌, ◌&&◌, min, nat_le, Bool, false, if◌then◌else◌, List, [], ◌∷◌, ◌++◌, length, map, drop, Option, None, Some}
 use Rattle.store_live.specs.declared.input.PieceLeft.{PieceLeft}
+use Rattle.store_live.specs.declared.input.Room.{Room}
 
 pub record InputLeft : Type 0 where
   pub bytes : List ℕ
@@ -8,8 +9,8 @@ pub record InputLeft : Type 0 where
   pub pieces : List PieceLeft
   -- the place behind the last frame that was handed whole, 0 where none was
   pub handed : ℕ
-  -- how long the next frame is, where room was made for it
-  pub reserved : Option ℕ
+  -- for what frames room was made
+  pub reserved : Option Room
 
 -- the frames that are left when so many more bytes were handed out
 abbrev pub pieces_after : ℕ → List PieceLeft → List PieceLeft
@@ -35,9 +36,20 @@ handed_out most input = record {
   reserved = None;
 }
 
--- with room for a frame of this length
-abbrev pub with_room : ℕ → InputLeft → InputLeft
-with_room len input = record input { reserved = Some len }
+-- the bytes of frames, one behind the other
+abbrev pub all_bytes : List (List ℕ) → List ℕ
+all_bytes [] = []
+all_bytes (frame ∷ frames) = frame ++ all_bytes frames
+
+-- room for a frame of this length, and for frames
+abbrev pub one_frame : ℕ → Room
+one_frame len = record { frames = 1; bytes = len }
+
+abbrev pub room_of : List (List ℕ) → Room
+room_of frames = record { frames = length frames; bytes = length (all_bytes frames) }
+
+abbrev pub with_room : Room → InputLeft → InputLeft
+with_room room input = record input { reserved = Some room }
 
 -- with the frame of the entry at this place behind
 abbrev pub with_frame : ℕ → List ℕ → InputLeft → InputLeft
@@ -59,3 +71,22 @@ pieces_from place (len ∷ lengths) = record { behind = place + 1; len = len } �
 -- all of a journal is left
 abbrev pub journal_left : List ℕ → List ℕ → InputLeft
 journal_left bytes lengths = record { bytes = bytes; pieces = pieces_from 0 lengths; handed = 0; reserved = None }
+
+-- with the frames of entries behind, of which the first is at this place
+abbrev pub with_frames : ℕ → List (List ℕ) → InputLeft → InputLeft
+with_frames place frames input = record input {
+  bytes = input.bytes ++ all_bytes frames;
+  pieces = input.pieces ++ pieces_from place (map length frames);
+  reserved = None;
+}
+
+-- whether this is room for frames, and whether it was made; where it was they are put behind
+abbrev pub does_fit : Room → List (List ℕ) → Bool
+does_fit room frames = (room.frames == length frames) && (room.bytes == length (all_bytes frames))
+
+abbrev pub is_reserved : Option Room → List (List ℕ) → Bool
+is_reserved None frames = false
+is_reserved (Some room) frames = does_fit room frames
+
+abbrev pub put_in_room : ℕ → List (List ℕ) → InputLeft → InputLeft
+put_in_room place frames input = if is_reserved input.reserved frames then with_frames place frames input else input

@@ -1,2 +1,4 @@
 pub mod Input
 pub mod Attempts
+pub mod Before
+pub mod Added

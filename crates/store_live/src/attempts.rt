@@ -1,7 +1,8 @@
 // The live attempts by their invocations.
 ghost use Rattle.std.specs.Prelude.{◌≡◌, ◌+◌, ◌^◌, ◌<◌, ◌≤◌, ◌++◌, [], length, Some, None, IfOk, OnOk, OnErr};
 ghost use Rattle.std.specs.Option.{ForSome, option_copied};
-ghost use Rattle.store_live.specs.Attempts.{attempt_of, IsNow, Changes, bytes_out, after_hand_out, after_reserve, after_put, after_close, after_output, after_take};
+ghost use Rattle.store_live.specs.Input.{one_frame};
+ghost use Rattle.store_live.specs.Attempts.{attempt_of, IsNow, Changes, bytes_out, after_hand_out, after_reserve, after_reserve_all, after_put, after_put_in_room, after_close, after_output, after_take};
 
 use crate::attempt::LiveAttempt;
 use bytes::{ByteStr, Bytes};
@@ -96,7 +97,7 @@ impl LiveAttempts {
     #[tactic(auto, using(std::proofs::lemmas::Map::Steps::set_value_same))]
     pub fn reserve(&mut self, id: &ByteStr, len: usize) -> Result<(), AllocError>
         ensures ok { OnOk result (Changes id.now (after_reserve len) self.old.attempts self.new.attempts) }
-        ensures room { OnOk result (ForSome (attempt_of self.new.attempts id.now) (λ attempt. attempt.input.reserved ≡ Some len)) }
+        ensures room { OnOk result (ForSome (attempt_of self.new.attempts id.now) (λ attempt. attempt.input.reserved ≡ Some (one_frame len))) }
         ensures err { OnErr result (self.new ≡ self.old) }
     {
         match self.attempts.get_mut(id) {
@@ -105,10 +106,32 @@ impl LiveAttempts {
         }
     }
 
+    /// Makes room for these frames in an attempt's input.
+    #[tactic(auto, using(std::proofs::lemmas::Map::Steps::set_value_same))]
+    pub fn reserve_all(&mut self, id: &ByteStr, frames: &[Bytes]) -> Result<(), AllocError>
+        ensures ok { OnOk result (Changes id.now (after_reserve_all frames.now) self.old.attempts self.new.attempts) }
+        ensures err { OnErr result (self.new ≡ self.old) }
+    {
+        match self.attempts.get_mut(id) {
+            Some(attempt) => attempt.input.reserve_all(frames),
+            None => Ok(()),
+        }
+    }
+
+    /// Puts frames behind an attempt's input, of which that of the first entry is at this place, where room was made for them.
+    pub fn put_all(&mut self, id: &ByteStr, place: u32, frames: &[Bytes])
+        requires { place + length frames.now < 2 ^ 32 }
+        ensures { Changes id.now (after_put_in_room place frames.now) self.old.attempts self.new.attempts }
+    {
+        if let Some(attempt) = self.attempts.get_mut(id) {
+            attempt.input.put_all(place, frames);
+        }
+    }
+
     /// Puts the frame of the entry at this place behind an attempt's input. Room was made for it.
     pub fn put(&mut self, id: &ByteStr, place: u32, header: &[u8], payload: &[u8])
         requires room { ForSome (attempt_of self.old.attempts id.now)
-            (λ attempt. attempt.input.reserved ≡ Some (length header.now + length payload.now)) }
+            (λ attempt. attempt.input.reserved ≡ Some (one_frame (length header.now + length payload.now))) }
         requires place { place + 1 < 2 ^ 32 }
         ensures { Changes id.now (after_put place (header.now ++ payload.now)) self.old.attempts self.new.attempts }
     {

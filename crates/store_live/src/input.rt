@@ -1,6 +1,7 @@
 // The bytes that an attempt has still to be handed.
-ghost use Rattle.std.specs.Prelude.{◌≡◌, ℕ, ◌+◌, ◌^◌, ◌==◌, ◌<◌, ◌≤◌, ◌++◌, length, take, Some, IfOk, OnOk, OnErr};
-ghost use Rattle.store_live.specs.Input.{pieces_after, pieces_from, place_after, handed_out, journal_left, with_room, with_frame, no_input};
+ghost use Rattle.std.specs.Prelude.{◌≡◌, ℕ, ◌+◌, ◌==◌, ◌^◌, ◌<◌, ◌≤◌, ◌++◌, length, map, take, Some, IfOk, OnOk, OnErr};
+ghost use Rattle.std.specs.VecDeque.{deque_len, deque_capacity};
+ghost use Rattle.store_live.specs.Input.{all_bytes, does_fit, handed_out, is_reserved, journal_left, no_input, one_frame, pieces_after, pieces_from, place_after, put_in_room, room_of, with_frame, with_room};
 
 use bytes::{Bytes, BytesMut};
 use std::alloc::{AllocError, Global};
@@ -16,20 +17,28 @@ pub struct PieceLeft {
     pub len: usize,
 }
 
+/// Room for frames.
+#[derive(Clone, Copy, Debug, PartialEq, Eq)]
+pub struct Room {
+    pub frames: usize,
+    /// How many bytes they are together.
+    pub bytes: usize,
+}
+
 /// What is left of an attempt's input: its bytes, and which frames they are.
 ///
-/// A frame is put behind in two steps: `reserve` makes room, and may fail; `put` cannot. So what is recorded between the
+/// Frames are put behind in two steps: `reserve` makes room, and may fail; `put` cannot. So what is recorded between the
 /// two is recorded before a byte of it is handed out, and want of memory leaves all as it was.
 #[derive(Debug, Drop)]
 pub struct AttemptInput {
     bytes: BytesMut,
     pieces: VecDeque<PieceLeft>,
     handed: u32,
-    reserved: Option<usize>,
+    reserved: Option<Room>,
 }
 
 impl Model for AttemptInput {
-    ghost use Rattle.std.specs.Prelude.{◌≤◌, ◌<◌};
+    ghost use Rattle.std.specs.Prelude.{◌≤◌, ◌+◌};
     ghost use Rattle.std.specs.Option.{ForSome};
     ghost use Rattle.std.specs.VecDeque.{deque_len, deque_capacity};
     ghost use Rattle.store_live.specs.Input.{InputLeft};
@@ -38,7 +47,7 @@ impl Model for AttemptInput {
 
     ghost view = { λ input. record { bytes = input.bytes.items; pieces = input.pieces.items; handed = input.handed; reserved = input.reserved } };
 
-    ghost invariant = { λ input. ForSome input.reserved (λ len. (len ≤ input.bytes.spare) × (deque_len input.pieces < deque_capacity input.pieces)) };
+    ghost invariant = { λ input. ForSome input.reserved (λ room. (room.bytes ≤ input.bytes.spare) × (deque_len input.pieces + room.frames ≤ deque_capacity input.pieces)) };
 }
 
 /// Counts bytes as handed out: drops the frames that are then handed whole, and shortens the next one.
@@ -69,6 +78,69 @@ fn all_pieces(alloc: Global, lengths: &[usize]) -> Result<VecDeque<PieceLeft>, A
         pieces.push_back(PieceLeft { behind, len: *len })?;
     }
     Ok(pieces)
+}
+
+/// How many bytes frames are together.
+fn total_len(frames: &[Bytes]) -> Result<usize, AllocError>
+    ensures { IfOk result (λ total. total ≡ length (all_bytes frames.now)) }
+{
+    let mut total = 0usize;
+    for frame in frames {
+        total = total.checked_add(frame.len()).ok_or(AllocError)?;
+    }
+    Ok(total)
+}
+
+/// Whether frames are so many bytes together.
+fn are_so_long(bytes: usize, frames: &[Bytes]) -> bool
+    ensures { result ≡ (bytes == length (all_bytes frames.now)) }
+{
+    let mut left = bytes;
+    for frame in frames {
+        if left < frame.len() {
+            return false;
+        }
+        left -= frame.len();
+    }
+    left == 0
+}
+
+/// Whether this is room for these frames.
+fn is_room_of(room: Room, frames: &[Bytes]) -> bool
+    ensures { result ≡ does_fit room frames.now }
+{
+    let is_long = are_so_long(room.bytes, frames);
+    let is_many = room.frames == frames.len();
+    is_many && is_long
+}
+
+/// Whether room was made for these frames.
+fn is_room_for(reserved: Option<Room>, frames: &[Bytes]) -> bool
+    ensures { result ≡ is_reserved reserved frames.now }
+{
+    match reserved {
+        Some(room) => is_room_of(room, frames),
+        None => false,
+    }
+}
+
+/// Puts frames behind others, in room that was made: that of the first entry is at this place.
+fn append_all(bytes: &mut BytesMut, pieces: &mut VecDeque<PieceLeft>, place: u32, frames: &[Bytes])
+    requires spare { length (all_bytes frames.now) ≤ bytes.old.spare }
+    requires capacity { deque_len pieces.old + length frames.now ≤ deque_capacity pieces.old }
+    requires places { place + length frames.now < 2 ^ 32 }
+    ensures bytes { bytes.new.items ≡ bytes.old.items ++ all_bytes frames.now }
+    ensures pieces { pieces.new.items ≡ pieces.old.items ++ pieces_from place (map length frames.now) }
+{
+    let mut behind = place;
+    for frame in frames {
+        behind += 1;
+        bytes.extend_reserved(frame.as_slice());
+        let _room = pieces.push_back(PieceLeft {
+            behind,
+            len: frame.len(),
+        });
+    }
 }
 
 impl AttemptInput {
@@ -140,20 +212,42 @@ impl AttemptInput {
         Ok(bytes)
     }
 
-    /// Makes room for one more frame of this length.
-    pub fn reserve(&mut self, len: usize) -> Result<(), AllocError>
-        ensures ok { OnOk result (self.new ≡ with_room len self.old) }
+    fn reserve_room(&mut self, room: Room) -> Result<(), AllocError>
+        ensures ok { OnOk result (self.new ≡ with_room room self.old) }
         ensures err { OnErr result (self.new ≡ self.old) }
     {
-        self.bytes.reserve(len)?;
-        self.pieces.reserve(1)?;
-        self.reserved = Some(len);
+        self.bytes.reserve(room.bytes)?;
+        self.pieces.reserve(room.frames)?;
+        self.reserved = Some(room);
         Ok(())
+    }
+
+    /// Makes room for one more frame of this length.
+    pub fn reserve(&mut self, len: usize) -> Result<(), AllocError>
+        ensures ok { OnOk result (self.new ≡ with_room (one_frame len) self.old) }
+        ensures err { OnErr result (self.new ≡ self.old) }
+    {
+        self.reserve_room(Room {
+            frames: 1,
+            bytes: len,
+        })
+    }
+
+    /// Makes room for these frames.
+    pub fn reserve_all(&mut self, frames: &[Bytes]) -> Result<(), AllocError>
+        ensures ok { OnOk result (self.new ≡ with_room (room_of frames.now) self.old) }
+        ensures err { OnErr result (self.new ≡ self.old) }
+    {
+        let bytes = total_len(frames)?;
+        self.reserve_room(Room {
+            frames: frames.len(),
+            bytes,
+        })
     }
 
     /// Puts the frame of the entry at this place behind. Room was made for it.
     pub fn put(&mut self, place: u32, header: &[u8], payload: &[u8])
-        requires room { self.old.reserved ≡ Some (length header.now + length payload.now) }
+        requires room { self.old.reserved ≡ Some (one_frame (length header.now + length payload.now)) }
         requires place { place + 1 < 2 ^ 32 }
         ensures { self.new ≡ with_frame place (header.now ++ payload.now) self.old }
     {
@@ -165,6 +259,18 @@ impl AttemptInput {
             behind: place + 1,
             len,
         });
+    }
+
+    /// Puts frames behind, of which that of the first entry is at this place, where room was made for them.
+    pub fn put_all(&mut self, place: u32, frames: &[Bytes])
+        requires { place + length frames.now < 2 ^ 32 }
+        ensures { self.new ≡ put_in_room place frames.now self.old }
+    {
+        let has_room = is_room_for(self.reserved, frames);
+        if has_room {
+            self.reserved = None;
+            append_all(&mut self.bytes, &mut self.pieces, place, frames);
+        }
     }
 
     /// Puts a frame behind, with room made for it.

@@ -2,13 +2,15 @@
 //! output that came and was not taken.
 #![tactic(auto)]
 
+mod added;
 mod attempt;
 mod attempts;
 mod input;
 mod output;
 
+pub use added::{AddedFrames, put_each, reserve_each};
 pub use attempt::LiveAttempt;
 pub use attempts::LiveAttempts;
-pub use input::{AttemptInput, PieceLeft};
+pub use input::{AttemptInput, PieceLeft, Room};
 pub use output::AttemptOutput;
 pub use protocol_stream::{FirstItem, HEADER_LEN};

@@ -23,17 +23,17 @@ use Rattle.store_live_laws.proofs.Opened.{and_false}
 
 -- ---- rows put behind one by one
 
-kept_by : {A : Type 0} (read : LiveAttempt → A) → ((place : ℕ) (frame : List ℕ) (attempt : LiveAttempt) → read (after_put place frame attempt) ≡ read attempt)
+pub kept_by : {A : Type 0} (read : LiveAttempt → A) → ((place : ℕ) (frame : List ℕ) (attempt : LiveAttempt) → read (after_put place frame attempt) ≡ read attempt)
     → (rows : List EntryRow) (attempt : LiveAttempt) → read (after_rows rows attempt) ≡ read attempt
 kept_by read same [] attempt = refl
 kept_by read same (row ∷ rows) attempt = kept_by read same rows (after_put row.place (row_frame row) attempt) ∙ same row.place (row_frame row) attempt
 
-bytes_behind : (rows : List EntryRow) (attempt : LiveAttempt) → (after_rows rows attempt).input.bytes ≡ attempt.input.bytes ++ flat_map row_frame rows
+pub bytes_behind : (rows : List EntryRow) (attempt : LiveAttempt) → (after_rows rows attempt).input.bytes ≡ attempt.input.bytes ++ flat_map row_frame rows
 bytes_behind [] attempt = sym (append-nil attempt.input.bytes)
 bytes_behind (row ∷ rows) attempt =
     bytes_behind rows (after_put row.place (row_frame row) attempt) ∙ append_assoc attempt.input.bytes (row_frame row) (flat_map row_frame rows)
 
-pieces_behind : (rows : List EntryRow) (attempt : LiveAttempt) → (after_rows rows attempt).input.pieces ≡ attempt.input.pieces ++ map row_piece rows
+pub pieces_behind : (rows : List EntryRow) (attempt : LiveAttempt) → (after_rows rows attempt).input.pieces ≡ attempt.input.pieces ++ map row_piece rows
 pieces_behind [] attempt = sym (append-nil attempt.input.pieces)
 pieces_behind (row ∷ rows) attempt =
     pieces_behind rows (after_put row.place (row_frame row) attempt) ∙ append_assoc attempt.input.pieces (row_piece row ∷ []) (map row_piece rows)

@@ -3,6 +3,7 @@ pub mod Whole
 pub mod Growing
 pub mod Opened
 pub mod Added
+pub mod Ticked
 pub mod Steps
 pub mod Begun
 pub mod Tests

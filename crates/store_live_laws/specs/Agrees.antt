@@ -1,6 +1,6 @@
 -- What is kept of the live attempts is what the accepted events say.
 use Rattle.std.specs.Prelude.{◌≡◌, ℕ, ◌+◌, ◌==◌, Bool, true, false, not, if◌then◌else◌, List, [], ◌∷◌, ◌++◌, length, map, flat_map, Option, Some, None, is_some, option_map}
-use Rattle.journal_model.specs.Notification.{Text, Arrival, cancel_id}
+use Rattle.journal_model.specs.Notification.{Bytes, Text, Arrival, cancel_id}
 use Rattle.journal_model.specs.declared.notification.NotificationResult.{NotificationResult}
 use Rattle.journal_model.specs.declared.value.NonEmptyValue.{NonEmptyValue}
 use Rattle.journal_model.specs.Value.{result_of_value}
@@ -17,11 +17,12 @@ use Rattle.protocol_types.specs.declared.feature.Feature.TheVariants.{Acknowledg
 use Rattle.store_tables.specs.declared.row.EntryRow.{EntryRow}
 use Rattle.store_model.specs.Places.{input_places, handed_place}
 use Rattle.store_model.specs.Kept.{entry_row, journal_rows}
+use Rattle.store_model.specs.Writes.{ends_sleep, rows_added}
 use Rattle.store_lookups.specs.Lookups.{row_frame}
 use Rattle.store_live.specs.declared.input.PieceLeft.{PieceLeft}
 use Rattle.store_live.specs.declared.attempt.LiveAttempt.{LiveAttempt}
 use Rattle.store_live.specs.Input.{pieces_after}
-use Rattle.store_live.specs.Attempts.{after_hand_out, after_put, after_close}
+use Rattle.store_live.specs.Attempts.{after_hand_out, after_put, after_put_all, after_close}
 
 -- the frames of an input with their places, before any of it is handed out
 abbrev pub whole_pieces : List Piece → List ℕ → List PieceLeft
@@ -98,6 +99,16 @@ rows_arrived events event id =
 abbrev pub AgreesTicked : Type 0
 AgreesTicked = (events : List Event) (now : ℕ) (id : Text) (attempt : Option LiveAttempt) → IsAccepted events → causes_of events (Event.Tick now) ≡ []
     → Agrees events id attempt → Agrees (Event.Tick now ∷ events) id (option_map (after_rows (rows_arrived events (Event.Tick now) id)) attempt)
+
+-- the frames that a tick adds to an open invocation are put behind at once, and one of which it ends no sleep is as before
+abbrev pub AgreesTickedAtOnce : Type 0
+AgreesTickedAtOnce = (events : List Event) (now : ℕ) (id : Text) (place : ℕ) (frames : List Bytes) (attempt : Option LiveAttempt) → IsAccepted events
+    → causes_of events (Event.Tick now) ≡ [] → is_open events id ≡ true → place ≡ 1 + length (entries_of events id) → frames ≡ map row_frame (rows_added events (Event.Tick now) id)
+    → Agrees events id attempt → Agrees (Event.Tick now ∷ events) id (option_map (after_put_all place frames) attempt)
+
+abbrev pub AgreesUnticked : Type 0
+AgreesUnticked = (events : List Event) (now : ℕ) (id : Text) (attempt : Option LiveAttempt) → IsAccepted events → causes_of events (Event.Tick now) ≡ []
+    → ends_sleep events now id ≡ false → Agrees events id attempt → Agrees (Event.Tick now ∷ events) id attempt
 
 abbrev pub AgreesCommanded : Type 0
 AgreesCommanded = (events : List Event) (id : Text) (number : ℕ) (request : Request) (attempt : Option LiveAttempt)

@@ -2,7 +2,7 @@
 //! events is refused. Each function does nothing: its contract is the law.
 #![tactic(auto)]
 
-ghost use Rattle.store_live_laws.specs.Agrees.{AgreesAtFirst, AgreesElsewhere, AgreesInvoked, AgreesBegun, AgreesTicked, AgreesCommanded, AgreesArrived, AgreesAcknowledged, AgreesHandedOut, AgreesClosed, AgreesTaken, AgreesEnded, AgreesStopped, LiveIsTold, LiveIsOpen, CausesAreTold, StaleIsTold};
+ghost use Rattle.store_live_laws.specs.Agrees.{AgreesAtFirst, AgreesElsewhere, AgreesInvoked, AgreesBegun, AgreesTicked, AgreesTickedAtOnce, AgreesUnticked, AgreesCommanded, AgreesArrived, AgreesAcknowledged, AgreesHandedOut, AgreesClosed, AgreesTaken, AgreesEnded, AgreesStopped, LiveIsTold, LiveIsOpen, CausesAreTold, StaleIsTold};
 
 /// Before any event no attempt is live; and an event of another invocation, that is no tick, changes nothing.
 pub fn elsewhere_kept()
@@ -27,6 +27,8 @@ pub fn input_kept()
 /// What a tick and a request add to the journal is put behind.
 pub fn added_kept()
     ensures ticked { AgreesTicked }
+    ensures at_once { AgreesTickedAtOnce }
+    ensures unticked { AgreesUnticked }
     ensures commanded { AgreesCommanded }
 {}
 

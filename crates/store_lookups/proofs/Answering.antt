@@ -41,7 +41,7 @@ is_asked n entries = list_any (is_asking n) (requests_in entries)
 abbrev times_come : ℕ → List Entry → ℕ
 times_come n entries = length (filter (completes n) (arrivals_in entries))
 
-arrivals_in-append : (xs ys : List Entry) → arrivals_in (xs ++ ys) ≡ arrivals_in xs ++ arrivals_in ys
+pub arrivals_in-append : (xs ys : List Entry) → arrivals_in (xs ++ ys) ≡ arrivals_in xs ++ arrivals_in ys
 arrivals_in-append [] ys = refl
 arrivals_in-append (Recorded request ∷ xs) ys = arrivals_in-append xs ys
 arrivals_in-append (Arrived arrival ∷ xs) ys = ap (λ (rest : List Arrival). arrival ∷ rest) (arrivals_in-append xs ys)
@@ -59,7 +59,7 @@ count_none {A} p (x ∷ xs) e = by_test (p x) e (count_none p xs)
     by_test false e later = later e
 
 -- what has come was asked for, and came once
-abbrev AreAnswers : ℕ → List Entry → Type 0
+abbrev pub AreAnswers : ℕ → List Entry → Type 0
 AreAnswers n entries = (has_come n entries ≡ true → is_asked n entries ≡ true) × (times_come n entries ≤ 1)
 
 -- entries to be added: what comes by them is asked for then, did not come before, and comes once
@@ -143,13 +143,13 @@ run_is_some : (o : Option Request) → is_run o ≡ true → is_some o ≡ true
 run_is_some None e = cc
 run_is_some (Some request) e = refl
 
-completed_open : (events : List Event) (x : Text) (m : ℕ) (result : NotificationResult) → causes_of events (Event.Complete x m result) ≡ []
+pub completed_open : (events : List Event) (x : Text) (m : ℕ) (result : NotificationResult) → causes_of events (Event.Complete x m result) ≡ []
     → is_some (open_request (entries_of events x) m) ≡ true
 completed_open events x m result accepted =
     let tests = tests_of events (Event.Complete x m result) in
     not-false (is_some (open_request (entries_of events x) m)) (holds-head (tail_of (tail_of tests)) (holds-tail (tail_of tests) (holds-tail tests accepted)))
 
-outcome_open : (events : List Event) (x : Text) (attempt m : ℕ) (value : NonEmptyValue) (is_acknowledged : Bool)
+pub outcome_open : (events : List Event) (x : Text) (attempt m : ℕ) (value : NonEmptyValue) (is_acknowledged : Bool)
     → causes_of events (Event.Take x attempt (Frame.RunOutcome m value is_acknowledged)) ≡ [] → is_some (open_request (entries_of events x) m) ≡ true
 outcome_open events x attempt m value is_acknowledged accepted =
     let tests = tests_of events (Event.Take x attempt (Frame.RunOutcome m value is_acknowledged)) in
@@ -157,7 +157,7 @@ outcome_open events x attempt m value is_acknowledged accepted =
     (not-false (is_run (open_request (entries_of events x) m))
     (holds-head (tail_of (tail_of (tail_of tests))) (holds-tail (tail_of (tail_of tests)) (holds-tail (tail_of tests) (holds-tail tests accepted)))))
 
-command_above : (events : List Event) (x : Text) (attempt : ℕ) (request : Request) → causes_of events (Event.Take x attempt (Frame.Command request)) ≡ []
+pub command_above : (events : List Event) (x : Text) (attempt : ℕ) (request : Request) → causes_of events (Event.Take x attempt (Frame.Command request)) ≡ []
     → do_ascend (last_completion (requests_in (entries_of events x))) (completions_asked request) ≡ true
 command_above events x attempt request accepted =
     let tests = tests_of events (Event.Take x attempt (Frame.Command request)) in
@@ -175,7 +175,7 @@ fits_signal n entries (SignalKey.ByIndex k) result = fits_one n entries (record 
 fits_signal n entries (SignalKey.ByName name) result = fits_one n entries (record { id = SignalName name; result = result }) (λ e. cc)
 
 -- a request that is new, and is answered with it: its completion is above all earlier ones
-asked_below : (n : ℕ) (requests : List Request) → list_any (is_asking n) requests ≡ true → n ≤ last_completion requests
+pub asked_below : (n : ℕ) (requests : List Request) → list_any (is_asking n) requests ≡ true → n ≤ last_completion requests
 asked_below n [] e = cc
 asked_below n (request ∷ requests) e = by_test (is_asking n request) refl e (asked_below n requests)
   where
@@ -184,7 +184,7 @@ asked_below n (request ∷ requests) e = by_test (is_asking n request) refl e (a
     by_test true f e later = let under = below_greatest n (completions_asked request) f in omega arith
     by_test false f e later = let under = later e in omega arith
 
-not_yet : (n k : ℕ) (entries : List Entry) → (has_come n entries ≡ true → is_asked n entries ≡ true) → do_ascend (last_completion (requests_in entries)) (k ∷ []) ≡ true
+pub not_yet : (n k : ℕ) (entries : List Entry) → (has_come n entries ≡ true → is_asked n entries ≡ true) → do_ascend (last_completion (requests_in entries)) (k ∷ []) ≡ true
     → (k == n) ≡ true → has_come n entries ≡ false
 not_yet n k entries known up e = by_come (has_come n entries) refl
   where

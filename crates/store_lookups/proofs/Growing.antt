@@ -14,7 +14,7 @@ begins_none : (event : Event) (id : Text) → invoked_by event ≡ None → begi
 begins_none (Event.Invoke new) id e = cc
 begins_none _ id e = refl
 
-entries_now : (events : List Event) (event : Event) (id : Text) → invoked_by event ≡ None
+pub entries_now : (events : List Event) (event : Event) (id : Text) → invoked_by event ≡ None
     → entries_of (event ∷ events) id ≡ entries_of events id ++ added_to events event id
 entries_now events event id e = ap (λ start. entries_from start (event ∷ events) id) same_start
   where

@@ -6,3 +6,6 @@ pub mod Asking
 pub mod Sleeping
 pub mod Answering
 pub mod Framing
+pub mod OpenSleeps
+pub mod Sorting
+pub mod DueSleeps

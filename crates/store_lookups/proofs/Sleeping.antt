@@ -24,7 +24,7 @@ put_by_moment sleep (next ∷ sleeps) = by_test (nat_lt next.0 sleep.0) (put_by_
         (IsPermutation-cons next (by_moment sleep sleeps) (sleep ∷ sleeps) h) (exchanged next sleep sleeps)
     by_test false h = IsPermutation-refl (sleep ∷ next ∷ sleeps)
 
-sorted_same : (sleeps : List (ℕ × ℕ)) → IsPermutation (sorted_by_moment sleeps) sleeps
+pub sorted_same : (sleeps : List (ℕ × ℕ)) → IsPermutation (sorted_by_moment sleeps) sleeps
 sorted_same [] = IsPermutation-refl []
 sorted_same (sleep ∷ sleeps) =
     IsPermutation-trans (by_moment sleep (sorted_by_moment sleeps)) (sleep ∷ sorted_by_moment sleeps) (sleep ∷ sleeps)
@@ -34,7 +34,7 @@ sorted_same (sleep ∷ sleeps) =
 abbrev pub ends_at : ℕ → ℕ × ℕ → Bool
 ends_at n sleep = sleep.1 == n
 
-abbrev answer_of_sleep : ℕ × ℕ → Arrival
+abbrev pub answer_of_sleep : ℕ × ℕ → Arrival
 answer_of_sleep sleep = completion sleep.1 NotificationResult.Void
 
 -- ---- a sleep asks for its completion
@@ -59,10 +59,10 @@ asked_by_sleeps n (request ∷ requests) e = or_right (is_asking n request) (lis
 
 -- ---- and one sleep alone does
 
-abbrev count : ℕ → List (ℕ × ℕ) → ℕ
+abbrev pub count : ℕ → List (ℕ × ℕ) → ℕ
 count n sleeps = length (filter (ends_at n) sleeps)
 
-no_sleep : (n last : ℕ) (requests : List Request) → n ≤ last → ascend_from last requests ≡ true → count n (sleeps_in requests) ≡ 0
+pub no_sleep : (n last : ℕ) (requests : List Request) → n ≤ last → ascend_from last requests ≡ true → count n (sleeps_in requests) ≡ 0
 no_sleep n last [] below up = refl
 no_sleep n last (Request.Sleep moment k name ∷ requests) below up =
     let (here, rest) = both_parts (do_ascend last (k ∷ [])) (ascend_from (max last (greatest (k ∷ []))) requests) up in
@@ -77,7 +77,7 @@ no_sleep n last (request ∷ requests) below up =
     let (here, rest) = both_parts (do_ascend last (completions_asked request)) (ascend_from (max last (greatest (completions_asked request))) requests) up in
     no_sleep n (max last (greatest (completions_asked request))) requests (omega arith) rest
 
-one_sleep : (n last : ℕ) (requests : List Request) → ascend_from last requests ≡ true → count n (sleeps_in requests) ≤ 1
+pub one_sleep : (n last : ℕ) (requests : List Request) → ascend_from last requests ≡ true → count n (sleeps_in requests) ≤ 1
 one_sleep n last [] up = omega arith
 one_sleep n last (Request.Sleep moment k name ∷ requests) up =
     let (here, rest) = both_parts (do_ascend last (k ∷ [])) (ascend_from (max last (greatest (k ∷ []))) requests) up in

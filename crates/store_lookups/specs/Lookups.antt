@@ -1,5 +1,5 @@
 -- What is found among the records that are kept of accepted events.
-use Rattle.std.specs.Prelude.{◌≡◌, ℕ, ◌+◌, ◌≤◌, Bool, true, false, not, if◌then◌else◌, List, [], ◌∷◌, length, filter, flat_map, slice_get, Option, Some, None, is_some, option_map, option_and_then, option_to_list}
+use Rattle.std.specs.Prelude.{◌≡◌, ℕ, ◌+◌, ◌≤◌, Bool, true, false, not, if◌then◌else◌, List, [], ◌∷◌, ◌&&◌, length, map, filter, flat_map, slice_get, Option, Some, None, is_some, option_map, option_and_then, option_to_list}
 use Rattle.std.specs.List.{find}
 use Rattle.journal_model.specs.Notification.{Bytes, Text}
 use Rattle.journal_model.specs.Request.{Request, completions_asked}
@@ -7,12 +7,16 @@ use Rattle.journal_model.specs.State.{value_at}
 use Rattle.journal_model.specs.Spelling.{frame_bytes}
 use Rattle.journal_model.specs.Event.{Event}
 use Rattle.journal_model.specs.Attempt.{input_bytes, journal_pieces}
-use Rattle.journal_model.specs.Journal.{Entry, Recorded, Arrived, asks_for as is_asking, invocation_begun, is_busy, entries_of, request_asking, is_awaited, object_state}
+use Rattle.journal_model.specs.Journal.{Entry, Recorded, Arrived, asks_for as is_asking, invocation_begun, is_busy, is_open, entries_of, requests_in, sleeps_in, sorted_by_moment, is_over, request_asking, is_awaited, object_state}
 use Rattle.journal_model.specs.Cause.{IsAccepted}
-use Rattle.store_tables.specs.Records.{Records, is_at_key}
+use Rattle.sqlite_keyed.specs.Lists.{sort_by}
+use Rattle.store_tables.specs.Records.{Records, ends_by, is_at_key, is_sleep_of}
+use Rattle.store_tables.specs.Orders.{AreApart, sleep_cmp}
 use Rattle.store_tables.specs.declared.row.EntryRow.{EntryRow}
+use Rattle.store_tables.specs.declared.row.SleepRow.{SleepRow}
 use Rattle.store_tables.specs.Questions.{has_id, is_open_of, is_at_place, asks_for, asks_second_for, answers, journal_of, is_number, AreInPlace}
 use Rattle.store_model.specs.Progress.{first_of, second_of}
+use Rattle.store_model.specs.Sleeps.{can_be_due, due_until, sleep_row, sleeps_kept}
 use Rattle.store_model.specs.Kept.{entry_row, journal_rows, invocation_row, state_row, IsKept}
 
 -- of all these, what passes a test is this one, or none: so it is the first one, and the only one
@@ -74,3 +78,36 @@ row_frame row = frame_bytes row.kind row.payload
 abbrev pub AllFrames : Type 0
 AllFrames = (events : List Event) (id : Text) → IsAccepted events
     → flat_map row_frame (journal_rows events id) ≡ input_bytes (journal_pieces (invocation_begun events id) (entries_of events id))
+
+-- ---- sleeps
+
+-- the sleeps that are asked for and have not come, and may be due some day, by place
+abbrev pub is_open_sleep : List Entry → ℕ × ℕ → Bool
+is_open_sleep entries sleep = can_be_due sleep && is_awaited entries sleep.1
+
+abbrev pub open_among : List Entry → List (ℕ × ℕ)
+open_among entries = filter (is_open_sleep entries) (sleeps_in (requests_in entries))
+
+abbrev pub open_sleeps : List Event → Text → List SleepRow
+open_sleeps events id = if is_open events id then map (sleep_row id) (open_among (entries_of events id)) else []
+
+-- the rows of an invocation's sleeps are those of its open sleeps; a closed one has none
+abbrev pub SleepsKeptAfter : Type 0
+SleepsKeptAfter = (events : List Event) (id : Text) → IsAccepted events → filter (is_sleep_of id) (sleeps_kept events) ≡ open_sleeps events id
+
+-- the sleeps of an invocation that a tick ends, in the order in which it ends them
+abbrev pub ended_sleeps : List Event → ℕ → Text → List (ℕ × ℕ)
+ended_sleeps events now id =
+    if is_open events id then filter (is_over (entries_of events id) now) (sorted_by_moment (sleeps_in (requests_in (entries_of events id)))) else []
+
+abbrev pub due_sleeps : ℕ → Records → List SleepRow
+due_sleeps now r = filter (ends_by (due_until now)) r.sleeps
+
+-- the rows that are due tell which sleeps a tick ends: no two are alike, and in their order those of an invocation are those
+-- that it ends of it
+pub record FindsEnded (events : List Event) (now : ℕ) (r : Records) : Type 0 where
+  pub apart : AreApart (due_sleeps now r)
+  pub ended : (id : Text) → filter (is_sleep_of id) (sort_by sleep_cmp (due_sleeps now r)) ≡ map (sleep_row id) (ended_sleeps events now id)
+
+abbrev pub AllEndedFound : Type 0
+AllEndedFound = (events : List Event) (now : ℕ) (r : Records) → IsAccepted events → IsKept events r → FindsEnded events now r

@@ -22,7 +22,7 @@ use Rattle.store_model.proofs.Same.{both_same, Leaves, same_progress, nothing_ad
 use Rattle.store_model.proofs.Writing.{stepped}
 
 -- what is stepped is set to its progress, the rest stays
-stepped_is : (progress : Text → Progress) (ids : List Text) (i : InvocationRow)
+pub stepped_is : (progress : Text → Progress) (ids : List Text) (i : InvocationRow)
     → stepped progress ids i ≡ (if list_any (bytes_eq i.id) ids then record i { progress = progress i.id } else i)
 stepped_is progress [] i = refl
 stepped_is progress (id ∷ ids) i = by_test (stepped_is progress ids) (bytes_eq i.id id) refl
@@ -39,7 +39,7 @@ stepped_is progress (id ∷ ids) i = by_test (stepped_is progress ids) (bytes_eq
     by_test more false e = more i
 
 -- the ids of which a tick changes something
-among_chosen : (test : Text → Bool) (x : Text) (earlier : List Event)
+pub among_chosen : (test : Text → Bool) (x : Text) (earlier : List Event)
     → list_any (bytes_eq x) (filter test (map (λ (new : NewInvocation). new.id) (begun earlier))) ≡ (is_some (invocation_begun earlier x) && test x)
 among_chosen test x [] = refl
 among_chosen test x (Event.Invoke new ∷ earlier) =
@@ -179,10 +179,10 @@ still_begun (Event.Invoke new) events x e = by_test (bytes_eq new.id x)
     by_test false = e
 still_begun event events x e = ap (λ (o : Option NewInvocation). is_some o) (begun_before event events x refl) ∙ e
 
-abbrev WasBegun : List Event → NewInvocation → Type 0
+abbrev pub WasBegun : List Event → NewInvocation → Type 0
 WasBegun events new = is_some (invocation_begun events new.id) ≡ true
 
-all_begun : (events : List Event) → AllByRecursion (WasBegun events) (begun events)
+pub all_begun : (events : List Event) → AllByRecursion (WasBegun events) (begun events)
 all_begun [] = tt
 all_begun (event ∷ earlier) =
     all-append (WasBegun (event ∷ earlier)) (begun earlier) (begun_by event)

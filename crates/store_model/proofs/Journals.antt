@@ -37,7 +37,7 @@ keeps_row id row rows true h = ap (λ (rest : List EntryRow). row ∷ rest) h
 keeps_row id row rows false h = h
 
 -- all rows of an invocation's entries are its own
-rows_of-one : (x id : Text) (before : List Entry) (place : ℕ) (entries : List Entry)
+pub rows_of-one : (x id : Text) (before : List Entry) (place : ℕ) (entries : List Entry)
     → filter (is_row_of id) (rows_from x before place entries) ≡ (if bytes_eq x id then rows_from x before place entries else [])
 rows_of-one x id before place [] = sym (both_same (bytes_eq x id) [])
 rows_of-one x id before place (Recorded request ∷ entries) =
@@ -141,7 +141,7 @@ and_first : (a b : Bool) → (a && b) ≡ true → a ≡ true
 and_first true b e = refl
 and_first false b e = cc
 
-rows_slept : (s o : Bool) (arrivals : List Arrival) (rows : List Entry → List EntryRow) → rows [] ≡ [] → (o ≡ true → s ≡ true)
+pub rows_slept : (s o : Bool) (arrivals : List Arrival) (rows : List Entry → List EntryRow) → rows [] ≡ [] → (o ≡ true → s ≡ true)
     → (if s then (if o && not (is_empty arrivals) then rows (map Arrived arrivals) else []) else []) ≡ rows (if o then map Arrived arrivals else [])
 rows_slept s false arrivals rows none h = both_same s [] ∙ sym none
 rows_slept true true [] rows none h = sym none
@@ -194,7 +194,7 @@ begins_none (Event.Invoke new) id e = cc
 begins_none _ id e = refl
 
 -- the rows of a journal and of what an event adds to it
-journal_grows : (events : List Event) (event : Event) (id : Text) → IsAccepted (event ∷ events) → invoked_by event ≡ None
+pub journal_grows : (events : List Event) (event : Event) (id : Text) → IsAccepted (event ∷ events) → invoked_by event ≡ None
     → journal_rows (event ∷ events) id ≡ journal_rows events id ++ rows_behind events event id (added_to events event id)
 journal_grows events event id accepted e =
     ap₂ (λ (o : Option NewInvocation) (entries : List Entry). rows_of_journal o id entries) (begun_before event events id e) entries_now

@@ -11,6 +11,7 @@ use Rattle.store_tables.specs.declared.row.InvocationRow.{InvocationRow}
 use Rattle.store_tables.specs.declared.row.EntryRow.{EntryRow}
 use Rattle.store_tables.specs.Questions.{journal_of}
 use Rattle.store_model.specs.Progress.{progress_of}
+use Rattle.store_model.specs.Sleeps.{sleeps_after}
 use Rattle.store_model.specs.Kept.{input_row, journal_rows, begun, begun_by, invocation_row, state_row, AreStates, IsKept}
 use Rattle.store_model.specs.Writes.{rows_added, changed_by, KeptAtFirst, KeptAfter}
 use Rattle.store_model.proofs.Writing.{stepped, states_written, applied-event}
@@ -19,7 +20,7 @@ use Rattle.store_model.proofs.Invocations.{rows_kept}
 use Rattle.store_model.proofs.States.{ordered, states_kept, ascends}
 
 pub kept_at_first : KeptAtFirst
-kept_at_first = record { invocations = refl; journals = λ id. refl; states = λ object. (tt, IsPermutation-refl []) }
+kept_at_first = record { invocations = refl; journals = λ id. refl; states = λ object. (tt, IsPermutation-refl []); sleeps = refl }
 
 -- what the writes make, as records
 abbrev written : List Event → Event → Records → Records
@@ -27,6 +28,7 @@ written events event r = record {
   invocations = map (stepped (progress_of (event ∷ events)) (changed_by events event)) (r.invocations ++ map (invocation_row (event ∷ events)) (begun_by event));
   entries = (r.entries ++ map input_row (begun_by event)) ++ flat_map (rows_added events event) (changed_by events event);
   states = states_written (object_of events event) (request_of_frame (frame_of event)) r.states;
+  sleeps = sleeps_after events event r.sleeps;
 }
 
 module _ (events : List Event) (event : Event) (r : Records) (accepted : IsAccepted (event ∷ events)) (kept : IsKept events r) where
@@ -51,7 +53,7 @@ module _ (events : List Event) (event : Event) (r : Records) (accepted : IsAccep
   )
 
   written_kept : IsKept (event ∷ events) (written events event r)
-  written_kept = record { invocations = invocations_after; journals = journals_after; states = states_after_it }
+  written_kept = record { invocations = invocations_after; journals = journals_after; states = states_after_it; sleeps = ap (sleeps_after events event) kept.sleeps }
 
 pub kept_after : KeptAfter
 kept_after events event r accepted causes kept =

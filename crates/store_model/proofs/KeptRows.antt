@@ -11,7 +11,7 @@ use Rattle.protocol_types.specs.declared.message_type.MessageType.{MessageType}
 use Rattle.store_tables.specs.declared.row.Progress.{Progress}
 use Rattle.store_tables.specs.declared.row.EntryRow.{EntryRow}
 use Rattle.store_tables.specs.declared.row.Closing.TheVariants.{Ended}
-use Rattle.store_tables.specs.declared.row.Write.TheVariants.{AddInvocation, SetProgress, AddEntry, PutState}
+use Rattle.store_tables.specs.declared.row.Write.TheVariants.{AddInvocation, SetProgress, AddEntry, PutState, OpenSleep, CloseSleeps, CloseSleepsUntil}
 use Rattle.store_model.specs.Kept.{version_kept}
 use Rattle.store_model.specs.Writes.{writes_of}
 
@@ -85,19 +85,21 @@ at_hand_out = refl
 
 at_sleep : writes_of handed_all (Event.Take (codes "nap") 1 (Frame.Command (Request.Sleep 5000 1 [])))
     ≡ AddEntry (record (row 1 MessageType.SleepCommand (8 ∷ 0x88 ∷ 0x27 ∷ 0x58 ∷ 1 ∷ [])) { completion = Some 1; moment = 5000 })
-    ∷ SetProgress (codes "nap") (record start { attempts = 1; last_completion = 1; entries = 2 }) ∷ []
+    ∷ SetProgress (codes "nap") (record start { attempts = 1; last_completion = 1; entries = 2 })
+    ∷ OpenSleep (record { moment = 5000; invocation = codes "nap"; completion = 1 }) ∷ []
 at_sleep = refl
 
 at_suspension : writes_of input_closed (Event.Take (codes "nap") 1 (Frame.Suspend (Some (ForAny (CompletionId 1 ∷ [])))))
     ≡ SetProgress (codes "nap") (record start { attempts = 1; last_completion = 1; entries = 2; suspension = Some (0x0a ∷ 1 ∷ 1 ∷ []); handed = Some 1 }) ∷ []
 at_suspension = refl
 
-at_early_tick : writes_of suspended (Event.Tick 4999) ≡ []
+at_early_tick : writes_of suspended (Event.Tick 4999) ≡ CloseSleepsUntil 4999 ∷ []
 at_early_tick = refl
 
 at_tick : writes_of suspended (Event.Tick 5000)
     ≡ AddEntry (record (row 2 MessageType.SleepCompletionNotification (8 ∷ 1 ∷ 0x22 ∷ 0 ∷ [])) { answered = Some 1 })
-    ∷ SetProgress (codes "nap") (record start { attempts = 1; last_completion = 1; entries = 3; suspension = Some (0x0a ∷ 1 ∷ 1 ∷ []); handed = Some 1 }) ∷ []
+    ∷ SetProgress (codes "nap") (record start { attempts = 1; last_completion = 1; entries = 3; suspension = Some (0x0a ∷ 1 ∷ 1 ∷ []); handed = Some 1 })
+    ∷ CloseSleepsUntil 5000 ∷ []
 at_tick = refl
 
 at_state : writes_of (Event.Begin (codes "nap") 6000 ∷ woken) (Event.Take (codes "nap") 2 (Frame.Command (Request.SetState (codes "k") (9 ∷ []) [])))
@@ -107,5 +109,6 @@ at_state : writes_of (Event.Begin (codes "nap") 6000 ∷ woken) (Event.Take (cod
 at_state = refl
 
 at_end : writes_of sets_state (Event.Take (codes "nap") 2 Frame.End)
-    ≡ SetProgress (codes "nap") (record start { open_object = None; attempts = 2; last_completion = 1; entries = 4; handed = Some 0; closing = Some Ended }) ∷ []
+    ≡ SetProgress (codes "nap") (record start { open_object = None; attempts = 2; last_completion = 1; entries = 4; handed = Some 0; closing = Some Ended })
+    ∷ CloseSleeps (codes "nap") ∷ []
 at_end = refl

@@ -4,6 +4,7 @@ pub mod Writing
 pub mod Journals
 pub mod Invocations
 pub mod States
+pub mod Ticking
 pub mod Keeping
 pub mod KeptRows
 pub mod Following

@@ -133,7 +133,7 @@ module _ (events : List Event) (event : Event) (id : Text) (leaves : Leaves even
   same_start : starting_state (event ∷ events) id ≡ starting_state events id
   same_start = start_same event events id (begins_not event id leaves)
 
-  same_open : is_open (event ∷ events) id ≡ is_open events id
+  pub same_open : is_open (event ∷ events) id ≡ is_open events id
   same_open =
       ap (λ (o : Option NewInvocation). opened o (frames_of (event ∷ events) id)) same_begun
       ∙ frames_alike (opened (invocation_begun events id)) (opened-quiet (invocation_begun events id)) event events id leaves

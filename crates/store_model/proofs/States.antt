@@ -108,7 +108,7 @@ dropped object key es =
     (filter_same (λ e. not (is_at_key object key (state_row object e))) (λ e. not (eq_by_cmp bytes_cmp key e.0))
     (λ e. ap₂ (λ (a b : Bool). not (a && b)) (itself object) (either_way e.0 key ∙ sym (is_eq-slice_cmp key e.0))) es)
 
-drops_all : {A : Type 0} (p : A → Bool) (xs : List A) → filter p (filter (λ x. not (p x)) xs) ≡ []
+pub drops_all : {A : Type 0} (p : A → Bool) (xs : List A) → filter p (filter (λ x. not (p x)) xs) ≡ []
 drops_all p [] = refl
 drops_all {A} p (x ∷ xs) = by_test (p x) refl (drops_all p xs)
   where

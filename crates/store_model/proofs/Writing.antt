@@ -1,22 +1,24 @@
 -- What writes make of records.
-use Rattle.std.proofs.Common.{◌≡◌, refl, sym, ap, ap₂, ◌∙◌, not, List, [], ◌∷◌, ◌++◌, map, map-id, filter, flat_map, append-nil, append_assoc, Option, Some, None}
+use Rattle.std.proofs.Common.{◌≡◌, refl, sym, ap, ap₂, ◌∙◌, ℕ, Bool, true, false, not, if◌then◌else◌, List, [], ◌∷◌, ◌++◌, map, map-id, filter, flat_map, append-nil, append_assoc, Option, Some, None}
 use Rattle.sqlite_keyed.proofs.ListLemmas.{map-map}
 use Rattle.journal_model.specs.Notification.{Text}
 use Rattle.journal_model.specs.Request.{Request}
-use Rattle.journal_model.specs.Event.{Event}
-use Rattle.journal_model.specs.Journal.{object_of, frame_of, request_of_frame}
-use Rattle.store_tables.specs.Records.{Records, is_at_key, is_of_object, set_in, applied, applied_all}
+use Rattle.journal_model.specs.Event.{Frame, Event}
+use Rattle.journal_model.specs.Journal.{version_of, closes, object_of, frame_of, request_of_frame}
+use Rattle.store_tables.specs.Records.{Records, is_at_key, is_of_object, is_sleep_of, set_in, applied, applied_all}
 use Rattle.store_tables.specs.declared.row.Progress.{Progress}
 use Rattle.store_tables.specs.declared.row.InvocationRow.{InvocationRow}
 use Rattle.store_tables.specs.declared.row.EntryRow.{EntryRow}
 use Rattle.store_tables.specs.declared.row.StateRow.{StateRow}
+use Rattle.store_tables.specs.declared.row.SleepRow.{SleepRow}
 use Rattle.store_tables.specs.declared.row.Write.{Write}
-use Rattle.store_tables.specs.declared.row.Write.TheVariants.{SetProgress, AddEntry}
+use Rattle.store_tables.specs.declared.row.Write.TheVariants.{SetProgress, AddEntry, OpenSleep, CloseSleeps}
 use Rattle.store_model.specs.Progress.{progress_of}
 use Rattle.store_model.specs.Kept.{input_row, begun_by, invocation_row}
-use Rattle.store_model.specs.Writes.{begin_writes, rows_added, invocation_writes, changed_by, state_write, state_writes, writes_of}
+use Rattle.store_model.specs.Sleeps.{sleeps_opened, sleeps_after_frame, sleeps_after}
+use Rattle.store_model.specs.Writes.{begin_writes, rows_added, invocation_writes, changed_by, sleep_writes, sleep_writes_of, state_write, state_writes, writes_of}
 
-applied-append : (ws vs : List Write) (r : Records) → applied_all (ws ++ vs) r ≡ applied_all vs (applied_all ws r)
+pub applied-append : (ws vs : List Write) (r : Records) → applied_all (ws ++ vs) r ≡ applied_all vs (applied_all ws r)
 applied-append [] vs r = refl
 applied-append (w ∷ ws) vs r = applied-append ws vs (applied w r)
 
@@ -34,7 +36,7 @@ stepped progress (id ∷ ids) i = stepped progress ids (set_in id (progress id) 
 abbrev writes_each : (Text → List EntryRow) → (Text → Progress) → Text → List Write
 writes_each rows progress id = map AddEntry (rows id) ++ SetProgress id (progress id) ∷ []
 
-applied-each : (rows : Text → List EntryRow) (progress : Text → Progress) (ids : List Text) (r : Records)
+pub applied-each : (rows : Text → List EntryRow) (progress : Text → Progress) (ids : List Text) (r : Records)
     → applied_all (flat_map (writes_each rows progress) ids) r
     ≡ record r { invocations = map (stepped progress ids) r.invocations; entries = r.entries ++ flat_map rows ids }
 applied-each rows progress [] r =
@@ -85,6 +87,28 @@ applied-written : (object : Option Text) (requests : List Request) (r : Records)
 applied-written None requests r = refl
 applied-written (Some object) requests r = applied-states object requests r
 
+applied-opened : (sleeps : List SleepRow) (r : Records) → applied_all (map OpenSleep sleeps) r ≡ record r { sleeps = r.sleeps ++ sleeps }
+applied-opened [] r = ap (λ (sleeps : List SleepRow). record r { sleeps = sleeps }) (sym (append-nil r.sleeps))
+applied-opened (sleep ∷ sleeps) r =
+    applied-opened sleeps (record r { sleeps = r.sleeps ++ sleep ∷ [] })
+    ∙ ap (λ (all : List SleepRow). record r { sleeps = all }) (append_assoc r.sleeps (sleep ∷ []) sleeps)
+
+applied-closed : (id : Text) (b : Bool) (r : Records)
+    → applied_all (if b then CloseSleeps id ∷ [] else []) r ≡ record r { sleeps = if b then filter (λ s. not (is_sleep_of id s)) r.sleeps else r.sleeps }
+applied-closed id true r = refl
+applied-closed id false r = refl
+
+applied-frame : (version : ℕ) (id : Text) (frame : Frame) (r : Records)
+    → applied_all (sleep_writes_of version id frame) r ≡ record r { sleeps = sleeps_after_frame version id frame r.sleeps }
+applied-frame version id (Frame.Command request) r = applied-opened (sleeps_opened id request) r
+applied-frame version id frame r = applied-closed id (closes version frame) r
+
+pub applied-sleeps : (events : List Event) (event : Event) (r : Records)
+    → applied_all (sleep_writes events event) r ≡ record r { sleeps = sleeps_after events event r.sleeps }
+applied-sleeps events (Event.Take id attempt frame) r = applied-frame (version_of events id) id frame r
+applied-sleeps events (Event.Tick now) r = refl
+applied-sleeps events _ r = refl
+
 applied-begin : (events : List Event) (event : Event) (r : Records)
     → applied_all (begin_writes events event) r
     ≡ record r { invocations = r.invocations ++ map (invocation_row (event ∷ events)) (begun_by event); entries = r.entries ++ map input_row (begun_by event) }
@@ -101,6 +125,7 @@ pub applied-event : (events : List Event) (event : Event) (r : Records)
           (r.invocations ++ map (invocation_row (event ∷ events)) (begun_by event));
       entries = (r.entries ++ map input_row (begun_by event)) ++ flat_map (rows_added events event) (changed_by events event);
       states = states_written (object_of events event) (request_of_frame (frame_of event)) r.states;
+      sleeps = sleeps_after events event r.sleeps;
     }
 applied-event events event r =
     let first = begin_writes events event in
@@ -110,11 +135,15 @@ applied-event events event r =
       invocations = r.invocations ++ map (invocation_row (event ∷ events)) (begun_by event);
       entries = r.entries ++ map input_row (begun_by event);
     } in
-    applied-append first (each ++ states) r
-    ∙ ap (applied_all (each ++ states)) (applied-begin events event r)
-    ∙ applied-append each states begun
-    ∙ ap (applied_all states) (applied-each (rows_added events event) (progress_of (event ∷ events)) (changed_by events event) begun)
-    ∙ applied-written (object_of events event) (request_of_frame (frame_of event)) (record begun {
+    let sleeps = sleep_writes events event in
+    let changed : Records = record begun {
       invocations = map (stepped (progress_of (event ∷ events)) (changed_by events event)) begun.invocations;
       entries = begun.entries ++ flat_map (rows_added events event) (changed_by events event);
-    })
+    } in
+    applied-append first (each ++ (sleeps ++ states)) r
+    ∙ ap (applied_all (each ++ (sleeps ++ states))) (applied-begin events event r)
+    ∙ applied-append each (sleeps ++ states) begun
+    ∙ ap (applied_all (sleeps ++ states)) (applied-each (rows_added events event) (progress_of (event ∷ events)) (changed_by events event) begun)
+    ∙ applied-append sleeps states changed
+    ∙ ap (applied_all states) (applied-sleeps events event changed)
+    ∙ applied-written (object_of events event) (request_of_frame (frame_of event)) (record changed { sleeps = sleeps_after events event changed.sleeps })

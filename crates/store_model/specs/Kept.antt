@@ -19,6 +19,7 @@ use Rattle.store_tables.specs.declared.row.EntryRow.{EntryRow}
 use Rattle.store_tables.specs.declared.row.StateRow.{StateRow}
 use Rattle.store_tables.specs.Questions.{DoAscend, journal_of}
 use Rattle.store_model.specs.Progress.{first_of, second_of, progress_of}
+use Rattle.store_model.specs.Sleeps.{sleeps_kept}
 
 -- ---- journals
 
@@ -122,3 +123,4 @@ pub record IsKept (events : List Event) (r : Records) : Type 0 where
   pub invocations : r.invocations ≡ map (invocation_row events) (begun events)
   pub journals : (id : Text) → journal_of id r ≡ journal_rows events id
   pub states : (object : Text) → AreStates object r (map (state_row object) (object_state events object))
+  pub sleeps : r.sleeps ≡ sleeps_kept events

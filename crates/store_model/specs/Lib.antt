@@ -1,5 +1,6 @@
 pub mod Places
 pub mod Progress
+pub mod Sleeps
 pub mod Kept
 pub mod Writes
 pub mod Steps

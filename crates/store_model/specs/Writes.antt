@@ -1,16 +1,17 @@
 -- What an accepted event writes, and that these writes lead from the records kept before it to those kept after it.
-use Rattle.std.specs.Prelude.{◌≡◌, ℕ, ◌+◌, Bool, not, ◌&&◌, List, [], ◌∷◌, ◌++◌, length, map, filter, flat_map, Option, Some, None}
+use Rattle.std.specs.Prelude.{◌≡◌, ℕ, ◌+◌, Bool, not, ◌&&◌, if◌then◌else◌, List, [], ◌∷◌, ◌++◌, length, map, filter, flat_map, Option, Some, None, bytes_eq}
 use Rattle.journal_model.specs.Notification.{Text}
 use Rattle.journal_model.specs.Request.{Request}
 use Rattle.journal_model.specs.declared.invocation.NewInvocation.{NewInvocation}
 use Rattle.journal_model.specs.Event.{Frame, Event}
-use Rattle.journal_model.specs.Journal.{is_open, entries_of, entries_of_event, slept, starting_state, object_of, frame_of, request_of_frame}
+use Rattle.journal_model.specs.Journal.{version_of, closes, is_open, entries_of, entries_of_event, slept, starting_state, object_of, frame_of, request_of_frame}
 use Rattle.journal_model.specs.Cause.{is_empty, causes_of, IsAccepted}
 use Rattle.store_tables.specs.Records.{Records, no_records, applied_all}
 use Rattle.store_tables.specs.declared.row.EntryRow.{EntryRow}
 use Rattle.store_tables.specs.declared.row.Write.{Write}
-use Rattle.store_tables.specs.declared.row.Write.TheVariants.{AddInvocation, SetProgress, AddEntry, PutState, DropState, DropStates}
+use Rattle.store_tables.specs.declared.row.Write.TheVariants.{AddInvocation, SetProgress, AddEntry, PutState, DropState, DropStates, OpenSleep, CloseSleeps, CloseSleepsUntil}
 use Rattle.store_model.specs.Progress.{progress_of}
+use Rattle.store_model.specs.Sleeps.{due_until, sleeps_opened}
 use Rattle.store_model.specs.Kept.{rows_from, input_row, begun, invocation_row, IsKept}
 
 -- a new invocation, with its input
@@ -60,11 +61,24 @@ abbrev pub state_writes : Option Text → List Request → List Write
 state_writes None requests = []
 state_writes (Some object) requests = flat_map (state_write object) requests
 
+-- what a frame of that version writes of its invocation's sleeps: a sleep that it asks for is opened, and all are closed with the
+-- invocation
+abbrev pub sleep_writes_of : ℕ → Text → Frame → List Write
+sleep_writes_of version id (Frame.Command request) = map OpenSleep (sleeps_opened id request)
+sleep_writes_of version id frame = if closes version frame then CloseSleeps id ∷ [] else []
+
+-- a tick closes those that it ends
+abbrev pub sleep_writes : List Event → Event → List Write
+sleep_writes events (Event.Take id attempt frame) = sleep_writes_of (version_of events id) id frame
+sleep_writes events (Event.Tick now) = CloseSleepsUntil (due_until now) ∷ []
+sleep_writes events _ = []
+
 abbrev pub writes_of : List Event → Event → List Write
 writes_of events event =
     begin_writes events event
     ++ (flat_map (invocation_writes events event) (changed_by events event)
-    ++ state_writes (object_of events event) (request_of_frame (frame_of event)))
+    ++ (sleep_writes events event
+    ++ state_writes (object_of events event) (request_of_frame (frame_of event))))
 
 -- of no events no records are kept
 abbrev pub KeptAtFirst : Type 0
@@ -74,3 +88,16 @@ KeptAtFirst = IsKept [] no_records
 abbrev pub KeptAfter : Type 0
 KeptAfter = (events : List Event) (event : Event) (r : Records) → IsAccepted events → causes_of events event ≡ [] → IsKept events r
     → IsKept (event ∷ events) (applied_all (writes_of events event) r)
+
+-- these are the invocations of which a moment ends sleeps, each once
+abbrev pub AreEnding : List Event → ℕ → List Text → Type 0
+AreEnding events now ids = (id : Text) → filter (λ x. bytes_eq x id) ids ≡ (if ends_sleep events now id then id ∷ [] else [])
+
+-- the writes of a tick, whichever invocation is the first
+abbrev pub tick_writes : List Event → ℕ → List Text → List Write
+tick_writes events now ids = flat_map (invocation_writes events (Event.Tick now)) ids ++ sleep_writes events (Event.Tick now)
+
+-- in any order they make of the records that are kept those that are kept after the tick
+abbrev pub KeptInAnyOrder : Type 0
+KeptInAnyOrder = (events : List Event) (now : ℕ) (ids : List Text) (r : Records) → IsAccepted events → causes_of events (Event.Tick now) ≡ [] → AreEnding events now ids
+    → IsKept events r → IsKept (Event.Tick now ∷ events) (applied_all (tick_writes events now ids) r)

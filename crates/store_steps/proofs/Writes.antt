@@ -1,5 +1,5 @@
 -- What is written of a frame, by what is kept of its invocation and of the frame, is what the event writes.
-use Rattle.std.proofs.Common.{◌≡◌, refl, sym, ap, ap₂, ◌∙◌, ℕ, ◌+◌, max, Bool, false, if◌then◌else◌, List, [], ◌∷◌, ◌++◌, length, map, Option, Some, None}
+use Rattle.std.proofs.Common.{◌≡◌, refl, sym, ap, ap₂, ◌∙◌, ℕ, ◌+◌, ◌^◌, max, nat_lt, Bool, true, false, ◌&&◌, if◌then◌else◌, List, [], ◌∷◌, ◌++◌, append-nil, length, map, Option, Some, None}
 use Rattle.journal_model.specs.Notification.{Bytes, Text, Arrival}
 use Rattle.journal_model.specs.State.{state_after}
 use Rattle.journal_model.specs.Request.{Request, completions_asked}
@@ -17,19 +17,22 @@ use Rattle.store_refusals.specs.Refused.{refusal_by}
 use Rattle.store_tables.specs.declared.row.Closing.TheVariants.{Failed}
 use Rattle.store_tables.specs.declared.row.Progress.{Progress}
 use Rattle.store_tables.specs.declared.row.EntryRow.{EntryRow}
+use Rattle.store_tables.specs.declared.row.SleepRow.{SleepRow}
 use Rattle.store_tables.specs.declared.row.Write.{Write}
-use Rattle.store_tables.specs.declared.row.Write.TheVariants.{SetProgress, AddEntry}
+use Rattle.store_tables.specs.declared.row.Write.TheVariants.{SetProgress, AddEntry, OpenSleep, CloseSleeps}
 use Rattle.store_model.specs.Places.{handed_place}
 use Rattle.store_model.specs.Progress.{first_of, second_of, output_payload, behavior_number, progress_of}
 use Rattle.store_model.specs.Kept.{moment_of, entry_row, rows_from}
+use Rattle.store_model.specs.Sleeps.{sleep_row, sleeps_opened}
 use Rattle.store_model.specs.Writes.{state_writes, writes_of}
 use Rattle.store_model.specs.Steps.{grown, payload_or, after_command, after_frame}
 use Rattle.store_model.proofs.Following.{follows}
 use Rattle.store_steps.specs.Stateless.{is_of_state, LeavesState}
 use Rattle.store_steps.specs.Taken.{IsReply}
 use Rattle.protocol_types.specs.MessageType.{number_of}
+use Rattle.protocol_types.specs.declared.message_type.MessageType.{MessageType}
 use Rattle.protocol_stream.specs.CommandFacts.{facts_of}
-use Rattle.store_steps.specs.Told.{puts_out, value_put_out, command_row, tests_of_told, reply_to_told, after_recorded, number_of_behavior, does_fail, after_suspension, after_error, after_end, error_told, writes_of_told}
+use Rattle.store_steps.specs.Told.{puts_out, value_put_out, command_row, is_sleep_type, sleep_if, sleep_told, closing_writes, tests_of_told, reply_to_told, after_recorded, number_of_behavior, does_fail, after_suspension, after_error, after_end, error_told, writes_of_told}
 use Rattle.store_steps.proofs.Stateless.{no_answer, none_at_once, no_writes, nothing_written}
 use Rattle.store_steps.proofs.Tests.{asked_same}
 use Rattle.store_steps.proofs.Lists.{payload_kept}
@@ -73,6 +76,21 @@ row_same id before place request command h = λ i. record {
     moment : moment_of (sleep_in request) ≡ command.moment
     moment = moment_same request ∙ sym h.moment
 
+-- the sleep that a request asks for is told by the type, the moment and the completion of its command
+sleep_told_so : (id : Text) (request : Request)
+    → sleeps_opened id request ≡ sleep_if (is_sleep_type (request_type request) && nat_lt (moment_told request) (2 ^ 63)) id (moment_told request) (first_asked (completions_asked request))
+sleep_told_so id (Request.Sleep moment n name) = by_test (nat_lt moment (2 ^ 63))
+  where
+    by_test : (b : Bool) → map (sleep_row id) (if b then (moment, n) ∷ [] else []) ≡ sleep_if b id moment (Some n)
+    by_test true = refl
+    by_test false = refl
+sleep_told_so id _ = refl
+
+sleep_same : (id : Text) (request : Request) (command : RecordedCommand) → IsCommand request command → sleeps_opened id request ≡ sleep_told id command
+sleep_same id request command h =
+    sleep_told_so id request
+    ∙ (λ i. sleep_if (is_sleep_type (sym h.kind i) && nat_lt (sym h.moment i) (2 ^ 63)) id (sym h.moment i) (sym h.completion i))
+
 output_same : (request : Request) → output_payload request ≡ (if puts_out (facts_of (request_type request)) then Some (request_payload request) else None)
 output_same (Request.Output value name) = refl
 output_same _ = refl
@@ -100,6 +118,11 @@ closes_same version code message delay behaviors.Retry = refl
 closes_same version code message delay behaviors.Pause = refl
 closes_same version code message delay behaviors.Fail = refl
 
+fails_same : (version code : ℕ) (message : Text) (behavior : Behavior) (delay : Option ℕ) (told_behavior : ErrorBehavior) → behavior_meant told_behavior ≡ behavior
+    → closes version (Frame.Error code message behavior delay) ≡ does_fail version told_behavior
+fails_same version code message behavior delay told_behavior meant =
+    ap (λ (b : Behavior). closes version (Frame.Error code message b delay)) (sym meant) ∙ closes_same version code message delay told_behavior
+
 error_progress : (version place code : ℕ) (message : Text) (behavior : Behavior) (delay : Option ℕ) (told_code : ℕ) (told_message : Text) (told_behavior : ErrorBehavior) (told_delay : Option ℕ) (p : Progress)
     → IsError code message behavior delay told_code told_message told_behavior told_delay
     → after_frame version place (Frame.Error code message behavior delay) p ≡ after_error (error_told told_code told_message told_behavior told_delay) (does_fail version told_behavior) p
@@ -113,7 +136,7 @@ error_progress version place code message behavior delay told_code told_message 
     number = ap behavior_number (sym h.behavior_is) ∙ behavior_same told_behavior
 
     fails : closes version (Frame.Error code message behavior delay) ≡ does_fail version told_behavior
-    fails = ap (λ (meant : Behavior). closes version (Frame.Error code message meant delay)) (sym h.behavior_is) ∙ closes_same version code message delay told_behavior
+    fails = fails_same version code message behavior delay told_behavior h.behavior_is
 
 -- ---- all frames
 
@@ -128,24 +151,28 @@ module _ (events : List Event) (id : Text) (number : ℕ) where
   progress_is : (frame : Frame) (p : Progress) → after_frame (version_of events id) (handed_place events id) frame (progress_of events id) ≡ p → after frame ≡ p
   progress_is frame p e = follows events (Event.Take id number frame) id refl refl ∙ e
 
-  only_progress : (frame : Frame) (p : Progress) → writes_of events (Event.Take id number frame) ≡ SetProgress id (after frame) ∷ state_writes (object frame) []
-      → after_frame (version_of events id) (handed_place events id) frame (progress_of events id) ≡ p
-      → writes_of events (Event.Take id number frame) ≡ SetProgress id p ∷ []
-  only_progress frame p shape e =
-      shape ∙ ap₂ (λ (q : Progress) (writes : List Write). SetProgress id q ∷ writes) (progress_is frame p e) (nothing_written (object frame))
+  only_progress : (frame : Frame) (p : Progress) (is_closed : Bool)
+      → writes_of events (Event.Take id number frame) ≡ SetProgress id (after frame) ∷ (closing_writes (closes (version_of events id) frame) id ++ state_writes (object frame) [])
+      → after_frame (version_of events id) (handed_place events id) frame (progress_of events id) ≡ p → closes (version_of events id) frame ≡ is_closed
+      → writes_of events (Event.Take id number frame) ≡ SetProgress id p ∷ closing_writes is_closed id
+  only_progress frame p is_closed shape e f =
+      shape ∙ ap₂ (λ (q : Progress) (writes : List Write). SetProgress id q ∷ writes) (progress_is frame p e)
+      (ap₂ (λ (c : Bool) (writes : List Write). closing_writes c id ++ writes) f (nothing_written (object frame)) ∙ append-nil (closing_writes is_closed id))
 
   command_written : (request : Request) (command : RecordedCommand) → is_of_state request ≡ false → IsCommand request command
       → writes_of events (Event.Take id number (Frame.Command request))
-      ≡ AddEntry (command_row id (1 + length (entries_of events id)) command) ∷ SetProgress id (after_recorded command (progress_of events id)) ∷ []
+      ≡ AddEntry (command_row id (1 + length (entries_of events id)) command) ∷ SetProgress id (after_recorded command (progress_of events id)) ∷ map OpenSleep (sleep_told id command)
   command_written request command stateless h =
       let entries = entries_of events id in
       let place = 1 + length (entries_of events id) in
       let state = state_after (requests_in (entries_of events id)) (starting_state events id) in
       ap₂ (λ (answers : List Arrival) (writes : List Write).
       ((AddEntry (entry_row id entries place (Recorded request)) ∷ map AddEntry (rows_from id (entries ++ Recorded request ∷ []) (place + 1) (map Arrived answers)))
-      ++ SetProgress id (after (Frame.Command request)) ∷ []) ++ [] ++ writes)
+      ++ SetProgress id (after (Frame.Command request)) ∷ []) ++ [] ++ (map OpenSleep (sleeps_opened id request) ++ writes))
       (no_answer state request stateless) (no_writes (object (Frame.Command request)) request stateless)
-      ∙ ap₂ (λ (row : EntryRow) (p : Progress). AddEntry row ∷ SetProgress id p ∷ []) (row_same id entries place request command h)
+      ∙ ap (λ (writes : List Write). AddEntry (entry_row id entries place (Recorded request)) ∷ SetProgress id (after (Frame.Command request)) ∷ writes)
+      (append-nil (map OpenSleep (sleeps_opened id request)) ∙ ap (map OpenSleep) (sleep_same id request command h))
+      ∙ ap₂ (λ (row : EntryRow) (p : Progress). AddEntry row ∷ SetProgress id p ∷ map OpenSleep (sleep_told id command)) (row_same id entries place request command h)
       (progress_is (Frame.Command request) (after_recorded command (progress_of events id)) (command_progress request command (progress_of events id) stateless h))
 
   -- of a frame that no test refuses
@@ -156,12 +183,13 @@ module _ (events : List Event) (id : Text) (number : ℕ) where
   written is_closed Frame.AwaitingOn told.AwaitingOn stateless h e = nothing_written (object Frame.AwaitingOn)
   written is_closed (Frame.Suspend None) told.Broken stateless h e = cc
   written is_closed (Frame.Suspend (Some suspension)) (told.Suspension payload) stateless h e =
-      only_progress (Frame.Suspend (Some suspension)) (after_suspension payload (handed_place events id) (progress_of events id)) refl
-      (ap (λ (bytes : Bytes). after_suspension bytes (handed_place events id) (progress_of events id)) (payload_kept suspension payload h))
+      only_progress (Frame.Suspend (Some suspension)) (after_suspension payload (handed_place events id) (progress_of events id)) false refl
+      (ap (λ (bytes : Bytes). after_suspension bytes (handed_place events id) (progress_of events id)) (payload_kept suspension payload h)) refl
   written is_closed (Frame.Error code message behavior delay) (told.Error told_code told_message told_behavior told_delay) stateless h e =
-      only_progress (Frame.Error code message behavior delay) (after_error (error_told told_code told_message told_behavior told_delay) (does_fail (version_of events id) told_behavior) (progress_of events id)) refl
+      only_progress (Frame.Error code message behavior delay) (after_error (error_told told_code told_message told_behavior told_delay) (does_fail (version_of events id) told_behavior) (progress_of events id)) (does_fail (version_of events id) told_behavior) refl
       (error_progress (version_of events id) (handed_place events id) code message behavior delay told_code told_message told_behavior told_delay (progress_of events id) h)
-  written is_closed Frame.End told.End stateless h e = only_progress Frame.End (after_end (handed_place events id) (progress_of events id)) refl refl
+      (fails_same (version_of events id) code message behavior delay told_behavior h.behavior_is)
+  written is_closed Frame.End told.End stateless h e = only_progress Frame.End (after_end (handed_place events id) (progress_of events id)) true refl refl refl
   written is_closed Frame.Broken told.Broken stateless h e = cc
   written is_closed Frame.TooDeep told.TooDeep stateless h e = cc
   written is_closed Frame.NotAccepted told.NotAccepted stateless h e = cc

@@ -1,5 +1,5 @@
 -- Why a frame is refused, what is written of it and how it is answered, by what is kept of its invocation and of the frame.
-use Rattle.std.specs.Prelude.{ℕ, ◌<◌, ◌-◌, ◌^◌, max, nat_lt, Bool, true, false, not, if◌then◌else◌, List, [], ◌∷◌, Option, Some, None, option_to_list}
+use Rattle.std.specs.Prelude.{ℕ, ◌<◌, ◌-◌, ◌^◌, max, nat_lt, Bool, true, false, not, ◌&&◌, if◌then◌else◌, List, [], ◌∷◌, map, Option, Some, None, option_to_list}
 use Rattle.journal_model.specs.Notification.{Bytes, Text}
 use Rattle.journal_model.specs.Cause.{BrokenPayload, NestedTooDeep, FrameNotAccepted, BadCompletion, InputNotClosed, NumbersUsedUp, PayloadTooLong, Tests, do_ascend, greatest, is_too_long}
 use Rattle.protocol_stream.specs.declared.command_facts.CommandFacts.{CommandFacts}
@@ -7,6 +7,8 @@ use Rattle.protocol_stream.specs.CommandFacts.{facts_of, is_answer}
 use Rattle.protocol_types.specs.declared.feature.Feature.TheVariants as features
 use Rattle.protocol_types.specs.Feature.{has_feature}
 use Rattle.protocol_types.specs.MessageType.{number_of}
+use Rattle.protocol_types.specs.declared.message_type.MessageType.{MessageType}
+use Rattle.protocol_types.specs.declared.message_type.MessageType.TheVariants as types
 use Rattle.store_frames.specs.declared.frame.RecordedCommand.{RecordedCommand}
 use Rattle.store_frames.specs.declared.frame.ErrorBehavior.{ErrorBehavior}
 use Rattle.store_frames.specs.declared.frame.ErrorBehavior.TheVariants as behaviors
@@ -16,8 +18,9 @@ use Rattle.store_tables.specs.declared.row.LastError.{LastError}
 use Rattle.store_tables.specs.declared.row.Progress.{Progress}
 use Rattle.store_tables.specs.declared.row.Closing.TheVariants.{Ended, Failed}
 use Rattle.store_tables.specs.declared.row.EntryRow.{EntryRow}
+use Rattle.store_tables.specs.declared.row.SleepRow.{SleepRow}
 use Rattle.store_tables.specs.declared.row.Write.{Write}
-use Rattle.store_tables.specs.declared.row.Write.TheVariants.{SetProgress, AddEntry}
+use Rattle.store_tables.specs.declared.row.Write.TheVariants.{SetProgress, AddEntry, OpenSleep, CloseSleeps}
 use Rattle.store_model.specs.Steps.{grown, payload_or}
 use Rattle.store_steps.specs.declared.frame.FrameReply.{FrameReply}
 use Rattle.store_steps.specs.declared.frame.FrameReply.TheVariants as replies
@@ -52,6 +55,19 @@ command_row id place command = record {
   answered = None;
   moment = command.moment;
 }
+
+-- the sleep that a command asks for, where it may be due some day
+abbrev pub is_sleep_type : MessageType → Bool
+is_sleep_type types.SleepCommand = true
+is_sleep_type _ = false
+
+abbrev pub sleep_if : Bool → Text → ℕ → Option ℕ → List SleepRow
+sleep_if true id moment (Some completion) = record { moment = moment; invocation = id; completion = completion } ∷ []
+sleep_if true id moment None = []
+sleep_if false id moment completion = []
+
+abbrev pub sleep_told : Text → RecordedCommand → List SleepRow
+sleep_told id command = sleep_if (is_sleep_type command.kind && nat_lt command.moment (2 ^ 63)) id command.moment command.completion
 
 abbrev pub after_recorded : RecordedCommand → Progress → Progress
 after_recorded command p = record (grown 1 p) {
@@ -101,14 +117,18 @@ tests_of_told p is_closed told.TooDeep = (true, NestedTooDeep) ∷ []
 tests_of_told p is_closed told.NotAccepted = (true, FrameNotAccepted) ∷ []
 tests_of_told p is_closed _ = []
 
+-- an invocation that is closed has no sleeps any more
+abbrev pub closing_writes : Bool → Text → List Write
+closing_writes is_closed id = if is_closed then CloseSleeps id ∷ [] else []
+
 -- what is written of a frame: of an invocation that speaks this version, whose attempt was handed what stands before the place
 abbrev pub writes_of_told : Text → ℕ → ℕ → Progress → AttemptFrame → List Write
 writes_of_told id version place p (told.Command command) =
-    AddEntry (command_row id p.entries command) ∷ SetProgress id (after_recorded command p) ∷ []
+    AddEntry (command_row id p.entries command) ∷ SetProgress id (after_recorded command p) ∷ map OpenSleep (sleep_told id command)
 writes_of_told id version place p (told.Suspension payload) = SetProgress id (after_suspension payload place p) ∷ []
 writes_of_told id version place p (told.Error code message behavior delay) =
-    SetProgress id (after_error (error_told code message behavior delay) (does_fail version behavior) p) ∷ []
-writes_of_told id version place p told.End = SetProgress id (after_end place p) ∷ []
+    SetProgress id (after_error (error_told code message behavior delay) (does_fail version behavior) p) ∷ closing_writes (does_fail version behavior) id
+writes_of_told id version place p told.End = SetProgress id (after_end place p) ∷ closing_writes true id
 writes_of_told id version place p _ = []
 
 -- how a frame is answered; one that is always refused has no answer of its own

@@ -1,17 +1,17 @@
 // What is written of a frame, and how it is answered.
-ghost use Rattle.std.specs.Prelude.{◌≡◌, ◌<◌, ◌-◌, ◌^◌, max, [], ◌∷◌, IfOk, OnOk};
+ghost use Rattle.std.specs.Prelude.{◌≡◌, ◌<◌, ◌-◌, ◌^◌, max, [], ◌∷◌, ◌++◌, map, option_to_list, IfOk, OnOk};
 ghost use Rattle.journal_model.specs.Cause.{greatest};
-ghost use Rattle.store_tables.specs.declared.row.Write.TheVariants.{AddEntry, SetProgress};
+ghost use Rattle.store_tables.specs.declared.row.Write.TheVariants.{AddEntry, OpenSleep, SetProgress};
 ghost use Rattle.store_model.specs.Steps.{payload_or};
 ghost use Rattle.protocol_stream.specs.CommandFacts.{facts_of};
-ghost use Rattle.store_steps.specs.Told.{HasRoom, after_end, after_error, after_recorded, after_suspension, asked, command_row, does_fail, number_of_behavior, puts_out as puts_value_out, reply_to_told, value_put_out, writes_of_told};
+ghost use Rattle.store_steps.specs.Told.{HasRoom, after_end, after_error, after_recorded, after_suspension, asked, closing_writes, command_row, does_fail, number_of_behavior, puts_out as puts_value_out, reply_to_told, sleep_told, value_put_out, writes_of_told};
 
 use crate::frame::FrameReply;
 use bytes::{ByteStr, Bytes};
-use protocol_stream::{CommandFacts, Feature};
+use protocol_stream::{CommandFacts, Feature, MessageType};
 use std::alloc::{AllocError, Global};
 use store_frames::{AttemptFrame, ErrorBehavior, RecordedCommand};
-use store_tables::{Closing, EntryRow, LastError, Progress, Write};
+use store_tables::{Closing, EntryRow, LastError, Progress, SleepRow, Write};
 
 /// How a frame is answered. One that is always refused is not asked for.
 pub(crate) fn reply_to(progress: &Progress, frame: &AttemptFrame) -> FrameReply
@@ -95,6 +95,37 @@ fn entry_of(id: ByteStr, place: u32, command: RecordedCommand) -> EntryRow
     }
 }
 
+/// A sleep that ends at this moment or later is never due.
+const NEVER: u64 = 1 << 63;
+
+/// The sleep that a command asks for, where it may be due some day.
+fn sleep_of(id: &ByteStr, command: &RecordedCommand) -> Result<Option<SleepRow>, AllocError>
+    ensures { IfOk result (λ sleep. option_to_list sleep ≡ sleep_told id.now command.now) }
+{
+    let moment = command.moment;
+    if !matches!(command.kind, MessageType::SleepCommand) || moment >= NEVER {
+        return Ok(None);
+    }
+    match command.completion {
+        Some(completion) => Ok(Some(SleepRow {
+            moment,
+            invocation: id.clone()?,
+            completion,
+        })),
+        None => Ok(None),
+    }
+}
+
+/// The writes, and that of a sleep behind them.
+fn with_sleep(mut writes: Vec<Write>, sleep: Option<SleepRow>) -> Result<Vec<Write>, AllocError>
+    ensures { IfOk result (λ all. all.items ≡ writes.items ++ map OpenSleep (option_to_list sleep)) }
+{
+    if let Some(sleep) = sleep {
+        writes.push(Write::OpenSleep(sleep))?;
+    }
+    Ok(writes)
+}
+
 /// Two of one id, once the progress is that after the command.
 fn start_recording(
     id: &ByteStr,
@@ -109,7 +140,7 @@ fn start_recording(
     Ok((id.clone()?, id.clone()?))
 }
 
-fn command_writes(
+fn entry_writes(
     alloc: Global,
     id: &ByteStr,
     mut progress: Progress,
@@ -132,6 +163,31 @@ fn command_writes(
     }
 }
 
+fn command_writes(
+    alloc: Global,
+    id: &ByteStr,
+    progress: Progress,
+    command: RecordedCommand,
+) -> Result<Vec<Write>, AllocError>
+    requires { progress.entries < 2 ^ 32 - 1 }
+    ensures { IfOk result (λ writes. writes.items ≡ AddEntry (command_row id.now progress.entries command) ∷ SetProgress id.now (after_recorded command progress) ∷ map OpenSleep (sleep_told id.now command)) }
+{
+    match sleep_of(id, &command) {
+        Ok(sleep) => match entry_writes(alloc, id, progress, command) {
+            Ok(writes) => with_sleep(writes, sleep),
+            Err(error) => {
+                drop(sleep);
+                Err(error)
+            }
+        },
+        Err(error) => {
+            drop(progress);
+            drop(command);
+            Err(error)
+        }
+    }
+}
+
 fn progress_write(alloc: Global, id: &ByteStr, progress: Progress) -> Result<Vec<Write>, AllocError>
     ensures { IfOk result (λ writes. writes.items ≡ SetProgress id.now progress ∷ []) }
 {
@@ -142,6 +198,24 @@ fn progress_write(alloc: Global, id: &ByteStr, progress: Progress) -> Result<Vec
             Err(error)
         }
     }
+}
+
+/// What is written of a frame that tells how its attempt ended, and may close its invocation: then no sleep of it is open.
+fn ending_writes(
+    alloc: Global,
+    id: &ByteStr,
+    progress: Progress,
+    is_closed: bool,
+) -> Result<Vec<Write>, AllocError>
+    ensures { IfOk result (λ writes. writes.items ≡ SetProgress id.now progress ∷ closing_writes is_closed id.now) }
+{
+    let mut writes = progress_write(alloc, id, progress)?;
+    if is_closed {
+        writes.push(Write::CloseSleeps {
+            invocation: id.clone()?,
+        })?;
+    }
+    Ok(writes)
 }
 
 fn suspend(progress: &mut Progress, payload: Bytes, handed: u32)
@@ -224,12 +298,13 @@ pub(crate) fn frame_writes(
                 delay,
                 message,
             };
-            fail(&mut progress, error, closes(version, behavior));
-            progress_write(alloc, id, progress)
+            let is_closed = closes(version, behavior);
+            fail(&mut progress, error, is_closed);
+            ending_writes(alloc, id, progress, is_closed)
         }
         AttemptFrame::End => {
             end(&mut progress, handed);
-            progress_write(alloc, id, progress)
+            ending_writes(alloc, id, progress, true)
         }
         AttemptFrame::AwaitingOn
         | AttemptFrame::Broken

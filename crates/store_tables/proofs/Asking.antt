@@ -1,6 +1,7 @@
 -- What the questions ask for.
 use Rattle.std.proofs.Common.{◌≡◌, ◌&&◌, ℕ, suc, Bool, true, false, List, [], ◌∷◌, map, Option, None, Some, refl, ap, subst, ◌∙◌, bytes_eq}
 use Rattle.std.specs.List.{AllByRecursion}
+use Rattle.std.specs.Int.{w64, cast_signed}
 use Rattle.std.specs.List.Sorted.{IsPermutation}
 use Rattle.sqlite_trees.specs.Tree.{Trees}
 use Rattle.sqlite.specs.declared.types.Value.TheVariants.{Text}
@@ -15,19 +16,19 @@ use Rattle.sqlite_tied.specs.Compute.{everything}
 use Rattle.sqlite.proofs.Callers.{IsPlain, command_of}
 use Rattle.sqlite_schema.specs.declared.schema.Column.{Column}
 use Rattle.sql_tables.specs.Asking.{IsAnswer}
-use Rattle.sql_tables.specs.Cells.{short_cell}
+use Rattle.sql_tables.specs.Cells.{long_cell, short_cell}
 use Rattle.sql_tables.specs.Content.{HasRows}
-use Rattle.sql_tables.specs.Statements.{rows_of, program_of}
-use Rattle.sql_tables.proofs.Cells.{are_same, same_text, same_short, same_null-Int, same_null-Text}
-use Rattle.sql_tables.proofs.Ordered.{by_column, records_ordered}
+use Rattle.sql_tables.specs.Statements.{by_columns, rows_of, program_of}
+use Rattle.sql_tables.proofs.Cells.{are_same, at_most_int, same_text, same_short, same_null-Int, same_null-Text}
+use Rattle.sql_tables.proofs.Ordered.{records_ordered}
 use Rattle.sql_tables.proofs.Reading.{listed, records_read, rows_shown}
 use Rattle.store_tables.specs.Asks.{Asks, AsksInOrder}
-use Rattle.store_tables.specs.Tables.{store_schema, entry_columns, invocation_columns, meta_columns, state_columns}
-use Rattle.store_tables.specs.Statements.{entries_text, entry_by_answered_text, entry_by_completion_text, entry_by_second_completion_text, invocation_by_id_text, marks_text, open_invocation_text, states_text}
-use Rattle.store_tables.specs.Records.{EntryRow, FitsEntry, FitsInvocation, FitsMark, FitsState, Holds, IsMarked, Records, cells_of_mark, entry_cells, invocation_cells, mark_cells, state_cells, the_mark}
+use Rattle.store_tables.specs.Tables.{store_schema, entry_columns, invocation_columns, meta_columns, sleep_columns, state_columns}
+use Rattle.store_tables.specs.Statements.{entries_text, entry_by_answered_text, entry_by_completion_text, entry_by_second_completion_text, invocation_by_id_text, marks_text, open_invocation_text, sleeps_until_text, states_text}
+use Rattle.store_tables.specs.Records.{EntryRow, FitsEntry, FitsInvocation, FitsMark, FitsSleep, FitsState, Holds, IsMarked, Records, cells_of_mark, ends_by, entry_cells, invocation_cells, mark_cells, sleep_cells, state_cells, the_mark}
 use Rattle.store_tables.specs.Questions.{answers, asks_for, asks_second_for, has_id, is_number, is_of_object, is_open_of, is_text}
-use Rattle.store_tables.proofs.Back.{entry_back, entry_back_is, invocation_back, invocation_back_is, mark_back, mark_back_is, mark_fits, state_back, state_back_is}
-use Rattle.store_tables.proofs.Matching.{cells_match, column_there, columns_from, columns_shown, match_cells, one_test, tests_of, two_tests}
+use Rattle.store_tables.proofs.Back.{entry_back, entry_back_is, invocation_back, invocation_back_is, mark_back, mark_back_is, mark_fits, sleep_back, sleep_back_is, state_back, state_back_is}
+use Rattle.store_tables.proofs.Matching.{Test, cells_match, column_there, columns_from, columns_shown, equal, match_cells, one_test, tests_of, two_tests, until}
 
 -- a table of so many columns keeps these records, and a row tells which it is of
 pub record Keeps {X : Type 0} (tree width : ℕ) (cells : X → Row) (Fits : X → Type 0) (records : Records → List X) : Type 0 where
@@ -37,13 +38,13 @@ pub record Keeps {X : Type 0} (tree width : ℕ) (cells : X → Row) (Fits : X �
   pub back : Row → X
   pub told : (x : X) → Fits x → back (cells x) ≡ x
 
--- the text asks for the rows of a table whose columns equal the parameters
-pub record IsSelect (sql : List ℕ) (tree : ℕ) (columns : List Column) (width : ℕ) (places : List (ℕ × ℕ)) (order : List (Term × Key)) : Type 0 where
+-- the text asks for the rows of a table whose columns pass by the parameters
+pub record IsSelect (sql : List ℕ) (tree : ℕ) (columns : List Column) (width : ℕ) (places : List Test) (order : List (Term × Key)) : Type 0 where
   pub command : command_of (understood store_schema sql) ≡ Select (program_of (rows_of tree (tests_of places) (columns_from 1 width) order)) (map (λ (c : Column). c.name) columns)
   pub plain : IsPlain (understood store_schema sql)
   pub unlisted : reads_listing store_schema sql ≡ false
 
-module _ {X : Type 0} (tree width : ℕ) (cells : X → Row) (Fits : X → Type 0) (records : Records → List X) (kept : Keeps tree width cells Fits records) (columns : List Column) (sql : List ℕ) (places : List (ℕ × ℕ)) where
+module _ {X : Type 0} (tree width : ℕ) (cells : X → Row) (Fits : X → Type 0) (records : Records → List X) (kept : Keeps tree width cells Fits records) (columns : List Column) (sql : List ℕ) (places : List Test) where
   pub asks_of : (order : List (Term × Key)) → IsSelect sql tree columns width places order → (params : Row) (s : State) (test : X → Bool) → ((x : X) → match_cells params places (cells x) ≡ test x) → Asks cells Fits records test sql params s
   asks_of order select params s test same = record {
     back = kept.back;
@@ -53,12 +54,12 @@ module _ {X : Type 0} (tree width : ℕ) (cells : X → Row) (Fits : X → Type 
         (match_cells params places) (λ row. listed row 0 width) (cells_match params places) (λ row. columns_shown params row 0 width) cells test same kept.whole answer (records r) (kept.held s.now.trees r h);
   }
 
-  pub asks_in_order_of : (at : ℕ) → IsSelect sql tree columns width places (by_column (suc at)) → (params : Row) (s : State) (test : X → Bool) → ((x : X) → match_cells params places (cells x) ≡ test x)
-      → AsksInOrder cells Fits records test at sql params s
-  asks_in_order_of at select params s test same = record {
-    asks = asks_of (by_column (suc at)) select params s test same;
-    ordered = λ has rows answer r h. records_ordered store_schema sql params s rows tree (tests_of places) (columns_from 1 width) (suc at) at (map (λ (c : Column). c.name) columns) has select.plain select.unlisted select.command
-        (match_cells params places) (λ row. listed row 0 width) (cells_match params places) (λ row. columns_shown params row 0 width) (column_there at) cells test same kept.whole answer (records r) (kept.held s.now.trees r h);
+  pub asks_in_order_of : (order : List ℕ) → IsSelect sql tree columns width places (by_columns (map suc order)) → (params : Row) (s : State) (test : X → Bool) → ((x : X) → match_cells params places (cells x) ≡ test x)
+      → AsksInOrder cells Fits records test order sql params s
+  asks_in_order_of order select params s test same = record {
+    asks = asks_of (by_columns (map suc order)) select params s test same;
+    ordered = λ has rows answer r h. records_ordered store_schema sql params s rows tree (tests_of places) (columns_from 1 width) order (map (λ (c : Column). c.name) columns) has select.plain select.unlisted select.command
+        (match_cells params places) (λ row. listed row 0 width) (cells_match params places) (λ row. columns_shown params row 0 width) column_there cells test same kept.whole answer (records r) (kept.held s.now.trees r h);
   }
 
 -- ---- invocations
@@ -66,14 +67,14 @@ module _ {X : Type 0} (tree width : ℕ) (cells : X → Row) (Fits : X → Type 
 kept_invocations : Keeps 1 19 invocation_cells FitsInvocation (λ r. r.invocations)
 kept_invocations = record { held = λ db r h. h.invocations; fit = λ db r h. h.fit_invocations; whole = λ i. refl; back = invocation_back; told = invocation_back_is }
 
-selects_id : IsSelect invocation_by_id_text 1 invocation_columns 19 ((0, 0) ∷ []) []
+selects_id : IsSelect invocation_by_id_text 1 invocation_columns 19 (equal 0 0 ∷ []) []
 unfolding understood everything
 selects_id = record { command = refl; plain = (refl, refl); unlisted = refl }
 
 pub asks_id : (s : State) (id : List ℕ) → Asks invocation_cells FitsInvocation (λ r. r.invocations) (has_id id) invocation_by_id_text (Text id ∷ []) s
-asks_id s id = asks_of 1 19 invocation_cells FitsInvocation (λ r. r.invocations) kept_invocations invocation_columns _ ((0, 0) ∷ []) _ selects_id _ s _ (λ i. one_test _ _ (same_text i.id id))
+asks_id s id = asks_of 1 19 invocation_cells FitsInvocation (λ r. r.invocations) kept_invocations invocation_columns _ (equal 0 0 ∷ []) _ selects_id _ s _ (λ i. one_test _ _ (same_text i.id id))
 
-selects_open : IsSelect open_invocation_text 1 invocation_columns 19 ((5, 0) ∷ []) []
+selects_open : IsSelect open_invocation_text 1 invocation_columns 19 (equal 5 0 ∷ []) []
 unfolding understood everything
 selects_open = record { command = refl; plain = (refl, refl); unlisted = refl }
 
@@ -82,7 +83,7 @@ same_optional_text None t = same_null-Text t
 same_optional_text (Some s) t = same_text s t
 
 pub asks_open : (s : State) (object : List ℕ) → Asks invocation_cells FitsInvocation (λ r. r.invocations) (is_open_of object) open_invocation_text (Text object ∷ []) s
-asks_open s object = asks_of 1 19 invocation_cells FitsInvocation (λ r. r.invocations) kept_invocations invocation_columns _ ((5, 0) ∷ []) _ selects_open _ s _ (λ i. one_test _ _ (same_optional_text i.progress.open_object object))
+asks_open s object = asks_of 1 19 invocation_cells FitsInvocation (λ r. r.invocations) kept_invocations invocation_columns _ (equal 5 0 ∷ []) _ selects_open _ s _ (λ i. one_test _ _ (same_optional_text i.progress.open_object object))
 
 -- ---- entries
 
@@ -94,51 +95,63 @@ same_number None n = same_null-Int _
 same_number (Some m) n = same_short m n
 
 -- by a number of the entry that may be null
-asks_number : (at : ℕ) (field : EntryRow → Option ℕ) (sql : List ℕ) → ((e : EntryRow) → column (entry_cells e) at ≡ or_null short_cell (field e)) → IsSelect sql 4 entry_columns 8 ((0, 0) ∷ (at, 1) ∷ []) []
+asks_number : (at : ℕ) (field : EntryRow → Option ℕ) (sql : List ℕ) → ((e : EntryRow) → column (entry_cells e) at ≡ or_null short_cell (field e)) → IsSelect sql 4 entry_columns 8 (equal 0 0 ∷ equal at 1 ∷ []) []
     → (s : State) (invocation : List ℕ) (n : ℕ) → Asks entry_cells FitsEntry (λ r. r.entries) (λ e. bytes_eq e.invocation invocation && is_number n (field e)) sql (Text invocation ∷ short_cell n ∷ []) s
 asks_number at field sql is select s invocation n =
-    asks_of 4 8 entry_cells FitsEntry (λ r. r.entries) kept_entries entry_columns sql ((0, 0) ∷ (at, 1) ∷ []) [] select _ s _
+    asks_of 4 8 entry_cells FitsEntry (λ r. r.entries) kept_entries entry_columns sql (equal 0 0 ∷ equal at 1 ∷ []) [] select _ s _
     (λ e. two_tests _ _ _ _ (same_text e.invocation invocation) (ap (λ v. are_same v (short_cell n)) (is e) ∙ same_number (field e) n))
 
-selects_completion : IsSelect entry_by_completion_text 4 entry_columns 8 ((0, 0) ∷ (4, 1) ∷ []) []
+selects_completion : IsSelect entry_by_completion_text 4 entry_columns 8 (equal 0 0 ∷ equal 4 1 ∷ []) []
 unfolding understood everything
 selects_completion = record { command = refl; plain = (refl, refl); unlisted = refl }
 
 pub asks_completion : (s : State) (invocation : List ℕ) (n : ℕ) → Asks entry_cells FitsEntry (λ r. r.entries) (asks_for invocation n) entry_by_completion_text (Text invocation ∷ short_cell n ∷ []) s
 asks_completion = asks_number 4 (λ e. e.completion) _ (λ e. refl) selects_completion
 
-selects_second : IsSelect entry_by_second_completion_text 4 entry_columns 8 ((0, 0) ∷ (5, 1) ∷ []) []
+selects_second : IsSelect entry_by_second_completion_text 4 entry_columns 8 (equal 0 0 ∷ equal 5 1 ∷ []) []
 unfolding understood everything
 selects_second = record { command = refl; plain = (refl, refl); unlisted = refl }
 
 pub asks_second : (s : State) (invocation : List ℕ) (n : ℕ) → Asks entry_cells FitsEntry (λ r. r.entries) (asks_second_for invocation n) entry_by_second_completion_text (Text invocation ∷ short_cell n ∷ []) s
 asks_second = asks_number 5 (λ e. e.second_completion) _ (λ e. refl) selects_second
 
-selects_answered : IsSelect entry_by_answered_text 4 entry_columns 8 ((0, 0) ∷ (6, 1) ∷ []) []
+selects_answered : IsSelect entry_by_answered_text 4 entry_columns 8 (equal 0 0 ∷ equal 6 1 ∷ []) []
 unfolding understood everything
 selects_answered = record { command = refl; plain = (refl, refl); unlisted = refl }
 
 pub asks_answered : (s : State) (invocation : List ℕ) (n : ℕ) → Asks entry_cells FitsEntry (λ r. r.entries) (answers invocation n) entry_by_answered_text (Text invocation ∷ short_cell n ∷ []) s
 asks_answered = asks_number 6 (λ e. e.answered) _ (λ e. refl) selects_answered
 
-selects_entries : IsSelect entries_text 4 entry_columns 8 ((0, 0) ∷ []) (by_column 2)
+selects_entries : IsSelect entries_text 4 entry_columns 8 (equal 0 0 ∷ []) (by_columns (2 ∷ []))
 unfolding understood everything
 selects_entries = record { command = refl; plain = (refl, refl); unlisted = refl }
 
-pub asks_entries : (s : State) (invocation : List ℕ) → AsksInOrder entry_cells FitsEntry (λ r. r.entries) (λ e. bytes_eq e.invocation invocation) 1 entries_text (Text invocation ∷ []) s
-asks_entries s invocation = asks_in_order_of 4 8 entry_cells FitsEntry (λ r. r.entries) kept_entries entry_columns _ ((0, 0) ∷ []) 1 selects_entries _ s _ (λ e. one_test _ _ (same_text e.invocation invocation))
+pub asks_entries : (s : State) (invocation : List ℕ) → AsksInOrder entry_cells FitsEntry (λ r. r.entries) (λ e. bytes_eq e.invocation invocation) (1 ∷ []) entries_text (Text invocation ∷ []) s
+asks_entries s invocation = asks_in_order_of 4 8 entry_cells FitsEntry (λ r. r.entries) kept_entries entry_columns _ (equal 0 0 ∷ []) (1 ∷ []) selects_entries _ s _ (λ e. one_test _ _ (same_text e.invocation invocation))
 
 -- ---- the state of objects
 
 kept_states : Keeps 9 3 state_cells FitsState (λ r. r.states)
 kept_states = record { held = λ db r h. h.states; fit = λ db r h. h.fit_states; whole = λ s. refl; back = state_back; told = state_back_is }
 
-selects_states : IsSelect states_text 9 state_columns 3 ((0, 0) ∷ []) (by_column 2)
+selects_states : IsSelect states_text 9 state_columns 3 (equal 0 0 ∷ []) (by_columns (2 ∷ []))
 unfolding understood everything
 selects_states = record { command = refl; plain = (refl, refl); unlisted = refl }
 
-pub asks_states : (s : State) (object : List ℕ) → AsksInOrder state_cells FitsState (λ r. r.states) (is_of_object object) 1 states_text (Text object ∷ []) s
-asks_states s object = asks_in_order_of 9 3 state_cells FitsState (λ r. r.states) kept_states state_columns _ ((0, 0) ∷ []) 1 selects_states _ s _ (λ x. one_test _ _ (same_text x.object object))
+pub asks_states : (s : State) (object : List ℕ) → AsksInOrder state_cells FitsState (λ r. r.states) (is_of_object object) (1 ∷ []) states_text (Text object ∷ []) s
+asks_states s object = asks_in_order_of 9 3 state_cells FitsState (λ r. r.states) kept_states state_columns _ (equal 0 0 ∷ []) (1 ∷ []) selects_states _ s _ (λ x. one_test _ _ (same_text x.object object))
+
+-- ---- sleeps
+
+kept_sleeps : Keeps 11 3 sleep_cells FitsSleep (λ r. r.sleeps)
+kept_sleeps = record { held = λ db r h. h.sleeps; fit = λ db r h. h.fit_sleeps; whole = λ s. refl; back = sleep_back; told = sleep_back_is }
+
+selects_sleeps : IsSelect sleeps_until_text 11 sleep_columns 3 (until 0 0 ∷ []) (by_columns (2 ∷ 1 ∷ 3 ∷ []))
+unfolding understood everything
+selects_sleeps = record { command = refl; plain = (refl, refl); unlisted = refl }
+
+pub asks_sleeps : (s : State) (moment : ℕ) → AsksInOrder sleep_cells FitsSleep (λ r. r.sleeps) (ends_by moment) (1 ∷ 0 ∷ 2 ∷ []) sleeps_until_text (long_cell moment ∷ []) s
+asks_sleeps s moment = asks_in_order_of 11 3 sleep_cells FitsSleep (λ r. r.sleeps) kept_sleeps sleep_columns _ (until 0 0 ∷ []) (1 ∷ 0 ∷ 2 ∷ []) selects_sleeps _ s _ (λ x. one_test _ _ (at_most_int (cast_signed w64 x.moment) (cast_signed w64 moment)))
 
 -- ---- the mark
 

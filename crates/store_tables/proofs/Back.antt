@@ -18,7 +18,7 @@ use Rattle.sqlite_rules.specs.Edit.{id_in}
 use Rattle.sql_tables.specs.Cells.{IsLong, flag_cell, long_cell, short_cell}
 use Rattle.store_tables.specs.Kinds.{kept_kind, kind_kept}
 use Rattle.store_tables.proofs.KeptKinds.{kind_back}
-use Rattle.store_tables.specs.Records.{Closing, EntryRow, FitsEntry, FitsInvocation, FitsError, FitsMark, FitsState, InvocationRow, LastError, Mark, StateRow, cells_of_mark, closing_cell, delay_of, entry_cells, invocation_cells, state_cells, the_mark}
+use Rattle.store_tables.specs.Records.{Closing, EntryRow, FitsEntry, FitsInvocation, FitsError, FitsMark, FitsSleep, FitsState, InvocationRow, LastError, Mark, SleepRow, StateRow, cells_of_mark, closing_cell, delay_of, entry_cells, invocation_cells, sleep_cells, state_cells, the_mark}
 use Rattle.store_tables.specs.declared.row.Closing.TheVariants.{Ended, Failed}
 
 pub short_in : Value → ℕ
@@ -71,6 +71,15 @@ state_back row = record { object = bytes (column row 0); key = bytes (column row
 pub state_back_is : (s : StateRow) → FitsState s → state_back (state_cells s) ≡ s
 unfolding state_back
 state_back_is s fits = refl
+
+-- ---- sleeps
+
+pub sleep_back : Row → SleepRow
+sleep_back row = record { moment = long_in (column row 0); invocation = bytes (column row 1); completion = short_in (column row 2) }
+
+pub sleep_back_is : (s : SleepRow) → FitsSleep s → sleep_back (sleep_cells s) ≡ s
+unfolding sleep_back
+sleep_back_is s fits = rw (long_back s.moment fits.moment, short_back s.completion) refl
 
 -- ---- entries
 

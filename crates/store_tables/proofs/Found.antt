@@ -1,19 +1,25 @@
 -- From rows to the records that were asked for.
-use Rattle.std.proofs.Common.{◌≡◌, ◌≤◌, ℕ, Bool, List, [], ◌∷◌, map, filter, length, Option, None, Some, Result, Ok, Err, IfErr, IfOk, IsTrue, sym, ap, ◌∙◌, arith}
+use Rattle.std.proofs.Common.{◌≡◌, ◌≤◌, ℕ, Bool, List, [], ◌∷◌, map, filter, length, Option, None, Some, Result, Ok, Err, IfErr, IfOk, IsTrue, refl, sym, ap, ◌∙◌, arith}
 use Rattle.std.specs.Prelude.{IfSome}
 use Rattle.std.specs.List.{AllByRecursion}
 use Rattle.std.specs.List.Sorted.{IsPermutation}
 use Rattle.std.specs.Option.{option_to_list}
-use Rattle.std.proofs.lemmas.List.Sorted.{IsPermutation-sym}
+use Rattle.std.specs.Cmp.{IsTotalOrder}
+use Rattle.std.proofs.lemmas.Cmp.{on_total, then_total}
+use Rattle.std.proofs.lemmas.List.Sorted.{IsPermutation-sym, IsPermutation-trans}
 use Rattle.sqlite_keyed.proofs.ListLemmas.{all-filter}
 use Rattle.sqlite_trees.proofs.ListLemmas.{all-permutation}
-use Rattle.sqlite_value.specs.Order.{Row}
+use Rattle.sqlite_value.specs.Order.{Row, column, value_cmp}
+use Rattle.sqlite_value.proofs.OrderLemmas.{value_cmp_total}
 use Rattle.sqlite.specs.State.{State}
 use Rattle.sql_tables.specs.Asking.{IsAnswer, IsOther}
+use Rattle.sql_tables.specs.Statements.{cells_cmp}
 use Rattle.sql_tables.specs.declared.read.ReadError.{ReadError}
 use Rattle.sql_tables.specs.declared.read.ReadError.TheVariants.{Foreign}
 use Rattle.sql_tables.proofs.Reading.{all_back, found_as, no_more, only_one, same_records}
-use Rattle.store_tables.specs.Asks.{Asks, AsksInOrder, DoRise}
+use Rattle.sqlite_keyed.specs.Lists.{sort_by}
+use Rattle.sqlite_keyed.proofs.SortLemmas.{IsPermutation-sort_by}
+use Rattle.store_tables.specs.Asks.{AreTold, Asks, AsksInOrder, by_cells}
 use Rattle.store_tables.specs.Records.{Records, Holds}
 use Rattle.store_tables.specs.Questions.{IsAmbiguous, IsFound}
 use Rattle.store_tables.specs.Tables.{store_schema}
@@ -40,17 +46,30 @@ module _ {X : Type 0} (cells : X → Row) (Fits : X → Type 0) (records : Recor
       by_list (x ∷ []) few fits same = other.2 (Some x, fits.0, sym (only_one other.0 (cells x) (IsPermutation-sym _ _ same)))
       by_list (x ∷ y ∷ xs) few fits same = omega arith
 
--- the records in the one order that a cell gives them
-module _ {X : Type 0} (cells : X → Row) (Fits : X → Type 0) (records : Records → List X) (test : X → Bool) (at : ℕ) (sql : List ℕ) (params : Row) (s : State) (has : s.now.schema ≡ store_schema) (it : AsksInOrder cells Fits records test at sql params s) where
-  fit_arranged : (r : Records) → Holds s.now.trees r → (zs : List X) → IsPermutation (filter test (records r)) zs → AllByRecursion Fits zs
-  fit_arranged r h zs same = all-permutation Fits (filter test (records r)) zs same (all-filter Fits test (records r) (it.asks.fit r h))
+-- the order of rows by cells is one of records
+cells_total : (order : List ℕ) → IsTotalOrder (cells_cmp order)
+cells_total [] = record { antisymm = λ a b. refl; trans = λ a b c less other. less; congr = λ a b c same. refl }
+cells_total (at ∷ order) = then_total (on_total (λ row. column row at) value_cmp_total) (cells_total order)
 
-  pub all_arranged : (xs : List X) → IsAnswer sql params s (map cells xs) → AllByRecursion Fits xs → (r : Records) → Holds s.now.trees r → (zs : List X) → IsPermutation (filter test (records r)) zs → DoRise cells at zs → xs ≡ zs
-  all_arranged xs answer fits r h zs same rising =
-      sym (all_back cells it.asks.back Fits it.asks.told xs fits) ∙ ap (map it.asks.back) (it.ordered has (map cells xs) answer r h zs same rising) ∙ all_back cells it.asks.back Fits it.asks.told zs (fit_arranged r h zs same)
+pub by_cells_total : {X : Type 0} (cells : X → Row) (order : List ℕ) → IsTotalOrder (by_cells cells order)
+by_cells_total cells order = on_total cells (cells_total order)
 
-  pub all_other : IsOther sql params s (λ rows. (xs : List X) × AllByRecursion Fits xs × (map cells xs ≡ rows)) → (r : Records) → Holds s.now.trees r → (zs : List X) → IsPermutation (filter test (records r)) zs → DoRise cells at zs → ⊥
-  all_other other r h zs same rising = other.2 (zs, fit_arranged r h zs same, sym (it.ordered has other.0 other.1 r h zs same rising))
+-- the records in the one order that cells give them
+module _ {X : Type 0} (cells : X → Row) (Fits : X → Type 0) (records : Records → List X) (test : X → Bool) (order : List ℕ) (sql : List ℕ) (params : Row) (s : State) (has : s.now.schema ≡ store_schema) (it : AsksInOrder cells Fits records test order sql params s) where
+  fit_arranged : (r : Records) → Holds s.now.trees r → (zs : List X) → IsPermutation (filter test (records r)) zs → AllByRecursion Fits (sort_by (by_cells cells order) zs)
+  fit_arranged r h zs same =
+      all-permutation Fits (filter test (records r)) (sort_by (by_cells cells order) zs)
+      (IsPermutation-trans _ _ _ same (IsPermutation-sym _ _ (IsPermutation-sort_by (by_cells cells order) (by_cells_total cells order) zs)))
+      (all-filter Fits test (records r) (it.asks.fit r h))
+
+  pub all_arranged : (xs : List X) → IsAnswer sql params s (map cells xs) → AllByRecursion Fits xs → (r : Records) → Holds s.now.trees r → (zs : List X) → IsPermutation (filter test (records r)) zs → AreTold cells order zs
+      → xs ≡ sort_by (by_cells cells order) zs
+  all_arranged xs answer fits r h zs same told =
+      sym (all_back cells it.asks.back Fits it.asks.told xs fits) ∙ ap (map it.asks.back) (it.ordered has (map cells xs) answer r h zs same told)
+      ∙ all_back cells it.asks.back Fits it.asks.told (sort_by (by_cells cells order) zs) (fit_arranged r h zs same)
+
+  pub all_other : IsOther sql params s (λ rows. (xs : List X) × AllByRecursion Fits xs × (map cells xs ≡ rows)) → (r : Records) → Holds s.now.trees r → (zs : List X) → IsPermutation (filter test (records r)) zs → AreTold cells order zs → ⊥
+  all_other other r h zs same told = other.2 (sort_by (by_cells cells order) zs, fit_arranged r h zs same, sym (it.ordered has other.0 other.1 r h zs same told))
 
 -- ---- what the answer to a question tells
 

@@ -30,7 +30,7 @@ use Rattle.store_tables.specs.Tables.{store_schema, invocation_columns, invocati
 use Rattle.store_tables.specs.Statements.{add_invocation_text, set_progress_text}
 use Rattle.store_tables.specs.Records.{InvocationRow, Progress, LastError, Closing, FitsInvocation, FitsProgress, FitsError, invocation_cells, progress_cells, closing_cell, delay_of, with_invocation, with_progress, set_in}
 use Rattle.store_tables.specs.declared.row.Closing.TheVariants.{Ended, Failed}
-use Rattle.store_tables.proofs.Matching.{cells_match, match_cells, one_test, tests_of}
+use Rattle.store_tables.proofs.Matching.{cells_match, equal, match_cells, one_test, tests_of}
 use Rattle.store_tables.proofs.Moves.{IsInsert, Moves, inserted, invocations_turned, none_refers}
 
 terms : List Term
@@ -102,7 +102,7 @@ sets =
     col 1 1 ∷ col 1 2 ∷ col 1 3 ∷ col 1 4 ∷ col 1 5 ∷ col 0 1 ∷ col 0 2 ∷ col 0 3 ∷ col 0 4 ∷ col 0 5
     ∷ col 0 6 ∷ col 0 7 ∷ col 0 8 ∷ col 0 9 ∷ col 0 10 ∷ col 0 11 ∷ col 0 12 ∷ col 0 13 ∷ col 0 14 ∷ []
 
-set_is : command_of (understood store_schema set_progress_text) ≡ Update 1 (program_of (rows_of 1 (tests_of ((0, 0) ∷ [])) (col 1 0 ∷ col 1 0 ∷ sets) []))
+set_is : command_of (understood store_schema set_progress_text) ≡ Update 1 (program_of (rows_of 1 (tests_of (equal 0 0 ∷ [])) (col 1 0 ∷ col 1 0 ∷ sets) []))
 unfolding understood everything sets
 set_is = refl
 
@@ -111,11 +111,11 @@ unfolding understood everything
 set_plain = (refl, refl)
 
 has_id : List ℕ → Progress → Row → Bool
-has_id id p cells = match_cells (params_of id p) ((0, 0) ∷ []) cells
+has_id id p cells = match_cells (params_of id p) (equal 0 0 ∷ []) cells
 
-has_id_there : (id : List ℕ) (p : Progress) (r : Row) → passes (params_of id p) (tests_of ((0, 0) ∷ [])) r ≡ has_id id p (drop 1 r)
+has_id_there : (id : List ℕ) (p : Progress) (r : Row) → passes (params_of id p) (tests_of (equal 0 0 ∷ [])) r ≡ has_id id p (drop 1 r)
 unfolding has_id
-has_id_there id p r = cells_match (params_of id p) ((0, 0) ∷ []) r
+has_id_there id p r = cells_match (params_of id p) (equal 0 0 ∷ []) r
 
 has_id_is : (id : List ℕ) (p : Progress) (i : InvocationRow) → has_id id p (invocation_cells i) ≡ bytes_eq i.id id
 unfolding has_id
@@ -160,7 +160,7 @@ pub progress_set : (id : List ℕ) (p : Progress) → FitsProgress p → (old ne
 progress_set id p fits old new has run =
     let writes = λ (r : Row) (v : IsInvocation (drop 1 r)).
     ap (cast_all invocation_columns) (changed_there id p r ∙ ap (changed id p) v.1 ∙ changed_is id p v.0) ∙ casts (record v.0 { progress = p }) ∙ sym (ap (changed id p) v.1 ∙ changed_is id p v.0) in
-    let change = update_changes store_schema none_refers set_progress_text (params_of id p) old new has set_plain run.count run.ran 1 (codes "invocation") invocation_columns invocation_keys (plain_orders invocation_keys) 1 refl (tests_of ((0, 0) ∷ [])) sets (has_id id p) (changed id p) IsInvocation set_is (has_id_there id p) writes in (
+    let change = update_changes store_schema none_refers set_progress_text (params_of id p) old new has set_plain run.count run.ran 1 (codes "invocation") invocation_columns invocation_keys (plain_orders invocation_keys) 1 refl (tests_of (equal 0 0 ∷ [])) sets (has_id id p) (changed id p) IsInvocation set_is (has_id_there id p) writes in (
       change.0,
       λ r h. invocations_turned old.now new.now r h change.2 (map (set_in id p) r.invocations)
           (subst (HasRows (new.now.trees 1)) (map-map _ invocation_cells r.invocations ∙ map_same _ _ (set_cells id p) r.invocations ∙ sym (map-map invocation_cells (set_in id p) r.invocations)) (change.1 _ (are_invocations r.invocations) h.invocations))

@@ -11,4 +11,5 @@ pub mod Making
 pub mod Matching
 pub mod Moves
 pub mod Orders
+pub mod Sleeps
 pub mod States

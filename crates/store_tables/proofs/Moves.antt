@@ -1,5 +1,5 @@
 -- Changes of the records, by one statement and one after another.
-use Rattle.std.proofs.Common.{◌≡◌, ◌/◌, ◌++◌, ℕ, List, [], ◌∷◌, map, length, slice_get, Some, refl, sym, subst, Result, OnOk, arith}
+use Rattle.std.proofs.Common.{◌≡◌, ◌/◌, ◌++◌, ℕ, Bool, not, List, [], ◌∷◌, map, filter, length, slice_get, Some, refl, sym, ap, subst, ◌∙◌, Result, OnOk, arith}
 use Rattle.std.specs.List.{AllByRecursion}
 use Rattle.sqlite.specs.declared.types.Value.TheVariants.{Null}
 use Rattle.sqlite_value.specs.Order.{Row}
@@ -7,27 +7,30 @@ use Rattle.sqlite_trees.specs.Tree.{Trees}
 use Rattle.sqlite_trees.specs.declared.store.Store.{Ghosts}
 use Rattle.sqlite_schema.specs.declared.schema.Column.{Column}
 use Rattle.sqlite.specs.Cast.{cast_all}
-use Rattle.sqlite.specs.Command.TheVariants.{Insert}
+use Rattle.sqlite_keyed.proofs.ListLemmas.{filter-map, filter_same}
+use Rattle.sqlite.specs.Command.TheVariants.{Delete, Insert}
 use Rattle.sqlite.specs.Effect.{Database, value_rows}
 use Rattle.sqlite.specs.Held.{Held, state}
 use Rattle.sqlite.specs.Listing.{understood}
 use Rattle.sqlite.specs.Source.TheVariants.{Values}
 use Rattle.sqlite.specs.State.{State, HasCleanDisk, KeepsCommit, Survives}
-use Rattle.sqlite.specs.Term.{Term}
+use Rattle.sqlite.specs.Term.{Term, col}
 use Rattle.sqlite.proofs.Callers.{IsPlain, command_of}
 use Rattle.sql_tables.specs.Asking.{HasRun}
 use Rattle.sql_tables.specs.Changes.{Changes, KeepsOthers}
 use Rattle.sql_tables.specs.Columns.{NoneRefers, plain_orders, table_of}
 use Rattle.sql_tables.specs.Content.{HasRows}
+use Rattle.sql_tables.specs.Statements.{rows_of, program_of}
 use Rattle.sqlite.proofs.StateLemmas.{survives_then}
 use Rattle.sql_tables.proofs.Queries.{keeps_on, on_ok}
-use Rattle.sql_tables.proofs.Tables.{insert_changes}
+use Rattle.sql_tables.proofs.Tables.{delete_changes, insert_changes}
 use Rattle.store_tables.specs.Tables.{store_schema}
-use Rattle.store_tables.specs.Records.{EntryRow, FitsEntry, FitsInvocation, FitsState, Holds, InvocationRow, Records, StateRow, Write, applied, applied_all, entry_cells, invocation_cells, state_cells}
+use Rattle.store_tables.specs.Records.{EntryRow, FitsEntry, FitsInvocation, FitsSleep, FitsState, Holds, InvocationRow, Records, SleepRow, StateRow, Write, applied, applied_all, entry_cells, invocation_cells, sleep_cells, state_cells}
 use Rattle.store_tables.specs.Steps.{Alters, IsStore, Steps, Turns}
+use Rattle.store_tables.proofs.Matching.{Test, cells_match, match_cells, tests_of}
 
 pub none_refers : NoneRefers store_schema
-none_refers = (refl, (refl, (refl, (refl, tt))))
+none_refers = (refl, (refl, (refl, (refl, (refl, tt)))))
 
 -- ---- one table
 
@@ -43,6 +46,27 @@ pub inserted : (sql : List ℕ) (params cells : Row) (at : ℕ) (terms : List Te
 inserted sql params cells at terms width it tree name columns keys found casts old new has run =
     insert_changes store_schema none_refers sql params old new has it.plain run.count run.ran tree name columns keys (plain_orders keys) at found terms width cells it.command it.values casts
 
+-- the text drops the rows of a table that pass
+pub record IsDelete (sql : List ℕ) (tree at : ℕ) (tests : List Test) : Type 0 where
+  pub command : command_of (understood store_schema sql) ≡ Delete at (program_of (rows_of tree (tests_of tests) (col 1 0 ∷ []) []))
+  pub plain : IsPlain (understood store_schema sql)
+
+pub dropped : {X : Type 0} (sql : List ℕ) (params : Row) (tree at : ℕ) (tests : List Test) → IsDelete sql tree at tests
+    → (name : List ℕ) (columns : List Column) (keys : List (List ℕ)) → slice_get store_schema.tables at ≡ Some (table_of tree name columns keys)
+    → (cells : X → Row) (test : X → Bool) → ((x : X) → match_cells params tests (cells x) ≡ test x)
+    → (old new : State) → old.now.schema ≡ store_schema → HasRun sql params old new
+    → (new.now.schema ≡ store_schema) × (KeepsOthers store_schema tree old.now new.now
+    × ((xs : List X) → HasRows (old.now.trees tree) (map cells xs) → HasRows (new.now.trees tree) (map cells (filter (λ x. not (test x)) xs))))
+dropped sql params tree at tests it name columns keys found cells test is old new has run =
+    let keeps = λ (row : Row). not (match_cells params tests row) in
+    let change = delete_changes store_schema none_refers sql params old new has it.plain run.count run.ran tree name columns keys (plain_orders keys) at found (tests_of tests) keeps it.command (λ r. ap not (cells_match params tests r)) in (
+      change.schema,
+      (
+        change.others,
+        λ xs h. subst (HasRows (new.now.trees tree)) (filter-map keeps cells xs ∙ ap (map cells) (filter_same _ _ (λ x. ap not (is x)) xs)) (change.rows _ h),
+      ),
+    )
+
 -- a table that a statement did not touch
 kept_rows : (old new : Trees) (tree : ℕ) (rows : List Row) → new tree ≡ old tree → HasRows (old tree) rows → HasRows (new tree) rows
 kept_rows old new tree rows same h = subst (λ t. HasRows t rows) (sym same) h
@@ -55,9 +79,11 @@ module _ (old new : Database) (r : Records) (h : Holds old.trees r) where
     invocations = rows;
     entries = kept_rows old.trees new.trees 4 _ (others.1.1.0 (λ e. omega arith)) h.entries;
     states = kept_rows old.trees new.trees 9 _ (others.1.1.1.0 (λ e. omega arith)) h.states;
+    sleeps = kept_rows old.trees new.trees 11 _ (others.1.1.1.1.0 (λ e. omega arith)) h.sleeps;
     fit_invocations = fit;
     fit_entries = h.fit_entries;
     fit_states = h.fit_states;
+    fit_sleeps = h.fit_sleeps;
   }
 
   pub entries_turned : KeepsOthers store_schema 4 old new → (es : List EntryRow) → HasRows (new.trees 4) (map entry_cells es) → AllByRecursion FitsEntry es → Holds new.trees (record r { entries = es })
@@ -66,9 +92,11 @@ module _ (old new : Database) (r : Records) (h : Holds old.trees r) where
     invocations = kept_rows old.trees new.trees 1 _ (others.1.0 (λ e. omega arith)) h.invocations;
     entries = rows;
     states = kept_rows old.trees new.trees 9 _ (others.1.1.1.0 (λ e. omega arith)) h.states;
+    sleeps = kept_rows old.trees new.trees 11 _ (others.1.1.1.1.0 (λ e. omega arith)) h.sleeps;
     fit_invocations = h.fit_invocations;
     fit_entries = fit;
     fit_states = h.fit_states;
+    fit_sleeps = h.fit_sleeps;
   }
 
   pub states_turned : KeepsOthers store_schema 9 old new → (ss : List StateRow) → HasRows (new.trees 9) (map state_cells ss) → AllByRecursion FitsState ss → Holds new.trees (record r { states = ss })
@@ -77,9 +105,24 @@ module _ (old new : Database) (r : Records) (h : Holds old.trees r) where
     invocations = kept_rows old.trees new.trees 1 _ (others.1.0 (λ e. omega arith)) h.invocations;
     entries = kept_rows old.trees new.trees 4 _ (others.1.1.0 (λ e. omega arith)) h.entries;
     states = rows;
+    sleeps = kept_rows old.trees new.trees 11 _ (others.1.1.1.1.0 (λ e. omega arith)) h.sleeps;
     fit_invocations = h.fit_invocations;
     fit_entries = h.fit_entries;
     fit_states = fit;
+    fit_sleeps = h.fit_sleeps;
+  }
+
+  pub sleeps_turned : KeepsOthers store_schema 11 old new → (ss : List SleepRow) → HasRows (new.trees 11) (map sleep_cells ss) → AllByRecursion FitsSleep ss → Holds new.trees (record r { sleeps = ss })
+  sleeps_turned others ss rows fit = record {
+    mark = kept_rows old.trees new.trees 0 _ (others.0 (λ e. omega arith)) h.mark;
+    invocations = kept_rows old.trees new.trees 1 _ (others.1.0 (λ e. omega arith)) h.invocations;
+    entries = kept_rows old.trees new.trees 4 _ (others.1.1.0 (λ e. omega arith)) h.entries;
+    states = kept_rows old.trees new.trees 9 _ (others.1.1.1.0 (λ e. omega arith)) h.states;
+    sleeps = rows;
+    fit_invocations = h.fit_invocations;
+    fit_entries = h.fit_entries;
+    fit_states = h.fit_states;
+    fit_sleeps = fit;
   }
 
 -- ---- one statement

@@ -1,5 +1,5 @@
 -- Orders of records that were read.
-use Rattle.std.proofs.Common.{◌≡◌, inl, inr, ◌+◌, ◌-◌, ◌<◌, ◌≤◌, ℕ, pos, zero, suc, cond, Ordering, Less, Equal, Greater, nat_lt, List, [], ◌∷◌, ◌++◌, length, slice_get, slice_index_or, Some, IsTrue, refl, sym, ap, subst, ◌∙◌, arith}
+use Rattle.std.proofs.Common.{◌≡◌, inl, inr, ◌+◌, ◌-◌, ◌<◌, ◌≤◌, ℕ, pos, zero, suc, cond, Ordering, Less, Equal, Greater, nat_lt, false, List, [], ◌∷◌, ◌++◌, length, slice_get, slice_index_or, Some, IsTrue, refl, sym, ap, ap₂, subst, ◌∙◌, arith}
 use Rattle.std.specs.List.Sorted.{IsPermutation}
 use Rattle.std.proofs.lemmas.List.Sorted.{IsPermutation-sym}
 use Rattle.std.proofs.lemmas.Bool.{cases_Bool, lt-ltb, ltb-true, ltb-false}
@@ -7,15 +7,19 @@ use Rattle.std.specs.List.{AllByRecursion}
 use Rattle.std.specs.Prelude.{int_lt}
 use Rattle.std.specs.Cmp.Lexicographic.{slice_cmp}
 use Rattle.std.proofs.lemmas.Cmp.{nat_list_cmp_total}
-use Rattle.std.specs.Ordering.{int_cmp, is_lt, nat_cmp}
+use Rattle.std.specs.Int.{w64, cast_signed}
+use Rattle.std.specs.Ordering.{int_cmp, is_eq, is_lt, nat_cmp, ordering_then}
 use Rattle.sqlite_trees.specs.Tree.{IsAscending}
+use Rattle.sqlite_keyed.specs.Lists.{sort_by}
 use Rattle.sqlite_keyed.proofs.ListLemmas.{all_weaker, ascending_weaker}
-use Rattle.sqlite_value.specs.Order.{column, value_cmp}
-use Rattle.sqlite_value.proofs.OrderLemmas.{value_cmp-Int, value_cmp-Blob}
+use Rattle.sqlite_value.proofs.OrderLemmas.{value_cmp-Int, value_cmp-Blob, value_cmp-Text}
 use Rattle.std.proofs.lemmas.Option.{slice_get_read}
 use Rattle.sqlite_rules.specs.Lists.{Has}
+use Rattle.sql_tables.proofs.Ordered.{rising_apart, rising_sorted}
 use Rattle.sql_tables.proofs.Reading.{permuted}
-use Rattle.store_tables.specs.Records.{EntryRow, StateRow, entry_cells, state_cells}
+use Rattle.store_tables.specs.Asks.{AreTold, by_cells}
+use Rattle.store_tables.specs.Orders.{AreApart, sleep_cmp}
+use Rattle.store_tables.specs.Records.{EntryRow, SleepRow, StateRow, entry_cells, sleep_cells, state_cells}
 use Rattle.store_tables.specs.Questions.{AreInPlace, DoAscend, is_before}
 
 -- ---- places
@@ -51,15 +55,24 @@ places_from n (e ∷ es) h = (omega (arith, h.0), all_weaker (λ (x : EntryRow).
 int_before : (a b : ℕ) → a < b → int_cmp (pos a) (pos b) ≡ Less
 int_before a b less = ap (λ t. cond t Less (cond (int_lt (pos b) (pos a)) Greater Equal)) (lt-ltb a b less)
 
+first_decides : {o : Ordering} → o ≡ Less → ordering_then o Equal ≡ Less
+first_decides less = ap (λ o. ordering_then o Equal) less
+
 abbrev pub IsPlacedBefore : EntryRow → EntryRow → Type 0
-IsPlacedBefore a b = value_cmp (column (entry_cells a) 1) (column (entry_cells b) 1) ≡ Less
+IsPlacedBefore a b = by_cells entry_cells (1 ∷ []) a b ≡ Less
 
 pub in_place_rises : (n : ℕ) (es : List EntryRow) → AreInPlace n es → IsAscending IsPlacedBefore es
 in_place_rises n [] h = tt
 in_place_rises n (e ∷ es) h = (
-  all_weaker (λ (x : EntryRow). n + 1 ≤ x.place) (IsPlacedBefore e) (λ (x : EntryRow) later. value_cmp-Int (pos e.place) (pos x.place) ∙ int_before e.place x.place (omega (arith, h.0, later))) es (places_from (n + 1) es h.1),
+  all_weaker (λ (x : EntryRow). n + 1 ≤ x.place) (IsPlacedBefore e) (λ (x : EntryRow) later. first_decides (value_cmp-Int (pos e.place) (pos x.place) ∙ int_before e.place x.place (omega (arith, h.0, later)))) es (places_from (n + 1) es h.1),
   in_place_rises (n + 1) es h.1,
 )
+
+pub places_told : (es : List EntryRow) → AreInPlace 0 es → AreTold entry_cells (1 ∷ []) es
+places_told es h = rising_apart (by_cells entry_cells (1 ∷ [])) es (in_place_rises 0 es h)
+
+pub places_sorted : (es : List EntryRow) → AreInPlace 0 es → sort_by (by_cells entry_cells (1 ∷ [])) es ≡ es
+places_sorted es h = rising_sorted (by_cells entry_cells (1 ∷ [])) es (in_place_rises 0 es h)
 
 pub in_place_at : (n : ℕ) (es : List EntryRow) (k : ℕ) (x : EntryRow) → AreInPlace n es → k < length es → x ≡ slice_index_or es k x → x.place ≡ n + k
 in_place_at n [] k x h small is = absurd (omega (arith, small))
@@ -124,8 +137,35 @@ module _ {X : Type 0} (key : X → List ℕ) where
       ((first, all_weaker (IsKeyedBefore y) (IsKeyedBefore x) (λ z less. nat_list_cmp_total.trans (key x) (key y) (key z) first less) xs rest.0), rest)
 
 abbrev pub IsStateBefore : StateRow → StateRow → Type 0
-IsStateBefore a b = value_cmp (column (state_cells a) 1) (column (state_cells b) 1) ≡ Less
+IsStateBefore a b = by_cells state_cells (1 ∷ []) a b ≡ Less
 
-pub states_rise : (xs : List StateRow) → DoAscend (λ (s : StateRow). s.key) xs → IsAscending IsStateBefore xs
+states_rise : (xs : List StateRow) → DoAscend (λ (s : StateRow). s.key) xs → IsAscending IsStateBefore xs
 states_rise xs up =
-    ascending_weaker (IsKeyedBefore (λ (s : StateRow). s.key)) IsStateBefore (λ a b less. value_cmp-Blob a.key b.key ∙ less) xs (ascending_rises (λ (s : StateRow). s.key) xs up)
+    ascending_weaker (IsKeyedBefore (λ (s : StateRow). s.key)) IsStateBefore (λ a b less. first_decides (value_cmp-Blob a.key b.key ∙ less)) xs (ascending_rises (λ (s : StateRow). s.key) xs up)
+
+pub states_told : (xs : List StateRow) → DoAscend (λ (s : StateRow). s.key) xs → AreTold state_cells (1 ∷ []) xs
+states_told xs up = rising_apart (by_cells state_cells (1 ∷ [])) xs (states_rise xs up)
+
+pub states_sorted : (xs : List StateRow) → DoAscend (λ (s : StateRow). s.key) xs → sort_by (by_cells state_cells (1 ∷ [])) xs ≡ xs
+states_sorted xs up = rising_sorted (by_cells state_cells (1 ∷ [])) xs (states_rise xs up)
+
+-- ---- sleeps
+
+no_more : (o : Ordering) → ordering_then o Equal ≡ o
+no_more Less = refl
+no_more Equal = refl
+no_more Greater = refl
+
+-- the order of their cells is theirs
+sleep_order : (a b : SleepRow) → by_cells sleep_cells (1 ∷ 0 ∷ 2 ∷ []) a b ≡ sleep_cmp a b
+sleep_order a b =
+    ap₂ ordering_then (value_cmp-Text a.invocation b.invocation)
+    (ap₂ ordering_then (value_cmp-Int (cast_signed w64 a.moment) (cast_signed w64 b.moment))
+    (no_more _ ∙ value_cmp-Int (pos a.completion) (pos b.completion)))
+
+pub sleeps_told : (xs : List SleepRow) → AreApart xs → AreTold sleep_cells (1 ∷ 0 ∷ 2 ∷ []) xs
+sleeps_told xs apart =
+    ascending_weaker (λ a b. is_eq (sleep_cmp a b) ≡ false) (λ a b. is_eq (by_cells sleep_cells (1 ∷ 0 ∷ 2 ∷ []) a b) ≡ false) (λ a b other. ap is_eq (sleep_order a b) ∙ other) xs apart
+
+pub sleeps_sorted : (xs : List SleepRow) → sort_by (by_cells sleep_cells (1 ∷ 0 ∷ 2 ∷ [])) xs ≡ sort_by sleep_cmp xs
+sleeps_sorted xs = ap (λ (cmp : SleepRow → SleepRow → Ordering). sort_by cmp xs) (λ i a b. sleep_order a b i)

@@ -1,27 +1,22 @@
 -- What the statements over the state of objects do to the records.
-use Rattle.std.proofs.Common.{◌≡◌, ℕ, Bool, not, List, [], ◌∷◌, ◌++◌, map, filter, refl, sym, ap, subst, ◌∙◌, codes}
+use Rattle.std.proofs.Common.{◌≡◌, ℕ, Bool, not, List, [], ◌∷◌, ◌++◌, filter, refl, sym, subst, codes}
 use Rattle.std.proofs.lemmas.List.{map-append}
-use Rattle.sqlite_keyed.proofs.ListLemmas.{filter-map, filter_same, all-append, all-filter}
+use Rattle.sqlite_keyed.proofs.ListLemmas.{all-append, all-filter}
 use Rattle.sqlite.specs.declared.types.Value.TheVariants.{Null, Text, Blob}
 use Rattle.sqlite_value.specs.Order.{Row}
 use Rattle.sqlite.specs.Term.{Term, lit, col}
-use Rattle.sqlite.specs.Command.TheVariants.{Delete}
 use Rattle.sqlite.specs.Cast.{cast_all}
 use Rattle.sqlite.specs.State.{State}
 use Rattle.sqlite.specs.Listing.{understood}
 use Rattle.sqlite_tied.specs.Compute.{everything}
-use Rattle.sqlite.proofs.Callers.{IsPlain, command_of}
 use Rattle.sql_tables.specs.Asking.{HasRun}
-use Rattle.sql_tables.specs.Columns.{plain_orders}
 use Rattle.sql_tables.specs.Content.{HasRows}
-use Rattle.sql_tables.specs.Statements.{rows_of, program_of}
 use Rattle.sql_tables.proofs.Cells.{same_text, same_blob}
-use Rattle.sql_tables.proofs.Tables.{delete_changes}
 use Rattle.store_tables.specs.Tables.{store_schema, state_columns, state_keys}
 use Rattle.store_tables.specs.Statements.{add_state_text, drop_state_text, drop_states_text}
 use Rattle.store_tables.specs.Records.{StateRow, FitsState, state_cells, with_state, without_state, without_states, is_at_key, is_of_object}
-use Rattle.store_tables.proofs.Matching.{cells_match, match_cells, one_test, tests_of, two_tests}
-use Rattle.store_tables.proofs.Moves.{IsInsert, Moves, inserted, none_refers, states_turned}
+use Rattle.store_tables.proofs.Matching.{Test, equal, match_cells, one_test, two_tests}
+use Rattle.store_tables.proofs.Moves.{IsDelete, IsInsert, Moves, dropped, inserted, states_turned}
 
 terms : List Term
 terms = lit Null ∷ col 0 0 ∷ col 0 1 ∷ col 0 2 ∷ []
@@ -42,32 +37,25 @@ state_added s fits old new has run =
 
 -- ---- states that are removed
 
-pub record IsDelete (sql : List ℕ) (places : List (ℕ × ℕ)) : Type 0 where
-  pub command : command_of (understood store_schema sql) ≡ Delete 3 (program_of (rows_of 9 (tests_of places) (col 1 0 ∷ []) []))
-  pub plain : IsPlain (understood store_schema sql)
-
 -- the states stay that do not pass
-dropped : (sql : List ℕ) (params : Row) (places : List (ℕ × ℕ)) → IsDelete sql places → (test : StateRow → Bool) → ((s : StateRow) → match_cells params places (state_cells s) ≡ test s)
+others_stay : (sql : List ℕ) (params : Row) (tests : List Test) → IsDelete sql 9 3 tests → (test : StateRow → Bool) → ((s : StateRow) → match_cells params tests (state_cells s) ≡ test s)
     → (old new : State) → old.now.schema ≡ store_schema → HasRun sql params old new → Moves (λ r. record r { states = filter (λ s. not (test s)) r.states }) old new
-dropped sql params places it test is old new has run =
-    let keeps = λ (cells : Row). not (match_cells params places cells) in
-    let change = delete_changes store_schema none_refers sql params old new has it.plain run.count run.ran 9 (codes "state") state_columns state_keys (plain_orders state_keys) 3 refl (tests_of places) keeps it.command (λ r. ap not (cells_match params places r)) in (
-      change.schema,
-      λ r h. states_turned old.now new.now r h change.others (filter (λ s. not (test s)) r.states)
-          (subst (HasRows (new.now.trees 9)) (filter-map keeps state_cells r.states ∙ ap (map state_cells) (filter_same _ _ (λ s. ap not (is s)) r.states)) (change.rows _ h.states))
-          (all-filter FitsState (λ s. not (test s)) r.states h.fit_states),
+others_stay sql params tests it test is old new has run =
+    let change = dropped sql params 9 3 tests it (codes "state") state_columns state_keys refl state_cells test is old new has run in (
+      change.0,
+      λ r h. states_turned old.now new.now r h change.1.0 (filter (λ s. not (test s)) r.states) (change.1.1 r.states h.states) (all-filter FitsState (λ s. not (test s)) r.states h.fit_states),
     )
 
-drops_key : IsDelete drop_state_text ((0, 0) ∷ (1, 1) ∷ [])
+drops_key : IsDelete drop_state_text 9 3 (equal 0 0 ∷ equal 1 1 ∷ [])
 unfolding understood everything
 drops_key = record { command = refl; plain = (refl, refl) }
 
 pub state_dropped : (object key : List ℕ) (old new : State) → old.now.schema ≡ store_schema → HasRun drop_state_text (Text object ∷ Blob key ∷ []) old new → Moves (without_state object key) old new
-state_dropped object key = dropped drop_state_text (Text object ∷ Blob key ∷ []) ((0, 0) ∷ (1, 1) ∷ []) drops_key (is_at_key object key) (λ s. two_tests _ _ _ _ (same_text s.object object) (same_blob s.key key))
+state_dropped object key = others_stay drop_state_text (Text object ∷ Blob key ∷ []) (equal 0 0 ∷ equal 1 1 ∷ []) drops_key (is_at_key object key) (λ s. two_tests _ _ _ _ (same_text s.object object) (same_blob s.key key))
 
-drops_object : IsDelete drop_states_text ((0, 0) ∷ [])
+drops_object : IsDelete drop_states_text 9 3 (equal 0 0 ∷ [])
 unfolding understood everything
 drops_object = record { command = refl; plain = (refl, refl) }
 
 pub states_dropped : (object : List ℕ) (old new : State) → old.now.schema ≡ store_schema → HasRun drop_states_text (Text object ∷ []) old new → Moves (without_states object) old new
-states_dropped object = dropped drop_states_text (Text object ∷ []) ((0, 0) ∷ []) drops_object (is_of_object object) (λ s. one_test _ _ (same_text s.object object))
+states_dropped object = others_stay drop_states_text (Text object ∷ []) (equal 0 0 ∷ []) drops_object (is_of_object object) (λ s. one_test _ _ (same_text s.object object))

@@ -1,12 +1,15 @@
 -- Which records a statement asks for.
-use Rattle.std.specs.Prelude.{◌≡◌, ℕ, Bool, List, filter, map}
+use Rattle.std.specs.Prelude.{◌≡◌, ℕ, Bool, false, List, filter, map}
 use Rattle.std.specs.List.{AllByRecursion}
 use Rattle.std.specs.List.Sorted.{IsPermutation}
-use Rattle.std.specs.declared.cmp.Ordering.TheVariants.{Less}
+use Rattle.std.specs.declared.cmp.Ordering.{Ordering}
+use Rattle.std.specs.Ordering.{is_eq}
 use Rattle.sqlite_trees.specs.Tree.{IsAscending}
-use Rattle.sqlite_value.specs.Order.{Row, column, value_cmp}
+use Rattle.sqlite_keyed.specs.Lists.{sort_by}
+use Rattle.sqlite_value.specs.Order.{Row}
 use Rattle.sqlite.specs.State.{State}
 use Rattle.sql_tables.specs.Asking.{IsAnswer}
+use Rattle.sql_tables.specs.Statements.{cells_cmp}
 use Rattle.store_tables.specs.Records.{Records, Holds}
 use Rattle.store_tables.specs.Tables.{store_schema}
 
@@ -17,12 +20,16 @@ pub record Asks {X : Type 0} (cells : X → Row) (Fits : X → Type 0) (records 
   pub fit : (r : Records) → Holds s.now.trees r → AllByRecursion Fits (records r)
   pub read : s.now.schema ≡ store_schema → (rows : List Row) → IsAnswer sql params s rows → (r : Records) → Holds s.now.trees r → IsPermutation (map cells (filter test (records r))) rows
 
--- each record is before those that come later, by that cell
-abbrev pub DoRise : {X : Type 0} → (X → Row) → ℕ → List X → Type 0
-DoRise cells at xs = IsAscending (λ a b. value_cmp (column (cells a) at) (column (cells b) at) ≡ Less) xs
+-- the order of records by these of their cells in turn
+abbrev pub by_cells : {X : Type 0} → (X → Row) → List ℕ → X → X → Ordering
+by_cells cells order a b = cells_cmp order (cells a) (cells b)
 
--- and the answer is in the order of a cell
-pub record AsksInOrder {X : Type 0} (cells : X → Row) (Fits : X → Type 0) (records : Records → List X) (test : X → Bool) (at : ℕ) (sql : List ℕ) (params : Row) (s : State) : Type 0 where
+-- no two records are alike in these cells
+abbrev pub AreTold : {X : Type 0} → (X → Row) → List ℕ → List X → Type 0
+AreTold cells order xs = IsAscending (λ a b. is_eq (by_cells cells order a b) ≡ false) xs
+
+-- and the answer is in the order of these cells, if they tell the records apart
+pub record AsksInOrder {X : Type 0} (cells : X → Row) (Fits : X → Type 0) (records : Records → List X) (test : X → Bool) (order : List ℕ) (sql : List ℕ) (params : Row) (s : State) : Type 0 where
   pub asks : Asks cells Fits records test sql params s
   pub ordered : s.now.schema ≡ store_schema → (rows : List Row) → IsAnswer sql params s rows → (r : Records) → Holds s.now.trees r
-      → (zs : List X) → IsPermutation (filter test (records r)) zs → DoRise cells at zs → rows ≡ map cells zs
+      → (zs : List X) → IsPermutation (filter test (records r)) zs → AreTold cells order zs → rows ≡ map cells (sort_by (by_cells cells order) zs)

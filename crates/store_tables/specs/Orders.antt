@@ -1,8 +1,13 @@
 -- Records that were asked for in an order.
-use Rattle.std.specs.Prelude.{◌≡◌, ℕ, Bool, List, filter}
+use Rattle.std.specs.Prelude.{◌≡◌, ℕ, pos, Bool, false, List, filter}
+use Rattle.std.specs.declared.cmp.Ordering.{Ordering}
+use Rattle.std.specs.Int.{w64, cast_signed}
+use Rattle.std.specs.Ordering.{int_cmp, is_eq, nat_cmp, ordering_then}
+use Rattle.std.specs.Cmp.Lexicographic.{slice_cmp}
 use Rattle.std.specs.List.Sorted.{IsPermutation}
-use Rattle.sqlite_trees.specs.Tree.{Trees}
-use Rattle.store_tables.specs.Records.{Records, Holds}
+use Rattle.sqlite_trees.specs.Tree.{Trees, IsAscending}
+use Rattle.sqlite_keyed.specs.Lists.{sort_by}
+use Rattle.store_tables.specs.Records.{Records, Holds, SleepRow, ends_by}
 use Rattle.store_tables.specs.Questions.{DoAscend}
 
 -- the records that pass, by ascending keys, are these, whatever records the tables have
@@ -14,3 +19,21 @@ IsArranged {X} records test key db found =
 abbrev pub IsUnarranged : {X : Type 0} → (Records → List X) → (X → Bool) → (X → List ℕ) → Trees → Type 0
 IsUnarranged {X} records test key db =
     (r : Records) → Holds db r → (xs : List X) → IsPermutation (filter test (records r)) xs → DoAscend key xs → ⊥
+
+-- the order of sleeps: by invocation, of one invocation by moment, and of one moment by completion
+abbrev pub sleep_cmp : SleepRow → SleepRow → Ordering
+sleep_cmp a b =
+    ordering_then (slice_cmp nat_cmp a.invocation b.invocation)
+    (ordering_then (int_cmp (cast_signed w64 a.moment) (cast_signed w64 b.moment)) (int_cmp (pos a.completion) (pos b.completion)))
+
+-- no two of them are alike
+abbrev pub AreApart : List SleepRow → Type 0
+AreApart = IsAscending (λ a b. is_eq (sleep_cmp a b) ≡ false)
+
+-- the sleeps that end by a moment are these in that order, whatever records the tables have
+abbrev pub AreDue : ℕ → Trees → List SleepRow → Type 0
+AreDue moment db found = (r : Records) → Holds db r → AreApart (filter (ends_by moment) r.sleeps) → found ≡ sort_by sleep_cmp (filter (ends_by moment) r.sleeps)
+
+-- the tables have no records of which no two such sleeps are alike
+abbrev pub AreAlike : ℕ → Trees → Type 0
+AreAlike moment db = (r : Records) → Holds db r → AreApart (filter (ends_by moment) r.sleeps) → ⊥

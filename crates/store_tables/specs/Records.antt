@@ -2,6 +2,8 @@
 use Rattle.std.specs.Prelude.{ℕ, ◌<◌, ◌^◌, List, [], ◌∷◌, ◌++◌, map, filter, not, ◌&&◌, Bool, bytes_eq, codes, Option, None, Some, IfSome, IsUtf8, if◌then◌else◌}
 use Rattle.std.specs.List.{AllByRecursion}
 use Rattle.std.specs.List.Sorted.{IsPermutation}
+use Rattle.std.specs.Int.{w64, cast_signed}
+use Rattle.std.specs.Ordering.{int_cmp, is_le}
 use Rattle.sqlite.specs.declared.types.Value.{Value}
 use Rattle.sqlite.specs.declared.types.Value.TheVariants.{Text, Blob}
 use Rattle.sqlite.specs.Values.{or_null}
@@ -18,19 +20,21 @@ pub use Rattle.store_tables.specs.declared.row.Progress.{Progress}
 pub use Rattle.store_tables.specs.declared.row.InvocationRow.{InvocationRow}
 pub use Rattle.store_tables.specs.declared.row.EntryRow.{EntryRow}
 pub use Rattle.store_tables.specs.declared.row.StateRow.{StateRow}
+pub use Rattle.store_tables.specs.declared.row.SleepRow.{SleepRow}
 pub use Rattle.store_tables.specs.declared.row.Mark.{Mark}
 pub use Rattle.store_tables.specs.declared.row.Write.{Write}
 use Rattle.store_tables.specs.declared.row.Closing.TheVariants.{Ended, Failed}
-use Rattle.store_tables.specs.declared.row.Write.TheVariants.{AddInvocation, SetProgress, AddEntry, PutState, DropState, DropStates}
+use Rattle.store_tables.specs.declared.row.Write.TheVariants.{AddInvocation, SetProgress, AddEntry, PutState, DropState, DropStates, OpenSleep, CloseSleeps, CloseSleepsUntil}
 
 -- no order is kept of them
 pub record Records : Type 0 where
   pub invocations : List InvocationRow
   pub entries : List EntryRow
   pub states : List StateRow
+  pub sleeps : List SleepRow
 
 abbrev pub no_records : Records
-no_records = record { invocations = []; entries = []; states = [] }
+no_records = record { invocations = []; entries = []; states = []; sleeps = [] }
 
 -- ---- what the code can hold
 
@@ -68,6 +72,11 @@ pub record FitsEntry (e : EntryRow) : Type 0 where
 abbrev pub FitsState : StateRow → Type 0
 FitsState s = IsUtf8 s.object
 
+pub record FitsSleep (s : SleepRow) : Type 0 where
+  pub moment : IsLong s.moment
+  pub invocation : IsUtf8 s.invocation
+  pub completion : IsShort s.completion
+
 -- ---- as rows
 
 abbrev pub closing_cell : Closing → Value
@@ -96,6 +105,9 @@ entry_cells e =
 abbrev pub state_cells : StateRow → Row
 state_cells s = Text s.object ∷ Blob s.key ∷ Blob s.value ∷ []
 
+abbrev pub sleep_cells : SleepRow → Row
+sleep_cells s = long_cell s.moment ∷ Text s.invocation ∷ short_cell s.completion ∷ []
+
 -- the row by which a database is a store's
 abbrev pub cells_of_mark : Mark → Row
 cells_of_mark m = Text m.name ∷ short_cell m.version ∷ []
@@ -120,9 +132,11 @@ pub record Holds (db : Trees) (r : Records) : Type 0 where
   pub invocations : HasRows (db 1) (map invocation_cells r.invocations)
   pub entries : HasRows (db 4) (map entry_cells r.entries)
   pub states : HasRows (db 9) (map state_cells r.states)
+  pub sleeps : HasRows (db 11) (map sleep_cells r.sleeps)
   pub fit_invocations : AllByRecursion FitsInvocation r.invocations
   pub fit_entries : AllByRecursion FitsEntry r.entries
   pub fit_states : AllByRecursion FitsState r.states
+  pub fit_sleeps : AllByRecursion FitsSleep r.sleeps
 
 -- ---- changes
 
@@ -153,6 +167,22 @@ without_states object r = record r { states = filter (λ s. not (is_of_object ob
 abbrev pub with_state : StateRow → Records → Records
 with_state s r = record r { states = r.states ++ s ∷ [] }
 
+abbrev pub with_sleep : SleepRow → Records → Records
+with_sleep s r = record r { sleeps = r.sleeps ++ s ∷ [] }
+
+abbrev pub is_sleep_of : List ℕ → SleepRow → Bool
+is_sleep_of invocation s = bytes_eq s.invocation invocation
+
+-- it ends at that moment or before it, both as integers with a sign
+abbrev pub ends_by : ℕ → SleepRow → Bool
+ends_by moment s = is_le (int_cmp (cast_signed w64 s.moment) (cast_signed w64 moment))
+
+abbrev pub without_sleeps : List ℕ → Records → Records
+without_sleeps invocation r = record r { sleeps = filter (λ s. not (is_sleep_of invocation s)) r.sleeps }
+
+abbrev pub without_sleeps_until : ℕ → Records → Records
+without_sleeps_until moment r = record r { sleeps = filter (λ s. not (ends_by moment s)) r.sleeps }
+
 -- the records after a write, and after each in turn
 abbrev pub applied : Write → Records → Records
 applied (AddInvocation invocation) r = with_invocation invocation r
@@ -161,6 +191,9 @@ applied (AddEntry entry) r = with_entry entry r
 applied (PutState state) r = with_state state (without_state state.object state.key r)
 applied (DropState object key) r = without_state object key r
 applied (DropStates object) r = without_states object r
+applied (OpenSleep sleep) r = with_sleep sleep r
+applied (CloseSleeps invocation) r = without_sleeps invocation r
+applied (CloseSleepsUntil moment) r = without_sleeps_until moment r
 
 abbrev pub applied_all : List Write → Records → Records
 applied_all [] r = r

@@ -45,3 +45,15 @@ entries_text = codes "SELECT * FROM entry WHERE invocation = ?1 ORDER BY place"
 
 abbrev pub states_text : List ℕ
 states_text = codes "SELECT * FROM state WHERE object = ?1 ORDER BY key"
+
+abbrev pub open_sleep_text : List ℕ
+open_sleep_text = codes "INSERT INTO sleep VALUES (?1, ?2, ?3)"
+
+abbrev pub close_sleeps_text : List ℕ
+close_sleeps_text = codes "DELETE FROM sleep WHERE invocation = ?1"
+
+abbrev pub close_sleeps_until_text : List ℕ
+close_sleeps_until_text = codes "DELETE FROM sleep WHERE moment <= ?1"
+
+abbrev pub sleeps_until_text : List ℕ
+sleeps_until_text = codes "SELECT * FROM sleep WHERE moment <= ?1 ORDER BY invocation, moment, completion"

@@ -36,6 +36,7 @@ pub record AreBare (db : Trees) : Type 0 where
   pub invocations : db 1 ≡ []
   pub entries : db 4 ≡ []
   pub states : db 9 ≡ []
+  pub sleeps : db 11 ≡ []
 
 -- they are just made, inside a transaction
 pub record IsMade (s : State) : Type 0 where

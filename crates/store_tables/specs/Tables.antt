@@ -19,6 +19,9 @@ entry_text = codes "CREATE TABLE entry (invocation TEXT NOT NULL, place INTEGER 
 abbrev pub state_text : List ℕ
 state_text = codes "CREATE TABLE state (object TEXT NOT NULL, key BLOB NOT NULL, value BLOB NOT NULL, UNIQUE (object, key)) STRICT"
 
+abbrev pub sleep_text : List ℕ
+sleep_text = codes "CREATE TABLE sleep (moment INTEGER NOT NULL, invocation TEXT NOT NULL, completion INTEGER NOT NULL, UNIQUE (moment, invocation, completion), UNIQUE (invocation, completion)) STRICT"
+
 abbrev pub meta_columns : List Column
 meta_columns = required (codes "name") Text ∷ required (codes "version") Integer ∷ []
 
@@ -62,6 +65,16 @@ state_keys = (1 ∷ 2 ∷ []) ∷ []
 abbrev pub state_table : Table
 state_table = table_of 9 (codes "state") state_columns state_keys
 
+abbrev pub sleep_columns : List Column
+sleep_columns = required (codes "moment") Integer ∷ required (codes "invocation") Text ∷ required (codes "completion") Integer ∷ []
+
+-- By the first key those are found that end by a moment, by the second those of an invocation.
+abbrev pub sleep_keys : List (List ℕ)
+sleep_keys = (1 ∷ 2 ∷ 3 ∷ []) ∷ (2 ∷ 3 ∷ []) ∷ []
+
+abbrev pub sleep_table : Table
+sleep_table = table_of 11 (codes "sleep") sleep_columns sleep_keys
+
 abbrev pub with_meta : Schema
 with_meta = created no_schema meta
 
@@ -71,5 +84,8 @@ with_invocation = created with_meta invocation
 abbrev pub with_entry : Schema
 with_entry = created with_invocation entry
 
+abbrev pub with_state : Schema
+with_state = created with_entry state_table
+
 abbrev pub store_schema : Schema
-store_schema = created with_entry state_table
+store_schema = created with_state sleep_table

@@ -8,10 +8,10 @@ ghost use Rattle.protocol_types.specs.Version.{version_number};
 ghost use Rattle.sql_tables.specs.Cells.{short_cell};
 ghost use Rattle.store_tables.specs.Kinds.{kept_kind};
 ghost use Rattle.store_tables.specs.Parts.{AreCounts, IsErrorAt, IsProgressAt};
-ghost use Rattle.store_tables.specs.Records.{FitsEntry, FitsInvocation, FitsState, FitsMark, InvocationRow as Invocation, EntryRow as Entry, Mark as Own, StateRow as State, cells_of_mark, closing_cell, entry_cells, invocation_cells, state_cells};
+ghost use Rattle.store_tables.specs.Records.{FitsEntry, FitsInvocation, FitsSleep, FitsState, FitsMark, InvocationRow as Invocation, EntryRow as Entry, Mark as Own, SleepRow as Sleep, StateRow as State, cells_of_mark, closing_cell, entry_cells, invocation_cells, sleep_cells, state_cells};
 
 use crate::kind::kind_kept;
-use crate::row::{Closing, EntryRow, InvocationRow, LastError, Mark, Progress, StateRow};
+use crate::row::{Closing, EntryRow, InvocationRow, LastError, Mark, Progress, SleepRow, StateRow};
 use protocol_types::{MessageType, Version};
 use sql_tables::read::{
     ReadError, blob_at, blob_or_none_at, flag_at, long_at, long_or_none_at, short_at,
@@ -68,6 +68,35 @@ impl Stored for StateRow {
 
     fn from_row(alloc: Global, row: &Row) -> Result<StateRow, ReadError> {
         state_from(alloc, row)
+    }
+}
+
+fn sleep_from(alloc: Global, row: &Row) -> Result<SleepRow, ReadError>
+    ensures ok { IfOk result (λ s. (sleep_cells s ≡ row.now) × FitsSleep s) }
+    ensures foreign { IfErr result (λ e. e ≡ ReadError.Foreign → (x : Sleep) → FitsSleep x → sleep_cells x ≢ row.now) }
+{
+    if row.column_count() != 3 {
+        return Err(ReadError::Foreign);
+    }
+    let moment = long_at(row, 0)?;
+    let completion = short_at(row, 2)?;
+    let invocation = text_at(alloc, row, 1)?;
+    Ok(SleepRow {
+        moment,
+        invocation,
+        completion,
+    })
+}
+
+impl Stored for SleepRow {
+    ghost use Rattle.store_tables.specs.Records.{FitsSleep, sleep_cells};
+
+    ghost cells = { sleep_cells };
+
+    ghost fits = { FitsSleep };
+
+    fn from_row(alloc: Global, row: &Row) -> Result<SleepRow, ReadError> {
+        sleep_from(alloc, row)
     }
 }
 

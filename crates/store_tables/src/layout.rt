@@ -97,6 +97,23 @@ fn is_state(table: &Table) -> bool
     )
 }
 
+fn is_sleep(table: &Table) -> bool
+    ensures exact { IsTrue result → table.now ≡ tables.sleep_table }
+    ensures complete { table.now ≡ tables.sleep_table → IsTrue result }
+{
+    is_table(
+        table,
+        11,
+        "sleep",
+        &[
+            required("moment", Kind::Integer),
+            required("invocation", Kind::Text),
+            required("completion", Kind::Integer),
+        ],
+        &[&[1, 2, 3], &[2, 3]],
+    )
+}
+
 fn are_tables(tables: &[Table]) -> bool
     ensures exact { IsTrue result → tables.now ≡ store_schema.tables }
     ensures complete { tables.now ≡ store_schema.tables → IsTrue result }
@@ -113,11 +130,15 @@ fn are_tables(tables: &[Table]) -> bool
     let [state, others @ ..] = others else {
         return false;
     };
+    let [sleep, others @ ..] = others else {
+        return false;
+    };
     others.is_empty()
         && is_meta(meta)
         && is_invocation(invocation)
         && is_entry(entry)
         && is_state(state)
+        && is_sleep(sleep)
 }
 
 /// The index that a table must have for a key.
@@ -168,6 +189,8 @@ fn are_indexes(indexes: &[Index]) -> bool
             key_index("sqlite_autoindex_entry_3", 7, 4, &[1, 6, 2]),
             key_index("sqlite_autoindex_entry_4", 8, 4, &[1, 7, 2]),
             key_index("sqlite_autoindex_state_1", 10, 9, &[1, 2]),
+            key_index("sqlite_autoindex_sleep_1", 12, 11, &[1, 2, 3]),
+            key_index("sqlite_autoindex_sleep_2", 13, 11, &[2, 3]),
         ],
     )
 }

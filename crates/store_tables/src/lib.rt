@@ -16,9 +16,9 @@ pub use layout::{is_empty_schema, is_store_schema};
 pub use opening::{is_ready, open};
 pub use read::{
     entry_by_answered, entry_by_completion, entry_by_second_completion, invocation_by_id, journal,
-    open_invocation, states_of,
+    open_invocation, sleeps_until, states_of,
 };
-pub use row::{Closing, EntryRow, InvocationRow, LastError, Progress, StateRow, Write};
+pub use row::{Closing, EntryRow, InvocationRow, LastError, Progress, SleepRow, StateRow, Write};
 pub use sql_tables::read::ReadError;
 pub use tables::StoreTables;
 pub use write::commit_all;

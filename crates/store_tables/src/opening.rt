@@ -43,6 +43,11 @@ fn make_tables<S: Alter>(tx: &mut Transaction<'_, S>) -> Result<(), Error>
         tx,
         "CREATE TABLE state (object TEXT NOT NULL, key BLOB NOT NULL, value BLOB NOT NULL, UNIQUE (object, key)) STRICT",
         &[],
+    )?;
+    run(
+        tx,
+        "CREATE TABLE sleep (moment INTEGER NOT NULL, invocation TEXT NOT NULL, completion INTEGER NOT NULL, UNIQUE (moment, invocation, completion), UNIQUE (invocation, completion)) STRICT",
+        &[],
     )
 }
 

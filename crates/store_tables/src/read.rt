@@ -7,18 +7,19 @@ ghost use Rattle.std.specs.List.Sorted.{IsPermutation};
 ghost use Rattle.sqlite.specs.Held.{state};
 ghost use Rattle.sqlite.specs.State.{HasCleanDisk};
 ghost use Rattle.sqlite.specs.Values.{bound};
-ghost use Rattle.store_tables.specs.Asks.{Asks, AsksInOrder, DoRise};
+ghost use Rattle.sqlite_keyed.specs.Lists.{sort_by};
+ghost use Rattle.store_tables.specs.Asks.{AreTold, Asks, AsksInOrder, by_cells};
 ghost use Rattle.store_tables.specs.Looks.{Looks};
 ghost use Rattle.store_tables.specs.Questions.{AreFound, IsAmbiguous, IsFound, IsJournal, IsNoJournal, answers, asks_for, asks_second_for, has_id, is_of_object, is_open_of};
-ghost use Rattle.store_tables.specs.Orders.{IsArranged, IsUnarranged};
+ghost use Rattle.store_tables.specs.Orders.{AreAlike, AreDue, IsArranged, IsUnarranged};
 ghost use Rattle.store_tables.specs.Records.{Holds, Records};
 ghost use Rattle.store_tables.specs.Steps.{WasAsked};
 
 use crate::order::{are_in_place, do_states_ascend};
-use crate::row::{EntryRow, InvocationRow, StateRow};
+use crate::row::{EntryRow, InvocationRow, SleepRow, StateRow};
 use crate::tables::StoreTables;
 use bytes::ByteStr;
-use sql_tables::cell::{short, text};
+use sql_tables::cell::{long, short, text};
 use sql_tables::read::ReadError;
 use sql_tables::stored::{Stored, all_by, one_by};
 use sqlite::Alter;
@@ -38,15 +39,15 @@ fn find_one<R: Stored, S: Alter>(
     one_by(tables.alloc, &mut tables.connection, sql, params)
 }
 
-/// The records that a statement asks for, in the order of a cell.
+/// The records that a statement asks for, in the order of some of their cells.
 fn find_all<R: Stored, S: Alter>(
     tables: &mut StoreTables<S>,
     sql: &str,
     params: &[ValueRef<'_>],
 ) -> Result<Vec<R>, ReadError>
     ensures found { HasCleanDisk (state S.Store tables.new) → IfOk result (λ xs. (records : Records → List R) (test : R → Bool) → Asks R.Stored.cells R.Stored.fits records test sql.now (bound params.now) (state S.Store tables.old) → (r : Records) → Holds (state S.Store tables.old).now.trees r → IsPermutation (filter test (records r)) xs.items) }
-    ensures arranged { HasCleanDisk (state S.Store tables.new) → IfOk result (λ xs. (records : Records → List R) (test : R → Bool) (at : ℕ) → AsksInOrder R.Stored.cells R.Stored.fits records test at sql.now (bound params.now) (state S.Store tables.old) → (r : Records) → Holds (state S.Store tables.old).now.trees r → (zs : List R) → IsPermutation (filter test (records r)) zs → DoRise R.Stored.cells at zs → xs.items ≡ zs) }
-    ensures foreign { HasCleanDisk (state S.Store tables.new) → IfErr result (λ e. e ≡ ReadError.Foreign → (records : Records → List R) (test : R → Bool) (at : ℕ) → AsksInOrder R.Stored.cells R.Stored.fits records test at sql.now (bound params.now) (state S.Store tables.old) → (r : Records) → Holds (state S.Store tables.old).now.trees r → (zs : List R) → IsPermutation (filter test (records r)) zs → DoRise R.Stored.cells at zs → ⊥) }
+    ensures arranged { HasCleanDisk (state S.Store tables.new) → IfOk result (λ xs. (records : Records → List R) (test : R → Bool) (order : List ℕ) → AsksInOrder R.Stored.cells R.Stored.fits records test order sql.now (bound params.now) (state S.Store tables.old) → (r : Records) → Holds (state S.Store tables.old).now.trees r → (zs : List R) → IsPermutation (filter test (records r)) zs → AreTold R.Stored.cells order zs → xs.items ≡ sort_by (by_cells R.Stored.cells order) zs) }
+    ensures foreign { HasCleanDisk (state S.Store tables.new) → IfErr result (λ e. e ≡ ReadError.Foreign → (records : Records → List R) (test : R → Bool) (order : List ℕ) → AsksInOrder R.Stored.cells R.Stored.fits records test order sql.now (bound params.now) (state S.Store tables.old) → (r : Records) → Holds (state S.Store tables.old).now.trees r → (zs : List R) → IsPermutation (filter test (records r)) zs → AreTold R.Stored.cells order zs → ⊥) }
     ensures looks { Looks S.Store tables.old tables.new }
     ensures open { HasCleanDisk (state S.Store tables.new) → WasAsked result (state S.Store tables.old) }
 {
@@ -182,4 +183,21 @@ pub fn states_of<S: Alter>(
         return Err(ReadError::Foreign);
     }
     Ok(records)
+}
+
+/// The sleeps that end at a moment or before it, those of an invocation side by side, by moment, and of one moment by completion.
+pub fn sleeps_until<S: Alter>(
+    tables: &mut StoreTables<S>,
+    moment: u64,
+) -> Result<Vec<SleepRow>, ReadError>
+    ensures found { HasCleanDisk (state S.Store tables.new) → IfOk result (λ ss. AreDue moment (state S.Store tables.old).now.trees ss.items) }
+    ensures foreign { HasCleanDisk (state S.Store tables.new) → IfErr result (λ e. e ≡ ReadError.Foreign → AreAlike moment (state S.Store tables.old).now.trees) }
+    ensures looks { Looks S.Store tables.old tables.new }
+    ensures open { HasCleanDisk (state S.Store tables.new) → WasAsked result (state S.Store tables.old) }
+{
+    find_all(
+        tables,
+        "SELECT * FROM sleep WHERE moment <= ?1 ORDER BY invocation, moment, completion",
+        &[long(moment)],
+    )
 }

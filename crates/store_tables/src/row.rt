@@ -85,6 +85,16 @@ pub struct StateRow {
     pub value: Bytes,
 }
 
+/// A sleep that may still be ended, of an open invocation.
+#[derive(Debug, Drop)]
+pub struct SleepRow {
+    /// When it ends, in milliseconds.
+    pub moment: u64,
+    pub invocation: ByteStr,
+    /// The completion id that its end answers.
+    pub completion: u32,
+}
+
 /// One change of the records.
 #[derive(Debug, Drop)]
 pub enum Write {
@@ -95,6 +105,11 @@ pub enum Write {
     PutState(StateRow),
     DropState { object: ByteStr, key: Bytes },
     DropStates { object: ByteStr },
+    OpenSleep(SleepRow),
+    /// All sleeps of an invocation.
+    CloseSleeps { invocation: ByteStr },
+    /// All sleeps that end at a moment or before it.
+    CloseSleepsUntil { moment: u64 },
 }
 
 /// The row by which a database is a store's.

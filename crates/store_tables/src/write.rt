@@ -8,11 +8,13 @@ ghost use Rattle.sqlite_value.specs.Value.{owned};
 ghost use Rattle.sqlite_value.specs.declared.value.Value.TheVariants.{Text as Words};
 ghost use Rattle.sql_tables.specs.Cells.{IsLong, IsShort, long_cell, short_cell};
 ghost use Rattle.store_tables.specs.Looks.{Lasts, Makes};
-ghost use Rattle.store_tables.specs.Records.{applied, closing_cell, delay_of, with_entry, with_invocation, with_progress, with_state, without_state, without_states};
+ghost use Rattle.store_tables.specs.Records.{applied, closing_cell, delay_of, with_entry, with_invocation, with_progress, with_sleep, with_state, without_sleeps, without_sleeps_until, without_state, without_states};
 ghost use Rattle.store_tables.specs.Steps.{Alters, IsStore};
 
 use crate::kind::kept_kind;
-use crate::row::{Closing, EntryRow, InvocationRow, LastError, Progress, StateRow, Write};
+use crate::row::{
+    Closing, EntryRow, InvocationRow, LastError, Progress, SleepRow, StateRow, Write,
+};
 use crate::tables::StoreTables;
 use bytes::{ByteStr, Bytes};
 use sql_tables::cell::{
@@ -206,6 +208,42 @@ fn put_state<S: Alter>(tx: &mut Transaction<'_, S>, row: &StateRow) -> Result<()
     add_state(tx, row)
 }
 
+fn open_sleep<S: Alter>(tx: &mut Transaction<'_, S>, sleep: &SleepRow) -> Result<(), Error>
+    requires { IsStore (state S.Store tx.old.conn.now) }
+    ensures same_reference { tx.new.conn.ghost_name ≡ tx.old.conn.ghost_name }
+    ensures alters { Alters S.Store (with_sleep sleep.now) tx.old.conn.now tx.new.conn.now result }
+{
+    run(
+        tx,
+        "INSERT INTO sleep VALUES (?1, ?2, ?3)",
+        &[
+            long(sleep.moment),
+            text(&sleep.invocation),
+            short(sleep.completion),
+        ],
+    )
+}
+
+fn close_sleeps<S: Alter>(tx: &mut Transaction<'_, S>, invocation: &ByteStr) -> Result<(), Error>
+    requires { IsStore (state S.Store tx.old.conn.now) }
+    ensures same_reference { tx.new.conn.ghost_name ≡ tx.old.conn.ghost_name }
+    ensures alters { Alters S.Store (without_sleeps invocation.now) tx.old.conn.now tx.new.conn.now result }
+{
+    run(
+        tx,
+        "DELETE FROM sleep WHERE invocation = ?1",
+        &[text(invocation)],
+    )
+}
+
+fn close_sleeps_until<S: Alter>(tx: &mut Transaction<'_, S>, moment: u64) -> Result<(), Error>
+    requires { IsStore (state S.Store tx.old.conn.now) }
+    ensures same_reference { tx.new.conn.ghost_name ≡ tx.old.conn.ghost_name }
+    ensures alters { Alters S.Store (without_sleeps_until moment) tx.old.conn.now tx.new.conn.now result }
+{
+    run(tx, "DELETE FROM sleep WHERE moment <= ?1", &[long(moment)])
+}
+
 fn apply<S: Alter>(tx: &mut Transaction<'_, S>, write: &Write) -> Result<(), Error>
     requires { IsStore (state S.Store tx.old.conn.now) }
     ensures same_reference { tx.new.conn.ghost_name ≡ tx.old.conn.ghost_name }
@@ -218,6 +256,9 @@ fn apply<S: Alter>(tx: &mut Transaction<'_, S>, write: &Write) -> Result<(), Err
         Write::PutState(row) => put_state(tx, row),
         Write::DropState { object, key } => drop_state(tx, object, key),
         Write::DropStates { object } => drop_states(tx, object),
+        Write::OpenSleep(sleep) => open_sleep(tx, sleep),
+        Write::CloseSleeps { invocation } => close_sleeps(tx, invocation),
+        Write::CloseSleepsUntil { moment } => close_sleeps_until(tx, *moment),
     }
 }
 

@@ -29,6 +29,13 @@ pub fn print_place<R: Print>(rt: &R, place: Result<u32, Refusal>) -> Result<(), 
     }
 }
 
+pub fn print_count<R: Print>(rt: &R, count: Result<u64, Refusal>) -> Result<(), Fault> {
+    match count {
+        Ok(count) => Ok(println!(rt; "ended {count}")?),
+        Err(why) => print_refusal(rt, why),
+    }
+}
+
 pub fn print_openness<R: Print>(rt: &R, is_open: Result<bool, Refusal>) -> Result<(), Fault> {
     match is_open {
         Ok(true) => Ok(println!(rt; "open")?),

@@ -1,7 +1,7 @@
 //! A file of calls of a store, each line a call, ` -> ` and what it answers. The answer is not read: each call is printed with what
 //! it answered, so that a file is printed as it stands where all is as it says.
 use crate::answers::{
-    print_accepted, print_answer, print_begun, print_bytes, print_done, print_entries,
+    print_accepted, print_answer, print_begun, print_bytes, print_count, print_done, print_entries,
     print_failure, print_openness, print_place, print_refusal, print_step,
 };
 use crate::database::{Database, empty};
@@ -49,6 +49,14 @@ fn begin<R: Print>(rt: &R, store: &mut Memory, id: &ByteStr, now: &str) -> Resul
         }
         Err(why) => print_refusal(rt, why),
     }
+}
+
+fn tick<R: Print>(rt: &R, store: &mut Memory, words: &[&str]) -> Result<(), Fault> {
+    let [now] = words else {
+        return Err(Fault::NotUnderstood);
+    };
+    let now = now.parse()?;
+    print_count(rt, store.tick(now))
 }
 
 fn next_input<R: Print>(
@@ -156,6 +164,9 @@ fn ask<R: Print>(
 ) -> Result<(), Fault> {
     if call == "invoke" {
         return invoke(rt, alloc, store, words);
+    }
+    if call == "tick" {
+        return tick(rt, store, words);
     }
     let [id, words @ ..] = words else {
         return Err(Fault::NotUnderstood);

@@ -5,4 +5,4 @@ mod beginning;
 mod reading;
 
 pub use beginning::{begin, get_response_head};
-pub use reading::sys_input;
+pub use reading::{Reading, sys_input};

@@ -15,9 +15,9 @@ use vm_input::input_of;
 use vm_machine::{Admission, MachineState};
 use vm_types::VMOptions;
 
-// What becomes of a call that reads the input.
+/// What becomes of a call that reads the input.
 #[derive(Drop)]
-enum Reading {
+pub enum Reading {
     Given(Input),
     /// The machine fails with this.
     Fails(Result<Error, AllocError>),

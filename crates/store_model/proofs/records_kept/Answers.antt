@@ -1,5 +1,6 @@
--- Both laws are proved in `Keeping`.
+-- The laws are proved in `Keeping` and `Ticking`.
 use Rattle.store_model.proofs.Keeping.{kept_at_first, kept_after}
+use Rattle.store_model.proofs.Ticking.{kept_in_any_order}
 use Rattle.store_model.proofs.records_kept.Goals as goal
 
 pub returns-clause-at_first : goal.returns-clause-at_first
@@ -7,3 +8,6 @@ returns-clause-at_first c = kept_at_first
 
 pub returns-clause-after : goal.returns-clause-after
 returns-clause-after c = kept_after
+
+pub returns-clause-in_any_order : goal.returns-clause-in_any_order
+returns-clause-in_any_order c = kept_in_any_order

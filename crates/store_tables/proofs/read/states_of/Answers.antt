@@ -1,11 +1,11 @@
-use Rattle.std.proofs.Common.{◌≡◌, ◌∙◌, true, false, sym, subst}
+use Rattle.std.proofs.Common.{◌≡◌, ◌∙◌, [], ◌∷◌, true, false, sym, subst}
 use Rattle.sqlite.specs.Held.{state}
 use Rattle.sql_tables.proofs.Reading.{err_and}
 use Rattle.store_tables.specs.Records.{StateRow}
 use Rattle.store_tables.specs.Questions.{DoAscend, is_of_object}
 use Rattle.store_tables.proofs.Asked.{asked_err}
 use Rattle.store_tables.proofs.Asking.{asks_states}
-use Rattle.store_tables.proofs.Orders.{states_rise}
+use Rattle.store_tables.proofs.Orders.{states_sorted, states_told}
 use Rattle.store_tables.proofs.read.states_of.Goals as goal
 
 pub returns-clause-found : goal.returns-clause-found
@@ -16,16 +16,16 @@ returns-clause-found g c clean = (
 
 pub returns-clause-arranged : goal.returns-clause-arranged
 returns-clause-arranged g c clean = λ r h zs same up.
-    c.in_ok-records.ensures.arranged clean (λ r. r.states) (is_of_object c.args.object.now) 1 (rw c.text.ensures.cell (asks_states (state g.S.Store c.args.tables.now) c.args.object.now)) r h zs same (states_rise zs up)
+    c.in_ok-records.ensures.arranged clean (λ r. r.states) (is_of_object c.args.object.now) (1 ∷ []) (rw c.text.ensures.cell (asks_states (state g.S.Store c.args.tables.now) c.args.object.now)) r h zs same (states_told zs up) ∙ states_sorted zs up
 
 pub returns-in_err-records-clause-foreign : goal.returns-in_err-records-clause-foreign
 returns-in_err-records-clause-foreign g c clean =
     err_and c.from_residual.result c.from_residual.ensures.1 (λ e gives is r h zs same up.
-    c.in_err-records.ensures.foreign clean (sym gives ∙ is) (λ r. r.states) (is_of_object c.args.object.now) 1 (rw c.text.ensures.cell (asks_states (state g.S.Store c.args.tables.now) c.args.object.now)) r h zs same (states_rise zs up))
+    c.in_err-records.ensures.foreign clean (sym gives ∙ is) (λ r. r.states) (is_of_object c.args.object.now) (1 ∷ []) (rw c.text.ensures.cell (asks_states (state g.S.Store c.args.tables.now) c.args.object.now)) r h zs same (states_told zs up))
 
 pub returns-then-not-do_states_ascend-clause-foreign : goal.returns-then-not-do_states_ascend-clause-foreign
 returns-then-not-do_states_ascend-clause-foreign g c clean is r h zs same up =
-    let arranged : c.in_ok-records.records.items ≡ zs = c.in_ok-records.ensures.arranged clean (λ r. r.states) (is_of_object c.args.object.now) 1 (rw c.text.ensures.cell (asks_states (state g.S.Store c.args.tables.now) c.args.object.now)) r h zs same (states_rise zs up) in
+    let arranged : c.in_ok-records.records.items ≡ zs = c.in_ok-records.ensures.arranged clean (λ r. r.states) (is_of_object c.args.object.now) (1 ∷ []) (rw c.text.ensures.cell (asks_states (state g.S.Store c.args.tables.now) c.args.object.now)) r h zs same (states_told zs up) ∙ states_sorted zs up in
     let yes : c.do_states_ascend.result ≡ true = (rw c.as_slice.ensures.value at c.do_states_ascend.ensures.complete) (subst (DoAscend (λ (s : StateRow). s.key)) (sym arranged) up) in
     let no : true ≡ false = sym yes ∙ c.if-not-do_states_ascend.true in
     absurd cc

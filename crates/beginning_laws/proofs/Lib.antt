@@ -1,0 +1,6 @@
+pub mod Given
+pub mod Messages
+pub mod Reading
+pub mod Starting
+pub mod Input
+pub mod Beginning

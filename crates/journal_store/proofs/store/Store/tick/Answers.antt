@@ -1,0 +1,41 @@
+use Rattle.std.proofs.Common.{arith}
+use Rattle.sqlite.specs.State.{State}
+use Rattle.sqlite.specs.Held.{state}
+use Rattle.journal_model.specs.Event.{Event}
+use Rattle.journal_store.specs.Stored.{stored}
+use Rattle.journal_store.proofs.Lasting.{undone_kept}
+use Rattle.journal_store.proofs.Recording.{looked}
+use Rattle.journal_store.proofs.Ticking.{tick_lands, tick_settled, tick_waits, ticks}
+use Rattle.journal_store.proofs.store.Store.tick.Goals as goal
+
+pub returns-in-Ok-clause-does : goal.returns-in-Ok-clause-does
+returns-in-Ok-clause-does g c =
+    rw (← c.self.view_is) (ticks g.S.Store c.self.inside.tables c.prepare_tick.new.tables c.record_tick.new.tables c.self.inside.live c.record_tick.new.live c.args.now c.in-Ok.made
+    c.prepare_tick.ensures.looks c.in-Ok.ensures.prepared c.record_tick.result c.record_tick.ensures.made c.record_tick.ensures.count c.record_tick.ensures.put c.record_tick.ensures.stays)
+
+pub returns-in-Err-clause-does : goal.returns-in-Err-clause-does
+returns-in-Err-clause-does g c =
+    rw (← c.self.view_is) (looked g.S.Store c.self.inside.tables c.prepare_tick.new.tables c.self.inside.live (Event.Tick c.args.now) c.in-Err.why c.prepare_tick.ensures.looks c.in-Err.ensures.prepared)
+
+pub returns-in-Ok-clause-waits : goal.returns-in-Ok-clause-waits
+returns-in-Ok-clause-waits g c =
+    rw (← c.self.view_is) (tick_waits g.S.Store c.self.inside.tables c.prepare_tick.new.tables c.record_tick.new.tables c.self.inside.live c.record_tick.new.live c.args.now c.in-Ok.made
+    c.prepare_tick.ensures.looks c.in-Ok.ensures.prepared c.record_tick.result c.record_tick.ensures.put c.record_tick.ensures.stays)
+
+pub returns-in-Ok-clause-crash : goal.returns-in-Ok-clause-crash
+returns-in-Ok-clause-crash g c =
+    rw (← c.self.view_is) (tick_lands g.S.Store c.self.inside.tables c.prepare_tick.new.tables c.record_tick.new.tables c.self.inside.live c.record_tick.new.live c.args.now c.in-Ok.made
+    c.prepare_tick.ensures.looks c.in-Ok.ensures.prepared c.record_tick.ensures.made.crash)
+
+pub returns-in-Ok-clause-settled : goal.returns-in-Ok-clause-settled
+returns-in-Ok-clause-settled g c =
+    rw (← c.self.view_is) (tick_settled g.S.Store c.self.inside.tables c.prepare_tick.new.tables c.record_tick.new.tables c.self.inside.live c.record_tick.new.live c.args.now c.in-Ok.made
+    c.prepare_tick.ensures.looks c.in-Ok.ensures.prepared c.record_tick.result c.record_tick.ensures.made c.is_settled-settled.ensures.settled c.in-Ok.ensures.asked
+    (ticks g.S.Store c.self.inside.tables c.prepare_tick.new.tables c.record_tick.new.tables c.self.inside.live c.record_tick.new.live c.args.now c.in-Ok.made
+    c.prepare_tick.ensures.looks c.in-Ok.ensures.prepared c.record_tick.result c.record_tick.ensures.made c.record_tick.ensures.count c.record_tick.ensures.put c.record_tick.ensures.stays))
+
+pub returns-in-Ok-clause-kept : goal.returns-in-Ok-clause-kept
+returns-in-Ok-clause-kept g c =
+    let mid : State = state g.S.Store c.prepare_tick.new.tables in
+    rw (← c.self.view_is) (undone_kept c.record_tick.result (state g.S.Store c.self.inside.tables) mid (state g.S.Store c.record_tick.new.tables)
+    (λ clean. omega (arith, c.record_tick.ensures.made.crash.clean, clean)) c.prepare_tick.ensures.looks.kept c.record_tick.ensures.made.undone)

@@ -1,0 +1,4 @@
+pub mod SideBySide
+pub mod Ending
+pub mod Counting
+pub mod Grouping
