@@ -2,7 +2,7 @@
 ghost use Rattle.std.specs.Prelude.{◌≡◌, Bool, IfOk, IfErr};
 ghost use Rattle.vm_calls.specs.Words.{Call, Answer, Invocation, Machine};
 ghost use Rattle.vm_calls.specs.Active.{Sees, TellsSame};
-ghost use Rattle.vm_calls.specs.Handles.{LacksHandle, LacksSignal, TakesSignal, MakesHandle};
+ghost use Rattle.vm_calls.specs.Handles.{LacksHandle, LacksSignal, TakesSignal, GivesSignal, GivesAwakeable, MakesHandle};
 ghost use Rattle.vm_calls.specs.declared.call_error.NumberError.TheVariants.{IdsExhausted};
 
 use crate::{Active, NumberError, handle_for};
@@ -30,6 +30,7 @@ impl Active {
     /// The handle of a signal of this name. Nothing is recorded of it, and no command is counted.
     pub fn create_signal_handle(&mut self, name: ByteStr) -> Result<NotificationHandle, NumberError>
         ensures told { TellsSame self.old.journal self.new.journal }
+        ensures gives { GivesSignal name self.old result self.new }
         ensures made { (checks_off : Bool) (given : Invocation) (m : Machine) → Sees given self.old m
             → MakesHandle checks_off given m (Call.Signal name) (λ handle. Answer.Handle handle) LacksHandle self.old result self.new }
     {
@@ -47,6 +48,7 @@ impl Active {
         invocation_id: &Bytes,
     ) -> Result<AwakeableHandle, NumberError>
         ensures told { TellsSame self.old.journal self.new.journal }
+        ensures gives { GivesAwakeable invocation_id.now self.old result self.new }
         ensures made { (checks_off : Bool) (given : Invocation) (m : Machine) → given.input.invocation_id ≡ invocation_id.now → Sees given self.old m
             → MakesHandle checks_off given m Call.Awakeable (λ made. Answer.Awakeable made.id made.handle) LacksSignal self.old result self.new }
     {

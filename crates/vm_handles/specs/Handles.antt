@@ -1,5 +1,5 @@
 -- The calls that make a handle, take what it stands for, and look at it.
-use Rattle.std.specs.Prelude.{◌≡◌, ℕ, Bool, false, [], codes, Option, Some, None, Result, Ok, Err}
+use Rattle.std.specs.Prelude.{◌≡◌, ℕ, Bool, false, [], codes, is_some, Option, Some, None, Result, Ok, Err}
 use Rattle.std.specs.declared.alloc.AllocError.{AllocError}
 use Rattle.journal_model.specs.Awakeable.{awakeable_id}
 use Rattle.journal_model.specs.Notification.{Bytes, Text}
@@ -22,7 +22,7 @@ use Rattle.vm_awaits.specs.Views.{results_of, slots_of, ready_of}
 use Rattle.vm_awaits.specs.Calls.{after_take}
 use Rattle.vm_commands.specs.HeaderEquality.{same_header}
 use Rattle.vm_calls.specs.Active.{Sees, TellsSame}
-use Rattle.vm_calls.specs.Handles.{LacksHandle, LacksSignal, MakesHandle}
+use Rattle.vm_calls.specs.Handles.{LacksHandle, LacksSignal, GivesSignal, GivesAwakeable, MakesHandle}
 use Rattle.vm_calls.specs.declared.active.Active.{Active}
 use Rattle.vm_calls.specs.declared.call_error.NumberError.{NumberError}
 use Rattle.vm_causes.specs.Causes.{NumberCauses}
@@ -36,11 +36,11 @@ use Rattle.vm_handles.specs.Calling.{IsCalled}
 
 -- ---- signals
 
--- as the abstract machine makes it, which was seen before; no command is counted
+-- As the abstract machine makes it, which was seen before; no command is counted; and in each attempt it is the next handle.
 abbrev pub MakesSignal : Text → (old : Active) → Result ℕ NumberError → (new : Active) → Type 0
 MakesSignal name old made new =
     ((checks_off : Bool) (given : Invocation) (m : Machine) → Sees given old m → MakesHandle checks_off given m (Call.Signal name) (λ handle. Answer.Handle handle) LacksHandle old made new)
-    × TellsSame old.journal new.journal
+    × TellsSame old.journal new.journal × GivesSignal name old made new
 
 -- ---- awakeables
 
@@ -52,11 +52,12 @@ id_of (Some start) = start.id
 abbrev pub MakesAwakeable : (id : Bytes) → (old : Active) → Result AwakeableHandle NumberError → (new : Active) → Type 0
 MakesAwakeable id old made new =
     ((checks_off : Bool) (given : Invocation) (m : Machine) → given.input.invocation_id ≡ id → Sees given old m
-    → MakesHandle checks_off given m Call.Awakeable (λ made. Answer.Awakeable made.id made.handle) LacksSignal old made new) × TellsSame old.journal new.journal
+    → MakesHandle checks_off given m Call.Awakeable (λ made. Answer.Awakeable made.id made.handle) LacksSignal old made new)
+    × TellsSame old.journal new.journal × GivesAwakeable id old made new
 
--- in an attempt that was seen, the text is that of the invocation and of the next signal
+-- the text is that of the invocation and of the next signal
 abbrev pub IsNamed : (id : Bytes) → (old : Active) → Result AwakeableHandle Error → Type 0
-IsNamed id old (Ok made) = (given : Invocation) (m : Machine) → Sees given old m → made.id ≡ awakeable_id id old.journal.signals
+IsNamed id old (Ok made) = made.id ≡ awakeable_id id old.journal.signals
 IsNamed id old (Err answer) = Unit {0}
 
 -- an attempt that does not see the journal of the earlier ones does not know which signals they have made
@@ -97,8 +98,13 @@ TakeCauses OutOfMemory (Err refused) = Unit {0}
 
 -- ---- looks
 
--- where calls are made, as the abstract machine looks at it, which is seen; elsewhere nothing is completed
+-- In each attempt, whether something waits to be taken by the handle; where the abstract machine is seen, as it looks at it.
+pub record LooksAt (active : Active) (handle : ℕ) (completed : Bool) : Type 0 where
+  pub held : completed ≡ is_some (waiting_for (slots_of active.results) (ready_of active.results) handle)
+  pub made : (given : Invocation) (m : Machine) (checks_off : Bool) → Sees given active m
+      → reply_to (same_header checks_off) given m (Call.IsCompleted handle) ≡ Answered (Answer.Completed completed) m
+
+-- elsewhere nothing is completed
 abbrev pub Looks : Phase → Active → (handle : ℕ) → Bool → Type 0
-Looks phases.Active active handle completed = (given : Invocation) (m : Machine) (checks_off : Bool) → Sees given active m
-    → reply_to (same_header checks_off) given m (Call.IsCompleted handle) ≡ Answered (Answer.Completed completed) m
+Looks phases.Active active handle completed = LooksAt active handle completed
 Looks _ active handle completed = completed ≡ false

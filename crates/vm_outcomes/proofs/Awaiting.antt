@@ -24,7 +24,7 @@ use Rattle.vm_machine.specs.Calls.{checks_off}
 use Rattle.vm_machine.specs.Failing.{MachineFails}
 use Rattle.vm_machine.specs.Steps.{IsUnexpected}
 use Rattle.vm_machine.specs.declared.machine_state.MachineState.{MachineState}
-use Rattle.vm_progress.specs.Asleep.{LacksMemory, FailsUnwritten, SettlesStay, Stays, ClosesAs, SleepIs, SleepsAs}
+use Rattle.vm_progress.specs.Asleep.{LacksMemory, FailsUnwritten, SettlesStay, ClosesAs, SleepIs, SleepsAs}
 use Rattle.vm_progress.specs.Awaiting.{ready_read, GoesOnAs, IsAwaited, DoesAwaitWhere, DoesAwait}
 use Rattle.vm_progress.specs.Uncompleted.{started_id, TellsUncompleted}
 use Rattle.vm_progress.specs.declared.asleep.Sleep.{Sleep}
@@ -44,6 +44,7 @@ use Rattle.vm_outcomes.specs.Outcomes.{awaited_as}
 use Rattle.vm_outcomes.specs.declared.outcome.CallOutcome.{CallOutcome}
 use Rattle.vm_outcomes.proofs.Answering.{driven_on, answered_quietly, only_active}
 use Rattle.vm_outcomes.proofs.Failing.{plain_code, memory_cause, fails_of, failed}
+use Rattle.vm_outcomes.proofs.Optioned.{ending_as, sees_ending, awaits_for}
 use Rattle.vm_outcomes.proofs.Steps.{steps_of}
 use Rattle.vm_outcomes.proofs.Telling.{tells_seen, untold, failed_as}
 
@@ -176,7 +177,8 @@ module _ (given : Invocation) (m : Machine) (tree : AwaitTree ℕ) (old : Machin
   await_made result new made =
       let others = only_active old made.between (record old.active { results = made.between.active.results }) made.others in
       goes_on_as made.awaited made.between.active result new (ap (λ (vm : MachineState). vm.active.output) made.others)
-      (made.awaits given m (checks_off old.options.non_determinism_checks) driven.cancellation driven.sees)
+      (awaits_for (checks_off old.options.non_determinism_checks) given old.options.implicit_cancellation m tree made.awaited made.between.active driven.cancellation
+      (made.awaits (ending_as old.options.implicit_cancellation given) m (checks_off old.options.non_determinism_checks) refl (sees_ending old.options.implicit_cancellation given old.active m driven.sees)))
       (subst (λ (vm : MachineState). GoesOnAs made.awaited vm result new) others made.goes_on)
 
   no_read_ready : (is_replaying : Bool) → ready_read phases.Active is_replaying no_reads ≡ None

@@ -12,7 +12,6 @@ use Rattle.protocol_stream.specs.declared.encoder.EncodingError.{EncodingError}
 use Rattle.protocol_stream.specs.declared.encoder.EncodingError.TheVariants as unsent
 use Rattle.protocol_types.specs.declared.message_type.MessageType.TheVariants as messages
 use Rattle.vm_calls.specs.Active.{has_left}
-use Rattle.vm_calls.specs.declared.active.Active.{Active}
 use Rattle.vm_context.specs.Output.{Written}
 use Rattle.vm_errors.specs.Phases.{kept_error, unexpected_error}
 use Rattle.vm_errors.specs.declared.phase.Phase.{Phase}

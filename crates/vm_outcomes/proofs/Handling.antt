@@ -152,7 +152,7 @@ take_carried handle old result new steps = λ given m none driven. take_comes gi
 pub look_carried : (handle : ℕ) (completed : Bool) (old : MachineState) → Looks old.phase old.active handle completed → CarriesOut (Call.IsCompleted handle) old (Answered (Answer.Completed completed)) old
 look_carried handle completed old looks = λ given m none driven. record {
   machine = m;
-  replies = (subst (λ (p : Phase). Looks p old.active handle completed) driven.phase looks) given m (checks_off old.options.non_determinism_checks) driven.sees;
+  replies = (subst (λ (p : Phase). Looks p old.active handle completed) driven.phase looks).made given m (checks_off old.options.non_determinism_checks) driven.sees;
   driven = driven;
   more = [];
   written = sym (append-nil m.written);

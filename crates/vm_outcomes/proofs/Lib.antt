@@ -5,6 +5,7 @@ pub mod Calling
 pub mod Reading
 pub mod Handling
 pub mod Telling
+pub mod Optioned
 pub mod Awaiting
 pub mod Ending
 pub mod Running

@@ -1,6 +1,6 @@
 -- How the machine of a handler's attempt stands to the abstract machine of its invocation.
 use Rattle.std.specs.Prelude.{◌≡◌, []}
-use Rattle.journal_model.specs.Await.{child_of}
+use Rattle.journal_model.specs.Await.{child_of, ends_awaits}
 use Rattle.journal_model.specs.Run.{Invocation}
 use Rattle.journal_model.specs.declared.call.Call.{Call}
 use Rattle.attempt_model.specs.Machine.{Machine, Reply, reply_to}
@@ -13,14 +13,15 @@ use Rattle.vm_machine.specs.Calls.{checks_off, IsOf}
 use Rattle.vm_machine.specs.declared.machine_state.MachineState.{MachineState}
 
 -- Calls are made of the machine, and what it keeps for them is what the abstract machine keeps. It is a machine of this invocation:
--- it speaks its version, was started with its id, and ends awaits as its options say.
+-- it speaks its version, was started with its id, and a cancellation ends awaits of both or of neither. Which calls that is passed on to is
+-- not asked: the machine tracks none.
 pub record IsDriven (given : Invocation) (m : Machine) (vm : MachineState) : Type 0 where
   pub sees : Sees given vm.active m
   pub phase : vm.phase ≡ phases.Active
   pub version : IsOf given vm
   pub written : vm.active.output.version ≡ vm.version
   pub id : given.input.invocation_id ≡ id_of vm.start
-  pub cancellation : given.options.implicit_cancellation ≡ vm.options.implicit_cancellation
+  pub cancellation : ends_awaits given.options.implicit_cancellation ≡ ends_awaits vm.options.implicit_cancellation
   -- a handler makes no read of which nothing is recorded
   pub reads : vm.reads ≡ no_reads
 

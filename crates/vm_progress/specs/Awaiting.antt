@@ -5,6 +5,7 @@ use Rattle.journal_model.specs.AwaitTree.{AwaitTree}
 use Rattle.journal_model.specs.Future.{tree_of}
 use Rattle.journal_model.specs.Run.{Invocation}
 use Rattle.protocol_errors.specs.declared.error.Error.{Error}
+use Rattle.vm_awaits.specs.Views.{results_of}
 use Rattle.vm_calls.specs.Active.{Sees}
 use Rattle.vm_ephemeral.specs.Reads.{EphemeralReads, least_of}
 use Rattle.vm_errors.specs.declared.phase.Phase.{Phase}
@@ -14,7 +15,7 @@ use Rattle.vm_machine.specs.declared.machine_state.MachineState.{MachineState}
 use Rattle.vm_types.specs.declared.answers.AwaitResponse.{AwaitResponse}
 use Rattle.vm_types.specs.declared.answers.AwaitResponse.TheVariants as responses
 use Rattle.vm_types.specs.declared.handles.EphemeralCompletionId.{EphemeralCompletionId}
-use Rattle.vm_waiting.specs.Waiting.{Awaits}
+use Rattle.vm_waiting.specs.Waiting.{Awaits, ComesTo}
 use Rattle.vm_waiting.specs.declared.awaiting.Awaited.{Awaited}
 use Rattle.vm_waiting.specs.declared.awaiting.Awaited.TheVariants.{AnyCompleted, Cancelled, Asleep}
 use Rattle.vm_waiting.specs.declared.awaiting.AwaitError.{AwaitError}
@@ -38,11 +39,13 @@ GoesOnAs (Err error) old (Ok response) new = ⊥
 GoesOnAs (Err (UncompletedInReplay left)) old (Err answer) new = IsUncompleted (tree_of left) old answer new
 GoesOnAs (Err OutOfMemory) old (Err answer) new = LacksMemory old answer new
 
--- The await comes to what the abstract machine's comes to, which was seen before, and goes on from there.
+-- In each attempt the await comes to what its tree is resolved to, over what has come; where the abstract machine was seen before, to
+-- what that machine's comes to; and goes on from there.
 pub record IsAwaited (tree : AwaitTree ℕ) (old : MachineState) (result : Result AwaitResponse Error) (new : MachineState) : Type 0 where
   pub awaited : Result Awaited AwaitError
   pub between : MachineState
   pub others : between ≡ record old { active = record old.active { results = between.active.results } }
+  pub held : ComesTo old.options.implicit_cancellation tree old.active.is_replaying (results_of old.active.results) awaited (results_of between.active.results)
   pub awaits : (given : Invocation) (m : Machine) (checks_off : Bool) → given.options.implicit_cancellation ≡ old.options.implicit_cancellation
       → Sees given old.active m → Awaits checks_off given m tree awaited between.active
   pub goes_on : GoesOnAs awaited between result new

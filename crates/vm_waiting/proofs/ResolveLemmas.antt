@@ -1,5 +1,5 @@
 -- What resolving and waking come to.
-use Rattle.std.proofs.Common.{◌≡◌, sym, ap, ◌∙◌, ℕ, Bool, true, false, ◌&&◌, Option, Some, None, is_some, Result, Ok, Err, IfOk}
+use Rattle.std.proofs.Common.{◌≡◌, sym, ap, ◌∙◌, subst, ℕ, Bool, true, false, ◌&&◌, Option, Some, None, is_some, Result, Ok, Err, IfOk}
 use Rattle.journal_model.specs.AwaitTree.{AwaitTree}
 use Rattle.journal_model.specs.Await.{awaited_tree, ends_awaits}
 use Rattle.journal_model.specs.declared.notification.NotificationResult.{NotificationResult}
@@ -9,7 +9,10 @@ use Rattle.vm_awaits.specs.Views.{AsyncResults}
 use Rattle.vm_awaits.specs.Calls.{after_take}
 use Rattle.vm_awaits.specs.Resolving.{resolution_as, line_left}
 use Rattle.vm_awaits.specs.declared.resolving.ResolveFutureResult.{ResolveFutureResult}
-use Rattle.vm_waiting.specs.Waiting.{is_cancelled_in, after_cancellation, Resolves}
+use Rattle.vm_awaits.specs.declared.resolving.ResolveFutureResult.TheVariants.{AnyCompleted}
+use Rattle.vm_waiting.specs.Waiting.{is_cancelled_in, after_cancellation, WakesAs, Resolves, ComesTo}
+use Rattle.vm_waiting.specs.declared.awaiting.Awaited.{Awaited}
+use Rattle.vm_waiting.specs.declared.awaiting.Awaited.TheVariants as awaits
 
 pub resolves : {E : Type 0} (cancellation : ImplicitCancellationOption) (tree whole : AwaitTree ℕ) (old new : AsyncResults) (result : Result ResolveFutureResult E) → whole ≡ awaited_tree cancellation tree
     → IfOk result (λ answer. resolution_of old.delivery old.slots whole old.queue old.ready ≡ resolution_as new.queue new.ready answer)
@@ -32,3 +35,15 @@ pub cancels : (cancellation : ImplicitCancellationOption) (old new : AsyncResult
 cancels cancellation old new (Some taken) h is rest = rest
 cancels cancellation old new None h is rest =
     let wrong : false ≡ true = ap is_some is ∙ second (ends_awaits cancellation) (is_some (waiting_for old.slots old.ready 1)) h in cc
+
+-- a tree that is awake is answered so, and never that it sleeps
+pub comes_awake : (cancellation : ImplicitCancellationOption) (tree : AwaitTree ℕ) (is_replaying : Bool) (old between : AsyncResults) (awaited : Awaited) (new : AsyncResults)
+    → Resolves cancellation tree old AnyCompleted between → WakesAs cancellation between awaited new → ComesTo cancellation tree is_replaying old (Ok awaited) new
+comes_awake cancellation tree is_replaying old between awaits.AnyCompleted new resolves wakes = record { between = between; resolves = resolves; wakes = wakes }
+comes_awake cancellation tree is_replaying old between awaits.Cancelled new resolves wakes = record { between = between; resolves = resolves; wakes = wakes }
+comes_awake cancellation tree is_replaying old between (awaits.Asleep left) new resolves wakes = absurd wakes
+
+-- what one resolution is answered, another that is equal is
+pub resolves_so : (cancellation : ImplicitCancellationOption) (tree : AwaitTree ℕ) (old new : AsyncResults) (answer other : ResolveFutureResult) → answer ≡ other
+    → Resolves cancellation tree old answer new → Resolves cancellation tree old other new
+resolves_so cancellation tree old new answer other same resolves = subst (λ (r : ResolveFutureResult). Resolves cancellation tree old r new) same resolves

@@ -4,7 +4,7 @@ use Rattle.journal_model.specs.Notification.{Bytes, Arrival}
 use Rattle.journal_model.specs.declared.notification.NotificationId.{NotificationId}
 use Rattle.journal_model.specs.AwaitTree.{AwaitTree, Single, Combined, Combinator, AwaitTrees, no_trees, and_trees}
 use Rattle.journal_model.specs.Future.{tree_of, node}
-use Rattle.journal_model.specs.Waiting.{only_leaves, still_awaited}
+use Rattle.journal_model.specs.Waiting.{only_leaves, still_awaited, SameTree}
 use Rattle.journal_model.specs.Request.{Request}
 use Rattle.journal_model.specs.Run.{Handler, Invocation, run}
 use Rattle.journal_model.specs.Spelling.{packed_numbers, repeated_bytes, completions_in, signals_in, names_in, suspension_payload, awaiting_on_payload, frame_bytes}
@@ -49,11 +49,12 @@ IsOpened tree (Node children) = (combinator : Combinator) × (tree ≡ node comb
 abbrev pub over_ids : Active → AwaitTree ℕ → AwaitTree NotificationId
 over_ids active tree = only_leaves (slot_of (slots_of active.results)) tree
 
--- Where the abstract machine stands to a run that waits with this tree, those ids are what the run still waits for.
+-- Where the abstract machine stands to a run that waits with this tree, those ids are what the run still waits for: the same tree, where
+-- children are a set.
 abbrev pub TellsAsRun : AwaitTree ℕ → Active → Type 0
 TellsAsRun tree active = (handler : Handler) (given : Invocation) (journal : List Request) (arrivals : List Arrival) (calls : ℕ) (m : Machine)
     → Sees given active m → (waits : WaitsWithRun handler given journal arrivals calls tree m)
-    → over_ids active tree ≡ still_awaited given.options (run handler given arrivals calls).steps arrivals waits.ids
+    → SameTree (over_ids active tree) (still_awaited given.options (run handler given arrivals calls).steps arrivals waits.ids)
 
 module _ {Leaf : Type 0} (own : AwaitTrees NotificationId → List Leaf) where
   -- the leaves of one kind of the nodes below, the own ones of each first

@@ -18,6 +18,7 @@ use Rattle.attempt_model.specs.Machine as faults
 use Rattle.vm_awaits.specs.Views.{AsyncResults}
 use Rattle.vm_awaits.specs.Resolving.{resolution_as, line_left}
 use Rattle.vm_awaits.specs.declared.resolving.ResolveFutureResult.{ResolveFutureResult}
+use Rattle.vm_awaits.specs.declared.resolving.ResolveFutureResult.TheVariants as resolved
 use Rattle.vm_waiting.specs.declared.awaiting.Awaited.{Awaited}
 use Rattle.vm_waiting.specs.declared.awaiting.Awaited.TheVariants.{AnyCompleted, Cancelled, Asleep}
 use Rattle.vm_waiting.specs.declared.awaiting.AwaitError.{AwaitError}
@@ -80,6 +81,21 @@ pub record Resolves (cancellation : ImplicitCancellationOption) (tree : AwaitTre
   pub queue : new.queue ≡ line_left new.queue answer
   pub delivery : new.delivery ≡ old.delivery
   pub slots : new.slots ≡ old.slots
+
+-- the tree is awake, and that is what the await is answered of it
+pub record Wakes (cancellation : ImplicitCancellationOption) (tree : AwaitTree ℕ) (old : AsyncResults) (awaited : Awaited) (new : AsyncResults) : Type 0 where
+  pub between : AsyncResults
+  pub resolves : Resolves cancellation tree old resolved.AnyCompleted between
+  pub wakes : WakesAs cancellation between awaited new
+
+-- In each attempt: what the await's tree is resolved to is what it is answered. In replay one that stays asleep fails, and only there.
+abbrev pub ComesTo : ImplicitCancellationOption → AwaitTree ℕ → (is_replaying : Bool) → (old : AsyncResults) → Result Awaited AwaitError → (new : AsyncResults) → Type 0
+ComesTo cancellation tree is_replaying old (Ok AnyCompleted) new = Wakes cancellation tree old AnyCompleted new
+ComesTo cancellation tree is_replaying old (Ok Cancelled) new = Wakes cancellation tree old Cancelled new
+ComesTo cancellation tree is_replaying old (Ok (Asleep left)) new = (is_replaying ≡ false) × Resolves cancellation tree old (resolved.WaitExternalInput left) new
+ComesTo cancellation tree is_replaying old (Err (unawaited.UncompletedInReplay left)) new =
+    (is_replaying ≡ true) × Resolves cancellation tree old (resolved.WaitExternalInput left) new
+ComesTo cancellation tree is_replaying old (Err unawaited.OutOfMemory) new = Unit {0}
 
 -- An await is answered as the abstract machine answers it. In replay one that stays asleep fails.
 abbrev pub Awaits : (checks_off : Bool) → Invocation → Machine → AwaitTree ℕ → Result Awaited AwaitError → (new : Active) → Type 0

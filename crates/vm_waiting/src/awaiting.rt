@@ -4,7 +4,7 @@ ghost use Rattle.journal_model.specs.declared.future.UnresolvedFuture.{Unresolve
 ghost use Rattle.journal_model.specs.Future.{tree_of};
 ghost use Rattle.journal_model.specs.Await.{with_cancellation, awaited_tree};
 ghost use Rattle.vm_awaits.specs.Views.{results_of};
-ghost use Rattle.vm_waiting.specs.Waiting.{awaits_nothing, is_cancelled_in, WakesAs, Resolves, AwaitsSeen};
+ghost use Rattle.vm_waiting.specs.Waiting.{awaits_nothing, is_cancelled_in, WakesAs, Resolves, ComesTo, AwaitsSeen};
 
 use journal_model::{CANCEL_NOTIFICATION_HANDLE, ImplicitCancellationOption, UnresolvedFuture};
 use sequence::Sequence;
@@ -130,6 +130,7 @@ pub fn await_future(
     cancellation: ImplicitCancellationOption,
     future: UnresolvedFuture,
 ) -> Result<Awaited, AwaitError>
+    ensures held { ComesTo cancellation (tree_of future) active.old.is_replaying (results_of active.old.results) result (results_of active.new.results) }
     ensures awaits { AwaitsSeen cancellation (tree_of future) active.old result active.new }
     ensures others { active.new ≡ record active.old { results = active.new.results } }
 {

@@ -12,4 +12,4 @@ returns-in-Admitted c =
     steps_made (IsCalled (MakesSignal c.args.name) NumberCauses) (IsUnexpected (codes "named awakeable")) None c.args.vm.now c.admit.new.self
     c.answer.result c.answer.new.vm c.in-Admitted.ensures
     (called (MakesSignal c.args.name) NumberCauses c.admit.new.self c.create_signal_handle-made.result c.create_signal_handle-made.new.self
-    c.answer.result c.answer.new.vm (c.create_signal_handle-made.ensures.made, c.create_signal_handle-made.ensures.told) c.answer.ensures)
+    c.answer.result c.answer.new.vm (c.create_signal_handle-made.ensures.made, c.create_signal_handle-made.ensures.told, c.create_signal_handle-made.ensures.gives) c.answer.ensures)

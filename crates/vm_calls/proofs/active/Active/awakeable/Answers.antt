@@ -1,4 +1,4 @@
-use Rattle.std.proofs.Common.{sym, ap, ◌∙◌, ℕ}
+use Rattle.std.proofs.Common.{refl, sym, ap, ◌∙◌, ℕ}
 use Rattle.journal_model.specs.declared.notification.NotificationId.TheVariants.{SignalId}
 use Rattle.journal_model.specs.declared.call.Answer.{Answer}
 use Rattle.journal_model.specs.Awakeable.{awakeable_id}
@@ -8,6 +8,14 @@ use Rattle.vm_awaits.specs.Calls.{with_handle}
 use Rattle.vm_calls.specs.declared.active.Active.{Active}
 use Rattle.vm_calls.proofs.Handling.{handles, awakeable_handles, slot_is}
 use Rattle.vm_calls.proofs.active.Active.awakeable.Goals as goal
+
+pub returns-in-Ok-clause-gives : goal.returns-in-Ok-clause-gives
+returns-in-Ok-clause-gives c =
+    let takes = c.in_ok-signal.ensures.ok in
+    record {
+      text = c.in-Ok.ensures ∙ ap (λ (n : ℕ). awakeable_id c.args.invocation_id.now n) takes.id;
+      takes = record { id = refl; handle = takes.handle; results = takes.results; others = takes.others; has = takes.has };
+    }
 
 pub returns-in-Ok-clause-made : goal.returns-in-Ok-clause-made
 returns-in-Ok-clause-made c =

@@ -6,6 +6,14 @@ use Rattle.vm_calls.proofs.Calls.{one_before}
 use Rattle.vm_calls.proofs.Handling.{as_many, handles, signal_handles, slot_is}
 use Rattle.vm_calls.proofs.active.Active.create_signal_handle.Goals as goal
 
+pub returns-in-Ok-clause-gives : goal.returns-in-Ok-clause-gives
+returns-in-Ok-clause-gives c = record {
+  handle = c.in-Ok.ensures.handle;
+  results = c.in-Ok.ensures.made;
+  others = refl;
+  has = λ none. c.in-Ok.ensures.left (one_before (17 + length (slots_of c.args.self.now.results)) (2 ^ 32) none);
+}
+
 pub returns-in-Ok-clause-made : goal.returns-in-Ok-clause-made
 returns-in-Ok-clause-made c =
     λ checks_off given m sees.
