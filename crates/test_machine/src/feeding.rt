@@ -1,25 +1,43 @@
-//! What a machine is told, and what is asked of itself. `new VERSION SIGNALS JOURNAL CANCELLATION` with `queued` or `overwrite`,
-//! `replay` or `fresh`, `cancels` or `stays`; `in HEX`, `close`, `fail CODE`, `out`, `head`, `state`, `index`, `ready`.
+//! What a machine is told, and what is asked of itself. `new VERSION WORD ..` with the options that are not as they are by default:
+//! `overwrite` for signals, `fresh` for a journal that is not replayed, `stays` where a cancellation ends no await, `silent` where it
+//! is not told what is waited for, `unchecked` where payloads are not compared, `pauses` where a journal that does not match asks for
+//! a pause; any other word changes nothing. `in HEX`, `close`, `fail CODE`, `out`, `head`, `state`, `index`, `ready`.
 use crate::answers::{debug, done, failed};
 use crate::operands::{byte_str, bytes};
 use bytes::ByteStr;
 use invocation_vm::{
-    Error, ImplicitCancellationOption, InvocationErrorCode, JournalReplay, SignalDelivery, State,
-    VM, VMOptions, VMResult,
+    AwaitingOnPolicy, Error, ImplicitCancellationOption, InvocationErrorCode,
+    JournalMismatchRetryBehavior, JournalReplay, NonDeterministicChecksOption, SignalDelivery,
+    State, VM, VMOptions, VMResult,
 };
 use std::alloc::Global;
 use test_rows::{Hex, number, told};
 
-fn options(signals: &str, journal: &str, cancellation: &str) -> VMOptions {
+fn choose_journal(options: &mut VMOptions, word: &str) {
+    match word {
+        "fresh" => options.journal_replay = JournalReplay::Disabled,
+        "unchecked" => {
+            options.non_determinism_checks = NonDeterministicChecksOption::PayloadChecksDisabled;
+        }
+        "pauses" => options.journal_mismatch_retry_behavior = JournalMismatchRetryBehavior::Pause,
+        _ => {}
+    }
+}
+
+fn choose_waiting(options: &mut VMOptions, word: &str) {
+    match word {
+        "overwrite" => options.signal_delivery = SignalDelivery::Overwrite,
+        "stays" => options.implicit_cancellation = ImplicitCancellationOption::Disabled,
+        "silent" => options.awaiting_on_policy = AwaitingOnPolicy::DontSend,
+        _ => {}
+    }
+}
+
+fn options(words: &[&str]) -> VMOptions {
     let mut options = VMOptions::default();
-    if signals == "overwrite" {
-        options.signal_delivery = SignalDelivery::Overwrite;
-    }
-    if journal == "fresh" {
-        options.journal_replay = JournalReplay::Disabled;
-    }
-    if cancellation == "stays" {
-        options.implicit_cancellation = ImplicitCancellationOption::Disabled;
+    for word in words {
+        choose_journal(&mut options, *word);
+        choose_waiting(&mut options, *word);
     }
     options
 }
@@ -40,13 +58,13 @@ fn headers(alloc: Global, version: &str) -> Option<Vec<(ByteStr, ByteStr)>> {
 /// A machine as it is asked for, or what refuses it.
 pub fn begin<V: VM>(alloc: Global, operands: &[&str]) -> Option<VMResult<V>> {
     match operands {
-        [version, signals, journal, cancellation] => {
+        [version, words @ ..] => {
             let headers = headers(alloc, *version)?;
-            let made = V::new(alloc, &headers, options(*signals, *journal, *cancellation));
+            let made = V::new(alloc, &headers, options(words));
             drop(headers);
             Some(made)
         }
-        _ => None,
+        [] => None,
     }
 }
 
