@@ -1,0 +1,3 @@
+pub mod Carried
+pub mod Pieces
+pub mod Sending

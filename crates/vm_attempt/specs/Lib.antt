@@ -1,0 +1,3 @@
+pub mod Attempt
+pub mod Output
+pub mod Turning

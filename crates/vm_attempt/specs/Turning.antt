@@ -1,0 +1,88 @@
+-- What a turn of an attempt comes to.
+use Rattle.std.specs.Prelude.{◌≡◌, ◌⊎◌, Bool, true, false, [], ◌∷◌, ◌++◌, Option, Some, None, Result, Ok, Err}
+use Rattle.journal_model.specs.Run.{Handler}
+use Rattle.journal_model.specs.declared.call.Answer.{Answer}
+use Rattle.journal_model.specs.declared.call.Call.{Call}
+use Rattle.journal_model.specs.declared.handler.Input.{Input}
+use Rattle.protocol_errors.specs.declared.error.Error.{Error}
+use Rattle.vm_beginning.specs.Reading.{IsRead}
+use Rattle.vm_errors.specs.Failing.{out_of_memory}
+use Rattle.vm_feeding.specs.Asking.{IsReady}
+use Rattle.vm_outcomes.specs.Carrying.{CarriesOut}
+use Rattle.vm_outcomes.specs.declared.outcome.CallOutcome.{CallOutcome}
+use Rattle.vm_outcomes.specs.declared.outcome.CallOutcome.TheVariants as outcomes
+use Rattle.vm_attempt.specs.declared.attempt.Attempt.{Attempt}
+use Rattle.vm_attempt.specs.declared.turn.Finish.{Finish}
+use Rattle.vm_attempt.specs.declared.turn.Finish.TheVariants as finishes
+use Rattle.vm_attempt.specs.declared.turn.Turn.{Turn}
+
+-- what each turn comes to of an attempt that is over
+abbrev pub again : Finish → Turn
+again finishes.Suspended = Turn.Suspended
+again finishes.Ended = Turn.Ended
+again finishes.OutOfMemory = Turn.Failed out_of_memory
+
+module _ {H : Type 0} where
+  -- the attempt is over, and answers that in each turn
+  abbrev pub IsOver : Finish → (between : Attempt H) → Turn → (after : Attempt H) → Type 0
+  IsOver finish between turn after = (turn ≡ again finish) × (after ≡ record between { over = Some finish })
+
+  -- ---- a call of the handler
+
+  -- the handler is told the answer the next time, or there is no memory for it
+  abbrev pub TakesAnswer : Answer → (between : Attempt H) → Turn → (after : Attempt H) → Type 0
+  TakesAnswer answer between turn after =
+      ((turn ≡ Turn.Answered) × (after ≡ record between { answers = between.answers ++ answer ∷ [] })) ⊎ IsOver finishes.OutOfMemory between turn after
+
+  -- how the attempt goes on by what the call has come to; what its machine has failed with this keeps
+  abbrev pub ComesTo : CallOutcome → (between : Attempt H) → Turn → (after : Attempt H) → Type 0
+  ComesTo (outcomes.Answered answer) between turn after = TakesAnswer answer between turn after
+  ComesTo outcomes.Waiting between turn after = (turn ≡ Turn.Waiting) × (after ≡ between)
+  ComesTo outcomes.Suspended between turn after = IsOver finishes.Suspended between turn after
+  ComesTo outcomes.Ended between turn after = IsOver finishes.Ended between turn after
+  ComesTo (outcomes.Failed error) between turn after = (turn ≡ Turn.Failed error) × (after ≡ between)
+
+  -- the machine carries the call out
+  pub record CarriesCall (call : Call) (before : Attempt H) (turn : Turn) (after : Attempt H) : Type 0 where
+    pub outcome : CallOutcome
+    pub carries : CarriesOut call before.vm.state outcome after.vm.state
+    pub comes : ComesTo outcome (record before { vm = after.vm }) turn after
+
+  -- ---- the input
+
+  abbrev pub GivesInput : Result Input Error → (between : Attempt H) → Turn → (after : Attempt H) → Type 0
+  GivesInput (Ok input) between turn after = (turn ≡ Turn.Answered) × (after ≡ record between { input = Some input })
+  GivesInput (Err error) between turn after = (turn ≡ Turn.Failed error) × (after ≡ between)
+
+  -- the machine reads it
+  pub record ReadsInput (before : Attempt H) (turn : Turn) (after : Attempt H) : Type 0 where
+    pub read : Result Input Error
+    pub reads : IsRead before.vm.state read after.vm.state
+    pub gives : GivesInput read (record before { vm = after.vm }) turn after
+
+  -- ---- a turn
+
+  module _ (function : H → Handler) where
+    -- the input is read first, which no call is; then the handler's next call is carried out, if there is memory for it
+    abbrev pub GoesOn : Option Input → (before : Attempt H) → Turn → (after : Attempt H) → Type 0
+    GoesOn None before turn after = ReadsInput before turn after
+    GoesOn (Some input) before turn after = CarriesCall (function before.handler input before.answers) before turn after ⊎ IsOver finishes.OutOfMemory before turn after
+
+    -- calls are made of the machine, or more has to come, or it has failed
+    abbrev pub TurnsWhere : Result Bool Error → (before : Attempt H) → Turn → (after : Attempt H) → Type 0
+    TurnsWhere (Ok true) before turn after = GoesOn before.input before turn after
+    TurnsWhere (Ok false) before turn after = (turn ≡ Turn.Waiting) × (after ≡ before)
+    TurnsWhere (Err error) before turn after = (turn ≡ Turn.Failed error) × (after ≡ before)
+
+    pub record TurnsOn (before : Attempt H) (turn : Turn) (after : Attempt H) : Type 0 where
+      pub ready : Result Bool Error
+      pub is_ready : IsReady before.vm.state.phase ready
+      pub turns : TurnsWhere ready before turn after
+
+    abbrev pub TurnsUnless : Option Finish → (before : Attempt H) → Turn → (after : Attempt H) → Type 0
+    TurnsUnless (Some finish) before turn after = (turn ≡ again finish) × (after ≡ before)
+    TurnsUnless None before turn after = TurnsOn before turn after
+
+    -- an attempt that is over answers the same again, and nothing changes; another makes a turn of its machine
+    abbrev pub Turns : (before : Attempt H) → Turn → (after : Attempt H) → Type 0
+    Turns before turn after = TurnsUnless before.over before turn after

@@ -1,0 +1,220 @@
+// An attempt.
+ghost use Rattle.std.specs.Prelude.{OnOk};
+ghost use Rattle.vm_attempt.specs.Attempt.{IsBegun, Feeds, ClosesInput};
+ghost use Rattle.vm_attempt.specs.Output.{Gathers, HasFront, Shows, LetsGo, TakesOutput};
+ghost use Rattle.vm_attempt.specs.Turning.{IsOver, TakesAnswer, ComesTo, CarriesCall, ReadsInput, GoesOn, TurnsOn, Turns};
+
+use crate::header::ContentType;
+use crate::output::{advance, first, join};
+use crate::turn::{Finish, Turn, turn_again};
+use bytes::Bytes;
+use journal_model::{Answer, Call, Handler, Input};
+use protocol_errors::Error;
+use protocol_types::Version;
+use sequence::Sequence;
+use std::alloc::{AllocError, Global};
+use std::mem::replace;
+use vm_core::{CoreVM, VM};
+use vm_driving::{CallOutcome, carry_out};
+use vm_types::VMOptions;
+
+/// A handler at work on an invocation: its machine, what it was answered, and what is to go out.
+#[derive(Drop)]
+pub struct Attempt<H> {
+    alloc: Global,
+    handler: H,
+    vm: CoreVM,
+    /// What the handler is given, once it was read.
+    input: Option<Input>,
+    /// What the handler was answered so far.
+    answers: Sequence<Answer>,
+    /// How the attempt is over, if not by an error of its machine.
+    over: Option<Finish>,
+    /// What was taken from the machine and was not handed out, in two pieces.
+    front: Bytes,
+    behind: Bytes,
+}
+
+impl<H: Handler> Attempt<H> {
+    /// An attempt that speaks this version, to which nothing has come yet.
+    ///
+    /// Where memory is refused, or the version is none that is spoken, there is none.
+    pub fn new(
+        alloc: Global,
+        version: Version,
+        options: VMOptions,
+        handler: H,
+    ) -> Result<Attempt<H>, Error>
+    where
+        H: Drop,
+        ensures { IsBegun version options handler result }
+    {
+        match CoreVM::new(alloc, &ContentType(version), options) {
+            Ok(vm) => Ok(Attempt {
+                alloc,
+                handler,
+                vm,
+                input: None,
+                answers: Sequence::new(alloc),
+                over: None,
+                front: Bytes::new(),
+                behind: Bytes::new(),
+            }),
+            Err(error) => {
+                drop(handler);
+                Err(error)
+            }
+        }
+    }
+
+    /// Bytes of its input come, in any cut. An attempt that is over takes none in.
+    pub fn feed(&mut self, bytes: Bytes)
+        ensures { Feeds bytes self.old self.new }
+    {
+        match self.over {
+            Some(_) => drop(bytes),
+            None => self.vm.notify_input(bytes),
+        }
+    }
+
+    /// No more of its input comes.
+    pub fn close_input(&mut self)
+        ensures { ClosesInput self.old self.new }
+    {
+        match self.over {
+            Some(_) => (),
+            None => self.vm.notify_input_closed(),
+        }
+    }
+
+    // The attempt is over.
+    fn finish(&mut self, finish: Finish) -> Turn
+        ensures { IsOver finish self.old result self.new }
+    {
+        self.over = Some(finish);
+        turn_again(finish)
+    }
+
+    // The handler is to be told an answer.
+    fn take_answer(&mut self, answer: Answer) -> Turn
+        ensures { TakesAnswer answer self.old result self.new }
+    {
+        match self.answers.push(answer) {
+            Ok(()) => Turn::Answered,
+            Err(_) => self.finish(Finish::OutOfMemory),
+        }
+    }
+
+    // A call has come to this.
+    fn come_to(&mut self, outcome: CallOutcome) -> Turn
+        ensures { ComesTo outcome self.old result self.new }
+    {
+        match outcome {
+            CallOutcome::Answered(answer) => self.take_answer(answer),
+            CallOutcome::Waiting => Turn::Waiting,
+            CallOutcome::Suspended => self.finish(Finish::Suspended),
+            CallOutcome::Ended => self.finish(Finish::Ended),
+            CallOutcome::Failed(error) => Turn::Failed(error),
+        }
+    }
+
+    // The handler's call is carried out.
+    fn carry(&mut self, call: Call) -> Turn
+        ensures { CarriesCall call self.old result self.new }
+    {
+        let outcome = carry_out(&mut self.vm, call);
+        self.come_to(outcome)
+    }
+
+    // The input is read.
+    fn read_input(&mut self) -> Turn
+        ensures { ReadsInput self.old result self.new }
+    {
+        match self.vm.sys_input() {
+            Ok(input) => {
+                drop(self.input.replace(input));
+                Turn::Answered
+            }
+            Err(error) => Turn::Failed(error),
+        }
+    }
+
+    // The handler is asked for its next call, once the input was read.
+    fn go_on(&mut self) -> Turn
+        ensures { GoesOn H.next_call self.old.input self.old result self.new }
+    {
+        let next = match &self.input {
+            None => return self.read_input(),
+            Some(input) => self.handler.next(input, self.answers.as_slice()),
+        };
+        match next {
+            Ok(call) => self.carry(call),
+            Err(_) => self.finish(Finish::OutOfMemory),
+        }
+    }
+
+    // A turn of an attempt that is not over, unless its machine has failed.
+    fn turn_on(&mut self) -> Turn
+        ensures { TurnsOn H.next_call self.old result self.new }
+    {
+        match self.vm.is_ready_to_execute() {
+            Ok(true) => self.go_on(),
+            Ok(false) => Turn::Waiting,
+            Err(error) => Turn::Failed(error),
+        }
+    }
+
+    /// One turn: reads the input once it has come with the journal, or asks the handler and carries its call out.
+    ///
+    /// An attempt that is over answers the same again. What it has failed with is copied for each answer; where memory is refused for
+    /// the copy, the answer says so.
+    pub fn turn(&mut self) -> Turn
+        ensures { Turns H.next_call self.old result self.new }
+    {
+        match self.over {
+            Some(finish) => turn_again(finish),
+            None => self.turn_on(),
+        }
+    }
+
+    // Has the front piece be all that waits and all that the machine has written, unless it has so many bytes already.
+    fn gather(&mut self, count: usize) -> Result<(), AllocError>
+        ensures same { Gathers self.old self.new }
+        ensures front { OnOk result (HasFront count self.new) }
+    {
+        if count <= self.front.len() {
+            return Ok(());
+        }
+        join(self.alloc, &mut self.front, &mut self.behind)?;
+        let written = self.vm.take_output()?;
+        drop(replace(&mut self.behind, written));
+        join(self.alloc, &mut self.front, &mut self.behind)
+    }
+
+    /// The first bytes that were written and were not handed out, so many at most. They stay, also where memory is refused.
+    ///
+    /// They are shared with the piece that has them: pieces are joined only where the first is shorter, so each byte is copied twice at
+    /// most, however few are asked for at a time.
+    pub fn first_output(&mut self, max: usize) -> Result<Bytes, AllocError>
+        ensures { Shows max self.old result self.new }
+    {
+        self.gather(max)?;
+        first(&self.front, max)
+    }
+
+    /// Lets the first bytes go, which `first_output` has shown.
+    pub fn advance_output(&mut self, count: usize)
+        ensures { LetsGo count self.old self.new }
+    {
+        advance(&mut self.front, &mut self.behind, count);
+    }
+
+    /// Hands out the first bytes, so many at most. Where memory is refused they all stay.
+    pub fn take_output(&mut self, max: usize) -> Result<Bytes, AllocError>
+        ensures { TakesOutput max self.old result self.new }
+    {
+        let bytes = self.first_output(max)?;
+        self.advance_output(bytes.len());
+        Ok(bytes)
+    }
+}

@@ -1,0 +1,10 @@
+//! An attempt: a handler at work on one invocation, over the machine that reads its input and carries its calls out.
+#![tactic(auto)]
+
+mod attempt;
+mod header;
+mod output;
+mod turn;
+
+pub use attempt::Attempt;
+pub use turn::{Finish, Turn};

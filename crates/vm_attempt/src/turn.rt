@@ -1,0 +1,49 @@
+// What turns come to.
+ghost use Rattle.std.specs.Prelude.{◌≡◌};
+ghost use Rattle.vm_attempt.specs.Turning.{again};
+ghost use Rattle.vm_errors.specs.Failing as failing;
+
+use bytes::ByteStr;
+use protocol_errors::{Error, codes};
+
+/// What a turn of an attempt came to.
+#[derive(Debug, Drop)]
+pub enum Turn {
+    /// The input was read, or a call was answered: there is another turn to make.
+    Answered,
+    /// More input has to come, or what the handler awaits.
+    Waiting,
+    /// What the handler awaits has not come, and no more input does: the suspension was written.
+    Suspended,
+    /// The handler has ended, and the end was written.
+    Ended,
+    /// The attempt has failed, with this.
+    Failed(Error),
+}
+
+/// How an attempt is over, if not by an error of its machine.
+#[derive(Clone, Copy, Debug, PartialEq, Eq)]
+pub enum Finish {
+    Suspended,
+    Ended,
+    /// Memory was refused to the attempt itself. Nothing is written of that.
+    OutOfMemory,
+}
+
+// The error of an attempt for which there was no memory. It takes none.
+fn out_of_memory() -> Error
+    ensures { result ≡ failing.out_of_memory }
+{
+    Error::new(codes::INTERNAL, ByteStr::from_static("out of memory"))
+}
+
+/// What each turn comes to of an attempt that is over.
+pub(crate) fn turn_again(finish: Finish) -> Turn
+    ensures { result ≡ again finish }
+{
+    match finish {
+        Finish::Suspended => Turn::Suspended,
+        Finish::Ended => Turn::Ended,
+        Finish::OutOfMemory => Turn::Failed(out_of_memory()),
+    }
+}
