@@ -1,0 +1,9 @@
+//! A store that is kept in a file, by the database's own files: the one at a path is opened, and in the end what was recorded is left
+//! in that file alone.
+#![tactic(auto)]
+
+mod close;
+mod open;
+
+pub use close::close_file;
+pub use open::{FileNotTaken, NotTaken, open_file};
