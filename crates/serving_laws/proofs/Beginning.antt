@@ -1,0 +1,201 @@
+-- A new attempt that is fed its start frame has read it, or memory was refused.
+use Rattle.std.proofs.Common.{◌≡◌, ◌⊎◌, inl, inr, ◌∙◌, ◌+◌, ℕ, zero, suc, arith, Bool, false, List, [], ◌∷◌, ◌++◌, append-nil, append_assoc, map, length, length-append, Option, Some, None, Result, Ok, Err, refl, sym, ap, subst}
+use Rattle.std.proofs.lemmas.List.{append_cancel_right}
+use Rattle.std.specs.declared.convert.Infallible.{Infallible}
+use Rattle.std.specs.List.{AllByRecursion}
+use Rattle.protocol_errors.specs.declared.error.Error.{Error}
+use Rattle.protocol_stream.specs.Frame.{message_of}
+use Rattle.protocol_stream.specs.Item.{Item, item_at, message}
+use Rattle.protocol_types.specs.declared.message_type.MessageType.TheVariants.{Start}
+use Rattle.protocol_types.specs.declared.version.ContentTypeError.{ContentTypeError}
+use Rattle.protocol_types.specs.declared.version.Version.{Version}
+use Rattle.protocol_types.specs.declared.version.Version.TheVariants.{V1, V2, V3, V4, V5, V6, V7, V8}
+use Rattle.protocol_types.specs.Version.{version_content_type, has_content_type, version_with, content_type_read}
+use Rattle.journal_model.specs.declared.options.SignalDelivery.{SignalDelivery}
+use Rattle.journal_model.specs.Attempt.{input_bytes}
+use Rattle.journal_model.specs.Notification.{Bytes}
+use Rattle.journal_model.specs.Run.{Handler, Invocation}
+use Rattle.journal_model.specs.Start.{start_payload_of}
+use Rattle.input_laws.specs.Message.{InputMessage, CarriesInput, piece_of}
+use Rattle.attempt_model.specs.Machine.{machine_at_start}
+use Rattle.position_laws.specs.Beginning.{AttemptStart, ShowsStart}
+use Rattle.machine_laws.specs.Living.{LiveAttempt, attempt_begun}
+use Rattle.vm_beginning.specs.Beginning.{IsNew, BeginsAs}
+use Rattle.vm_context.specs.Output.{Written}
+use Rattle.vm_core.specs.declared.core_vm.CoreVM.{CoreVM}
+use Rattle.vm_entries.specs.Starting.{IsFresh}
+use Rattle.vm_errors.specs.Failing.{out_of_memory, ended}
+use Rattle.vm_errors.specs.declared.phase.Phase.TheVariants as phases
+use Rattle.vm_feeding.specs.Feeding.{IsFed}
+use Rattle.vm_machine.specs.declared.machine_state.MachineState.{MachineState}
+use Rattle.vm_start.specs.Negotiation.{Negotiates}
+use Rattle.vm_start.specs.declared.negotiation.NegotiationError.{NegotiationError}
+use Rattle.vm_start.specs.declared.negotiation.NegotiationError.TheVariants as refusals
+use Rattle.vm_types.specs.declared.options.VMOptions.{VMOptions}
+use Rattle.feeding_laws.specs.Memory.{FailsForMemory}
+use Rattle.feeding_laws.specs.Messages.{raw_of, MessageFits}
+use Rattle.feeding_laws.specs.Inputs.{bytes_of, IsFedEach}
+use Rattle.feeding_laws.proofs.Inputs.{front, nothing_at, some_is_none}
+use Rattle.feeding_laws.proofs.Beginning.{starts_read_back}
+use Rattle.beginning_laws.specs.Standing.{start_told, CanBegin, IsRunOf, kind_of, new_kind, HasStarted}
+use Rattle.beginning_laws.specs.Laws.{HoldsStart, ReadsOn, StartsAreRead}
+use Rattle.vm_attempt.specs.Attempt.{IsUnasked, FeedsUnless}
+use Rattle.vm_attempt.specs.Output.{output_of}
+use Rattle.vm_attempt.specs.declared.attempt.Attempt.{Attempt}
+use Rattle.vm_attempt.specs.declared.turn.Finish.{Finish}
+use Rattle.serving_laws.specs.Serving.{kind_where, IsFedBy, HasNotRead, HasRead, Serves}
+use Rattle.serving_laws.specs.Keeping.{attempt_started, LacksMemory, BeginsServing}
+
+-- ---- the version
+
+read_of : (version : Version) → content_type_read (version_content_type version) ≡ Ok version
+unfolding has_content_type version_with
+read_of V1 = refl
+read_of V2 = refl
+read_of V3 = refl
+read_of V4 = refl
+read_of V5 = refl
+read_of V6 = refl
+read_of V7 = refl
+read_of V8 = refl
+
+same_version : (version other : Version) → ◌≡◌ {A = Result Version ContentTypeError} (Ok other) (Ok version) → other ≡ version
+same_version version other e = cc
+
+begins_new : (version : Version) (options : VMOptions) (vm : MachineState) (negotiated : Result Version (NegotiationError Infallible)) → Negotiates (Some (version_content_type version)) negotiated
+    → BeginsAs negotiated options (Ok vm) → IsNew version options vm
+begins_new version options vm (Ok other) negotiates begins =
+    subst (λ (v : Version). IsNew v options vm) (same_version version other (sym negotiates.0 ∙ read_of version)) begins
+begins_new version options vm (Err refused) negotiates begins = absurd begins
+
+-- ---- the bytes
+
+nothing_held : (held bytes : List ℕ) → held ++ bytes ≡ [] → held ≡ []
+nothing_held [] bytes e = refl
+nothing_held (byte ∷ held) bytes e = cc
+
+nothing_more : (held bytes : List ℕ) → held ++ bytes ≡ [] → bytes ≡ []
+nothing_more [] bytes e = e
+nothing_more (byte ∷ held) bytes e = cc
+
+pub bytes_append : (some still : List InputMessage) → input_bytes (map piece_of (some ++ still)) ≡ input_bytes (map piece_of some) ++ input_bytes (map piece_of still)
+bytes_append [] still = refl
+bytes_append (one ∷ some) still =
+    ap (λ (bytes : List ℕ). (piece_of one).bytes ++ bytes) (bytes_append some still)
+    ∙ sym (append_assoc (piece_of one).bytes (input_bytes (map piece_of some)) (input_bytes (map piece_of still)))
+
+-- messages without bytes are none
+no_bytes : (some : List InputMessage) → AllByRecursion MessageFits some → input_bytes (map piece_of some) ≡ [] → some ≡ []
+no_bytes [] fit none = refl
+no_bytes (one ∷ some) fit none =
+    absurd (some_is_none (message (raw_of one), input_bytes (map piece_of some)) (sym (front one fit.0 (input_bytes (map piece_of some))) ∙ ap item_at none ∙ nothing_at))
+
+all_in_front : (some more : List InputMessage) → AllByRecursion MessageFits (some ++ more) → AllByRecursion MessageFits some
+all_in_front [] more all = tt
+all_in_front (one ∷ some) more all = (all.0, all_in_front some more all.1)
+
+module _ {H : Type 0} (function : H → Handler) (next : Handler) (version : Version) (options : VMOptions) (starts : StartsAreRead) (start : AttemptStart) (shows : ShowsStart start) (handler : H) (new fed : Attempt H)
+    (is_next : function handler ≡ next) (of_run : IsRunOf start version options) (can : CanBegin start shows) (by : IsFedBy (attempt_begun start)) (unasked : IsUnasked handler new)
+    (is_new : IsNew version options new.vm.state) (does : IsFed start.frame new.vm.state fed.vm.state × (fed ≡ record new { vm = fed.vm })) where
+  abbrev messages : List InputMessage
+  messages = CarriesInput start.new ∷ start.journal
+
+  abbrev Outcome : Type 0
+  Outcome = (output_of fed ≡ []) × (Serves function next version options (attempt_started start) false fed ⊎ LacksMemory fed)
+
+  fresh : IsFresh new.vm.state.version start.given.options.signal_delivery new.vm.state.active
+  fresh =
+      subst (λ (delivery : SignalDelivery). IsFresh new.vm.state.version delivery new.vm.state.active) (sym (ap (λ (given : Invocation). given.options.signal_delivery) of_run.given_is))
+      (subst (λ (v : Version). IsFresh v options.signal_delivery new.vm.state.active) (sym is_new.version_is) is_new.active)
+
+  is_kind : kind_of new.vm.state ≡ kind_where version options false
+  is_kind = λ i. record { version = is_new.version_is i; options = is_new.options_are i; is_input_closed = is_new.opened i; reads = is_new.reads i }
+
+  holds : HoldsStart start (kind_where version options false) messages (bytes_of (start.frame ∷ []) ++ input_bytes (map piece_of messages)) new.vm.state
+  holds = record {
+    awaits = record { kind_is = is_kind; waits = record { phase = is_new.phase; active = fresh } };
+    bytes = ap (λ (held : List ℕ). held ++ (start.frame ++ input_bytes (map piece_of messages))) is_new.decoder;
+    whole = ap item_at is_new.decoder ∙ nothing_at;
+  }
+
+  -- nothing was written
+  output_is : fed.vm.state.active.output.bytes ≡ [] → output_of fed ≡ []
+  output_is none =
+      ap (λ (a : Attempt H). (a.front ++ a.behind) ++ fed.vm.state.active.output.bytes) does.1
+      ∙ ap (λ (front : Bytes). (front ++ new.behind) ++ fed.vm.state.active.output.bytes) unasked.front
+      ∙ ap (λ (behind : Bytes). behind ++ fed.vm.state.active.output.bytes) unasked.behind ∙ none
+
+  -- the start has come whole
+  not_held : HoldsStart start (kind_where version options false) messages (input_bytes (map piece_of messages)) fed.vm.state → ⊥
+  not_held held =
+      let payload = start_payload_of start.new shows.state (1 + length start.journal) shows.shows.retry_count shows.shows.duration in
+      let same : fed.vm.state.decoder ≡ start.frame = append_cancel_right fed.vm.state.decoder start.frame (input_bytes (map piece_of messages)) held.bytes in
+      some_is_none (message (message_of Start payload), [])
+      (sym (starts_read_back start.new shows.state (1 + length start.journal) shows.shows.retry_count shows.shows.duration [] can.ordered can.well.fits).0.front
+      ∙ ap (λ (frame : Bytes). item_at (frame ++ [])) (sym shows.shows.frame_is) ∙ ap item_at (append-nil start.frame ∙ sym same) ∙ held.whole)
+
+  -- and nothing behind it
+  serves : ReadsOn start (start_told start shows) (kind_where version options false) [] messages (input_bytes (map piece_of messages)) fed.vm.state → Outcome
+  serves on = (
+    output_is written,
+    inl (record {
+      handler = ap (λ (a : Attempt H). function a.handler) does.1 ∙ ap function unasked.handler_is ∙ is_next;
+      going = ap (λ (a : Attempt H). a.over) does.1 ∙ unasked.over;
+      kind = on.started.kind_is;
+      of_run = of_run;
+      fed = record { input = by.input; uncancelled = by.uncancelled };
+      started = refl;
+      bytes = none_held;
+      whole = on.whole;
+      stands = inl (record {
+        input = ap (λ (a : Attempt H). a.input) does.1 ∙ unasked.input;
+        answers = ap (λ (a : Attempt H). a.answers) does.1 ∙ unasked.answers;
+        calls = refl;
+        machine = refl;
+        shows = shows;
+        started = subst (λ (read : List InputMessage). HasStarted start (start_told start shows) (kind_where version options false) read fed.vm.state) none_read on.started;
+        unwritten = output_is written;
+      });
+    }),
+  )
+    where
+      written : fed.vm.state.active.output.bytes ≡ []
+      written = ap (λ (w : Written). w.bytes) on.started.output
+
+      both : fed.vm.state.decoder ++ input_bytes (map piece_of on.some) ≡ []
+      both = append_cancel_right (fed.vm.state.decoder ++ input_bytes (map piece_of on.some)) [] (input_bytes (map piece_of on.still))
+          (append_assoc fed.vm.state.decoder (input_bytes (map piece_of on.some)) (input_bytes (map piece_of on.still))
+          ∙ ap (λ (bytes : List ℕ). fed.vm.state.decoder ++ bytes) (sym (bytes_append on.some on.still) ∙ ap (λ (all : List InputMessage). input_bytes (map piece_of all)) (sym on.parts)) ∙ on.bytes)
+
+      none_held : fed.vm.state.decoder ≡ []
+      none_held = nothing_held fed.vm.state.decoder (input_bytes (map piece_of on.some)) both
+
+      none_read : on.some ≡ []
+      none_read = no_bytes on.some (all_in_front on.some on.still (subst (AllByRecursion MessageFits) on.parts by.input.fit)) (nothing_more fed.vm.state.decoder (input_bytes (map piece_of on.some)) both)
+
+  lacks : FailsForMemory new.vm.state fed.vm.state → Outcome
+  lacks failed = (
+    output_is (ap (λ (w : Written). w.bytes) failed.output ∙ ap (λ (w : Written). w.bytes) is_new.active.output),
+    inr failed.phase,
+  )
+
+  begun : HoldsStart start (kind_where version options false) messages (input_bytes (map piece_of messages)) fed.vm.state
+      ⊎ (ReadsOn start (start_told start shows) (kind_where version options false) [] messages (input_bytes (map piece_of messages)) fed.vm.state ⊎ FailsForMemory new.vm.state fed.vm.state) → Outcome
+  begun (inl held) = absurd (not_held held)
+  begun (inr (inl on)) = serves on
+  begun (inr (inr failed)) = lacks failed
+
+  all_begun : Outcome
+  all_begun = begun (starts start shows (kind_where version options false) messages (start.frame ∷ []) (input_bytes (map piece_of messages)) new.vm.state fed.vm.state can by.input holds
+      (new.vm.state, refl, does.0))
+
+pub feeds_new : {H : Type 0} (over : Option Finish) (bytes : Bytes) (before after : Attempt H) → before.over ≡ over → before.over ≡ None → FeedsUnless over bytes before after
+    → IsFed bytes before.vm.state after.vm.state × (after ≡ record before { vm = after.vm })
+feeds_new (Some finish) bytes before after is none does = cc
+feeds_new None bytes before after is none does = does
+
+pub attempts_begin : {H : Type 0} (function : H → Handler) (next : Handler) (version : Version) (options : VMOptions) → StartsAreRead → BeginsServing function next version options
+attempts_begin function next version options starts start shows handler new fed is_next of_run can by begun feeds =
+    all_begun function next version options starts start shows handler new fed is_next of_run can by begun.unasked
+    (begins_new version options new.vm.state begun.begins.negotiated begun.begins.negotiates begun.begins.begins)
+    (feeds_new new.over start.frame new fed refl begun.unasked.over feeds)

@@ -1,0 +1,227 @@
+-- The input of an attempt is closed.
+use Rattle.std.proofs.Common.{◌≡◌, ◌⊎◌, inl, inr, ◌∙◌, ◌<◌, ◌≤◌, ◌^◌, ℕ, zero, suc, arith, Bool, true, false, ◌&&◌, IsUtf8, get_or, List, [], ◌∷◌, ◌++◌, map, length, codes, Option, Some, None, Result, Ok, Err, refl, sym, ap, subst}
+use Rattle.std.proofs.lemmas.Str.{IsUtf8-from_ascii}
+use Rattle.std.proofs.lemmas.Bool.{ltb-true}
+use Rattle.std.specs.List.{AllByRecursion, list_all}
+use Rattle.protocol_wire.specs.Spelling.{varint_spelling_within, varint_spelling, tagged}
+use Rattle.std.specs.Prelude.{nat_lt}
+use Rattle.std.specs.declared.alloc.AllocError.{AllocError}
+use Rattle.protocol_controls.specs.Error.{error_parts, ErrorFits}
+use Rattle.protocol_errors.specs.Error.{plain_error}
+use Rattle.protocol_errors.specs.Fixed.{fixed_code, fixed_text}
+use Rattle.protocol_errors.specs.declared.error.Error.{Error}
+use Rattle.protocol_errors.specs.declared.fixed.FixedError.TheVariants.{InputClosedWhileWaitingEntries}
+use Rattle.protocol_types.specs.declared.version.Version.{Version}
+use Rattle.protocol_wire.specs.Parts.{payload_of}
+use Rattle.protocol_wire.specs.declared.record.TheConstants.{LEVELS}
+use Rattle.journal_model.specs.Event.{Event}
+use Rattle.journal_model.specs.Notification.{Text}
+use Rattle.journal_model.specs.Run.{Handler, Invocation}
+use Rattle.attempt_model.specs.Machine.{Machine}
+use Rattle.machine_laws.specs.Living.{LiveAttempt, HasReadJournal}
+use Rattle.children_laws.specs.Childless.{untracked, childless}
+use Rattle.vm_context.specs.Output.{Written}
+use Rattle.vm_core.specs.declared.core_vm.CoreVM.{CoreVM}
+use Rattle.vm_errors.specs.Failing.{out_of_memory, IsTooLong, Tells, FailsNow, FailsAs}
+use Rattle.vm_errors.specs.Failure.{told_error}
+use Rattle.vm_errors.specs.Phases.{kept_error}
+use Rattle.vm_errors.specs.declared.phase.Phase.{Phase}
+use Rattle.vm_errors.specs.declared.phase.Phase.TheVariants as phases
+use Rattle.vm_feeding.specs.Closing.{is_waiting, input_closed, ClosesWhere, ClosesInput as ClosesMachine}
+use Rattle.vm_feeding.specs.Failing.{HasFailed}
+use Rattle.vm_machine.specs.declared.machine_state.MachineState.{MachineState}
+use Rattle.vm_outcomes.specs.Driven.{IsDriven}
+use Rattle.vm_types.specs.declared.options.VMOptions.{VMOptions}
+use Rattle.beginning_laws.specs.Standing.{start_told, Kind, kind_of, HasStarted}
+use Rattle.protocol_stream.specs.Item.{item_at}
+use Rattle.turn_laws.specs.Turning.{IsNote}
+use Rattle.sending_laws.specs.Sent.{Fails, sent_stream, SentFits, AllFit, frame_meant}
+use Rattle.vm_attempt.specs.Attempt.{ClosesUnless}
+use Rattle.vm_attempt.specs.declared.attempt.Attempt.{Attempt}
+use Rattle.vm_attempt.specs.declared.turn.Finish.{Finish}
+use Rattle.serving_laws.specs.Serving.{kind_where, HasNotRead, HasRead, Serves}
+use Rattle.serving_laws.specs.Keeping.{StaysClosed, ClosesEarly, ClosesServing, WritesNothing}
+use Rattle.serving_laws.proofs.Notes.{TellsNotes, cause_tells, waits_more}
+use Rattle.serving_laws.proofs.Over.{waits_same}
+use Rattle.serving_laws.proofs.Phases.{stage}
+
+abbrev early_error : Error
+early_error = plain_error (fixed_code InputClosedWhileWaitingEntries) (fixed_text InputClosedWhileWaitingEntries)
+
+ascii_at : (bytes : List ℕ) → list_all (λ byte. nat_lt byte 128) bytes ≡ true → (i : ℕ) → get_or bytes i 0 < 128
+ascii_at [] e i = omega arith
+ascii_at (byte ∷ bytes) e i = by_test (nat_lt byte 128) refl e i (ascii_at bytes)
+  where
+    by_test : (b : Bool) → nat_lt byte 128 ≡ b → (b && list_all (λ byte. nat_lt byte 128) bytes) ≡ true → (i : ℕ)
+        → (list_all (λ byte. nat_lt byte 128) bytes ≡ true → (i : ℕ) → get_or bytes i 0 < 128) → get_or (byte ∷ bytes) i 0 < 128
+    by_test true small rest zero later = ltb-true byte 128 small
+    by_test true small rest (suc i) later = later rest i
+    by_test false small rest i later = cc
+
+ascii_text : (bytes : List ℕ) → list_all (λ byte. nat_lt byte 128) bytes ≡ true → IsUtf8 bytes
+ascii_text bytes e = IsUtf8-from_ascii bytes (ascii_at bytes e)
+
+early_short : nat_lt (length (payload_of (error_parts (told_error early_error)))) (2 ^ 32) ≡ true
+unfolding varint_spelling_within varint_spelling tagged
+early_short = refl
+
+memory_short : nat_lt (length (payload_of (error_parts (told_error out_of_memory)))) (2 ^ 32) ≡ true
+unfolding varint_spelling_within varint_spelling tagged
+memory_short = refl
+
+early_fits : (version : Version) → SentFits version (Fails (told_error early_error))
+early_fits version = record {
+  told = record {
+    level = omega arith;
+    code = omega arith;
+    message = ascii_text _ refl;
+    related_command_index = tt;
+    related_command_name = tt;
+    related_command_type = tt;
+    next_retry_delay = tt;
+    behavior = omega arith;
+  };
+  short = ltb-true (length (payload_of (error_parts (told_error early_error)))) (2 ^ 32) early_short;
+}
+
+memory_fits : (version : Version) → SentFits version (Fails (told_error out_of_memory))
+memory_fits version = record {
+  told = record {
+    level = omega arith;
+    code = omega arith;
+    message = ascii_text _ refl;
+    related_command_index = tt;
+    related_command_name = tt;
+    related_command_type = tt;
+    next_retry_delay = tt;
+    behavior = omega arith;
+  };
+  short = ltb-true (length (payload_of (error_parts (told_error out_of_memory)))) (2 ^ 32) memory_short;
+}
+
+told_fits : (old : Written) (told : Error) (new : Written) → Tells early_error old told new → SentFits old.version (Fails (told_error told))
+told_fits old told new (inl tells) = subst (λ (e : Error). SentFits old.version (Fails (told_error e))) (sym tells.0) (early_fits old.version)
+told_fits old told new (inr (inl tells)) =
+    let short : length (payload_of (error_parts (told_error early_error))) < 2 ^ 32 = ltb-true (length (payload_of (error_parts (told_error early_error)))) (2 ^ 32) early_short in
+    let long : 2 ^ 32 ≤ length (payload_of (error_parts (told_error early_error))) = tells.0.1 in
+    absurd (omega (arith, short, long))
+told_fits old told new (inr (inr tells)) = subst (λ (e : Error). SentFits old.version (Fails (told_error e))) (sym tells.0) (memory_fits old.version)
+
+closes_new : {H : Type 0} (over : Option Finish) (before after : Attempt H) → before.over ≡ over → before.over ≡ None → ClosesUnless over before after
+    → ClosesMachine before.vm.state after.vm.state × (after ≡ record before { vm = after.vm })
+closes_new (Some finish) before after is none does = cc
+closes_new None before after is none does = does
+
+closed_driven : (given : Invocation) (m : Machine) (vm : MachineState) → IsDriven given m vm → IsDriven given m (input_closed vm)
+closed_driven given m vm d = record { sees = d.sees; phase = d.phase; version = d.version; written = d.written; id = d.id; cancellation = d.cancellation; reads = d.reads }
+
+module _ {H : Type 0} (function : H → Handler) (next : Handler) (version : Version) (options : VMOptions) (live : LiveAttempt) (is_closed : Bool) (before after : Attempt H)
+    (s : Serves function next version options live is_closed before) (does : ClosesMachine before.vm.state after.vm.state × (after ≡ record before { vm = after.vm })) where
+  abbrev Outcome : Type 0
+  Outcome = StaysClosed function next version options live before after ⊎ ClosesEarly function next version options live before after
+
+  -- ---- its journal was read
+
+  module _ (journal : HasReadJournal live) (active : before.vm.state.phase ≡ phases.Active) where
+    same : after.vm.state ≡ input_closed before.vm.state
+    same = subst (λ (b : Bool). ClosesWhere b (input_closed before.vm.state) after.vm.state) (ap is_waiting active) does.0
+
+    nothing : WritesNothing before after
+    nothing = waits_same before after does.1 (ap (λ (vm : MachineState). vm.active.output.bytes) same)
+
+    closed_kind : kind_of after.vm.state ≡ kind_where version options true
+    closed_kind = ap kind_of same ∙ ap (λ (k : Kind). record k { is_input_closed = true }) s.kind
+
+    stays : HasNotRead function next version options live true after ⊎ HasRead function next version options live after → StaysClosed function next version options live before after
+    stays stands = record {
+      journal = journal;
+      serves = record {
+        handler = ap (λ (a : Attempt H). function a.handler) does.1 ∙ s.handler;
+        going = ap (λ (a : Attempt H). a.over) does.1 ∙ s.going;
+        kind = closed_kind;
+        of_run = s.of_run;
+        fed = s.fed;
+        started = s.started;
+        bytes = ap (λ (vm : MachineState). vm.decoder) same ∙ s.bytes;
+        whole = ap (λ (vm : MachineState). item_at vm.decoder) same ∙ s.whole;
+        stands = stands;
+      };
+      nothing = nothing;
+    }
+
+    stays_unread : HasNotRead function next version options live is_closed before → HasNotRead function next version options live true after
+    stays_unread n = record {
+      input = ap (λ (a : Attempt H). a.input) does.1 ∙ n.input;
+      answers = ap (λ (a : Attempt H). a.answers) does.1 ∙ n.answers;
+      calls = n.calls;
+      machine = n.machine;
+      shows = n.shows;
+      started = subst (λ (vm : MachineState). HasStarted live.start (start_told live.start n.shows) (kind_where version options true) live.read vm) (sym same) (record {
+        kind_is = sym (ap kind_of same) ∙ closed_kind;
+        phase = n.started.phase;
+        start_is = n.started.start_is;
+        commands = n.started.commands;
+        gathers = n.started.gathers;
+        output = n.started.output;
+      });
+      unwritten = nothing ∙ n.unwritten;
+    }
+
+    stays_read : HasRead function next version options live before → HasRead function next version options live after
+    stays_read r = record {
+      journal = r.journal;
+      input = ap (λ (a : Attempt H). a.input) does.1 ∙ r.input;
+      answers = ap (λ (a : Attempt H). a.answers) does.1 ∙ r.answers;
+      driven = subst (λ (vm : MachineState). IsDriven (untracked live.start.given) (childless live.machine) vm) (sym same)
+          (closed_driven (untracked live.start.given) (childless live.machine) before.vm.state r.driven);
+      numbers = r.numbers;
+    }
+
+  -- ---- it was not
+
+  module _ (unread : HasReadJournal live → ⊥) (left : ℕ) (waits : before.vm.state.phase ≡ phases.WaitingReplayEntries left) (n : HasNotRead function next version options live is_closed before) where
+    failed : HasFailed (Ok early_error) (input_closed before.vm.state) after.vm.state
+    failed = subst (λ (b : Bool). ClosesWhere b (input_closed before.vm.state) after.vm.state) (ap is_waiting waits) does.0
+
+    now : FailsNow before.vm.state.version before.vm.state.options.journal_mismatch_retry_behavior (Ok early_error) before.vm.state.active.output failed.answer after.vm.state.phase after.vm.state.active.output
+    now = subst
+        (λ (kept : Option Error). FailsAs before.vm.state.version before.vm.state.options.journal_mismatch_retry_behavior (Ok early_error) kept before.vm.state.phase before.vm.state.active.output
+        failed.answer after.vm.state.phase after.vm.state.active.output)
+        (ap kept_error waits) failed.fails.fails
+
+    of_version : before.vm.state.active.output.version ≡ version
+    of_version = ap (λ (w : Written). w.version) n.started.output
+
+    told : TellsNotes before.vm.state.active.output now.before
+    told =
+        cause_tells before.vm.state.version before.vm.state.options.journal_mismatch_retry_behavior (Ok early_error) before.vm.state.active.output now.told now.before
+        (ap (λ (w : Written). w.is_closed) n.started.output) (told_fits before.vm.state.active.output now.told now.before now.tells) now.tells
+
+    early : ClosesEarly function next version options live before after
+    early = record {
+      unread = unread;
+      error = now.told;
+      failed = now.phase_is;
+      sent = told.coming;
+      fit = subst (λ (v : Version). AllFit v told.coming) of_version told.fit;
+      output = waits_more version told.coming before after (ap (λ (a : Attempt H). a.front ++ a.behind) does.1) written;
+      notes = subst (λ (v : Version). AllByRecursion IsNote (map (frame_meant v) told.coming)) of_version told.notes;
+    }
+      where
+        written : after.vm.state.active.output.bytes ≡ before.vm.state.active.output.bytes ++ sent_stream version told.coming
+        written =
+            ap (λ (w : Written). w.bytes) now.output ∙ told.written.bytes
+            ∙ ap (λ (v : Version). before.vm.state.active.output.bytes ++ sent_stream v told.coming) of_version
+
+  by_stage : (n : HasNotRead function next version options live is_closed before)
+      → (HasReadJournal live × (before.vm.state.phase ≡ phases.Active)) ⊎ ((HasReadJournal live → ⊥) × ((left : ℕ) × (before.vm.state.phase ≡ phases.WaitingReplayEntries left))) → Outcome
+  by_stage n (inl read) = inl (stays read.0 read.1 (inl (stays_unread read.0 read.1 n)))
+  by_stage n (inr waits) = inr (early waits.0 waits.1.0 waits.1.1 n)
+
+  stood : HasNotRead function next version options live is_closed before ⊎ HasRead function next version options live before → Outcome
+  stood (inl n) = by_stage n (stage live before.vm.state.phase s.fed.input n.started.phase)
+  stood (inr r) = inl (stays r.journal r.driven.phase (inr (stays_read r.journal r.driven.phase r)))
+
+pub closes_keep : {H : Type 0} (function : H → Handler) (next : Handler) (version : Version) (options : VMOptions) → ClosesServing function next version options
+closes_keep function next version options id events live is_closed before after l s closes =
+    stood function next version options live is_closed before after s (closes_new before.over before after refl s.going closes) s.stands

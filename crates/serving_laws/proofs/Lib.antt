@@ -1,0 +1,9 @@
+pub mod Over
+pub mod Taking
+pub mod Driven
+pub mod Messages
+pub mod Beginning
+pub mod Feeding
+pub mod Phases
+pub mod Notes
+pub mod Closing

@@ -1,0 +1,78 @@
+-- What a machine that fails has written says nothing of requests, and so is of the run.
+use Rattle.std.proofs.Common.{◌≡◌, ◌⊎◌, inl, inr, ◌∙◌, ◌<◌, ◌^◌, ℕ, Bool, false, List, [], ◌∷◌, ◌++◌, append-nil, append_assoc, map, length, Result, Ok, Err, refl, sym, ap, subst}
+use Rattle.std.specs.List.{AllByRecursion}
+use Rattle.std.specs.declared.alloc.AllocError.{AllocError}
+use Rattle.protocol_errors.specs.declared.error.Error.{Error}
+use Rattle.protocol_types.specs.Version.{version_number}
+use Rattle.protocol_types.specs.declared.version.Version.{Version}
+use Rattle.journal_model.specs.Attempt.{is_input_closed}
+use Rattle.journal_model.specs.Event.{Event, Frame}
+use Rattle.journal_model.specs.Headline.{arrivals_handed}
+use Rattle.journal_model.specs.Journal.{recorded_requests}
+use Rattle.journal_model.specs.Notification.{Text}
+use Rattle.journal_model.specs.Run.{Handler, Invocation}
+use Rattle.turn_laws.specs.Sending.{requests_sent, FollowsSo}
+use Rattle.turn_laws.specs.Turning.{IsNote, notes}
+use Rattle.turn_laws.proofs.Sending.{sends-append}
+use Rattle.turn_laws.proofs.Turning.{writes_send}
+use Rattle.vm_context.specs.Output.{Written}
+use Rattle.vm_errors.specs.Failing.{TellsCause, Tells, Writes}
+use Rattle.vm_errors.specs.Failure.{told_error, failed_with}
+use Rattle.vm_types.specs.declared.options.JournalMismatchRetryBehavior.{JournalMismatchRetryBehavior}
+use Rattle.sending_laws.specs.Sent.{Sent, Fails, sent_stream, SentFits, AllFit, frame_meant}
+use Rattle.sending_laws.specs.Writing.{Sends}
+use Rattle.sending_laws.proofs.Writing.{frames_are_written}
+use Rattle.vm_attempt.specs.Output.{output_of}
+use Rattle.vm_attempt.specs.declared.attempt.Attempt.{Attempt}
+use Rattle.serving_laws.specs.Keeping.{NotesFollow}
+
+pub notes_follow : NotesFollow
+notes_follow next given id events coming frames f all = record {
+  accepted = f.accepted;
+  holds = f.holds;
+  flies = λ attempt live.
+      sends-append next given (arrivals_handed events id) (is_input_closed events id) (recorded_requests events id) coming frames (f.flies attempt live)
+      (writes_send next given (arrivals_handed events id) (is_input_closed events id) (recorded_requests events id ++ requests_sent coming) frames (notes frames all));
+}
+
+-- ---- what a machine tells that fails
+
+-- frames that fit are behind what was written, and say nothing of requests
+pub record TellsNotes (old new : Written) : Type 0 where
+  pub coming : List Sent
+  pub fit : AllFit old.version coming
+  pub written : Sends coming old new
+  pub notes : AllByRecursion IsNote (map (frame_meant old.version) coming)
+
+tells_none : (old new : Written) → new ≡ old → TellsNotes old new
+tells_none old new same = record {
+  coming = [];
+  fit = tt;
+  written = record { version = ap (λ (w : Written). w.version) same; bytes = ap (λ (w : Written). w.bytes) same ∙ sym (append-nil old.bytes) };
+  notes = tt;
+}
+
+tells_one : (error : Error) (old new : Written) → old.is_closed ≡ false → SentFits old.version (Fails (told_error error)) → Writes error old new → TellsNotes old new
+tells_one error old new opens fits writes =
+    let one = frames_are_written.errors error old new opens fits.told fits.short writes in
+    record { coming = Fails (told_error error) ∷ []; fit = (one.fits, tt); written = one.sends; notes = (tt, tt) }
+
+tells_of : (error : Error) (old : Written) (told : Error) (new : Written) → old.is_closed ≡ false → SentFits old.version (Fails (told_error told)) → Tells error old told new → TellsNotes old new
+tells_of error old told new opens fits (inl tells) = tells_one told old new opens fits (subst (λ (e : Error). Writes e old new) (sym tells.0) tells.1)
+tells_of error old told new opens fits (inr (inl tells)) = tells_one told old new opens fits tells.2
+tells_of error old told new opens fits (inr (inr tells)) = tells_none old new tells.1
+
+pub cause_tells : (version : Version) (asked : JournalMismatchRetryBehavior) (cause : Result Error AllocError) (old : Written) (told : Error) (new : Written) → old.is_closed ≡ false
+    → SentFits old.version (Fails (told_error told)) → TellsCause version asked cause old told new → TellsNotes old new
+cause_tells version asked (Ok error) old told new opens fits tells = tells_of (failed_with (version_number version) asked error) old told new opens fits tells
+cause_tells version asked (Err refused) old told new opens fits tells = tells_none old new tells.1
+
+-- ---- what waits behind that
+
+module _ {H : Type 0} where
+  -- what the machine has written more is behind what waited
+  pub waits_more : (version : Version) (coming : List Sent) (before after : Attempt H) → after.front ++ after.behind ≡ before.front ++ before.behind
+      → after.vm.state.active.output.bytes ≡ before.vm.state.active.output.bytes ++ sent_stream version coming → output_of after ≡ output_of before ++ sent_stream version coming
+  waits_more version coming before after same more =
+      ap (λ (bytes : List ℕ). bytes ++ after.vm.state.active.output.bytes) same ∙ ap (λ (bytes : List ℕ). (before.front ++ before.behind) ++ bytes) more
+      ∙ sym (append_assoc (before.front ++ before.behind) before.vm.state.active.output.bytes (sent_stream version coming))

@@ -1,0 +1,3 @@
+pub mod Serving
+pub mod Keeping
+pub mod Laws

@@ -1,0 +1,115 @@
+-- How an attempt over a machine stands to the live attempt of which the definitions speak.
+use Rattle.std.specs.Prelude.{◌≡◌, ◌⊎◌, ◌≤◌, ◌-◌, ◌^◌, ℕ, Bool, true, false, List, [], ◌++◌, map, Option, Some, None}
+use Rattle.std.specs.List.{AllByRecursion, list_any}
+use Rattle.protocol_wire.specs.declared.record.TheConstants.{LEVELS}
+use Rattle.protocol_stream.specs.Item.{item_at}
+use Rattle.protocol_types.specs.declared.version.Version.{Version}
+use Rattle.protocol_errors.specs.declared.error.Error.{Error}
+use Rattle.journal_model.specs.declared.call.Answer.{Answer}
+use Rattle.journal_model.specs.declared.call.Call.{Call}
+use Rattle.journal_model.specs.declared.handler.Input.{Input}
+use Rattle.journal_model.specs.declared.options.RunOptions.{RunOptions}
+use Rattle.journal_model.specs.Await.{awaited_tree}
+use Rattle.journal_model.specs.Notification.{Arrival}
+use Rattle.journal_model.specs.History.{answers_of}
+use Rattle.journal_model.specs.Request.{Request}
+use Rattle.journal_model.specs.State.{StartState}
+use Rattle.journal_model.specs.Run.{Handler, Invocation, run}
+use Rattle.input_laws.specs.Message.{InputMessage, arrivals_carried}
+use Rattle.attempt_model.specs.Requests.{Commands, requests_by}
+use Rattle.attempt_model.specs.Machine.{Machine, machine_at_start}
+use Rattle.position_laws.specs.Beginning.{ShowsStart}
+use Rattle.position_laws.specs.Reading.{with_messages}
+use Rattle.machine_laws.specs.Asking.{AsksByText}
+use Rattle.machine_laws.specs.Living.{LiveAttempt, HasReadJournal}
+use Rattle.children_laws.specs.Childless.{untracked, childless, is_cancellation}
+use Rattle.request_laws.specs.Calls.{IsTypedCall}
+use Rattle.handle_laws.specs.Trees.{IsWithin, SlotsFit}
+use Rattle.sending_laws.specs.Sent.{is_recorded}
+use Rattle.beginning_laws.specs.Standing.{IsInputOf, IsRunOf, Kind, kind_of, start_told, HasStarted}
+use Rattle.vm_ephemeral.specs.Reads.{no_reads}
+use Rattle.vm_errors.specs.declared.phase.Phase.TheVariants as phases
+use Rattle.vm_machine.specs.declared.machine_state.MachineState.{MachineState}
+use Rattle.vm_outcomes.specs.Driven.{IsDriven}
+use Rattle.vm_types.specs.declared.options.VMOptions.{VMOptions}
+use Rattle.vm_attempt.specs.Output.{output_of}
+use Rattle.vm_attempt.specs.declared.attempt.Attempt.{Attempt}
+use Rattle.vm_attempt.specs.declared.turn.Finish.{Finish}
+
+-- ---- its handler
+
+-- whatever was asked and recorded before, the store records what the call asks for
+abbrev pub IsOfStore : Call → Type 0
+IsOfStore call = (start : StartState) (done : List Request) (left : Commands) (completion : ℕ)
+    → AllByRecursion (λ request. is_recorded request ≡ true) (requests_by start done left completion call)
+
+-- what it awaits is nested no deeper than can be told
+abbrev pub AwaitsWithin : RunOptions → Call → Type 0
+AwaitsWithin options (Call.Await tree) = IsWithin (LEVELS - 1) (awaited_tree options.implicit_cancellation tree)
+AwaitsWithin options call = Unit {0}
+
+-- Each call of it is of its type, is one that the store carries out, and awaits what can be told; its keys are text.
+pub record IsCarriedOut (options : RunOptions) (next : Handler) : Type 0 where
+  pub typed : (input : Input) (answers : List Answer) → IsTypedCall (next input answers)
+  pub recorded : (input : Input) (answers : List Answer) → IsOfStore (next input answers)
+  pub within : (input : Input) (answers : List Answer) → AwaitsWithin options (next input answers)
+  pub by_text : (given : Invocation) (arrivals : List Arrival) → AsksByText next given arrivals
+
+-- ---- its input
+
+-- its messages are the input, the journal and later arrivals, as the protocol can carry them, and no cancellation is among them
+pub record IsFedBy (live : LiveAttempt) : Type 0 where
+  pub input : IsInputOf live.start (live.read ++ live.unread)
+  pub uncancelled : list_any is_cancellation (arrivals_carried (live.read ++ live.unread)) ≡ false
+
+-- ---- its machine
+
+-- what it is beside what it is fed: a handler makes no read of which nothing is recorded
+abbrev pub kind_where : Version → VMOptions → (is_closed : Bool) → Kind
+kind_where version options is_closed = record { version = version; options = options; is_input_closed = is_closed; reads = no_reads }
+
+-- the numbers that were taken, and those that handles stand for, can be told
+pub record HasNumbers (m : Machine) : Type 0 where
+  pub completions : m.completions ≤ 2 ^ 32
+  pub signals : m.signals ≤ 2 ^ 32
+  pub slots : SlotsFit m.slots
+
+module _ {H : Type 0} (function : H → Handler) (next : Handler) (version : Version) (options : VMOptions) where
+  -- its input was not read, so its handler was asked nothing: its machine keeps the messages that have come
+  pub record HasNotRead (live : LiveAttempt) (is_closed : Bool) (a : Attempt H) : Type 0 where
+    pub input : a.input ≡ None
+    pub answers : a.answers ≡ []
+    pub calls : live.calls ≡ 0
+    pub machine : live.machine ≡ with_messages (machine_at_start live.start.shown [] []) live.read
+    pub shows : ShowsStart live.start
+    pub started : HasStarted live.start (start_told live.start shows) (kind_where version options is_closed) live.read a.vm.state
+    pub unwritten : output_of a ≡ []
+
+  -- its input was read: calls see its machine, which tracks no child, and what its handler was answered is what the run over the
+  -- arrivals read has answered
+  pub record HasRead (live : LiveAttempt) (a : Attempt H) : Type 0 where
+    pub journal : HasReadJournal live
+    pub input : a.input ≡ Some live.start.given.input
+    pub answers : a.answers ≡ answers_of (run next live.start.given (arrivals_carried live.read) live.calls).steps
+    pub driven : IsDriven (untracked live.start.given) (childless live.machine) a.vm.state
+    pub numbers : HasNumbers live.machine
+
+  -- the attempt is the live one, and not over: it is this handler's, it holds these bytes, and no whole message among them
+  pub record Serves (live : LiveAttempt) (is_closed : Bool) (a : Attempt H) : Type 0 where
+    pub handler : function a.handler ≡ next
+    pub going : a.over ≡ None
+    pub kind : kind_of a.vm.state ≡ kind_where version options is_closed
+    pub of_run : IsRunOf live.start version options
+    pub fed : IsFedBy live
+    pub started : live.bytes ≡ live.held
+    pub bytes : a.vm.state.decoder ≡ live.held
+    pub whole : item_at a.vm.state.decoder ≡ None
+    pub stands : HasNotRead live is_closed a ⊎ HasRead live a
+
+-- ---- behind its end
+
+module _ {H : Type 0} where
+  -- it writes nothing more: it is over, or its machine has failed
+  pub data IsOver (a : Attempt H) : Type 0 where
+    finished : (finish : Finish) → a.over ≡ Some finish → IsOver a
+    machine_failed : (error : Error) → a.vm.state.phase ≡ phases.Failed error → IsOver a

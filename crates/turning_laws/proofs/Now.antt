@@ -1,0 +1,130 @@
+-- What is known of a machine of whose attempt the input was read, at a turn.
+use Rattle.std.proofs.Common.{◌≡◌, ◌⊎◌, inl, inr, ◌∙◌, ℕ, Bool, false, ◌||◌, List, [], ◌∷◌, ◌++◌, append-nil, map, length, Option, Some, None, refl, sym, ap, subst}
+use Rattle.std.specs.List.{AllByRecursion, list_any}
+use Rattle.protocol_types.specs.Version.{version_number}
+use Rattle.protocol_types.specs.declared.version.Version.{Version}
+use Rattle.journal_model.specs.declared.call.Answer.{Answer}
+use Rattle.journal_model.specs.declared.call.Call.{Call}
+use Rattle.journal_model.specs.declared.options.ImplicitCancellationOption.{ImplicitCancellationOption}
+use Rattle.journal_model.specs.declared.options.ImplicitCancellationOption.TheVariants.{Disabled, Enabled}
+use Rattle.journal_model.specs.declared.options.SignalDelivery.TheVariants.{Queued}
+use Rattle.protocol_stream.specs.Item.{item_at}
+use Rattle.journal_model.specs.Attempt.{arrivals_within, input_left, is_input_closed}
+use Rattle.journal_model.specs.Await.{child_of}
+use Rattle.journal_model.specs.Event.{Event}
+use Rattle.journal_model.specs.History.{answers_of}
+use Rattle.journal_model.specs.Notification.{Text, Arrival}
+use Rattle.journal_model.specs.Request.{Request}
+use Rattle.journal_model.specs.Run.{Handler, Invocation, Progress}
+use Rattle.input_laws.specs.Message.{InputMessage, piece_of, arrivals_carried, requests_carried}
+use Rattle.input_laws.proofs.Telling.{arrivals_carried-append}
+use Rattle.turn_laws.specs.Sending.{FollowsSo}
+use Rattle.attempt_model.specs.Machine.{Machine, Reply, reply_to}
+use Rattle.attempt_model.specs.Standing.{Fits, next_call, RepliesAsRun}
+use Rattle.attempt_calls.proofs.Simulating.{simulates}
+use Rattle.attempt_laws.proofs.Coming.{kinds_by_asking}
+use Rattle.position_laws.specs.Reading.{IsInRun}
+use Rattle.machine_laws.specs.Living.{LiveAttempt, IsLiveMachine}
+use Rattle.machine_laws.specs.Laws.{StandsWithJournal, JournalsStand, KeepsOn, MachinesKeepOn}
+use Rattle.children_laws.specs.Childless.{without_children, untracked, childless, childless_reply, is_cancellation}
+use Rattle.children_laws.proofs.Coming.{next_replies_are_same}
+use Rattle.request_laws.specs.Calls.{IsTypedCall}
+use Rattle.vm_commands.specs.HeaderEquality.{same_header}
+use Rattle.vm_commands.proofs.Comparing.{compares_reflexively}
+use Rattle.vm_machine.specs.Calls.{checks_off}
+use Rattle.vm_machine.specs.declared.machine_state.MachineState.{MachineState}
+use Rattle.vm_outcomes.specs.Driven.{IsDriven, TracksNone}
+use Rattle.vm_types.specs.Options.{run_options}
+use Rattle.vm_types.specs.declared.options.VMOptions.{VMOptions}
+use Rattle.beginning_laws.specs.Standing.{kind_of}
+use Rattle.feeding_laws.proofs.Holding.{no_arrival_is_held}
+use Rattle.vm_attempt.specs.declared.attempt.Attempt.{Attempt}
+use Rattle.serving_laws.specs.Serving.{IsCarriedOut, IsOfStore, AwaitsWithin, HasNumbers, kind_where, HasRead, Serves}
+use Rattle.serving_laws.specs.Keeping.{IsLiveAt}
+use Rattle.serving_laws.proofs.Messages.{unread_fit}
+
+-- what its requests are compared by
+abbrev pub compares : MachineState → Call → Request → Request → Bool
+compares vm = same_header (checks_off vm.options.non_determinism_checks)
+
+-- the call that the handler makes next, and what the abstract machine replies
+abbrev pub call_of : (next : Handler) (live : LiveAttempt) → IsInRun next live.start.given live.read live.unread live.calls live.machine → Call
+call_of next live at = next_call next live.start.given at.stands.steps
+
+abbrev pub reply_at : (next : Handler) (live : LiveAttempt) (vm : MachineState) → IsInRun next live.start.given live.read live.unread live.calls live.machine → Reply
+reply_at next live vm at = reply_to (compares vm) live.start.given live.machine (call_of next live at)
+
+pub record Now (next : Handler) (version : Version) (options : VMOptions) (id : Text) (events : List Event) (live : LiveAttempt) (vm : MachineState) : Type 0 where
+  pub at : IsInRun next live.start.given live.read live.unread live.calls live.machine
+  pub keeps : KeepsOn (compares vm) next (run_options options) options.fallback_random_seed id events live at
+  pub whole : arrivals_within (map piece_of live.unread) (length live.held) ≡ 0
+  pub follows : FollowsSo next live.start.given id events live.coming
+  pub kind : kind_of vm ≡ kind_where version options (is_input_closed events id)
+  pub driven : IsDriven (untracked live.start.given) (childless live.machine) vm
+  pub numbers : HasNumbers live.machine
+  pub typed : IsTypedCall (call_of next live at)
+  pub recorded : IsOfStore (call_of next live at)
+  pub within : AwaitsWithin (run_options options) (call_of next live at)
+  pub of_options : live.start.given.options ≡ run_options options
+  pub of_version : live.start.given.version ≡ version_number version
+  pub same : reply_to (compares vm) (untracked live.start.given) (childless live.machine) (call_of next live at) ≡ childless_reply (reply_at next live vm at)
+  pub as_run : RepliesAsRun next live.start.given (requests_carried live.read) (arrivals_carried live.read) live.calls (reply_at next live vm at)
+
+-- ---- where the input was read
+
+none_in_front : (xs ys : List Arrival) → list_any is_cancellation (xs ++ ys) ≡ false → list_any is_cancellation xs ≡ false
+none_in_front [] ys none = refl
+none_in_front (x ∷ xs) ys none = go (is_cancellation x) none (none_in_front xs ys)
+  where
+    go : (b : Bool) → (b || list_any is_cancellation (xs ++ ys)) ≡ false → (list_any is_cancellation (xs ++ ys) ≡ false → list_any is_cancellation xs ≡ false) → (b || list_any is_cancellation xs) ≡ false
+    go false e rest = rest e
+    go _ e rest = cc
+
+pub tracks_none : (given : Invocation) (m : Machine) (call : Call) → TracksNone (untracked given) m call
+tracks_none given m call = go given.options.implicit_cancellation
+  where
+    go : (option : ImplicitCancellationOption) → child_of (without_children option) m.completions call ≡ []
+    go Disabled = refl
+    go (Enabled calls sends) = refl
+
+module _ {H : Type 0} (function : H → Handler) (next : Handler) (version : Version) (options : VMOptions) (stand : JournalsStand) (keep_on : MachinesKeepOn) (id : Text) (events : List Event) (live : LiveAttempt)
+    (before : Attempt H) (queued : options.signal_delivery ≡ Queued) (carried : IsCarriedOut (run_options options) next) (f : FollowsSo next live.start.given id events live.coming)
+    (l : IsLiveAt function next version options id events live) (s : Serves function next version options live (is_input_closed events id) before)
+    (r : HasRead function next version options live before) where
+  stands : StandsWithJournal next (run_options options) live
+  stands = stand next (run_options options) options.fallback_random_seed id events live f.accepted l r.journal
+
+  fits : Fits next live.start.given (requests_carried live.read) (arrivals_carried live.read)
+  fits = stands.fits queued (kinds_by_asking next live.start.given (arrivals_carried live.read) (stands.asked (carried.by_text live.start.given (arrivals_carried live.read))))
+
+  no_cancellation : list_any is_cancellation (arrivals_carried live.read) ≡ false
+  no_cancellation =
+      none_in_front (arrivals_carried live.read) (arrivals_carried live.unread)
+      (ap (λ (arrivals : List Arrival). list_any is_cancellation arrivals) (sym (arrivals_carried-append live.read live.unread)) ∙ s.fed.uncancelled)
+
+  pub now : Now next version options id events live before.vm.state
+  now = record {
+    at = stands.at;
+    keeps = keep_on (compares before.vm.state) next (run_options options) options.fallback_random_seed id events live
+        (compares_reflexively (checks_off before.vm.state.options.non_determinism_checks)) f l s.started fits stands.at;
+    whole = no_arrival_is_held live.unread live.held (input_left events id) (unread_fit live r.journal s.fed.input) l.reads.bytes
+        (ap item_at (sym s.bytes) ∙ s.whole);
+    follows = f;
+    kind = s.kind;
+    driven = r.driven;
+    numbers = r.numbers;
+    typed = carried.typed live.start.given.input (answers_of stands.at.stands.steps);
+    recorded = carried.recorded live.start.given.input (answers_of stands.at.stands.steps);
+    within = carried.within live.start.given.input (answers_of stands.at.stands.steps);
+    of_options = ap (λ (given : Invocation). given.options) s.of_run.given_is;
+    of_version = ap (λ (given : Invocation). given.version) s.of_run.given_is ∙ s.of_run.version_is;
+    same = next_replies_are_same (compares before.vm.state) next live.start.given (requests_carried live.read) (arrivals_carried live.read) live.calls live.machine
+        (compares_reflexively (checks_off before.vm.state.options.non_determinism_checks)) fits stands.at.stands no_cancellation;
+    as_run = simulates (compares before.vm.state) next live.start.given (requests_carried live.read) (arrivals_carried live.read) live.calls live.machine
+        (compares_reflexively (checks_off before.vm.state.options.non_determinism_checks)) fits stands.at.stands;
+  }
+
+  pub same_call : (now : Now next version options id events live before.vm.state) → function before.handler live.start.given.input before.answers ≡ call_of next live now.at
+  same_call n =
+      ap (λ (handler : Handler). handler live.start.given.input before.answers) s.handler
+      ∙ ap (λ (answers : List Answer). next live.start.given.input answers) (r.answers ∙ ap (λ (p : Progress). answers_of p.steps) n.at.stands.going)

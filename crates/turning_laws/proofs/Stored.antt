@@ -1,0 +1,63 @@
+-- What a turn sends asks for what a store records.
+use Rattle.std.proofs.Common.{◌≡◌, ◌⊎◌, inl, inr, ◌∙◌, ℕ, Bool, true, false, if◌then◌else◌, List, [], ◌∷◌, map, Option, refl, sym, ap, subst}
+use Rattle.std.specs.List.{AllByRecursion}
+use Rattle.protocol_types.specs.declared.version.Version.{Version}
+use Rattle.journal_model.specs.AwaitTree.{AwaitTree}
+use Rattle.journal_model.specs.Event.{Frame}
+use Rattle.journal_model.specs.Request.{Request}
+use Rattle.journal_model.specs.declared.notification.NotificationId.{NotificationId}
+use Rattle.turn_laws.specs.Turning.{IsNote}
+use Rattle.attempt_model.specs.Machine.{Machine, Reply, Answered, AwaitsTree, AwaitsChild, Finished, FailedBy}
+use Rattle.position_laws.specs.Replies.{SendsWaiting, SendsReply}
+use Rattle.sending_laws.specs.Sent.{Sent, Asks, Awaits, Suspends, Fails, Ends, is_recorded, frame_meant}
+use Rattle.sending_laws.specs.Taking.{IsOfStore}
+
+abbrev IsAccepted : Frame → Type 0
+IsAccepted Frame.NotAccepted = ⊥
+IsAccepted _ = Unit {0}
+
+recorded_of : (b : Bool) (request : Request) → IsAccepted (if b then Frame.Command request else Frame.NotAccepted) → b ≡ true
+recorded_of true request h = refl
+recorded_of false request h = absurd h
+
+accepted_of : (version : Version) (coming : List Sent) → AllByRecursion IsAccepted (map (frame_meant version) coming) → AllByRecursion IsOfStore coming
+accepted_of version [] all = tt
+accepted_of version (Asks request ∷ coming) all = (recorded_of (is_recorded request) request all.0, accepted_of version coming all.1)
+accepted_of version (Awaits tree ∷ coming) all = (tt, accepted_of version coming all.1)
+accepted_of version (Suspends tree ∷ coming) all = (tt, accepted_of version coming all.1)
+accepted_of version (Fails error ∷ coming) all = (tt, accepted_of version coming all.1)
+accepted_of version (Ends ∷ coming) all = (tt, accepted_of version coming all.1)
+
+note_accepted : (frame : Frame) → IsNote frame → IsAccepted frame
+note_accepted Frame.AwaitingOn note = tt
+note_accepted (Frame.RunOutcome completion value told) note = tt
+note_accepted (Frame.Error code message behavior delay) note = tt
+note_accepted _ note = absurd note
+
+notes_accepted : (frames : List Frame) → AllByRecursion IsNote frames → AllByRecursion IsAccepted frames
+notes_accepted [] all = tt
+notes_accepted (frame ∷ frames) all = (note_accepted frame all.0, notes_accepted frames all.1)
+
+commands_accepted : (requests : List Request) → AllByRecursion IsAccepted (map Frame.Command requests)
+commands_accepted [] = tt
+commands_accepted (request ∷ requests) = (tt, commands_accepted requests)
+
+waiting_accepted : (version : ℕ) (is_closed : Bool) (tree : AwaitTree (Option NotificationId)) (frames : List Frame) → SendsWaiting version is_closed tree frames → AllByRecursion IsAccepted frames
+waiting_accepted version false tree frames (inl none) = subst (AllByRecursion IsAccepted) (sym none) tt
+waiting_accepted version false tree frames (inr told) = subst (AllByRecursion IsAccepted) (sym told) (tt, tt)
+waiting_accepted version true tree frames sends = subst (AllByRecursion IsAccepted) (sym sends.1) (tt, tt)
+
+reply_accepted : (version : ℕ) (is_closed : Bool) (m : Machine) (reply : Reply) (frames : List Frame) → SendsReply version is_closed m reply frames → AllByRecursion IsAccepted frames
+reply_accepted version is_closed m (Answered answer after) frames sends = subst (AllByRecursion IsAccepted) (sym sends.2) (commands_accepted sends.0)
+reply_accepted version is_closed m (AwaitsTree tree after) frames sends = waiting_accepted version is_closed _ frames sends
+reply_accepted version is_closed m (AwaitsChild child after) frames sends = waiting_accepted version is_closed _ frames sends
+reply_accepted version is_closed m (Finished after) frames sends = subst (AllByRecursion IsAccepted) (sym sends) (tt, tt)
+reply_accepted version is_closed m (FailedBy fault) frames sends = notes_accepted frames sends
+
+-- of a reply
+pub sent_of_store : (number : ℕ) (is_closed : Bool) (m : Machine) (reply : Reply) (version : Version) (coming : List Sent) → SendsReply number is_closed m reply (map (frame_meant version) coming) → AllByRecursion IsOfStore coming
+sent_of_store number is_closed m reply version coming sends = accepted_of version coming (reply_accepted number is_closed m reply (map (frame_meant version) coming) sends)
+
+-- and of what says nothing of requests
+pub notes_of_store : (version : Version) (coming : List Sent) → AllByRecursion IsNote (map (frame_meant version) coming) → AllByRecursion IsOfStore coming
+notes_of_store version coming all = accepted_of version coming (notes_accepted (map (frame_meant version) coming) all)

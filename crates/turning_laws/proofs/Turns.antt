@@ -1,0 +1,214 @@
+-- A turn of an attempt, wherever it stands.
+use Rattle.std.proofs.Common.{◌≡◌, ◌⊎◌, inl, inr, ◌∙◌, ◌+◌, ℕ, suc, Bool, true, false, List, [], ◌∷◌, ◌++◌, append-nil, map, Option, Some, None, Result, Ok, Err, refl, sym, ap, subst}
+use Rattle.protocol_stream.specs.Item.{item_at}
+use Rattle.protocol_errors.specs.declared.error.Error.{Error}
+use Rattle.protocol_types.specs.declared.version.Version.{Version}
+use Rattle.journal_model.specs.declared.call.Answer.{Answer}
+use Rattle.journal_model.specs.declared.call.Call.{Call}
+use Rattle.journal_model.specs.declared.handler.Input.{Input}
+use Rattle.journal_model.specs.declared.options.SignalDelivery.TheVariants.{Queued}
+use Rattle.journal_model.specs.Attempt.{is_input_closed}
+use Rattle.journal_model.specs.Event.{Event, Frame}
+use Rattle.journal_model.specs.History.{answers_of}
+use Rattle.journal_model.specs.Notification.{Text}
+use Rattle.journal_model.specs.Run.{Handler, run}
+use Rattle.input_laws.specs.Message.{arrivals_carried}
+use Rattle.turn_laws.specs.Sending.{FollowsSo}
+use Rattle.attempt_model.specs.Machine.{Machine, machine_at_start}
+use Rattle.position_laws.specs.Reading.{with_messages}
+use Rattle.machine_laws.specs.Living.{LiveAttempt, HasReadJournal, after_turn}
+use Rattle.machine_laws.specs.Laws.{JournalsStand, MachinesKeepOn}
+use Rattle.children_laws.specs.Childless.{untracked, childless}
+use Rattle.vm_context.specs.Output.{Written}
+use Rattle.vm_errors.specs.Failing.{out_of_memory, ended}
+use Rattle.vm_errors.specs.declared.phase.Phase.{Phase}
+use Rattle.vm_errors.specs.declared.phase.Phase.TheVariants as phases
+use Rattle.vm_feeding.specs.Asking.{IsReady}
+use Rattle.vm_machine.specs.declared.machine_state.MachineState.{MachineState}
+use Rattle.vm_outcomes.specs.Carrying.{Comes}
+use Rattle.vm_outcomes.specs.Causes.{NoMemory}
+use Rattle.vm_outcomes.specs.Driven.{IsDriven}
+use Rattle.vm_outcomes.specs.declared.outcome.CallOutcome.{CallOutcome}
+use Rattle.vm_outcomes.specs.declared.outcome.CallOutcome.TheVariants as outcomes
+use Rattle.vm_types.specs.Options.{run_options}
+use Rattle.vm_types.specs.declared.options.VMOptions.{VMOptions}
+use Rattle.beginning_laws.specs.Standing.{IsInputOf, kind_of}
+use Rattle.beginning_laws.specs.Laws.{AnswersInput, RefusesInput, InputsAreAnswered}
+use Rattle.vm_attempt.specs.Output.{output_of}
+use Rattle.vm_attempt.specs.Turning.{IsOver as IsOverBy, ComesTo as ComesToTurn, CarriesCall, GivesInput, ReadsInput, GoesOn, TurnsWhere, TurnsOn, TurnsUnless}
+use Rattle.vm_attempt.specs.declared.attempt.Attempt.{Attempt}
+use Rattle.vm_attempt.specs.declared.turn.Finish.{Finish}
+use Rattle.vm_attempt.specs.declared.turn.Finish.TheVariants as finishes
+use Rattle.vm_attempt.specs.declared.turn.Turn.{Turn}
+use Rattle.serving_laws.specs.Serving.{IsCarriedOut, HasNumbers, kind_where, HasNotRead, HasRead, Serves, finished, machine_failed}
+use Rattle.serving_laws.specs.Keeping.{IsLiveAt}
+use Rattle.serving_laws.proofs.Driven.{begins_driven, numbers_begin}
+use Rattle.serving_laws.proofs.Messages.{read_input}
+use Rattle.serving_laws.proofs.Over.{waits_same}
+use Rattle.serving_laws.proofs.Phases.{stage}
+use Rattle.turning_laws.specs.Turning.{KeepsTold, turns_answered, GoesOnWith, FailsBy, TurnsBehind, TurnKeeps, TurnServes}
+use Rattle.turning_laws.proofs.Now.{Now, call_of, tracks_none, now, same_call}
+use Rattle.turning_laws.proofs.Turning.{answered, waiting, suspended, ended as has_ended, failed}
+
+-- ---- readiness
+
+ready_where : (phase : Phase) (ready : Result Bool Error) → phase ≡ phases.Active → IsReady phase ready → ready ≡ Ok true
+ready_where phase ready active is = subst (λ (p : Phase). IsReady p ready) active is
+
+unready_where : (phase : Phase) (ready : Result Bool Error) (left : ℕ) → phase ≡ phases.WaitingReplayEntries left → IsReady phase ready → ready ≡ Ok false
+unready_where phase ready left waits is = subst (λ (p : Phase). IsReady p ready) waits is
+
+turns_new : {H : Type 0} (function : H → Handler) (over : Option Finish) (before : Attempt H) (turn : Turn) (after : Attempt H) → before.over ≡ over → before.over ≡ None → TurnsUnless function over before turn after
+    → TurnsOn function before turn after
+turns_new function (Some finish) before turn after is none turns = cc
+turns_new function None before turn after is none turns = turns
+
+-- a turn that sends nothing leaves the live attempt as it is
+nothing_sent : (live : LiveAttempt) → after_turn live [] live.calls live.machine ≡ live
+nothing_sent live = λ i. record live { coming = append-nil live.coming i; proposed = append-nil live.proposed i }
+
+module _ {H : Type 0} (function : H → Handler) (next : Handler) (version : Version) (options : VMOptions) (id : Text) (events : List Event) (live : LiveAttempt) (before : Attempt H) (turn : Turn) (after : Attempt H)
+    (f : FollowsSo next live.start.given id events live.coming) (l : IsLiveAt function next version options id events live)
+    (s : Serves function next version options live (is_input_closed events id) before) where
+  abbrev Keeps : Turn → Type 0
+  Keeps some = TurnKeeps function next version options id events live before some after
+
+  lacks_memory : FailsBy function next version options id events live before
+  lacks_memory = record { cause = NoMemory; own = tt; when = tt }
+
+  silent : output_of after ≡ output_of before → (some : Turn) → TurnsBehind function next version options id events live before [] some after → Keeps some
+  silent same some behind = record {
+    sent = [];
+    fit = tt;
+    of_store = tt;
+    output = same ∙ sym (append-nil (output_of before));
+    follows = subst (λ (coming : List Frame). FollowsSo next live.start.given id events coming) (sym (append-nil live.coming)) f;
+    behind = behind;
+  }
+
+  stays_live : Serves function next version options live (is_input_closed events id) after → GoesOnWith function next version options id events (after_turn live [] live.calls live.machine) after
+  stays_live serves =
+      subst (λ (some : LiveAttempt). GoesOnWith function next version options id events some after) (sym (nothing_sent live)) (record { lives = l; serves = serves })
+
+  -- ---- its journal was not read
+
+  unread : (HasReadJournal live → ⊥) → (turn ≡ Turn.Waiting) × (after ≡ before) → Keeps turn
+  unread none is =
+      subst Keeps (sym is.0)
+      (silent (ap output_of is.1) Turn.Waiting
+      (inl none, (live.machine, stays_live (subst (Serves function next version options live (is_input_closed events id)) (sym is.1) s), ap (λ (a : Attempt H). a.input) is.1)))
+
+  -- ---- its input is read
+
+  module _ (n : HasNotRead function next version options live (is_input_closed events id) before) (journal : HasReadJournal live) (reads : ReadsInput before turn after) where
+    no_bytes : before.vm.state.active.output.bytes ≡ []
+    no_bytes = ap (λ (w : Written). w.bytes) n.started.output
+
+    read_answers : AnswersInput live.start (kind_where version options (is_input_closed events id)) (with_messages (machine_at_start live.start.shown [] []) live.read) before.vm.state reads.read after.vm.state → Keeps turn
+    read_answers a = subst Keeps (sym gives.0) (silent same Turn.Answered (live.calls, live.machine, counted, stays_live serves))
+      where
+        gives : (turn ≡ Turn.Answered) × (after ≡ record (record before { vm = after.vm }) { input = Some live.start.given.input })
+        gives = subst (λ (r : Result Input Error). GivesInput r (record before { vm = after.vm }) turn after) a.answer reads.gives
+
+        same : output_of after ≡ output_of before
+        same =
+            ap (λ (some : Attempt H). (some.front ++ some.behind) ++ after.vm.state.active.output.bytes) gives.1
+            ∙ ap (λ (bytes : List ℕ). (before.front ++ before.behind) ++ bytes) (ap (λ (w : Written). w.bytes) a.written ∙ sym no_bytes)
+
+        counted : turns_answered after.input live.calls ≡ suc (turns_answered before.input live.calls)
+        counted =
+            ap (λ (some : Attempt H). turns_answered some.input live.calls) gives.1
+            ∙ sym (ap (λ (input : Option Input). suc (turns_answered input live.calls)) n.input)
+
+        driven : IsDriven (untracked live.start.given) (childless live.machine) after.vm.state
+        driven =
+            subst (λ (m : Machine). IsDriven (untracked live.start.given) (childless m) after.vm.state) (sym n.machine)
+            (begins_driven live.start n.shows version options (is_input_closed events id) (with_messages (machine_at_start live.start.shown [] []) live.read) live.read before.vm.state reads.read after.vm.state
+            s.of_run n.started a)
+
+        serves : Serves function next version options live (is_input_closed events id) after
+        serves = record {
+          handler = ap (λ (some : Attempt H). function some.handler) gives.1 ∙ s.handler;
+          going = ap (λ (some : Attempt H). some.over) gives.1 ∙ s.going;
+          kind = a.asked.kind_is;
+          of_run = s.of_run;
+          fed = s.fed;
+          started = s.started;
+          bytes = ap (λ (vm : MachineState). vm.decoder) a.others ∙ s.bytes;
+          whole = ap (λ (vm : MachineState). item_at vm.decoder) a.others ∙ s.whole;
+          stands = inr (record {
+            journal = journal;
+            input = ap (λ (some : Attempt H). some.input) gives.1;
+            answers =
+                ap (λ (some : Attempt H). some.answers) gives.1 ∙ n.answers
+                ∙ sym (ap (λ (calls : ℕ). answers_of (run next live.start.given (arrivals_carried live.read) calls).steps) n.calls);
+            driven = driven;
+            numbers = subst HasNumbers (sym n.machine) (numbers_begin live.start.shown live.read);
+          });
+        }
+
+    read_refused : RefusesInput version reads.read after.vm.state → Keeps turn
+    read_refused refused =
+        let gives = subst (λ (r : Result Input Error). GivesInput r (record before { vm = after.vm }) turn after) refused.answer reads.gives in
+        subst Keeps (sym gives.0)
+        (silent (waits_same before after gives.1 (ap (λ (w : Written). w.bytes) refused.output ∙ sym no_bytes)) (Turn.Failed out_of_memory) (lacks_memory, machine_failed out_of_memory refused.phase))
+
+    input_read : InputsAreAnswered → Keeps turn
+    input_read answers =
+        go (answers live.start n.shows (kind_where version options (is_input_closed events id)) live.read before.vm.state reads.read after.vm.state s.of_run (read_input live journal s.fed.input) n.started reads.reads)
+      where
+        go : AnswersInput live.start (kind_where version options (is_input_closed events id)) (with_messages (machine_at_start live.start.shown [] []) live.read) before.vm.state reads.read after.vm.state
+            ⊎ RefusesInput version reads.read after.vm.state → Keeps turn
+        go (inl a) = read_answers a
+        go (inr refused) = read_refused refused
+
+  not_read : InputsAreAnswered → (n : HasNotRead function next version options live (is_input_closed events id) before) → TurnsOn function before turn after → Keeps turn
+  not_read answers n turns = go (stage live before.vm.state.phase s.fed.input n.started.phase)
+    where
+      go : (HasReadJournal live × (before.vm.state.phase ≡ phases.Active)) ⊎ ((HasReadJournal live → ⊥) × ((left : ℕ) × (before.vm.state.phase ≡ phases.WaitingReplayEntries left))) → Keeps turn
+      go (inl read) =
+          input_read n read.0
+          (subst (λ (input : Option Input). GoesOn function input before turn after) n.input
+          (subst (λ (ready : Result Bool Error). TurnsWhere function ready before turn after) (ready_where before.vm.state.phase turns.ready read.1 turns.is_ready) turns.turns)) answers
+      go (inr waits) =
+          unread waits.0
+          (subst (λ (ready : Result Bool Error). TurnsWhere function ready before turn after) (unready_where before.vm.state.phase turns.ready waits.1.0 waits.1.1 turns.is_ready) turns.turns)
+
+  -- ---- its handler is asked
+
+  module _ (stand : JournalsStand) (keep_on : MachinesKeepOn) (queued : options.signal_delivery ≡ Queued) (carried : IsCarriedOut (run_options options) next) (told : KeepsTold version after)
+      (r : HasRead function next version options live before) where
+    here : Now next version options id events live before.vm.state
+    here = now function next version options stand keep_on id events live before queued carried f l s r
+
+    by_outcome : (outcome : CallOutcome) → Comes (untracked live.start.given) (childless live.machine) (call_of next live here.at) before.vm.state outcome after.vm.state
+        → ComesToTurn outcome (record before { vm = after.vm }) turn after → Keeps turn
+    by_outcome (outcomes.Answered answer) comes to = answered function next version options id events live before l s r here after.vm turn after answer comes to
+    by_outcome outcomes.Waiting comes to = waiting function next version options id events live before l s r here after.vm turn after comes to.0 to.1
+    by_outcome outcomes.Suspended comes to = suspended function next version options id events live before l s r here after.vm turn after comes to
+    by_outcome outcomes.Ended comes to = has_ended function next version options id events live before l s r here after.vm turn after comes to
+    by_outcome (outcomes.Failed error) comes to = failed function next version options id events live before l s r here after.vm turn after error comes to.0 to.1 carried told
+
+    carries : CarriesCall (function before.handler live.start.given.input before.answers) before turn after ⊎ IsOverBy finishes.OutOfMemory before turn after → Keeps turn
+    carries (inl c) =
+        by_outcome c.outcome
+        (subst (λ (call : Call). Comes (untracked live.start.given) (childless live.machine) call before.vm.state c.outcome after.vm.state)
+        (same_call function next version options stand keep_on id events live before queued carried f l s r here)
+        (c.carries (untracked live.start.given) (childless live.machine) (tracks_none live.start.given (childless live.machine) (function before.handler live.start.given.input before.answers)) r.driven)) c.comes
+    carries (inr over) =
+        subst Keeps (sym over.0) (silent (ap output_of over.1) (Turn.Failed out_of_memory) (lacks_memory, finished finishes.OutOfMemory (ap (λ (a : Attempt H). a.over) over.1)))
+
+    has_read : TurnsOn function before turn after → Keeps turn
+    has_read turns =
+        carries (subst (λ (input : Option Input). GoesOn function input before turn after) r.input
+        (subst (λ (ready : Result Bool Error). TurnsWhere function ready before turn after) (ready_where before.vm.state.phase turns.ready r.driven.phase turns.is_ready) turns.turns))
+
+pub turn_keeps : {H : Type 0} (function : H → Handler) (next : Handler) (version : Version) (options : VMOptions) → JournalsStand → MachinesKeepOn → InputsAreAnswered → TurnServes function next version options
+turn_keeps function next version options stand keep_on answers id events live before turn after queued carried f l s turns told = go s.stands
+  where
+    on : TurnsOn function before turn after
+    on = turns_new function before.over before turn after refl s.going turns
+
+    go : HasNotRead function next version options live (is_input_closed events id) before ⊎ HasRead function next version options live before → TurnKeeps function next version options id events live before turn after
+    go (inl n) = not_read function next version options id events live before turn after f l s answers n on
+    go (inr r) = has_read function next version options id events live before turn after f l s stand keep_on queued carried told r on

@@ -1,0 +1,123 @@
+-- What each turn of an attempt comes to: the run goes on by one answer, waits, has ended, or the attempt has failed for a cause.
+use Rattle.std.specs.Prelude.{◌≡◌, ◌⊎◌, ◌+◌, ℕ, suc, Bool, true, false, List, [], ◌∷◌, ◌++◌, map, length, Option, Some, None}
+use Rattle.std.specs.List.{AllByRecursion}
+use Rattle.protocol_errors.specs.declared.error.Error.{Error}
+use Rattle.protocol_types.specs.declared.version.Version.{Version}
+use Rattle.journal_model.specs.declared.handler.Input.{Input}
+use Rattle.journal_model.specs.declared.options.SignalDelivery.TheVariants.{Queued}
+use Rattle.journal_model.specs.declared.notification.NotificationId.{NotificationId}
+use Rattle.journal_model.specs.AwaitTree.{AwaitTree}
+use Rattle.journal_model.specs.Notification.{Text, Arrival}
+use Rattle.journal_model.specs.Request.{Request}
+use Rattle.journal_model.specs.Run.{Handler, Invocation, Ending, Waits, RefusedCall, Ended, run, run_requests}
+use Rattle.journal_model.specs.Event.{Event}
+use Rattle.journal_model.specs.Attempt.{is_input_closed}
+use Rattle.input_laws.specs.Message.{arrivals_carried, requests_carried}
+use Rattle.turn_laws.specs.Sending.{FollowsSo}
+use Rattle.attempt_model.specs.Machine.{Machine, Refused}
+use Rattle.machine_laws.specs.Living.{LiveAttempt, HasReadJournal, after_turn}
+use Rattle.children_laws.specs.Childless.{untracked, childless}
+use Rattle.sending_laws.specs.Sent.{Sent, Fails, sent_stream, SentFits, AllFit, frame_meant}
+use Rattle.sending_laws.specs.Taking.{IsOfStore}
+use Rattle.vm_errors.specs.Failure.{told_error}
+use Rattle.vm_errors.specs.declared.phase.Phase.TheVariants as phases
+use Rattle.vm_outcomes.specs.Causes.{Cause, ByFault, NoReplay, NoRuns, FailsWhen}
+use Rattle.vm_types.specs.Options.{run_options}
+use Rattle.vm_types.specs.declared.options.VMOptions.{VMOptions}
+use Rattle.vm_attempt.specs.Output.{output_of}
+use Rattle.vm_attempt.specs.Turning.{Turns}
+use Rattle.vm_attempt.specs.declared.attempt.Attempt.{Attempt}
+use Rattle.vm_attempt.specs.declared.turn.Turn.{Turn}
+use Rattle.serving_laws.specs.Serving.{IsCarriedOut, Serves, IsOver}
+use Rattle.serving_laws.specs.Keeping.{IsLiveAt}
+
+-- the run over these arrivals comes to this with one more call, with exactly these requests
+pub record ComesTo (next : Handler) (given : Invocation) (arrivals : List Arrival) (calls : ℕ) (requests : List Request) (ending : Ending) : Type 0 where
+  pub over : (run next given arrivals (suc calls)).ending ≡ ending
+  pub exactly : run_requests next given arrivals (suc calls) ≡ requests
+
+-- of a handler that wrote the journal, over the arrivals that were asked for, the run itself refuses the call, or there is no number or
+-- no room for what it makes, or no memory
+abbrev pub IsOwnCause : Handler → Invocation → List Arrival → ℕ → Cause → Type 0
+IsOwnCause next given arrivals calls (ByFault (Refused refusal)) = (run next given arrivals (suc calls)).ending ≡ RefusedCall refusal
+IsOwnCause next given arrivals calls (ByFault fault) = ⊥
+IsOwnCause next given arrivals calls NoReplay = ⊥
+IsOwnCause next given arrivals calls NoRuns = ⊥
+IsOwnCause next given arrivals calls cause = Unit {0}
+
+-- the error that a failed machine keeps is of its type, and its frame no longer than one can be
+abbrev pub KeepsTold : {H : Type 0} → Version → Attempt H → Type 0
+KeepsTold version a = (error : Error) → a.vm.state.phase ≡ phases.Failed error → SentFits version (Fails (told_error error))
+
+-- how many turns have answered something: the first reads the input, and each further one answers a call
+abbrev pub turns_answered : Option Input → (calls : ℕ) → ℕ
+turns_answered None calls = calls
+turns_answered (Some input) calls = suc calls
+
+module _ {H : Type 0} (function : H → Handler) (next : Handler) (version : Version) (options : VMOptions) (id : Text) (events : List Event) where
+  -- the live attempt goes on
+  pub record GoesOnWith (live : LiveAttempt) (after : Attempt H) : Type 0 where
+    pub lives : IsLiveAt function next version options id events live
+    pub serves : Serves function next version options live (is_input_closed events id) after
+
+  module _ (live : LiveAttempt) (before : Attempt H) where
+    abbrev pub RunComes : Ending → Type 0
+    RunComes ending = ComesTo next live.start.given (arrivals_carried live.read) live.calls (requests_carried live.read ++ live.machine.written) ending
+
+    -- there is a cause for which the call that the handler makes next is not carried out
+    pub record FailsBy : Type 0 where
+      pub cause : Cause
+      pub own : IsOwnCause next live.start.given (arrivals_carried live.read) live.calls cause
+      pub when : FailsWhen (untracked live.start.given) (childless live.machine) (next live.start.given.input before.answers) before.vm.state cause
+
+    -- it waits while its journal was not read, or while the run waits and more of its input can come
+    abbrev pub MayWait : Type 0
+    MayWait = (HasReadJournal live → ⊥) ⊎ ((is_input_closed events id ≡ false) × ((tree : AwaitTree (Option NotificationId)) × RunComes (Waits tree)))
+
+    -- where it goes on it is live behind the turn, one answer later where it was answered; else it is over
+    abbrev pub TurnsBehind : List Sent → Turn → (after : Attempt H) → Type 0
+    TurnsBehind sent Turn.Answered after =
+        (calls : ℕ) × (machine : Machine) × (turns_answered after.input calls ≡ suc (turns_answered before.input live.calls))
+        × GoesOnWith (after_turn live (map (frame_meant version) sent) calls machine) after
+    TurnsBehind sent Turn.Waiting after =
+        MayWait × ((machine : Machine) × GoesOnWith (after_turn live (map (frame_meant version) sent) live.calls machine) after × (after.input ≡ before.input))
+    TurnsBehind sent Turn.Suspended after = (is_input_closed events id ≡ true) × ((tree : AwaitTree (Option NotificationId)) × RunComes (Waits tree)) × IsOver after
+    TurnsBehind sent Turn.Ended after = RunComes Ended × IsOver after
+    TurnsBehind sent (Turn.Failed error) after = FailsBy × IsOver after
+
+    -- what a turn has written are frames of the run, which the store reads as what they are meant as
+    pub record TurnKeeps (turn : Turn) (after : Attempt H) : Type 0 where
+      pub sent : List Sent
+      pub fit : AllFit version sent
+      -- requests among them are such as the store records
+      pub of_store : AllByRecursion IsOfStore sent
+      pub output : output_of after ≡ output_of before ++ sent_stream version sent
+      pub follows : FollowsSo next live.start.given id events (live.coming ++ map (frame_meant version) sent)
+      pub behind : TurnsBehind sent turn after
+
+module _ {H : Type 0} (function : H → Handler) (next : Handler) (version : Version) (options : VMOptions) where
+  abbrev pub TurnServes : Type 0
+  TurnServes = (id : Text) (events : List Event) (live : LiveAttempt) (before : Attempt H) (turn : Turn) (after : Attempt H) → options.signal_delivery ≡ Queued
+      → IsCarriedOut (run_options options) next → FollowsSo next live.start.given id events live.coming → IsLiveAt function next version options id events live
+      → Serves function next version options live (is_input_closed events id) before → Turns function before turn after → KeepsTold version after
+      → TurnKeeps function next version options id events live before turn after
+
+  -- ---- turns one after the other, the first first
+
+  abbrev pub TurnsEach : List Turn → (before after : Attempt H) → Type 0
+  TurnsEach [] before after = after ≡ before
+  TurnsEach (turn ∷ turns) before after = (between : Attempt H) × Turns function before turn between × KeepsTold version between × TurnsEach turns between after
+
+  -- the attempt is live after all of them, each of which has answered something
+  pub record AnswersEach (id : Text) (events : List Event) (live : LiveAttempt) (before : Attempt H) (turns : List Turn) (after : Attempt H) : Type 0 where
+    pub now : LiveAttempt
+    pub follows : FollowsSo next now.start.given id events now.coming
+    pub goes_on : GoesOnWith function next version options id events now after
+    pub answered : turns_answered after.input now.calls ≡ turns_answered before.input live.calls + length turns
+
+  -- with the whole journal fed and the input closed each turn answers, or the attempt is over
+  abbrev pub TurnsAnswer : Type 0
+  TurnsAnswer = (id : Text) (events : List Event) (live : LiveAttempt) (turns : List Turn) (before after : Attempt H) → options.signal_delivery ≡ Queued → IsCarriedOut (run_options options) next
+      → FollowsSo next live.start.given id events live.coming → IsLiveAt function next version options id events live → HasReadJournal live → is_input_closed events id ≡ true
+      → Serves function next version options live true before → TurnsEach turns before after
+      → IsOver after ⊎ AnswersEach id events live before turns after

@@ -1,0 +1,27 @@
+//! What each turn of an attempt comes to: the run goes on, waits, has ended, or the attempt has failed for a cause. Each function does
+//! nothing: its contract is the law.
+#![tactic(auto)]
+
+ghost use Rattle.turning_laws.specs.Laws.{TurnsKeep, TurnsProgress};
+
+use beginning_laws::inputs_are_answered;
+use journal_model::Handler;
+use machine_laws::{journals_stand, machines_keep_on};
+
+/// Answered continues the run by one answer, or reads the input; Waiting comes only where the journal was not read, or the run waits and
+/// more can come; Suspended and Ended come where the run waits or has ended with exactly its requests; Failed has a cause. What was
+/// written are frames of the run.
+pub fn turns_keep<H: Handler>()
+    ensures { TurnsKeep H.next_call }
+{
+    journals_stand();
+    machines_keep_on();
+    inputs_are_answered();
+}
+
+/// With the journal read and the input closed each of any number of turns answers, or the attempt is over.
+pub fn turns_progress<H: Handler>()
+    ensures { TurnsProgress H.next_call }
+{
+    turns_keep::<H>();
+}
