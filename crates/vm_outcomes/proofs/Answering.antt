@@ -1,10 +1,12 @@
 -- The machine stands to the abstract machine after a call as it did before.
-use Rattle.std.proofs.Common.{◌≡◌, List, [], append-nil, refl, sym, ap, ◌∙◌, ℕ}
+use Rattle.std.proofs.Common.{◌≡◌, ◌⊎◌, inl, inr, ◌+◌, ◌≤◌, ◌<◌, ◌^◌, ℕ, zero, suc, true, false, leb, List, [], length, append-nil, refl, sym, ap, subst, ◌∙◌}
+use Rattle.std.proofs.lemmas.Bool.Decides.{leb_tells}
+use Rattle.journal_model.specs.History.{completions_of, signals_of, ids_of}
 use Rattle.journal_model.specs.Run.{Invocation}
 use Rattle.journal_model.specs.declared.call.Answer.{Answer}
 use Rattle.journal_model.specs.declared.call.Call.{Call}
 use Rattle.attempt_model.specs.Machine.{Machine, Answered}
-use Rattle.vm_calls.specs.Active.{Sees, writes_frames}
+use Rattle.vm_calls.specs.Active.{Sees, HasCompletions, writes_frames}
 use Rattle.vm_calls.specs.Making.{Replies}
 use Rattle.vm_calls.specs.declared.active.Active.{Active}
 use Rattle.vm_context.specs.Output.{Written}
@@ -12,6 +14,7 @@ use Rattle.vm_waiting.specs.Waiting.{Becomes}
 use Rattle.vm_machine.specs.Calls.{checks_off}
 use Rattle.vm_machine.specs.declared.machine_state.MachineState.{MachineState}
 use Rattle.vm_outcomes.specs.Carrying.{Answers}
+use Rattle.vm_outcomes.specs.Causes.{NumbersLeft}
 use Rattle.vm_outcomes.specs.Driven.{IsDriven, reply_of}
 
 -- what a call has changed is what it keeps for calls alone
@@ -30,30 +33,54 @@ driven_on given m machine old active driven sees same = record {
 pub nothing_written : (written : Written) → written ≡ writes_frames [] written
 nothing_written written = ap (λ (bytes : List ℕ). record written { bytes = bytes }) (sym (append-nil written.bytes))
 
+-- ---- numbers
+
+completions_left : (taken : ℕ) (m : Machine) (active : Active) → active.journal.completions ≡ m.completions → HasCompletions taken active → (taken ≡ 0) ⊎ (m.completions + taken ≤ 2 ^ 32)
+completions_left zero m active same has = inl refl
+completions_left (suc more) m active same has = by_test (leb_tells (m.completions + suc more) (2 ^ 32))
+  where
+    by_test : ((leb (m.completions + suc more) (2 ^ 32) ≡ true) × (m.completions + suc more ≤ 2 ^ 32)) ⊎ ((leb (m.completions + suc more) (2 ^ 32) ≡ false) × (2 ^ 32 < m.completions + suc more))
+        → (suc more ≡ 0) ⊎ (m.completions + suc more ≤ 2 ^ 32)
+    by_test (inl tells) = inr tells.1
+    by_test (inr tells) = absurd (has (inl (subst (λ (n : ℕ). 2 ^ 32 < n + suc more) (sym same) tells.1)))
+
+-- a call that makes as many handles as it takes completions takes no number of a signal
+pub no_signal : (n signal : ℕ) (call : Call) → length (ids_of n signal call) ≡ completions_of call → signals_of call ≡ 0
+no_signal n signal Call.Awakeable same = cc
+no_signal n signal _ same = refl
+
+-- of a call that takes none
+pub none_taken : (m : Machine) (call : Call) → completions_of call ≡ 0 → signals_of call ≡ 0 → NumbersLeft m call
+none_taken m call completions signals = record { completions = inl completions; signals = inl signals }
+
 module _ (given : Invocation) (m : Machine) (call : Call) (old : MachineState) (driven : IsDriven given m old) where
   -- a call that puts a request, or makes a handle
-  pub answered : (answer : Answer) (active : Active) → Replies (checks_off old.options.non_determinism_checks) given m call answer old.active active
+  pub answered : (signals : (signals_of call ≡ 0) ⊎ (m.signals + signals_of call ≤ 2 ^ 32)) (answer : Answer) (active : Active) → Replies (checks_off old.options.non_determinism_checks) given m call answer old.active active
       → Answers given m call old answer (record old { active = active })
-  answered answer active replies = record {
+  answered signals answer active replies = record {
     machine = replies.machine;
     replies = replies.replies;
     driven = driven_on given m replies.machine old active driven replies.sees (ap (λ (w : Written). w.version) replies.frames);
     more = replies.more;
     written = replies.written;
     frames = replies.frames;
+    fit = replies.fit;
+    numbers = record { completions = completions_left (completions_of call) m old.active driven.sees.completions replies.has; signals = signals };
     others = refl;
   }
 
   -- one that writes nothing
-  pub answered_quietly : (answer : Answer) (active : Active) → Becomes given m (reply_of old given m call) (Answered answer) active → active.output ≡ old.active.output
+  pub answered_quietly : (numbers : NumbersLeft m call) (answer : Answer) (active : Active) → Becomes given m (reply_of old given m call) (Answered answer) active → active.output ≡ old.active.output
       → Answers given m call old answer (record old { active = active })
-  answered_quietly answer active becomes unwritten = record {
+  answered_quietly numbers answer active becomes unwritten = record {
     machine = becomes.machine;
     replies = becomes.replies;
     driven = driven_on given m becomes.machine old active driven becomes.sees (ap (λ (w : Written). w.version) unwritten);
     more = [];
     written = becomes.written ∙ sym (append-nil m.written);
     frames = unwritten ∙ nothing_written old.active.output;
+    fit = tt;
+    numbers = numbers;
     others = refl;
   }
 

@@ -42,7 +42,7 @@ use Rattle.vm_outcomes.specs.Causes.{ByFault, TooLong, waiting_payload, HasCause
 use Rattle.vm_outcomes.specs.Driven.{IsDriven, reply_of}
 use Rattle.vm_outcomes.specs.Outcomes.{awaited_as}
 use Rattle.vm_outcomes.specs.declared.outcome.CallOutcome.{CallOutcome}
-use Rattle.vm_outcomes.proofs.Answering.{driven_on, answered_quietly, only_active}
+use Rattle.vm_outcomes.proofs.Answering.{driven_on, answered_quietly, none_taken, only_active}
 use Rattle.vm_outcomes.proofs.Failing.{plain_code, memory_cause, fails_of, failed}
 use Rattle.vm_outcomes.proofs.Steps.{steps_of}
 use Rattle.vm_outcomes.proofs.Telling.{tells_seen, untold, failed_as}
@@ -158,12 +158,12 @@ module _ (given : Invocation) (m : Machine) (tree : AwaitTree ℕ) (old : Machin
   goes_on_as (Ok AnyCompleted) resolved (Ok response) new unwritten awaits goes_on =
       subst (λ (r : AwaitResponse). Comes given m (Call.Await tree) old (awaited_as (Ok r)) new) (sym goes_on.0)
       (subst (λ (vm : MachineState). Answers given m (Call.Await tree) old Answer.Woken vm) (sym goes_on.1)
-      (answered_quietly given m (Call.Await tree) old driven Answer.Woken resolved awaits unwritten))
+      (answered_quietly given m (Call.Await tree) old driven (none_taken m (Call.Await tree) refl refl) Answer.Woken resolved awaits unwritten))
   goes_on_as (Ok AnyCompleted) resolved (Err answer) new unwritten awaits goes_on = absurd goes_on
   goes_on_as (Ok Cancelled) resolved (Ok response) new unwritten awaits goes_on =
       subst (λ (r : AwaitResponse). Comes given m (Call.Await tree) old (awaited_as (Ok r)) new) (sym goes_on.0)
       (subst (λ (vm : MachineState). Answers given m (Call.Await tree) old Answer.Cancelled vm) (sym goes_on.1)
-      (answered_quietly given m (Call.Await tree) old driven Answer.Cancelled resolved awaits unwritten))
+      (answered_quietly given m (Call.Await tree) old driven (none_taken m (Call.Await tree) refl refl) Answer.Cancelled resolved awaits unwritten))
   goes_on_as (Ok Cancelled) resolved (Err answer) new unwritten awaits goes_on = absurd goes_on
   goes_on_as (Ok (Asleep left)) resolved result new unwritten awaits goes_on = sleeps_as resolved unwritten (tree_of left) awaits goes_on.sleep result new goes_on.is goes_on.goes_on
   goes_on_as (Err error) resolved (Ok response) new unwritten awaits goes_on = absurd goes_on

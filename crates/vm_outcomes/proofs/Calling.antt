@@ -36,7 +36,7 @@ use Rattle.vm_outcomes.specs.Causes.{NoNumber, TooLong, LacksNumber, HasCause}
 use Rattle.vm_outcomes.specs.Driven.{IsDriven, TracksNone}
 use Rattle.vm_outcomes.specs.Outcomes.{answered_as}
 use Rattle.vm_outcomes.specs.declared.outcome.CallOutcome.{CallOutcome}
-use Rattle.vm_outcomes.proofs.Answering.{answered}
+use Rattle.vm_outcomes.proofs.Answering.{no_signal, answered}
 use Rattle.vm_outcomes.proofs.Failing.{no_memory, last_code, decoding_fault, mismatches, failed, refused_call}
 use Rattle.vm_outcomes.proofs.Steps.{steps_of}
 
@@ -97,7 +97,7 @@ module _ (given : Invocation) (m : Machine) (call : Call) (old : MachineState) (
         → Comes given m call old (answered_as answer result) new
     call_settles {Taken = Taken} difference answer (Ok taken) active (Ok got) new makes settles =
         subst (λ (t : Taken). Answers given m call old (answer t) new) (sym settles.0)
-        (subst (λ (vm : MachineState). Answers given m call old (answer taken) vm) (sym settles.1) (answered given m call old driven (answer taken) active makes))
+        (subst (λ (vm : MachineState). Answers given m call old (answer taken) vm) (sym settles.1) (answered given m call old driven (inl (no_signal m.completions m.signals call same)) (answer taken) active makes))
     call_settles difference answer (Ok taken) active (Err told) new makes settles = absurd settles
     call_settles difference answer (Err error) active (Ok got) new makes settles = absurd settles
     call_settles difference answer (Err error) active (Err told) new makes settles =

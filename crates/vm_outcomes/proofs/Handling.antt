@@ -1,6 +1,8 @@
 -- Calls that make handles, take what they stand for, and look at it.
-use Rattle.std.proofs.Common.{◌≡◌, ◌≤◌, ◌<◌, ◌+◌, ◌^◌, inl, inr, ℕ, Bool, [], length, codes, Option, None, Result, Ok, Err, IfOk, refl, sym, ap, subst, arith, append-nil}
+use Rattle.std.proofs.Common.{◌≡◌, ◌⊎◌, ◌≤◌, ◌<◌, ◌+◌, ◌^◌, inl, inr, ℕ, Bool, true, false, leb, [], length, codes, Option, None, Result, Ok, Err, IfOk, refl, sym, ap, subst, arith, append-nil}
 use Rattle.std.specs.declared.alloc.AllocError.{AllocError}
+use Rattle.std.proofs.lemmas.Bool.Decides.{leb_tells}
+use Rattle.journal_model.specs.History.{signals_of}
 use Rattle.journal_model.specs.Notification.{Text}
 use Rattle.journal_model.specs.Refusal.{refusal_of}
 use Rattle.journal_model.specs.Run.{Invocation}
@@ -35,7 +37,7 @@ use Rattle.vm_outcomes.specs.Driven.{IsDriven}
 use Rattle.vm_outcomes.specs.Outcomes.{answered_as}
 use Rattle.vm_outcomes.specs.declared.outcome.CallOutcome.{CallOutcome}
 use Rattle.vm_outcomes.specs.declared.outcome.CallOutcome.TheVariants.{Answered}
-use Rattle.vm_outcomes.proofs.Answering.{answered, answered_quietly, nothing_written}
+use Rattle.vm_outcomes.proofs.Answering.{answered, answered_quietly, none_taken, nothing_written}
 use Rattle.vm_outcomes.proofs.Failing.{no_memory, unless_plain, failed}
 use Rattle.vm_outcomes.proofs.Steps.{steps_of}
 
@@ -50,21 +52,32 @@ lacks_signal given m active sees (inl lacks) =
     inr (inl (omega (arith, past)))
 lacks_signal given m active sees (inr lacks) = inr (inr (lacks_handle given m active sees lacks))
 
+signal_left : (given : Invocation) (m : Machine) (active : Active) → Sees given active m → (LacksSignal active → ⊥) → m.signals + 1 ≤ 2 ^ 32
+signal_left given m active sees has = by_test (leb_tells (m.signals + 1) (2 ^ 32))
+  where
+    by_test : ((leb (m.signals + 1) (2 ^ 32) ≡ true) × (m.signals + 1 ≤ 2 ^ 32)) ⊎ ((leb (m.signals + 1) (2 ^ 32) ≡ false) × (2 ^ 32 < m.signals + 1)) → m.signals + 1 ≤ 2 ^ 32
+    by_test (inl tells) = tells.1
+    by_test (inr tells) =
+        let past : 2 ^ 32 < m.signals + 1 = tells.1 in
+        let reached : 2 ^ 32 ≤ m.signals = omega (arith, past) in
+        absurd (has (inl (subst (λ (n : ℕ). 2 ^ 32 ≤ n) (sym sees.signals) reached)))
+
 -- ---- what makes a handle
 
 module _ (given : Invocation) (m : Machine) (call : Call) (old : MachineState) (driven : IsDriven given m old) (unrefused : refusal_of given.version call ≡ None) where
-  handle_settles : {Taken : Type 0} (answer : Taken → Answer) (Lacks : Active → Type 0) (lacks : Lacks old.active → LacksNumber m call) (made : Result Taken NumberError) (active : Active)
+  handle_settles : {Taken : Type 0} (answer : Taken → Answer) (Lacks : Active → Type 0) (lacks : Lacks old.active → LacksNumber m call)
+      (left : (Lacks old.active → ⊥) → (signals_of call ≡ 0) ⊎ (m.signals + signals_of call ≤ 2 ^ 32)) (made : Result Taken NumberError) (active : Active)
       (result : Result Taken Error) (new : MachineState) → MakesHandle (checks_off old.options.non_determinism_checks) given m call answer Lacks old.active made active
       → AnswersBy NumberCauses made (record old { active = active }) result new → Comes given m call old (answered_as answer result) new
-  handle_settles {Taken = Taken} answer Lacks lacks (Ok taken) active (Ok got) new makes answers =
+  handle_settles {Taken = Taken} answer Lacks lacks left (Ok taken) active (Ok got) new makes answers =
       subst (λ (t : Taken). Answers given m call old (answer t) new) (sym answers.0)
-      (subst (λ (vm : MachineState). Answers given m call old (answer taken) vm) (sym answers.1) (answered given m call old driven (answer taken) active makes.0))
-  handle_settles answer Lacks lacks (Ok taken) active (Err told) new makes answers = absurd answers
-  handle_settles answer Lacks lacks (Err lack) active (Ok got) new makes answers = absurd answers
-  handle_settles answer Lacks lacks (Err numbers.IdsExhausted) active (Err told) new makes answers =
+      (subst (λ (vm : MachineState). Answers given m call old (answer taken) vm) (sym answers.1) (answered given m call old driven (left makes.2) (answer taken) active makes.0))
+  handle_settles answer Lacks lacks left (Ok taken) active (Err told) new makes answers = absurd answers
+  handle_settles answer Lacks lacks left (Err lack) active (Ok got) new makes answers = absurd answers
+  handle_settles answer Lacks lacks left (Err numbers.IdsExhausted) active (Err told) new makes answers =
       failed given m call old driven.phase answers.cause active told new
       (record { cause = NoNumber; when = (unrefused, lacks makes.0); tells = unless_plain internal None answers.cause answers.causes }) makes.1 answers.fails
-  handle_settles answer Lacks lacks (Err numbers.OutOfMemory) active (Err told) new makes answers =
+  handle_settles answer Lacks lacks left (Err numbers.OutOfMemory) active (Err told) new makes answers =
       failed given m call old driven.phase answers.cause active told new (no_memory given m call old answers.cause answers.causes) makes answers.fails
 
 signal_comes : (given : Invocation) (m : Machine) (name : Text) (old : MachineState) (driven : IsDriven given m old) (result : Result ℕ Error) (new : MachineState)
@@ -73,7 +86,7 @@ signal_comes : (given : Invocation) (m : Machine) (name : Text) (old : MachineSt
 signal_comes given m name old driven result new steps =
     steps_of (IsCalled (MakesSignal name) NumberCauses) (IsUnexpected (codes "named awakeable")) None old driven.phase
     (λ (r : Result ℕ Error) (vm : MachineState). Comes given m (Call.Signal name) old (answered_as (λ handle. Answer.Handle handle) r) vm)
-    (λ r vm free called. handle_settles given m (Call.Signal name) old driven refl (λ handle. Answer.Handle handle) LacksHandle (λ lacks. inr (inr (lacks_handle given m old.active driven.sees lacks)))
+    (λ r vm free called. handle_settles given m (Call.Signal name) old driven refl (λ handle. Answer.Handle handle) LacksHandle (λ lacks. inr (inr (lacks_handle given m old.active driven.sees lacks))) (λ has. inl refl)
     called.made called.active r vm (called.does.0 (checks_off old.options.non_determinism_checks) given m driven.sees) called.answers)
     (λ error told vm some refused. cc) result new steps
 
@@ -91,7 +104,7 @@ awakeable_answer made = Answer.Awakeable made.id made.handle
 awakeable_made : (given : Invocation) (m : Machine) (old : MachineState) (driven : IsDriven given m old) (replay : JournalReplay) (result : Result AwakeableHandle Error) (new : MachineState)
     → old.options.journal_replay ≡ replay → IsAwakeableWhere replay old result new → Comes given m Call.Awakeable old (answered_as awakeable_answer result) new
 awakeable_made given m old driven Enabled result new is called =
-    handle_settles given m Call.Awakeable old driven refl awakeable_answer LacksSignal (λ lacks. lacks_signal given m old.active driven.sees lacks)
+    handle_settles given m Call.Awakeable old driven refl awakeable_answer LacksSignal (λ lacks. lacks_signal given m old.active driven.sees lacks) (λ has. inr (signal_left given m old.active driven.sees has))
     called.made called.active result new (called.does.0 (checks_off old.options.non_determinism_checks) given m driven.id driven.sees) called.answers
 awakeable_made given m old driven Disabled (Ok made) new is fails = absurd fails
 awakeable_made given m old driven Disabled (Err answer) new is fails =
@@ -121,7 +134,7 @@ module _ (given : Invocation) (m : Machine) (handle : ℕ) (old : MachineState) 
   take_settles (Ok taken) active (Ok got) new does answers =
       subst (λ (t : Option Value). Answers given m (Call.Take handle) old (Answer.Taken t) new) (sym answers.0)
       (subst (λ (vm : MachineState). Answers given m (Call.Take handle) old (Answer.Taken taken) vm) (sym answers.1)
-      (answered_quietly given m (Call.Take handle) old driven (Answer.Taken taken) active (does.taken given m (checks_off old.options.non_determinism_checks) driven.sees) (ap (λ (a : Active). a.output) does.others)))
+      (answered_quietly given m (Call.Take handle) old driven (none_taken m (Call.Take handle) refl refl) (Answer.Taken taken) active (does.taken given m (checks_off old.options.non_determinism_checks) driven.sees) (ap (λ (a : Active). a.output) does.others)))
   take_settles (Ok taken) active (Err told) new does answers = absurd answers
   take_settles (Err error) active (Ok got) new does answers = absurd answers
   take_settles (Err untaken.KeyNotText) active (Err told) new does answers =
@@ -157,5 +170,7 @@ look_carried handle completed old looks = λ given m none driven. record {
   more = [];
   written = sym (append-nil m.written);
   frames = nothing_written old.active.output;
+  fit = tt;
+  numbers = none_taken m (Call.IsCompleted handle) refl refl;
   others = refl;
 }

@@ -31,7 +31,7 @@ use Rattle.vm_outcomes.specs.Causes.{NoNumber, TooLong, HasCause}
 use Rattle.vm_outcomes.specs.Driven.{IsDriven}
 use Rattle.vm_outcomes.specs.Outcomes.{answered_as}
 use Rattle.vm_outcomes.specs.declared.outcome.CallOutcome.{CallOutcome}
-use Rattle.vm_outcomes.proofs.Answering.{answered}
+use Rattle.vm_outcomes.proofs.Answering.{no_signal, answered}
 use Rattle.vm_outcomes.proofs.Calling.{lacks_completions}
 use Rattle.vm_outcomes.proofs.Failing.{no_memory, last_code, decoding_fault, mismatches, failed}
 use Rattle.vm_outcomes.proofs.Steps.{steps_of}
@@ -68,7 +68,7 @@ module _ (given : Invocation) (m : Machine) (call : Call) (old : MachineState) (
         → Comes given m call old (answered_as (λ handle. Answer.Handle handle) result) new
     read_settles (Ok handle) active (Ok got) new reads settles =
         subst (λ (n : ℕ). Answers given m call old (Answer.Handle n) new) (sym settles.0)
-        (subst (λ (vm : MachineState). Answers given m call old (Answer.Handle handle) vm) (sym settles.1) (answered given m call old driven (Answer.Handle handle) active reads))
+        (subst (λ (vm : MachineState). Answers given m call old (Answer.Handle handle) vm) (sym settles.1) (answered given m call old driven (inl (no_signal m.completions m.signals call same)) (Answer.Handle handle) active reads))
     read_settles (Ok handle) active (Err told) new reads settles = absurd settles
     read_settles (Err error) active (Ok got) new reads settles = absurd settles
     read_settles (Err error) active (Err told) new reads settles =

@@ -1,5 +1,6 @@
 -- What a handler's call comes to, in the words of the abstract machine of its invocation.
 use Rattle.std.specs.Prelude.{◌≡◌, ℕ, true, false, List, [], ◌++◌, Option, Some, None, Result, Ok}
+use Rattle.std.specs.List.{AllByRecursion}
 use Rattle.std.specs.declared.alloc.AllocError.{AllocError}
 use Rattle.journal_model.specs.AwaitTree.{AwaitTree}
 use Rattle.journal_model.specs.Request.{Request}
@@ -10,14 +11,14 @@ use Rattle.journal_model.specs.declared.call.Call.{Call}
 use Rattle.attempt_model.specs.Machine.{Machine, Answered, AwaitsTree, Finished}
 use Rattle.protocol_errors.specs.declared.error.Error.{Error}
 use Rattle.protocol_types.specs.declared.message_type.MessageType.TheVariants as messages
-use Rattle.vm_calls.specs.Active.{Sees, writes_frames}
+use Rattle.vm_calls.specs.Active.{Sees, Fits, writes_frames}
 use Rattle.vm_calls.specs.declared.active.Active.{Active}
 use Rattle.vm_context.specs.Output.{with_frame}
 use Rattle.vm_errors.specs.Failing.{FailsNow, IsCopy}
 use Rattle.vm_errors.specs.declared.phase.Phase.TheVariants as phases
 use Rattle.vm_waiting.specs.Suspending.{tells_awaiting, TellsIf, TellsAsRun, IsSuspended}
 use Rattle.vm_machine.specs.declared.machine_state.MachineState.{MachineState}
-use Rattle.vm_outcomes.specs.Causes.{HasCause}
+use Rattle.vm_outcomes.specs.Causes.{NumbersLeft, HasCause}
 use Rattle.vm_outcomes.specs.Driven.{IsDriven, TracksNone, reply_of}
 use Rattle.vm_outcomes.specs.declared.outcome.CallOutcome.{CallOutcome}
 use Rattle.vm_outcomes.specs.declared.outcome.CallOutcome.TheVariants as outcomes
@@ -32,6 +33,9 @@ module _ (given : Invocation) (m : Machine) (call : Call) (old : MachineState) w
     pub more : List Request
     pub written : machine.written ≡ m.written ++ more
     pub frames : new.active.output ≡ writes_frames more old.active.output
+    -- each fits its frame, and the numbers that the call takes were left
+    pub fit : AllByRecursion Fits more
+    pub numbers : NumbersLeft m call
     pub others : new ≡ record old { active = new.active }
 
   -- It is an await for which nothing is left to look at, and more input can come: what is left of its tree is told, where that is to

@@ -43,6 +43,11 @@ abbrev pub LacksNumber : Machine → Call → Type 0
 LacksNumber m call =
     (2 ^ 32 < m.completions + completions_of call) ⊎ ((2 ^ 32 < m.signals + signals_of call) ⊎ (2 ^ 32 < next_slot m + length (ids_of m.completions m.signals call)))
 
+-- what it takes of completion ids, and of numbers of signals, is left
+pub record NumbersLeft (m : Machine) (call : Call) : Type 0 where
+  pub completions : (completions_of call ≡ 0) ⊎ (m.completions + completions_of call ≤ 2 ^ 32)
+  pub signals : (signals_of call ≡ 0) ⊎ (m.signals + signals_of call ≤ 2 ^ 32)
+
 -- what an await writes that waits for these ids: its suspension where no more input can come, else what it waits for
 abbrev pub waiting_payload : (is_input_closed : Bool) → Version → AwaitTree NotificationId → Bytes
 waiting_payload true version ids = suspension_payload_in version ids
