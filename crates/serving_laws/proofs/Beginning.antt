@@ -1,11 +1,10 @@
 -- A new attempt that is fed its start frame has read it, or memory was refused.
-use Rattle.std.proofs.Common.{◌≡◌, ◌⊎◌, inl, inr, ◌∙◌, ◌+◌, ℕ, zero, suc, arith, Bool, false, List, [], ◌∷◌, ◌++◌, append-nil, append_assoc, map, length, length-append, Option, Some, None, Result, Ok, Err, refl, sym, ap, subst}
+use Rattle.std.proofs.Common.{◌≡◌, ◌⊎◌, inl, inr, ◌∙◌, ◌+◌, ℕ, false, List, [], ◌∷◌, ◌++◌, append-nil, append_assoc, map, length, Option, Some, None, Result, Ok, Err, refl, sym, ap, subst}
 use Rattle.std.proofs.lemmas.List.{append_cancel_right}
 use Rattle.std.specs.declared.convert.Infallible.{Infallible}
 use Rattle.std.specs.List.{AllByRecursion}
-use Rattle.protocol_errors.specs.declared.error.Error.{Error}
 use Rattle.protocol_stream.specs.Frame.{message_of}
-use Rattle.protocol_stream.specs.Item.{Item, item_at, message}
+use Rattle.protocol_stream.specs.Item.{item_at, message}
 use Rattle.protocol_types.specs.declared.message_type.MessageType.TheVariants.{Start}
 use Rattle.protocol_types.specs.declared.version.ContentTypeError.{ContentTypeError}
 use Rattle.protocol_types.specs.declared.version.Version.{Version}
@@ -17,33 +16,28 @@ use Rattle.journal_model.specs.Notification.{Bytes}
 use Rattle.journal_model.specs.Run.{Handler, Invocation}
 use Rattle.journal_model.specs.Start.{start_payload_of}
 use Rattle.input_laws.specs.Message.{InputMessage, CarriesInput, piece_of}
-use Rattle.attempt_model.specs.Machine.{machine_at_start}
 use Rattle.position_laws.specs.Beginning.{AttemptStart, ShowsStart}
-use Rattle.machine_laws.specs.Living.{LiveAttempt, attempt_begun}
+use Rattle.machine_laws.specs.Living.{attempt_begun}
 use Rattle.vm_beginning.specs.Beginning.{IsNew, BeginsAs}
 use Rattle.vm_context.specs.Output.{Written}
-use Rattle.vm_core.specs.declared.core_vm.CoreVM.{CoreVM}
 use Rattle.vm_entries.specs.Starting.{IsFresh}
-use Rattle.vm_errors.specs.Failing.{out_of_memory, ended}
-use Rattle.vm_errors.specs.declared.phase.Phase.TheVariants as phases
 use Rattle.vm_feeding.specs.Feeding.{IsFed}
 use Rattle.vm_machine.specs.declared.machine_state.MachineState.{MachineState}
 use Rattle.vm_start.specs.Negotiation.{Negotiates}
 use Rattle.vm_start.specs.declared.negotiation.NegotiationError.{NegotiationError}
-use Rattle.vm_start.specs.declared.negotiation.NegotiationError.TheVariants as refusals
 use Rattle.vm_types.specs.declared.options.VMOptions.{VMOptions}
 use Rattle.feeding_laws.specs.Memory.{FailsForMemory}
 use Rattle.feeding_laws.specs.Messages.{raw_of, MessageFits}
-use Rattle.feeding_laws.specs.Inputs.{bytes_of, IsFedEach}
+use Rattle.feeding_laws.specs.Inputs.{bytes_of}
 use Rattle.feeding_laws.proofs.Inputs.{front, nothing_at, some_is_none}
 use Rattle.feeding_laws.proofs.Beginning.{starts_read_back}
-use Rattle.beginning_laws.specs.Standing.{start_told, CanBegin, IsRunOf, kind_of, new_kind, HasStarted}
+use Rattle.beginning_laws.specs.Standing.{start_told, CanBegin, IsRunOf, kind_of, HasStarted}
 use Rattle.beginning_laws.specs.Laws.{HoldsStart, ReadsOn, StartsAreRead}
 use Rattle.vm_attempt.specs.Attempt.{IsUnasked, FeedsUnless}
 use Rattle.vm_attempt.specs.Output.{output_of}
 use Rattle.vm_attempt.specs.declared.attempt.Attempt.{Attempt}
 use Rattle.vm_attempt.specs.declared.turn.Finish.{Finish}
-use Rattle.serving_laws.specs.Serving.{kind_where, IsFedBy, HasNotRead, HasRead, Serves}
+use Rattle.serving_laws.specs.Serving.{kind_where, IsFedBy, Serves}
 use Rattle.serving_laws.specs.Keeping.{attempt_started, LacksMemory, BeginsServing}
 
 -- ---- the version

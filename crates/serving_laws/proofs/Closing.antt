@@ -1,31 +1,25 @@
 -- The input of an attempt is closed.
-use Rattle.std.proofs.Common.{◌≡◌, ◌⊎◌, inl, inr, ◌∙◌, ◌<◌, ◌≤◌, ◌^◌, ℕ, zero, suc, arith, Bool, true, false, ◌&&◌, IsUtf8, get_or, List, [], ◌∷◌, ◌++◌, map, length, codes, Option, Some, None, Result, Ok, Err, refl, sym, ap, subst}
+use Rattle.std.proofs.Common.{◌≡◌, ◌⊎◌, inl, inr, ◌∙◌, ◌<◌, ◌≤◌, ◌^◌, ℕ, zero, suc, arith, Bool, true, false, ◌&&◌, IsUtf8, get_or, List, [], ◌∷◌, ◌++◌, map, length, Option, Some, None, Ok, refl, sym, ap, subst}
 use Rattle.std.proofs.lemmas.Str.{IsUtf8-from_ascii}
 use Rattle.std.proofs.lemmas.Bool.{ltb-true}
 use Rattle.std.specs.List.{AllByRecursion, list_all}
 use Rattle.protocol_wire.specs.Spelling.{varint_spelling_within, varint_spelling, tagged}
 use Rattle.std.specs.Prelude.{nat_lt}
-use Rattle.std.specs.declared.alloc.AllocError.{AllocError}
-use Rattle.protocol_controls.specs.Error.{error_parts, ErrorFits}
+use Rattle.protocol_controls.specs.Error.{error_parts}
 use Rattle.protocol_errors.specs.Error.{plain_error}
 use Rattle.protocol_errors.specs.Fixed.{fixed_code, fixed_text}
 use Rattle.protocol_errors.specs.declared.error.Error.{Error}
 use Rattle.protocol_errors.specs.declared.fixed.FixedError.TheVariants.{InputClosedWhileWaitingEntries}
 use Rattle.protocol_types.specs.declared.version.Version.{Version}
 use Rattle.protocol_wire.specs.Parts.{payload_of}
-use Rattle.protocol_wire.specs.declared.record.TheConstants.{LEVELS}
-use Rattle.journal_model.specs.Event.{Event}
-use Rattle.journal_model.specs.Notification.{Text}
 use Rattle.journal_model.specs.Run.{Handler, Invocation}
 use Rattle.attempt_model.specs.Machine.{Machine}
 use Rattle.machine_laws.specs.Living.{LiveAttempt, HasReadJournal}
 use Rattle.children_laws.specs.Childless.{untracked, childless}
 use Rattle.vm_context.specs.Output.{Written}
-use Rattle.vm_core.specs.declared.core_vm.CoreVM.{CoreVM}
-use Rattle.vm_errors.specs.Failing.{out_of_memory, IsTooLong, Tells, FailsNow, FailsAs}
+use Rattle.vm_errors.specs.Failing.{out_of_memory, Tells, FailsNow, FailsAs}
 use Rattle.vm_errors.specs.Failure.{told_error}
 use Rattle.vm_errors.specs.Phases.{kept_error}
-use Rattle.vm_errors.specs.declared.phase.Phase.{Phase}
 use Rattle.vm_errors.specs.declared.phase.Phase.TheVariants as phases
 use Rattle.vm_feeding.specs.Closing.{is_waiting, input_closed, ClosesWhere, ClosesInput as ClosesMachine}
 use Rattle.vm_feeding.specs.Failing.{HasFailed}

@@ -1,7 +1,6 @@
 -- Calls see a machine that tracks no child.
-use Rattle.std.proofs.Common.{◌≡◌, ◌∙◌, ◌≤◌, ◌+◌, ◌^◌, ℕ, arith, Bool, false, List, [], ◌∷◌, ◌++◌, length, Option, Some, Result, refl, sym, ap, subst}
+use Rattle.std.proofs.Common.{◌≡◌, ◌∙◌, arith, Bool, List, [], ◌∷◌, Result, refl, sym, ap}
 use Rattle.protocol_errors.specs.declared.error.Error.{Error}
-use Rattle.protocol_records.specs.declared.start.StartMessage.{StartMessage}
 use Rattle.protocol_types.specs.Version.{version_number}
 use Rattle.protocol_types.specs.declared.version.Version.{Version}
 use Rattle.journal_model.specs.declared.handler.Input.{Input}
@@ -17,12 +16,11 @@ use Rattle.attempt_model.specs.Attempts.{with_entry, with_entries}
 use Rattle.position_laws.specs.Beginning.{AttemptStart, ShowsStart}
 use Rattle.position_laws.specs.Reading.{entries_carried, with_messages}
 use Rattle.children_laws.specs.Childless.{without_children, untracked, childless}
-use Rattle.beginning_laws.specs.Standing.{IsRunOf, start_told, Kind, kind_of, HasStarted, IsAsked}
+use Rattle.beginning_laws.specs.Standing.{IsRunOf, start_told, Kind, HasStarted}
 use Rattle.beginning_laws.specs.Laws.{AnswersInput}
 use Rattle.vm_calls.specs.Active.{Sees}
 use Rattle.vm_calls.specs.declared.active.Active.{Active}
 use Rattle.vm_context.specs.Output.{Written}
-use Rattle.vm_ephemeral.specs.Reads.{no_reads}
 use Rattle.vm_handles.specs.Handles.{id_of}
 use Rattle.vm_machine.specs.declared.machine_state.MachineState.{MachineState}
 use Rattle.vm_outcomes.specs.Driven.{IsDriven}

@@ -1,5 +1,5 @@
 -- An attempt that is fed the next bytes reads on, or memory was refused.
-use Rattle.std.proofs.Common.{◌≡◌, ◌⊎◌, inl, inr, ◌∙◌, ℕ, Bool, false, List, [], ◌∷◌, ◌++◌, append-nil, append_assoc, map, Option, Some, None, refl, sym, ap, subst}
+use Rattle.std.proofs.Common.{◌≡◌, ◌⊎◌, inl, inr, ◌∙◌, ℕ, Bool, List, [], ◌∷◌, ◌++◌, append_assoc, map, Option, None, refl, sym, ap, subst}
 use Rattle.std.proofs.lemmas.List.{append_cancel_right}
 use Rattle.std.specs.List.{AllByRecursion, list_any}
 use Rattle.protocol_stream.specs.Item.{item_at}
@@ -10,37 +10,34 @@ use Rattle.journal_model.specs.declared.notification.NotificationId.{Notificatio
 use Rattle.journal_model.specs.Attempt.{input_bytes, input_left}
 use Rattle.journal_model.specs.Await.{ends_awaits}
 use Rattle.journal_model.specs.Cause.{IsAccepted}
-use Rattle.journal_model.specs.Event.{Event, Frame}
+use Rattle.journal_model.specs.Event.{Event}
 use Rattle.journal_model.specs.History.{answers_of}
 use Rattle.journal_model.specs.Notification.{Bytes, Text, Arrival}
 use Rattle.journal_model.specs.Run.{Handler, Invocation, Progress, Ending, GoesOn, Waits, run}
 use Rattle.journal_model.proofs.Extension.{run-same}
-use Rattle.input_laws.specs.Message.{InputMessage, CarriesInput, piece_of, arrivals_carried}
+use Rattle.input_laws.specs.Message.{InputMessage, piece_of, arrivals_carried}
 use Rattle.input_laws.proofs.Telling.{arrivals_carried-append}
 use Rattle.attempt_model.specs.Machine.{Machine, machine_at_start}
 use Rattle.position_laws.specs.Reading.{with_messages, IsMachineAt}
-use Rattle.machine_laws.specs.Living.{LiveAttempt, IsLiveMachine, handed_bytes, after_reading}
+use Rattle.machine_laws.specs.Living.{LiveAttempt, handed_bytes, after_reading}
 use Rattle.machine_laws.specs.Laws.{MachinesStayLive}
 use Rattle.children_laws.specs.Childless.{untracked, childless, is_cancellation}
 use Rattle.vm_calls.specs.Active.{Sees}
 use Rattle.vm_context.specs.Output.{Written}
 use Rattle.vm_errors.specs.declared.phase.Phase.{Phase}
-use Rattle.vm_errors.specs.declared.phase.Phase.TheVariants as phases
 use Rattle.vm_feeding.specs.Feeding.{has_failed, IsFed}
 use Rattle.vm_machine.specs.declared.machine_state.MachineState.{MachineState}
 use Rattle.vm_handles.specs.Handles.{id_of}
 use Rattle.vm_outcomes.specs.Driven.{IsDriven}
 use Rattle.vm_types.specs.Options.{run_options}
 use Rattle.vm_types.specs.declared.options.VMOptions.{VMOptions}
-use Rattle.feeding_laws.specs.Inputs.{bytes_of, IsFedEach, AreWaitedFor, gathered_all, phase_behind, AreKept, TakesFirst, InputsAreKept}
-use Rattle.feeding_laws.specs.Messages.{MessageFits}
+use Rattle.feeding_laws.specs.Inputs.{bytes_of, IsFedEach, AreWaitedFor, phase_behind, TakesFirst, InputsAreKept}
 use Rattle.feeding_laws.specs.Memory.{FailsForMemory}
-use Rattle.beginning_laws.specs.Standing.{IsInputOf, start_told, Kind, kind_of, HasStarted}
+use Rattle.beginning_laws.specs.Standing.{IsInputOf, start_told, Kind, kind_of}
 use Rattle.beginning_laws.specs.Laws.{ReadsOn as MachineReadsOn, JournalsAreRead}
 use Rattle.feeding_laws.proofs.Inputs.{stays_active}
 use Rattle.beginning_laws.proofs.Messages.{arrivals_waited_for, arrivals_gathered, all_in_front}
 use Rattle.vm_attempt.specs.declared.attempt.Attempt.{Attempt}
-use Rattle.vm_attempt.specs.declared.turn.Finish.{Finish}
 use Rattle.beginning_laws.specs.Standing.{IsArrival}
 use Rattle.serving_laws.specs.Serving.{IsFedBy, kind_where, HasNotRead, HasRead, Serves}
 use Rattle.serving_laws.specs.Keeping.{IsLiveAt, StaysServing, ReadsOn, LacksMemory, WritesNothing, FeedsServing}

@@ -1,5 +1,5 @@
 -- Messages of an attempt's input, some of which were read.
-use Rattle.std.proofs.Common.{◌≡◌, ◌∙◌, Bool, false, ◌||◌, List, [], ◌∷◌, ◌++◌, append_assoc, append-nil, refl, sym, ap, subst}
+use Rattle.std.proofs.Common.{◌≡◌, ◌∙◌, Bool, false, ◌||◌, List, [], ◌∷◌, ◌++◌, append_assoc, refl, sym, ap, subst}
 use Rattle.std.proofs.lemmas.List.{append_cancel_left}
 use Rattle.std.specs.List.{AllByRecursion, list_any}
 use Rattle.journal_model.specs.Journal.{Entry, Recorded, Arrived, completion}
@@ -9,7 +9,6 @@ use Rattle.input_laws.specs.Message.{InputMessage, CarriesInput, CarriesRequest,
 use Rattle.input_laws.proofs.Telling.{arrivals_carried-append}
 use Rattle.attempt_model.specs.Machine.{Machine, with_arrival}
 use Rattle.attempt_model.specs.Attempts.{with_entry, with_entries}
-use Rattle.position_laws.specs.Beginning.{AttemptStart}
 use Rattle.position_laws.specs.Reading.{entries_carried, with_messages}
 use Rattle.machine_laws.specs.Living.{LiveAttempt, HasReadJournal}
 use Rattle.children_laws.specs.Childless.{childless, is_cancellation}

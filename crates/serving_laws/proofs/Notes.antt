@@ -1,17 +1,14 @@
 -- What a machine that fails has written says nothing of requests, and so is of the run.
-use Rattle.std.proofs.Common.{◌≡◌, ◌⊎◌, inl, inr, ◌∙◌, ◌<◌, ◌^◌, ℕ, Bool, false, List, [], ◌∷◌, ◌++◌, append-nil, append_assoc, map, length, Result, Ok, Err, refl, sym, ap, subst}
+use Rattle.std.proofs.Common.{◌≡◌, inl, inr, ◌∙◌, ℕ, false, List, [], ◌∷◌, ◌++◌, append-nil, append_assoc, map, Result, Ok, Err, sym, ap, subst}
 use Rattle.std.specs.List.{AllByRecursion}
 use Rattle.std.specs.declared.alloc.AllocError.{AllocError}
 use Rattle.protocol_errors.specs.declared.error.Error.{Error}
 use Rattle.protocol_types.specs.Version.{version_number}
 use Rattle.protocol_types.specs.declared.version.Version.{Version}
 use Rattle.journal_model.specs.Attempt.{is_input_closed}
-use Rattle.journal_model.specs.Event.{Event, Frame}
 use Rattle.journal_model.specs.Headline.{arrivals_handed}
 use Rattle.journal_model.specs.Journal.{recorded_requests}
-use Rattle.journal_model.specs.Notification.{Text}
-use Rattle.journal_model.specs.Run.{Handler, Invocation}
-use Rattle.turn_laws.specs.Sending.{requests_sent, FollowsSo}
+use Rattle.turn_laws.specs.Sending.{requests_sent}
 use Rattle.turn_laws.specs.Turning.{IsNote, notes}
 use Rattle.turn_laws.proofs.Sending.{sends-append}
 use Rattle.turn_laws.proofs.Turning.{writes_send}

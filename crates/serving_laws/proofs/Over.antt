@@ -20,7 +20,7 @@ use Rattle.vm_attempt.specs.declared.turn.Finish.{Finish}
 use Rattle.vm_attempt.specs.declared.turn.Finish.TheVariants as finishes
 use Rattle.vm_attempt.specs.declared.turn.Turn.{Turn}
 use Rattle.serving_laws.specs.Serving.{IsOver, finished, machine_failed}
-use Rattle.serving_laws.specs.Keeping.{IsLast, WritesNothing, StaysOver, OversStay}
+use Rattle.serving_laws.specs.Keeping.{IsLast, WritesNothing, OversStay}
 
 again_last : (finish : Finish) → IsLast (again finish)
 again_last finishes.Suspended = tt

@@ -1,5 +1,5 @@
 -- Whether an attempt whose input was not read has its journal.
-use Rattle.std.proofs.Common.{◌≡◌, ◌⊎◌, inl, inr, ◌∙◌, ◌+◌, ◌-◌, ◌<◌, arith, ℕ, zero, suc, Bool, true, List, [], ◌∷◌, ◌++◌, length, length-append, if◌then◌else◌, refl, sym, ap, subst}
+use Rattle.std.proofs.Common.{◌≡◌, ◌⊎◌, inl, inr, ◌∙◌, ◌+◌, ◌-◌, arith, ℕ, zero, suc, Bool, true, List, [], ◌∷◌, ◌++◌, length, length-append, if◌then◌else◌, refl, sym, ap}
 use Rattle.std.specs.Prelude.{nat_lt}
 use Rattle.std.proofs.lemmas.Bool.{lt-ltb}
 use Rattle.input_laws.specs.Message.{InputMessage, CarriesInput}

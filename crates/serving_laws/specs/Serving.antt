@@ -1,5 +1,5 @@
 -- How an attempt over a machine stands to the live attempt of which the definitions speak.
-use Rattle.std.specs.Prelude.{◌≡◌, ◌⊎◌, ◌≤◌, ◌-◌, ◌^◌, ℕ, Bool, true, false, List, [], ◌++◌, map, Option, Some, None}
+use Rattle.std.specs.Prelude.{◌≡◌, ◌⊎◌, ◌≤◌, ◌-◌, ◌^◌, ℕ, Bool, true, false, List, [], ◌++◌, Some, None}
 use Rattle.std.specs.List.{AllByRecursion, list_any}
 use Rattle.protocol_wire.specs.declared.record.TheConstants.{LEVELS}
 use Rattle.protocol_stream.specs.Item.{item_at}
@@ -10,17 +10,15 @@ use Rattle.journal_model.specs.declared.call.Call.{Call}
 use Rattle.journal_model.specs.declared.handler.Input.{Input}
 use Rattle.journal_model.specs.declared.options.RunOptions.{RunOptions}
 use Rattle.journal_model.specs.Await.{awaited_tree}
-use Rattle.journal_model.specs.Notification.{Arrival}
 use Rattle.journal_model.specs.History.{answers_of}
 use Rattle.journal_model.specs.Request.{Request}
 use Rattle.journal_model.specs.State.{StartState}
-use Rattle.journal_model.specs.Run.{Handler, Invocation, run}
-use Rattle.input_laws.specs.Message.{InputMessage, arrivals_carried}
+use Rattle.journal_model.specs.Run.{Handler, run}
+use Rattle.input_laws.specs.Message.{arrivals_carried}
 use Rattle.attempt_model.specs.Requests.{Commands, requests_by}
 use Rattle.attempt_model.specs.Machine.{Machine, machine_at_start}
 use Rattle.position_laws.specs.Beginning.{ShowsStart}
 use Rattle.position_laws.specs.Reading.{with_messages}
-use Rattle.machine_laws.specs.Asking.{AsksByText}
 use Rattle.machine_laws.specs.Living.{LiveAttempt, HasReadJournal}
 use Rattle.children_laws.specs.Childless.{untracked, childless, is_cancellation}
 use Rattle.request_laws.specs.Calls.{IsTypedCall}
@@ -29,7 +27,6 @@ use Rattle.sending_laws.specs.Sent.{is_recorded}
 use Rattle.beginning_laws.specs.Standing.{IsInputOf, IsRunOf, Kind, kind_of, start_told, HasStarted}
 use Rattle.vm_ephemeral.specs.Reads.{no_reads}
 use Rattle.vm_errors.specs.declared.phase.Phase.TheVariants as phases
-use Rattle.vm_machine.specs.declared.machine_state.MachineState.{MachineState}
 use Rattle.vm_outcomes.specs.Driven.{IsDriven}
 use Rattle.vm_types.specs.declared.options.VMOptions.{VMOptions}
 use Rattle.vm_attempt.specs.Output.{output_of}
@@ -48,12 +45,11 @@ abbrev pub AwaitsWithin : RunOptions → Call → Type 0
 AwaitsWithin options (Call.Await tree) = IsWithin (LEVELS - 1) (awaited_tree options.implicit_cancellation tree)
 AwaitsWithin options call = Unit {0}
 
--- Each call of it is of its type, is one that the store carries out, and awaits what can be told; its keys are text.
+-- each call of it is of its type, is one that the store carries out, and awaits what can be told
 pub record IsCarriedOut (options : RunOptions) (next : Handler) : Type 0 where
   pub typed : (input : Input) (answers : List Answer) → IsTypedCall (next input answers)
   pub recorded : (input : Input) (answers : List Answer) → IsOfStore (next input answers)
   pub within : (input : Input) (answers : List Answer) → AwaitsWithin options (next input answers)
-  pub by_text : (given : Invocation) (arrivals : List Arrival) → AsksByText next given arrivals
 
 -- ---- its input
 

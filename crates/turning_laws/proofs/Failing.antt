@@ -1,7 +1,6 @@
 -- A call is not carried out: for which cause, and what is told of it.
-use Rattle.std.proofs.Common.{◌≡◌, ◌⊎◌, inl, inr, ◌∙◌, ℕ, Bool, true, false, true≢false, List, [], ◌∷◌, ◌++◌, map, Result, refl, sym, ap, subst}
+use Rattle.std.proofs.Common.{◌≡◌, ◌∙◌, true, false, true≢false, List, [], ◌++◌, map, sym, ap, subst}
 use Rattle.std.specs.List.{AllByRecursion}
-use Rattle.std.specs.declared.alloc.AllocError.{AllocError}
 use Rattle.protocol_errors.specs.declared.error.Error.{Error}
 use Rattle.protocol_types.specs.declared.version.Version.{Version}
 use Rattle.journal_model.specs.declared.call.Answer.{Answer}
@@ -9,16 +8,14 @@ use Rattle.journal_model.specs.declared.call.Call.{Call}
 use Rattle.journal_model.specs.Event.{Event}
 use Rattle.journal_model.specs.History.{answers_of}
 use Rattle.journal_model.specs.Notification.{Text}
-use Rattle.journal_model.specs.Run.{Handler, Invocation}
-use Rattle.journal_model.specs.State.{StartState}
+use Rattle.journal_model.specs.Run.{Handler}
 use Rattle.input_laws.specs.Message.{arrivals_carried, requests_carried}
 use Rattle.turn_laws.specs.Turning.{IsNote}
-use Rattle.attempt_model.specs.Machine.{Machine, FailedBy, Fault, Mismatch, UncompletedInReplay, EndInReplay, KeysNotText, ChildNotId, Refused}
+use Rattle.attempt_model.specs.Machine.{FailedBy, Fault, Mismatch, UncompletedInReplay, EndInReplay, KeysNotText, ChildNotId, Refused}
 use Rattle.attempt_model.specs.Standing.{RepliesAsRun}
 use Rattle.machine_laws.specs.Living.{LiveAttempt}
 use Rattle.children_laws.specs.Childless.{untracked, childless}
 use Rattle.vm_context.specs.Output.{Written}
-use Rattle.vm_errors.specs.Failing.{ended}
 use Rattle.vm_errors.specs.Failure.{told_error}
 use Rattle.vm_errors.specs.declared.phase.Phase.TheVariants as phases
 use Rattle.vm_machine.specs.declared.machine_state.MachineState.{MachineState}
@@ -29,7 +26,7 @@ use Rattle.vm_types.specs.declared.options.JournalReplay.{JournalReplay}
 use Rattle.vm_types.specs.declared.options.JournalReplay.TheVariants.{Enabled, Disabled}
 use Rattle.vm_types.specs.declared.options.VMOptions.{VMOptions}
 use Rattle.beginning_laws.specs.Standing.{Kind}
-use Rattle.sending_laws.specs.Sent.{Sent, Fails as FailsWith, sent_stream, SentFits, AllFit, frame_meant, is_recorded}
+use Rattle.sending_laws.specs.Sent.{Sent, Fails as FailsWith, sent_stream, SentFits, AllFit, frame_meant}
 use Rattle.serving_laws.specs.Serving.{IsCarriedOut, IsOfStore}
 use Rattle.serving_laws.proofs.Notes.{TellsNotes, cause_tells}
 use Rattle.turning_laws.specs.Turning.{IsOwnCause}

@@ -1,6 +1,6 @@
 -- What is known of a machine of whose attempt the input was read, at a turn.
-use Rattle.std.proofs.Common.{◌≡◌, ◌⊎◌, inl, inr, ◌∙◌, ℕ, Bool, false, ◌||◌, List, [], ◌∷◌, ◌++◌, append-nil, map, length, Option, Some, None, refl, sym, ap, subst}
-use Rattle.std.specs.List.{AllByRecursion, list_any}
+use Rattle.std.proofs.Common.{◌≡◌, ◌∙◌, Bool, false, ◌||◌, List, [], ◌∷◌, ◌++◌, map, length, refl, sym, ap}
+use Rattle.std.specs.List.{list_any}
 use Rattle.protocol_types.specs.Version.{version_number}
 use Rattle.protocol_types.specs.declared.version.Version.{Version}
 use Rattle.journal_model.specs.declared.call.Answer.{Answer}
@@ -16,7 +16,7 @@ use Rattle.journal_model.specs.History.{answers_of}
 use Rattle.journal_model.specs.Notification.{Text, Arrival}
 use Rattle.journal_model.specs.Request.{Request}
 use Rattle.journal_model.specs.Run.{Handler, Invocation, Progress}
-use Rattle.input_laws.specs.Message.{InputMessage, piece_of, arrivals_carried, requests_carried}
+use Rattle.input_laws.specs.Message.{piece_of, arrivals_carried, requests_carried}
 use Rattle.input_laws.proofs.Telling.{arrivals_carried-append}
 use Rattle.turn_laws.specs.Sending.{FollowsSo}
 use Rattle.attempt_model.specs.Machine.{Machine, Reply, reply_to}
@@ -24,7 +24,7 @@ use Rattle.attempt_model.specs.Standing.{Fits, next_call, RepliesAsRun}
 use Rattle.attempt_calls.proofs.Simulating.{simulates}
 use Rattle.attempt_laws.proofs.Coming.{kinds_by_asking}
 use Rattle.position_laws.specs.Reading.{IsInRun}
-use Rattle.machine_laws.specs.Living.{LiveAttempt, IsLiveMachine}
+use Rattle.machine_laws.specs.Living.{LiveAttempt}
 use Rattle.machine_laws.specs.Laws.{StandsWithJournal, JournalsStand, KeepsOn, MachinesKeepOn}
 use Rattle.children_laws.specs.Childless.{without_children, untracked, childless, childless_reply, is_cancellation}
 use Rattle.children_laws.proofs.Coming.{next_replies_are_same}
@@ -42,6 +42,7 @@ use Rattle.vm_attempt.specs.declared.attempt.Attempt.{Attempt}
 use Rattle.serving_laws.specs.Serving.{IsCarriedOut, IsOfStore, AwaitsWithin, HasNumbers, kind_where, HasRead, Serves}
 use Rattle.serving_laws.specs.Keeping.{IsLiveAt}
 use Rattle.serving_laws.proofs.Messages.{unread_fit}
+use Rattle.serving_laws.proofs.Texts.{asks_by_text}
 
 -- what its requests are compared by
 abbrev pub compares : MachineState → Call → Request → Request → Bool
@@ -95,7 +96,7 @@ module _ {H : Type 0} (function : H → Handler) (next : Handler) (version : Ver
   stands = stand next (run_options options) options.fallback_random_seed id events live f.accepted l r.journal
 
   fits : Fits next live.start.given (requests_carried live.read) (arrivals_carried live.read)
-  fits = stands.fits queued (kinds_by_asking next live.start.given (arrivals_carried live.read) (stands.asked (carried.by_text live.start.given (arrivals_carried live.read))))
+  fits = stands.fits queued (kinds_by_asking next live.start.given (arrivals_carried live.read) (stands.asked (asks_by_text next carried.recorded live.start.given (arrivals_carried live.read))))
 
   no_cancellation : list_any is_cancellation (arrivals_carried live.read) ≡ false
   no_cancellation =

@@ -1,6 +1,5 @@
 -- Turns one after the other, with the journal read and the input closed.
-use Rattle.std.proofs.Common.{◌≡◌, ◌⊎◌, inl, inr, ◌∙◌, ◌+◌, arith, ℕ, suc, Bool, true, false, true≢false, List, [], ◌∷◌, ◌++◌, length, map, Option, refl, sym, ap, subst}
-use Rattle.protocol_errors.specs.declared.error.Error.{Error}
+use Rattle.std.proofs.Common.{◌≡◌, ◌⊎◌, inl, inr, ◌∙◌, ◌+◌, arith, ℕ, suc, Bool, true, false, true≢false, List, [], ◌∷◌, ◌++◌, length, map, sym, ap, subst}
 use Rattle.protocol_types.specs.declared.version.Version.{Version}
 use Rattle.journal_model.specs.declared.options.SignalDelivery.TheVariants.{Queued}
 use Rattle.journal_model.specs.Attempt.{is_input_closed}
@@ -12,14 +11,13 @@ use Rattle.machine_laws.specs.Living.{LiveAttempt, HasReadJournal, after_turn}
 use Rattle.sending_laws.specs.Sent.{Sent, frame_meant}
 use Rattle.vm_types.specs.Options.{run_options}
 use Rattle.vm_types.specs.declared.options.VMOptions.{VMOptions}
-use Rattle.vm_attempt.specs.Turning.{Turns}
 use Rattle.vm_attempt.specs.declared.attempt.Attempt.{Attempt}
 use Rattle.vm_attempt.specs.declared.turn.Turn.{Turn}
 use Rattle.vm_attempt.specs.declared.turn.Turn.TheVariants as turns
 use Rattle.serving_laws.specs.Serving.{IsCarriedOut, Serves, IsOver}
 use Rattle.serving_laws.specs.Keeping.{IsLiveAt}
 use Rattle.serving_laws.proofs.Over.{overs_stay}
-use Rattle.turning_laws.specs.Turning.{KeepsTold, turns_answered, GoesOnWith, TurnsBehind, TurnKeeps, TurnServes, TurnsEach, AnswersEach, TurnsAnswer}
+use Rattle.turning_laws.specs.Turning.{turns_answered, TurnsBehind, TurnKeeps, TurnServes, TurnsEach, AnswersEach, TurnsAnswer}
 
 module _ {H : Type 0} (function : H → Handler) (next : Handler) (version : Version) (options : VMOptions) (id : Text) (events : List Event) where
   -- one that is over stays so

@@ -1,5 +1,5 @@
 -- What a turn has sent, by the outcome of its call.
-use Rattle.std.proofs.Common.{◌≡◌, ◌⊎◌, inl, inr, ◌∙◌, ◌+◌, ◌≤◌, ◌<◌, ◌-◌, ◌^◌, ℕ, arith, Bool, true, false, List, [], ◌∷◌, ◌++◌, append-nil, append_assoc, map, length, if◌then◌else◌, Option, Some, None, Result, Ok, Err, refl, sym, ap, subst}
+use Rattle.std.proofs.Common.{◌≡◌, ◌⊎◌, inl, inr, ◌∙◌, ◌+◌, ◌≤◌, ◌-◌, ◌^◌, ℕ, arith, Bool, true, false, List, [], ◌∷◌, ◌++◌, map, if◌then◌else◌, None, Ok, refl, sym, ap, subst}
 use Rattle.std.proofs.lemmas.List.{append_cancel_left}
 use Rattle.std.specs.List.{AllByRecursion}
 use Rattle.protocol_wire.specs.declared.record.TheConstants.{LEVELS}
@@ -8,7 +8,6 @@ use Rattle.protocol_types.specs.declared.message_type.MessageType.TheVariants as
 use Rattle.protocol_types.specs.declared.version.Version.{Version}
 use Rattle.journal_model.specs.declared.call.Answer.{Answer}
 use Rattle.journal_model.specs.declared.call.Call.{Call}
-use Rattle.journal_model.specs.declared.notification.NotificationId.{NotificationId}
 use Rattle.journal_model.specs.Attempt.{is_input_closed}
 use Rattle.journal_model.specs.Await.{awaited_tree}
 use Rattle.journal_model.specs.AwaitTree.{AwaitTree}
@@ -21,13 +20,12 @@ use Rattle.journal_model.specs.Run.{Handler, Invocation}
 use Rattle.journal_model.specs.Spelling.{frame_bytes}
 use Rattle.journal_model.specs.Waiting.{only_leaves}
 use Rattle.journal_model.specs.declared.options.RunOptions.{RunOptions}
-use Rattle.turn_laws.specs.Sending.{FollowsSo}
 use Rattle.attempt_model.specs.Results.{Slots, slot_of}
 use Rattle.attempt_model.specs.Requests.{requests_by}
 use Rattle.attempt_model.specs.Machine.{Machine, Reply, Answered, AwaitsTree, Finished, reply_to}
 use Rattle.position_laws.specs.Replies.{SendsReply}
 use Rattle.machine_laws.specs.Living.{LiveAttempt}
-use Rattle.children_laws.specs.Childless.{untracked, childless, childless_reply}
+use Rattle.children_laws.specs.Childless.{untracked, childless}
 use Rattle.request_laws.specs.Fitting.{RequestFits}
 use Rattle.request_laws.proofs.Making.{calls_make_fit}
 use Rattle.handle_laws.specs.Awaiting.{IsLeft}
@@ -35,13 +33,12 @@ use Rattle.handle_laws.specs.Trees.{IsWithin, SlotsFit, TreeFits}
 use Rattle.handle_laws.specs.Machines.{Leaves}
 use Rattle.handle_laws.proofs.Handles.{awaited_trees_fit}
 use Rattle.handle_laws.proofs.Machines.{machines_fit}
-use Rattle.vm_awaits.specs.Views.{AsyncResults, slots_of, results_of}
-use Rattle.vm_calls.specs.Active.{Sees, Fits, writes_frames}
+use Rattle.vm_awaits.specs.Views.{AsyncResults, slots_of}
+use Rattle.vm_calls.specs.Active.{Fits}
 use Rattle.vm_calls.specs.declared.active.Active.{Active}
 use Rattle.vm_context.specs.Output.{Written, with_frame}
 use Rattle.vm_machine.specs.declared.machine_state.MachineState.{MachineState}
 use Rattle.vm_outcomes.specs.Carrying.{Answers, Waits, Suspends, Ends}
-use Rattle.vm_outcomes.specs.Causes.{NumbersLeft}
 use Rattle.vm_outcomes.specs.Driven.{IsDriven}
 use Rattle.vm_types.specs.Options.{run_options}
 use Rattle.vm_types.specs.declared.options.VMOptions.{VMOptions}

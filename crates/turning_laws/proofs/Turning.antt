@@ -1,53 +1,46 @@
 -- Each turn of an attempt, by what its machine does.
-use Rattle.std.proofs.Common.{◌≡◌, ◌⊎◌, inl, inr, ◌∙◌, ◌+◌, ℕ, suc, Bool, true, false, List, [], ◌∷◌, ◌++◌, append-nil, map, Option, Some, None, Result, Ok, Err, refl, sym, ap, subst}
-use Rattle.std.specs.List.{AllByRecursion}
+use Rattle.std.proofs.Common.{◌≡◌, ◌⊎◌, inl, inr, ◌∙◌, ◌+◌, ℕ, suc, List, [], ◌∷◌, ◌++◌, map, Option, Some, sym, ap, subst}
 use Rattle.protocol_stream.specs.Item.{item_at}
 use Rattle.protocol_errors.specs.declared.error.Error.{Error}
 use Rattle.protocol_types.specs.declared.version.Version.{Version}
 use Rattle.journal_model.specs.declared.call.Answer.{Answer}
-use Rattle.journal_model.specs.declared.call.Call.{Call}
 use Rattle.journal_model.specs.declared.handler.Input.{Input}
 use Rattle.journal_model.specs.declared.notification.NotificationId.{NotificationId}
-use Rattle.journal_model.specs.declared.options.SignalDelivery.TheVariants.{Queued}
 use Rattle.journal_model.specs.Attempt.{is_input_closed}
 use Rattle.journal_model.specs.AwaitTree.{AwaitTree}
-use Rattle.journal_model.specs.Event.{Event, Frame}
+use Rattle.journal_model.specs.Event.{Event}
 use Rattle.journal_model.specs.History.{answers_of}
 use Rattle.journal_model.specs.Notification.{Text}
 use Rattle.journal_model.specs.Request.{Request}
-use Rattle.journal_model.specs.Run.{Handler, Invocation, Progress, Ending, Waits as WaitsFor, Ended as HasEnded, run, run_requests}
-use Rattle.input_laws.specs.Message.{InputMessage, arrivals_carried, requests_carried}
-use Rattle.turn_laws.specs.Sending.{FollowsSo}
-use Rattle.attempt_model.specs.Machine.{Machine, Reply, Answered, AwaitsTree, Finished}
+use Rattle.journal_model.specs.Run.{Handler, Progress, Waits as WaitsFor, run}
+use Rattle.input_laws.specs.Message.{arrivals_carried, requests_carried}
+use Rattle.attempt_model.specs.Machine.{Machine, Answered, AwaitsTree}
 use Rattle.attempt_model.specs.Standing.{AnswersNext, RepliesAsRun}
 use Rattle.position_laws.specs.Replies.{goes_on}
-use Rattle.machine_laws.specs.Living.{LiveAttempt, HasReadJournal, after_turn}
-use Rattle.machine_laws.specs.Laws.{JournalsStand, MachinesKeepOn}
+use Rattle.machine_laws.specs.Living.{LiveAttempt, after_turn}
 use Rattle.children_laws.specs.Childless.{untracked, childless}
 use Rattle.vm_context.specs.Output.{Written}
 use Rattle.vm_core.specs.declared.core_vm.CoreVM.{CoreVM}
 use Rattle.vm_errors.specs.Failing.{out_of_memory}
-use Rattle.vm_errors.specs.declared.phase.Phase.TheVariants as phases
 use Rattle.vm_machine.specs.declared.machine_state.MachineState.{MachineState}
-use Rattle.vm_outcomes.specs.Carrying.{Answers, Waits, Suspends, Ends, Fails, Comes}
-use Rattle.vm_outcomes.specs.Causes.{NoMemory, FailsWhen}
+use Rattle.vm_outcomes.specs.Carrying.{Answers, Waits, Suspends, Ends, Fails}
+use Rattle.vm_outcomes.specs.Causes.{NoMemory}
 use Rattle.vm_outcomes.specs.Driven.{IsDriven}
 use Rattle.vm_types.specs.Options.{run_options}
 use Rattle.vm_types.specs.declared.options.VMOptions.{VMOptions}
 use Rattle.beginning_laws.specs.Standing.{Kind, kind_of}
-use Rattle.sending_laws.specs.Sent.{Sent, Fails as FailsWith, sent_stream, SentFits, AllFit, frame_meant}
+use Rattle.sending_laws.specs.Sent.{sent_stream, frame_meant}
 use Rattle.vm_attempt.specs.Output.{output_of}
 use Rattle.vm_attempt.specs.Turning.{IsOver as IsOverBy, TakesAnswer}
 use Rattle.vm_attempt.specs.declared.attempt.Attempt.{Attempt}
-use Rattle.vm_attempt.specs.declared.turn.Finish.{Finish}
 use Rattle.vm_attempt.specs.declared.turn.Finish.TheVariants as finishes
 use Rattle.vm_attempt.specs.declared.turn.Turn.{Turn}
-use Rattle.serving_laws.specs.Serving.{IsCarriedOut, IsFedBy, HasNumbers, kind_where, HasNotRead, HasRead, Serves, IsOver, finished, machine_failed}
+use Rattle.serving_laws.specs.Serving.{IsCarriedOut, HasNumbers, HasRead, Serves, finished, machine_failed}
 use Rattle.serving_laws.specs.Keeping.{IsLiveAt}
 use Rattle.serving_laws.proofs.Notes.{notes_follow, waits_more}
-use Rattle.turning_laws.specs.Turning.{ComesTo, IsOwnCause, KeepsTold, turns_answered, GoesOnWith, FailsBy, TurnsBehind, TurnKeeps}
-use Rattle.turning_laws.proofs.Failing.{FailsSo, fails_so}
-use Rattle.turning_laws.proofs.Now.{Now, compares, call_of, reply_at, now}
+use Rattle.turning_laws.specs.Turning.{ComesTo, KeepsTold, turns_answered, GoesOnWith, FailsBy, TurnsBehind, TurnKeeps}
+use Rattle.turning_laws.proofs.Failing.{fails_so}
+use Rattle.turning_laws.proofs.Now.{Now, call_of, reply_at}
 use Rattle.turning_laws.proofs.Stored.{sent_of_store, notes_of_store}
 use Rattle.turning_laws.proofs.Sending.{SendsFor, AnswersSo, answers_so, waits_behind, waits_written, waits_number, waits_send, suspends_send, ends_send}
 

@@ -1,9 +1,8 @@
 -- A turn of an attempt, wherever it stands.
-use Rattle.std.proofs.Common.{◌≡◌, ◌⊎◌, inl, inr, ◌∙◌, ◌+◌, ℕ, suc, Bool, true, false, List, [], ◌∷◌, ◌++◌, append-nil, map, Option, Some, None, Result, Ok, Err, refl, sym, ap, subst}
+use Rattle.std.proofs.Common.{◌≡◌, ◌⊎◌, inl, inr, ◌∙◌, ◌+◌, ℕ, suc, Bool, true, false, List, [], ◌++◌, append-nil, Option, Some, None, Result, Ok, refl, sym, ap, subst}
 use Rattle.protocol_stream.specs.Item.{item_at}
 use Rattle.protocol_errors.specs.declared.error.Error.{Error}
 use Rattle.protocol_types.specs.declared.version.Version.{Version}
-use Rattle.journal_model.specs.declared.call.Answer.{Answer}
 use Rattle.journal_model.specs.declared.call.Call.{Call}
 use Rattle.journal_model.specs.declared.handler.Input.{Input}
 use Rattle.journal_model.specs.declared.options.SignalDelivery.TheVariants.{Queued}
@@ -20,7 +19,7 @@ use Rattle.machine_laws.specs.Living.{LiveAttempt, HasReadJournal, after_turn}
 use Rattle.machine_laws.specs.Laws.{JournalsStand, MachinesKeepOn}
 use Rattle.children_laws.specs.Childless.{untracked, childless}
 use Rattle.vm_context.specs.Output.{Written}
-use Rattle.vm_errors.specs.Failing.{out_of_memory, ended}
+use Rattle.vm_errors.specs.Failing.{out_of_memory}
 use Rattle.vm_errors.specs.declared.phase.Phase.{Phase}
 use Rattle.vm_errors.specs.declared.phase.Phase.TheVariants as phases
 use Rattle.vm_feeding.specs.Asking.{IsReady}
@@ -32,7 +31,6 @@ use Rattle.vm_outcomes.specs.declared.outcome.CallOutcome.{CallOutcome}
 use Rattle.vm_outcomes.specs.declared.outcome.CallOutcome.TheVariants as outcomes
 use Rattle.vm_types.specs.Options.{run_options}
 use Rattle.vm_types.specs.declared.options.VMOptions.{VMOptions}
-use Rattle.beginning_laws.specs.Standing.{IsInputOf, kind_of}
 use Rattle.beginning_laws.specs.Laws.{AnswersInput, RefusesInput, InputsAreAnswered}
 use Rattle.vm_attempt.specs.Output.{output_of}
 use Rattle.vm_attempt.specs.Turning.{IsOver as IsOverBy, ComesTo as ComesToTurn, CarriesCall, GivesInput, ReadsInput, GoesOn, TurnsWhere, TurnsOn, TurnsUnless}

@@ -1,5 +1,5 @@
 -- What each turn of an attempt comes to: the run goes on by one answer, waits, has ended, or the attempt has failed for a cause.
-use Rattle.std.specs.Prelude.{◌≡◌, ◌⊎◌, ◌+◌, ℕ, suc, Bool, true, false, List, [], ◌∷◌, ◌++◌, map, length, Option, Some, None}
+use Rattle.std.specs.Prelude.{◌≡◌, ◌⊎◌, ◌+◌, ℕ, suc, true, false, List, [], ◌∷◌, ◌++◌, map, length, Option, Some, None}
 use Rattle.std.specs.List.{AllByRecursion}
 use Rattle.protocol_errors.specs.declared.error.Error.{Error}
 use Rattle.protocol_types.specs.declared.version.Version.{Version}

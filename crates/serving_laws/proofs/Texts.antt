@@ -1,0 +1,101 @@
+-- A handler whose calls the store carries out changes no state, and so asks for none by a key.
+use Rattle.std.proofs.Common.{◌≡◌, ℕ, zero, suc, Bool, true, false, true≢false, if◌then◌else◌, List, [], ◌∷◌, ◌++◌, Option, Some, None, refl, sym}
+use Rattle.std.specs.List.{list_all}
+use Rattle.std.specs.Str.{is_utf8}
+use Rattle.journal_model.specs.declared.call.Answer.{Answer}
+use Rattle.journal_model.specs.declared.call.Call.{Call}
+use Rattle.journal_model.specs.declared.handler.Input.{Input}
+use Rattle.journal_model.specs.declared.notification.NotificationId.{NotificationId}
+use Rattle.journal_model.specs.declared.options.RunOptions.{RunOptions}
+use Rattle.journal_model.specs.declared.value.Value.{Value}
+use Rattle.journal_model.specs.Await.{AwaitOutcome, WaitsFor, WokenAt, CancelledAt, is_cancelled_at, children_place, child_result, tracked_children, cancel_request, cancel_requests, cancellation_outcome, outcome_from, awake_place, awaited_ids, await_outcome}
+use Rattle.journal_model.specs.AwaitTree.{AwaitTree}
+use Rattle.journal_model.specs.Cause.{keys_of}
+use Rattle.journal_model.specs.History.{Step, answers_of, requests_of}
+use Rattle.journal_model.specs.Notification.{Arrival}
+use Rattle.journal_model.specs.Refusal.{Refusal, refusal_of}
+use Rattle.journal_model.specs.Request.{Request}
+use Rattle.journal_model.specs.Run.{Handler, Invocation, Progress, Ending, GoesOn, Kind, Awaits, Ends, Answers, kind_of, requests_to, after_await, carried_out, unless_refused, continued_by, run}
+use Rattle.journal_model.specs.State.{StartState}
+use Rattle.attempt_laws.proofs.Coming.{all-both}
+use Rattle.machine_laws.specs.Asking.{AsksByText}
+use Rattle.serving_laws.specs.Serving.{IsOfStore}
+
+abbrev has_text : Request → Bool
+has_text request = list_all is_utf8 (keys_of request)
+
+abbrev HaveText : List Request → Type 0
+HaveText requests = list_all (λ request. list_all is_utf8 (keys_of request)) requests ≡ true
+
+both_text : (xs ys : List Request) → HaveText xs → HaveText ys → HaveText (xs ++ ys)
+both_text xs ys one other = all-both (λ request. list_all is_utf8 (keys_of request)) xs ys one other
+
+-- ---- a call
+
+abbrev no_state : StartState
+no_state = record { is_whole = false; entries = [] }
+
+call_text : (given : Invocation) (steps : List Step) (call : Call) → IsOfStore call → HaveText (requests_to given steps call)
+call_text given steps (Call.StateGet key name options) h = absurd (true≢false (sym (h no_state [] (None ∷ []) 0).0))
+call_text given steps (Call.StateGetKeys name) h = absurd (true≢false (sym (h no_state [] (None ∷ []) 0).0))
+call_text given steps (Call.StateSet key value name options) h = absurd (true≢false (sym (h no_state [] [] 0).0))
+call_text given steps (Call.StateClear key name) h = absurd (true≢false (sym (h no_state [] [] 0).0))
+call_text given steps _ h = refl
+
+-- ---- an await
+
+cancel_text : (known : Option Value) → HaveText (cancel_request known)
+cancel_text (Some (Value.InvocationId id)) = refl
+cancel_text _ = refl
+
+abbrev OutcomeText : AwaitOutcome → Type 0
+OutcomeText (CancelledAt place requests) = HaveText requests
+OutcomeText _ = Unit {0}
+
+module _ (options : RunOptions) (steps : List Step) (arrivals : List Arrival) where
+  cancels_text : (place : ℕ) (children : List ℕ) → HaveText (cancel_requests options steps arrivals place children)
+  cancels_text place [] = refl
+  cancels_text place (n ∷ children) =
+      both_text (cancel_request (child_result options steps arrivals place n)) (cancel_requests options steps arrivals place children)
+      (cancel_text (child_result options steps arrivals place n)) (cancels_text place children)
+
+  cancellation_text : (place : Option ℕ) → OutcomeText (cancellation_outcome options steps arrivals place)
+  cancellation_text None = tt
+  cancellation_text (Some place) = cancels_text place (tracked_children options.implicit_cancellation steps)
+
+  from_text : (ids : AwaitTree (Option NotificationId)) (place : Option ℕ) → OutcomeText (outcome_from options steps arrivals ids place)
+  from_text ids None = tt
+  from_text ids (Some place) = by_test (is_cancelled_at options steps arrivals place)
+    where
+      by_test : (b : Bool) → OutcomeText (if b then cancellation_outcome options steps arrivals (children_place options steps arrivals place) else WokenAt place)
+      by_test true = cancellation_text (children_place options steps arrivals place)
+      by_test false = tt
+
+after_text : (steps : List Step) (call : Call) (outcome : AwaitOutcome) → OutcomeText outcome → HaveText (requests_of steps) → HaveText (requests_of (after_await steps call outcome).steps)
+after_text steps call (WaitsFor tree) h all = all
+after_text steps call (WokenAt place) h all = both_text (requests_of steps) [] all refl
+after_text steps call (CancelledAt place requests) h all = both_text (requests_of steps) requests all h
+
+-- ---- a run
+
+module _ (next : Handler) (recorded : (input : Input) (answers : List Answer) → IsOfStore (next input answers)) (given : Invocation) (arrivals : List Arrival) where
+  carried_text : (steps : List Step) (call : Call) (kind : Kind) → IsOfStore call → HaveText (requests_of steps) → HaveText (requests_of (carried_out given steps arrivals call kind).steps)
+  carried_text steps call (Awaits tree) h all =
+      after_text steps call (await_outcome given.options steps arrivals tree)
+      (from_text given.options steps arrivals (awaited_ids given.options steps tree) (awake_place given.options steps arrivals (awaited_ids given.options steps tree))) all
+  carried_text steps call Ends h all = all
+  carried_text steps call Answers h all = both_text (requests_of steps) (requests_to given steps call) all (call_text given steps call h)
+
+  refused_text : (steps : List Step) (call : Call) (refusal : Option Refusal) → IsOfStore call → HaveText (requests_of steps) → HaveText (requests_of (unless_refused given steps arrivals call refusal).steps)
+  refused_text steps call (Some refusal) h all = all
+  refused_text steps call None h all = carried_text steps call (kind_of call) h all
+
+  continued_text : (progress : Progress) (ending : Ending) → HaveText (requests_of progress.steps) → HaveText (requests_of (continued_by next given arrivals progress ending).steps)
+  continued_text progress GoesOn all =
+      refused_text progress.steps (next given.input (answers_of progress.steps)) (refusal_of given.version (next given.input (answers_of progress.steps)))
+      (recorded given.input (answers_of progress.steps)) all
+  continued_text progress _ all = all
+
+  pub asks_by_text : AsksByText next given arrivals
+  asks_by_text zero = refl
+  asks_by_text (suc made) = continued_text (run next given arrivals made) (run next given arrivals made).ending (asks_by_text made)
