@@ -19,6 +19,8 @@ pub enum Feature {
     Acknowledgement,
     /// A call has a scope and a limit key, and the start tells them.
     Scope,
+    /// What a handler reads of its object's state without a command in its journal.
+    EphemeralState,
 }
 
 impl Feature {
@@ -33,6 +35,7 @@ impl Feature {
             Feature::ErrorBehavior => Version::V7,
             Feature::Acknowledgement => Version::V7,
             Feature::Scope => Version::V7,
+            Feature::EphemeralState => Version::V8,
         }
     }
 

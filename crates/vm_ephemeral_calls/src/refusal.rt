@@ -5,17 +5,14 @@ ghost use Rattle.vm_ephemeral_calls.specs.Refusals.{lacks_reads, unsupported_tex
 
 use bytes::ByteStr;
 use protocol_errors::{InvocationErrorCode, WithInvocationErrorCode, codes};
-use protocol_types::Version;
+use protocol_types::{Feature, Version};
 use std::fmt;
-
-/// The first version that has ephemeral reads.
-const FIRST_VERSION: Version = Version::V8;
 
 /// Whether the version is one before ephemeral reads.
 pub(crate) fn lacks_reads(version: Version) -> bool
     ensures { result ≡ lacks_reads version }
 {
-    version.number() < FIRST_VERSION.number()
+    Feature::EphemeralState.is_later_than(version.number())
 }
 
 /// Why an ephemeral read is not made. It prints what the error of `protocol_errors` prints that is of its kind.
@@ -58,7 +55,9 @@ impl fmt::Display for ReadRefusal {
 
     fn fmt<W: fmt::Write>(&self, f: &mut fmt::Formatter<W>) -> fmt::Result {
         match self {
-            ReadRefusal::Unsupported(version) => write_unsupported(*version, FIRST_VERSION, f),
+            ReadRefusal::Unsupported(version) => {
+                write_unsupported(*version, Feature::EphemeralState.first_version(), f)
+            }
             ReadRefusal::InputClosed(key) => write_closed_input(key.as_str(), f),
         }
     }
