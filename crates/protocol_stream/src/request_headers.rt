@@ -1,5 +1,5 @@
 // The headers of a request.
-ghost use Rattle.std.specs.Prelude.{◌≡◌, List, Option, ℕ, IfOk, option_copied};
+ghost use Rattle.std.specs.Prelude.{◌≡◌, List, Option, ℕ, IfOk, IfErr, option_copied};
 ghost use Rattle.protocol_stream.specs.RequestHeaders.{is_same_name};
 
 use bytes::ByteStr;
@@ -8,16 +8,19 @@ use std::fmt;
 
 /// The headers of the request that begins an attempt.
 ///
-/// `text_of` is the text that a name has among them, if it has one.
+/// `text_of` is the text that a name has among them, if it has one; `fails` says why the text that a name has cannot be read.
 pub trait HeaderMap {
     /// Why a header cannot be read as text.
     type Error: fmt::Debug;
 
     ghost text_of: { Self → List ℕ → Option (List ℕ) };
 
+    ghost fails: { Self → List ℕ → Self.Error → Type 0 };
+
     /// The text of the header with this name.
     fn extract(&self, name: &str) -> Result<Option<&str>, Self::Error>
-        ensures { IfOk result (λ found. option_copied found ≡ text_of self.now name.now) };
+        ensures text { IfOk result (λ found. option_copied found ≡ text_of self.now name.now) }
+        ensures why { IfErr result (λ error. fails self.now name.now error) };
 }
 
 // Whether two names are one, ignoring the case of ASCII letters.
@@ -35,6 +38,8 @@ impl HeaderMap for Vec<(ByteStr, ByteStr)> {
     type Error = Infallible;
 
     ghost text_of = { λ pairs name. header_text name pairs.items };
+
+    ghost fails = { λ pairs name error. ⊥ };
 
     fn extract(&self, name: &str) -> Result<Option<&str>, Infallible> {
         for pair in self.iter() {

@@ -10,11 +10,23 @@ pub fn debug<T: fmt::Debug + Drop>(alloc: Global, value: T) -> Option<String> {
     format!(in alloc; "{value:?}").ok()
 }
 
+/// What a borrowed value is printed as with `{:?}`.
+pub fn shown<T: fmt::Debug>(alloc: Global, value: &T) -> Option<String> {
+    format!(in alloc; "{value:?}").ok()
+}
+
 /// An error by its code.
 pub fn failed(alloc: Global, error: Error) -> Option<String> {
     let code = error.code();
     drop(error);
     format!(in alloc; "failed {code}").ok()
+}
+
+/// An error by its code and its text.
+pub fn refused(alloc: Global, error: Error) -> Option<String> {
+    let told = format!(in alloc; "failed {} {}", error.code(), error.message()).ok();
+    drop(error);
+    told
 }
 
 /// Nothing, or an error.

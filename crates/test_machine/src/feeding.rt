@@ -1,9 +1,10 @@
-//! What a machine is told, and what is asked of itself. `new VERSION WORD ..` with the options that are not as they are by default:
+//! What a machine is told, and what is asked of itself. `new REQUEST WORD ..` with the options that are not as they are by default:
 //! `overwrite` for signals, `fresh` for a journal that is not replayed, `stays` where a cancellation ends no await, `silent` where it
 //! is not told what is waited for, `unchecked` where payloads are not compared, `pauses` where a journal that does not match asks for
 //! a pause; any other word changes nothing. `in HEX`, `close`, `fail CODE`, `out`, `head`, `state`, `index`, `ready`.
 use crate::answers::{debug, done, failed};
 use crate::operands::{byte_str, bytes};
+use crate::requests::{Unreadable, headers};
 use bytes::ByteStr;
 use invocation_vm::{
     AwaitingOnPolicy, Error, ImplicitCancellationOption, InvocationErrorCode,
@@ -42,28 +43,18 @@ fn options(words: &[&str]) -> VMOptions {
     options
 }
 
-// The header of a request in a version; of version 0 no header.
-fn headers(alloc: Global, version: &str) -> Option<Vec<(ByteStr, ByteStr)>> {
-    let mut headers = Vec::new(alloc);
-    if version != "0" {
-        let value = format!(in alloc; "application/vnd.restate.invocation.v{version}").ok()?;
-        let value = ByteStr::from_string(value).ok()?;
-        headers
-            .push((ByteStr::from_static("content-type"), value))
-            .ok()?;
-    }
-    Some(headers)
+fn begin_readable<V: VM>(alloc: Global, request: &str, words: &[&str]) -> Option<VMResult<V>> {
+    let headers = headers(alloc, request)?;
+    let made = V::new(alloc, &headers, options(words));
+    drop(headers);
+    Some(made)
 }
 
 /// A machine as it is asked for, or what refuses it.
 pub fn begin<V: VM>(alloc: Global, operands: &[&str]) -> Option<VMResult<V>> {
     match operands {
-        [version, words @ ..] => {
-            let headers = headers(alloc, *version)?;
-            let made = V::new(alloc, &headers, options(words));
-            drop(headers);
-            Some(made)
-        }
+        ["unreadable", words @ ..] => Some(V::new(alloc, &Unreadable, options(words))),
+        [request, words @ ..] => begin_readable(alloc, *request, words),
         [] => None,
     }
 }

@@ -1,5 +1,6 @@
 //! Rows of a machine: each file that a word of the call names has a call a line, its name and its operands; printed is the row
-//! and, behind ` = `, the answer. `new` begins another machine. A row that is not understood is printed with a `?`.
+//! and, behind ` = `, the answer. `new` begins another machine, and `shown` prints it with `{:?}`. A row that is not understood is
+//! printed with a `?`.
 #![tactic(auto)]
 
 mod answers;
@@ -8,11 +9,14 @@ mod awaits;
 mod commands;
 mod feeding;
 mod operands;
+mod requests;
+mod results;
 mod state;
 mod tables;
 
 use invocation_vm::{CoreVM, VM};
 use std::alloc::Global;
+use std::fmt;
 use std::mem::replace;
 use std::process::ExitCode;
 use test_rows::{Answers, run, told};
@@ -49,12 +53,12 @@ fn begin<V: VM + Drop>(alloc: Global, vm: &mut Option<V>, operands: &[&str]) -> 
         }
         Err(error) => {
             drop(replace(vm, None));
-            answers::failed(alloc, error)
+            answers::refused(alloc, error)
         }
     }
 }
 
-impl<V: VM + Drop> Answers for Machine<V> {
+impl<V: VM + fmt::Debug + Drop> Answers for Machine<V> {
     fn begin() -> Self {
         Machine { vm: None }
     }
@@ -63,6 +67,8 @@ impl<V: VM + Drop> Answers for Machine<V> {
         match words {
             ["new", operands @ ..] => begin(alloc, &mut self.vm, operands),
             ["resolve", operands @ ..] => tables::answer::<V>(alloc, operands),
+            ["copies", operands @ ..] => results::answer(alloc, operands),
+            ["shown"] => answers::shown(alloc, self.vm.as_ref()?),
             [call, operands @ ..] => answer_of(alloc, self.vm.as_mut()?, *call, operands),
             [] => None,
         }

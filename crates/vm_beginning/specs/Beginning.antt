@@ -14,7 +14,7 @@ use Rattle.vm_ephemeral.specs.Reads.{no_reads}
 use Rattle.vm_errors.specs.Failing.{out_of_memory}
 use Rattle.vm_errors.specs.declared.phase.Phase.TheVariants.{WaitingStart}
 use Rattle.vm_machine.specs.declared.machine_state.MachineState.{MachineState}
-use Rattle.vm_start.specs.Negotiation.{Negotiates, negotiation_code, content_type}
+use Rattle.vm_start.specs.Negotiation.{Negotiates, negotiation_code, negotiation_text, content_type}
 use Rattle.vm_start.specs.declared.negotiation.NegotiationError.{NegotiationError}
 use Rattle.vm_start.specs.declared.negotiation.NegotiationError.TheVariants.{MissingContentType, OutOfMemory}
 use Rattle.vm_types.specs.declared.answers.ResponseHead.{ResponseHead}
@@ -29,7 +29,7 @@ or_memory (Err refused) = out_of_memory
 abbrev pub RefusalCauses : {E : Type 0} → NegotiationError E → Result Error AllocError → Type 0
 RefusalCauses OutOfMemory cause = Unless true (Tells internal None) cause
 RefusalCauses MissingContentType cause = cause ≡ Ok (plain_error (fixed_code fixed.MissingContentType) (fixed_text fixed.MissingContentType))
-RefusalCauses refused cause = Unless false (Tells (negotiation_code refused) None) cause
+RefusalCauses refused cause = Unless false (Tells (negotiation_code refused) (negotiation_text refused)) cause
 
 pub record Refuses {E : Type 0} (refused : NegotiationError E) (error : Error) : Type 0 where
   pub cause : Result Error AllocError
@@ -58,9 +58,9 @@ BeginsAs (Err refused) options (Err error) = Refuses refused error
 BeginsAs (Err refused) options (Ok vm) = ⊥
 
 -- A machine is made of a request whose content type says this, or none is.
-pub record Begins (E : Type 0) (text : Option (List ℕ)) (options : VMOptions) (result : Result MachineState Error) : Type 0 where
+pub record Begins (E : Type 0) (Fails : E → Type 0) (text : Option (List ℕ)) (options : VMOptions) (result : Result MachineState Error) : Type 0 where
   pub negotiated : Result Version (NegotiationError E)
-  pub negotiates : Negotiates text negotiated
+  pub negotiates : Negotiates Fails text negotiated
   pub begins : BeginsAs negotiated options result
 
 -- how the response begins

@@ -87,7 +87,7 @@ pub fn begin<H: HeaderMap>(
 ) -> Result<MachineState, Error>
 where
     H::Error: Drop,
-    ensures { Begins H.Error (H.text_of request_headers.now content_type) options result }
+    ensures { Begins H.Error (H.fails request_headers.now content_type) (H.text_of request_headers.now content_type) options result }
 {
     match negotiate(alloc, request_headers) {
         Ok(version) => make(alloc, version, options),

@@ -91,7 +91,7 @@ impl VM for CoreVM {
     fn new<H: HeaderMap>(alloc: Global, request_headers: &H, options: VMOptions) -> VMResult<Self>
     where
         H::Error: Drop,
-        ensures { Begins H.Error (H.text_of request_headers.now content_type) options (state_made result) }
+        ensures { Begins H.Error (H.fails request_headers.now content_type) (H.text_of request_headers.now content_type) options (state_made result) }
     {
         match begin(alloc, request_headers, options) {
             Ok(state) => Ok(CoreVM { state }),

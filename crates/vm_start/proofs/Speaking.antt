@@ -6,10 +6,10 @@ use Rattle.vm_start.specs.declared.negotiation.NegotiationError.{NegotiationErro
 use Rattle.vm_start.specs.declared.negotiation.NegotiationError.TheVariants.{UnreadableHeader, MissingContentType, UnknownContentType, UnsupportedVersion, OutOfMemory}
 use Rattle.vm_start.specs.Negotiation.{Negotiates, Speaks}
 
-pub speaks_so : {E : Type 0} (text : List ℕ) (result : Result Version (NegotiationError E)) → Speaks text result → Negotiates (Some text) result
-speaks_so text (Ok version) says = says
-speaks_so text (Err (UnreadableHeader error)) says = tt
-speaks_so text (Err MissingContentType) says = absurd says
-speaks_so text (Err (UnknownContentType error)) says = says
-speaks_so text (Err (UnsupportedVersion version)) says = says
-speaks_so text (Err OutOfMemory) says = tt
+pub speaks_so : {E : Type 0} (Fails : E → Type 0) (text : List ℕ) (result : Result Version (NegotiationError E)) → Speaks text result → Negotiates Fails (Some text) result
+speaks_so Fails text (Ok version) says = says
+speaks_so Fails text (Err (UnreadableHeader error)) says = absurd says
+speaks_so Fails text (Err MissingContentType) says = absurd says
+speaks_so Fails text (Err (UnknownContentType error)) says = says
+speaks_so Fails text (Err (UnsupportedVersion version)) says = says
+speaks_so Fails text (Err OutOfMemory) says = tt

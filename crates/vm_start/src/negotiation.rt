@@ -1,7 +1,8 @@
 // The version that an attempt speaks.
 ghost use Rattle.std.specs.Prelude.{◌≡◌, ◌∷◌, [], IfOk};
 ghost use Rattle.protocol_types.specs.Version.{version_content_type};
-ghost use Rattle.vm_start.specs.Negotiation.{content_type, Negotiates, Speaks, negotiation_code};
+ghost use Rattle.std.specs.Fmt.{WritesOnOk};
+ghost use Rattle.vm_start.specs.Negotiation.{content_type, Negotiates, Speaks, negotiation_code, version_name, unsupported_version_text, restate_content_type_text, other_content_type_text, content_type_text, negotiation_text};
 ghost use Rattle.vm_start.specs.declared.negotiation.NegotiationError.TheVariants.{OutOfMemory};
 
 use bytes::ByteStr;
@@ -39,23 +40,90 @@ impl<E> From<AllocError> for NegotiationError<E> {
     }
 }
 
+// The version's name.
+fn version_name(version: Version) -> &'static str
+    ensures { result.now ≡ version_name version }
+{
+    match version {
+        Version::V1 => "V1",
+        Version::V2 => "V2",
+        Version::V3 => "V3",
+        Version::V4 => "V4",
+        Version::V5 => "V5",
+        Version::V6 => "V6",
+        Version::V7 => "V7",
+        Version::V8 => "V8",
+    }
+}
+
+// Writes that the version is none from the oldest to the newest.
+#[tactic(auto, unfolding(crate::specs::Negotiation::unsupported_version_text))]
+fn write_unsupported_version<W: fmt::Write>(
+    version: Version,
+    oldest: Version,
+    newest: Version,
+    f: &mut fmt::Formatter<W>,
+) -> fmt::Result
+    ensures { WritesOnOk W.write_str_gives f.old result (unsupported_version_text version oldest newest) f.new }
+{
+    let version = version_name(version);
+    let oldest = version_name(oldest);
+    let newest = version_name(newest);
+    write!(
+        f,
+        "Unsupported protocol version {version}, not within [{oldest} to {newest}]"
+    )
+}
+
+// Writes that the content type is one of this protocol's, of no version.
+#[tactic(auto, unfolding(crate::specs::Negotiation::restate_content_type_text))]
+fn write_restate_content_type<W: fmt::Write>(text: &str, f: &mut fmt::Formatter<W>) -> fmt::Result
+    ensures { WritesOnOk W.write_str_gives f.old result (restate_content_type_text text.now) f.new }
+{
+    write!(f, "unsupported protocol version '{text}'")
+}
+
+// Writes that the content type is of something else.
+#[tactic(auto, unfolding(crate::specs::Negotiation::other_content_type_text))]
+fn write_other_content_type<W: fmt::Write>(text: &str, f: &mut fmt::Formatter<W>) -> fmt::Result
+    ensures { WritesOnOk W.write_str_gives f.old result (other_content_type_text text.now) f.new }
+{
+    write!(
+        f,
+        "unrecognized content-type '{text}', this is not a restate protocol"
+    )
+}
+
+// Writes what the error's own `Display` writes, of which no contract tells the text.
+fn write_content_type_error<W: fmt::Write>(
+    error: &ContentTypeError,
+    f: &mut fmt::Formatter<W>,
+) -> fmt::Result
+    ensures { WritesOnOk W.write_str_gives f.old result (content_type_text error.now) f.new }
+{
+    match error {
+        ContentTypeError::RestateContentType(text) => write_restate_content_type(text.as_str(), f),
+        ContentTypeError::OtherContentType(text) => write_other_content_type(text.as_str(), f),
+    }
+}
+
 /// Prints what is wrong with the request.
 impl<E: fmt::Debug> fmt::Display for NegotiationError<E> {
+    ghost output = { λ error. negotiation_text error };
+
     fn fmt<W: fmt::Write>(&self, f: &mut fmt::Formatter<W>) -> fmt::Result {
         match self {
             NegotiationError::UnreadableHeader(error) => {
                 write!(f, "cannot read '{CONTENT_TYPE}' header: {error:?}")
             }
             NegotiationError::MissingContentType => write!(f, "{MISSING_CONTENT_TYPE}"),
-            NegotiationError::UnknownContentType(error) => write!(f, "{error}"),
-            NegotiationError::UnsupportedVersion(version) => {
-                let oldest = Version::minimum_supported_version();
-                let newest = Version::maximum_supported_version();
-                write!(
-                    f,
-                    "Unsupported protocol version {version:?}, not within [{oldest:?} to {newest:?}]"
-                )
-            }
+            NegotiationError::UnknownContentType(error) => write_content_type_error(error, f),
+            NegotiationError::UnsupportedVersion(version) => write_unsupported_version(
+                *version,
+                Version::minimum_supported_version(),
+                Version::maximum_supported_version(),
+                f,
+            ),
             NegotiationError::OutOfMemory => write!(f, "out of memory"),
         }
     }
@@ -96,7 +164,7 @@ pub fn negotiate<H: HeaderMap>(
     alloc: Global,
     headers: &H,
 ) -> Result<Version, NegotiationError<H::Error>>
-    ensures { Negotiates (H.text_of headers.now content_type) result }
+    ensures { Negotiates (H.fails headers.now content_type) (H.text_of headers.now content_type) result }
 {
     match headers.extract(CONTENT_TYPE) {
         Err(error) => Err(NegotiationError::UnreadableHeader(error)),
