@@ -98,8 +98,8 @@ ends_send is_closed done m after old new opens writes =
     record { coming = Ends ∷ []; fit = (one.fits, tt); written = one.sends; sends = refl }
 
 failures_send : FailuresSend
-failures_send is_closed m fault error old new opens fits writes =
-    let one = frames_are_written.errors error old new opens fits.told fits.short writes in
+failures_send is_closed m fault error old new opens writes =
+    let one = frames_are_written.errors error old new opens writes in
     record { coming = Fails (told_error error) ∷ []; fit = (one.fits, tt); written = one.sends; sends = (tt, tt) }
 
 pub turns_send : TurnsSend

@@ -51,12 +51,13 @@ suspensions_written tree old new opens fits is =
     }
 
 errors_written : ErrorsAreWritten
-errors_written error old new opens fits short writes =
+errors_written error old new opens writes =
+    let told = writes.0 opens in
     let frame : spelled (message_of types.Error (payload_of (error_parts (told_error error)))) ≡ sent_frame old.version (Fails (told_error error)) =
-    spelled-frame_bytes types.Error (payload_of (error_parts (told_error error))) (omega arith) short in
+    spelled-frame_bytes types.Error (payload_of (error_parts (told_error error))) (omega arith) told.short in
     record {
-      fits = record { told = fits; short = short };
-      sends = sends_one (Fails (told_error error)) old new opens (writes ∙ ap (λ (s : List ℕ). with_frame s old) frame);
+      fits = record { told = told.fits; short = told.short };
+      sends = sends_one (Fails (told_error error)) old new opens (writes.1 ∙ ap (λ (s : List ℕ). with_frame s old) frame);
     }
 
 ends_written : EndsAreWritten

@@ -17,11 +17,10 @@ use Rattle.vm_calls.specs.declared.active.Active.{Active}
 use Rattle.vm_calls.specs.Making.{Replies}
 use Rattle.vm_waiting.specs.Suspending.{over_ids, Writes, IsSuspended, TellsIf}
 use Rattle.vm_errors.specs.Failing as failing
-use Rattle.vm_errors.specs.Failure.{told_error}
 use Rattle.protocol_errors.specs.declared.error.Error.{Error}
 use Rattle.request_laws.specs.Fitting.{RequestFits}
 use Rattle.handle_laws.specs.Trees.{TreeFits}
-use Rattle.sending_laws.specs.Sent.{Sent, Fails, SentFits, AllFit, is_recorded, frame_meant}
+use Rattle.sending_laws.specs.Sent.{Sent, AllFit, is_recorded, frame_meant}
 use Rattle.sending_laws.specs.Writing.{Sends}
 
 -- frames that fit are behind what was written, and the frames that they are meant as are what such a reply sends
@@ -52,8 +51,7 @@ abbrev pub EndsSend : Type 0
 EndsSend = (is_closed : Bool) (done : Unit {0}) (m after : Machine) (old new : Written) → old.is_closed ≡ false → Writes types.End [] old (Ok done) new → TurnSends is_closed m (Finished after) old new
 
 abbrev pub FailuresSend : Type 0
-FailuresSend = (is_closed : Bool) (m : Machine) (fault : Fault) (error : Error) (old new : Written) → old.is_closed ≡ false → SentFits old.version (Fails (told_error error)) → failing.Writes error old new
-    → TurnSends is_closed m (FailedBy fault) old new
+FailuresSend = (is_closed : Bool) (m : Machine) (fault : Fault) (error : Error) (old new : Written) → old.is_closed ≡ false → failing.Writes error old new → TurnSends is_closed m (FailedBy fault) old new
 
 pub record TurnsSend : Type 0 where
   pub answers : AnswersSend

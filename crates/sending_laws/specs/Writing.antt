@@ -1,11 +1,8 @@
 -- What is written is what is sent, and what a turn sends.
-use Rattle.std.specs.Prelude.{◌≡◌, ◌<◌, ◌^◌, ℕ, true, false, List, [], ◌∷◌, ◌++◌, length, map, Ok}
-use Rattle.protocol_wire.specs.Parts.{payload_of}
-use Rattle.protocol_wire.specs.declared.record.TheConstants.{LEVELS}
+use Rattle.std.specs.Prelude.{◌≡◌, ℕ, true, false, List, [], ◌∷◌, ◌++◌, map, Ok}
 use Rattle.protocol_types.specs.declared.message_type.MessageType.TheVariants as types
 use Rattle.journal_model.specs.AwaitTree.{AwaitTree}
 use Rattle.journal_model.specs.Request.{Request}
-use Rattle.protocol_controls.specs.Error.{error_parts, ErrorFits}
 use Rattle.protocol_errors.specs.declared.error.Error.{Error}
 use Rattle.vm_context.specs.Output.{Written}
 use Rattle.vm_calls.specs.declared.active.Active.{Active}
@@ -37,10 +34,8 @@ abbrev pub SuspensionsAreWritten : Type 0
 SuspensionsAreWritten = (tree : AwaitTree ℕ) (old new : Active) → old.output.is_closed ≡ false → TreeFits (over_ids old tree) → IsSuspended tree old new
     → SendsOne (Suspends (over_ids old tree)) old.output new.output
 
--- of an error whose payload is not longer than one can be
 abbrev pub ErrorsAreWritten : Type 0
-ErrorsAreWritten = (error : Error) (old new : Written) → old.is_closed ≡ false → ErrorFits LEVELS (told_error error) → length (payload_of (error_parts (told_error error))) < 2 ^ 32
-    → failing.Writes error old new → SendsOne (Fails (told_error error)) old new
+ErrorsAreWritten = (error : Error) (old new : Written) → old.is_closed ≡ false → failing.Writes error old new → SendsOne (Fails (told_error error)) old new
 
 abbrev pub EndsAreWritten : Type 0
 EndsAreWritten = (done : Unit {0}) (old new : Written) → old.is_closed ≡ false → Writes types.End [] old (Ok done) new → SendsOne Ends old new

@@ -1,5 +1,5 @@
 -- What becomes of a machine that fails: what is kept and answered, and the one frame that tells it.
-use Rattle.std.specs.Prelude.{◌≡◌, ◌≤◌, ◌^◌, ◌⊎◌, true, false, length, codes, Option, Some, None, Result, Ok, Err}
+use Rattle.std.specs.Prelude.{◌≡◌, ◌<◌, ◌≤◌, ◌^◌, ◌⊎◌, true, false, length, codes, Option, Some, None, Result, Ok, Err}
 use Rattle.std.specs.declared.alloc.AllocError.{AllocError}
 use Rattle.protocol_types.specs.declared.message_type.MessageType.TheVariants as messages
 use Rattle.protocol_types.specs.declared.version.Version.{Version}
@@ -7,7 +7,8 @@ use Rattle.protocol_types.specs.Version.{version_number}
 use Rattle.protocol_stream.specs.declared.decoder.RawMessage.{RawMessage}
 use Rattle.protocol_stream.specs.Frame.{spelled}
 use Rattle.protocol_messages.specs.Encoded.{record_message}
-use Rattle.protocol_controls.specs.Error.{error_parts}
+use Rattle.protocol_wire.specs.declared.record.TheConstants.{LEVELS}
+use Rattle.protocol_controls.specs.Error.{error_parts, ErrorFits}
 use Rattle.protocol_errors.specs.Code.{internal}
 use Rattle.protocol_errors.specs.Error.{plain_error}
 use Rattle.protocol_errors.specs.declared.error.Error.{Error}
@@ -29,9 +30,14 @@ error_message version error = record_message messages.Error version (error_parts
 abbrev pub IsTooLong : Error → Written → Type 0
 IsTooLong error output = (output.is_closed ≡ false) × (2 ^ 32 ≤ length (error_message output.version error).payload)
 
--- exactly the error's frame is behind what was written; behind the end nothing
+-- each number that is told of an error is within its type, each text is UTF-8, and the payload is no longer than one can be
+pub record CanBeTold (version : Version) (error : Error) : Type 0 where
+  pub fits : ErrorFits LEVELS (told_error error)
+  pub short : length (error_message version error).payload < 2 ^ 32
+
+-- exactly the error's frame is behind what was written, and it can be told; behind the end nothing
 abbrev pub Writes : Error → (old new : Written) → Type 0
-Writes error old new = new ≡ with_frame (spelled (error_message old.version error)) old
+Writes error old new = (old.is_closed ≡ false → CanBeTold old.version error) × (new ≡ with_frame (spelled (error_message old.version error)) old)
 
 -- Of an error its frame is written. Where that would be too long, a frame is written that says so, of an error that the machine
 -- fails with instead; where memory is refused none is, and the machine fails with that.

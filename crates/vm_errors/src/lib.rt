@@ -3,6 +3,7 @@
 
 mod failing;
 mod failure;
+mod fits;
 mod phase;
 
 pub use failing::{again, fail};
