@@ -1,0 +1,3 @@
+pub mod Fits
+pub mod Beginnings
+pub mod Handing

@@ -1,0 +1,28 @@
+-- Which events calls can bring: their numbers are within their types, their texts are UTF-8, and what an attempt asks for is recorded.
+use Rattle.std.specs.Prelude.{◌≡◌, ◌<◌, ◌^◌, true, List}
+use Rattle.std.specs.List.{AllByRecursion}
+use Rattle.journal_model.specs.Notification.{Text}
+use Rattle.journal_model.specs.Event.{Event, Frame}
+use Rattle.journal_model.specs.Journal.{completion}
+use Rattle.request_laws.specs.Fitting.{RequestFits}
+use Rattle.fitting_events.specs.Fitting.{InvocationFits, ResultFits}
+use Rattle.sending_laws.specs.Sent.{is_recorded}
+
+-- a request that a store records; no run is executed, so none has an outcome
+abbrev pub FrameFits : Frame → Type 0
+FrameFits (Frame.Command request) = RequestFits request × (is_recorded request ≡ true)
+FrameFits (Frame.RunOutcome completion value is_acknowledged) = ⊥
+FrameFits _ = Unit {0}
+
+-- of an accepted event, if it is one of this invocation; none signals or cancels it
+abbrev pub AcceptedFits : Text → Event → Type 0
+AcceptedFits id (Event.Invoke new) = new.id ≡ id → InvocationFits new
+AcceptedFits id (Event.Complete other n value) = other ≡ id → ResultFits (completion n value)
+AcceptedFits id (Event.Signal other key value) = other ≡ id → ⊥
+AcceptedFits id (Event.Cancel other) = other ≡ id → ⊥
+AcceptedFits id (Event.Begin other now) = other ≡ id → now < 2 ^ 64
+AcceptedFits id (Event.Take other attempt frame) = other ≡ id → FrameFits frame
+AcceptedFits id _ = Unit {0}
+
+abbrev pub AllFit : Text → List Event → Type 0
+AllFit id events = AllByRecursion (AcceptedFits id) events

@@ -1,0 +1,51 @@
+-- The laws of this crate.
+use Rattle.std.specs.Prelude.{◌≡◌, ◌<◌, ◌^◌, ℕ, false, List, ◌∷◌, ◌++◌, Some, None}
+use Rattle.std.specs.List.{AllByRecursion, list_any}
+use Rattle.journal_model.specs.declared.invocation.NewInvocation.{NewInvocation}
+use Rattle.journal_model.specs.declared.options.RunOptions.{RunOptions}
+use Rattle.journal_model.specs.Notification.{Text}
+use Rattle.journal_model.specs.Event.{Event}
+use Rattle.journal_model.specs.Journal.{invocation_begun, entries_of}
+use Rattle.journal_model.specs.Cause.{IsAccepted}
+use Rattle.journal_model.specs.Run.{Handler}
+use Rattle.input_laws.specs.Message.{InputMessage, CarriesInput, CarriesArrival, arrivals_carried, IsBroughtBy}
+use Rattle.position_laws.specs.Beginning.{AttemptStart, ShowsStart, IsBegunAs, start_after}
+use Rattle.machine_laws.specs.Living.{LiveAttempt, IsLiveMachine}
+use Rattle.children_laws.specs.Childless.{is_cancellation}
+use Rattle.feeding_laws.specs.Messages.{MessageFits}
+use Rattle.beginning_laws.specs.Standing.{IsInputOf, CanBegin}
+use Rattle.fitting_laws.specs.Fitting.{AllFit}
+
+-- an arrival that the protocol can carry, and no cancellation
+abbrev pub ComesWell : InputMessage → Type 0
+ComesWell (CarriesArrival ty arrival) = MessageFits (CarriesArrival ty arrival) × (is_cancellation arrival ≡ false)
+ComesWell _ = ⊥
+
+-- so is what an event brings to the live attempt
+abbrev pub MessagesComeWell : Type 0
+MessagesComeWell = (next : Handler) (options : RunOptions) (fallback_seed : ℕ) (id : Text) (event : Event) (events : List Event) (live : LiveAttempt) (unread more : List InputMessage)
+    → live.unread ≡ unread ++ more → IsAccepted (event ∷ events) → AllFit id (event ∷ events) → IsLiveMachine next options fallback_seed id (event ∷ events) live
+    → AllByRecursion (IsBroughtBy (entries_of (event ∷ events) id) id event) more → AllByRecursion ComesWell more
+
+-- the messages that an attempt is begun with are such as the protocol can carry, and none cancels
+pub record IsFedWell (start : AttemptStart) : Type 0 where
+  pub input : IsInputOf start (CarriesInput start.new ∷ start.journal)
+  pub uncancelled : list_any is_cancellation (arrivals_carried (CarriesInput start.new ∷ start.journal)) ≡ false
+
+abbrev pub AttemptsAreFedWell : Type 0
+AttemptsAreFedWell = (options : RunOptions) (fallback_seed : ℕ) (id : Text) (now : ℕ) (events : List Event) (new : NewInvocation) → IsAccepted (Event.Begin id now ∷ events)
+    → invocation_begun events id ≡ Some new → AllFit id events → IsFedWell (start_after options fallback_seed events id now new)
+
+-- and it can begin with its start frame
+pub record CanStart (start : AttemptStart) : Type 0 where
+  pub shows : ShowsStart start
+  pub can : CanBegin start shows
+
+abbrev pub AttemptsCanStart : Type 0
+AttemptsCanStart = (next : Handler) (options : RunOptions) (fallback_seed : ℕ) (id : Text) (now : ℕ) (events : List Event) (new : NewInvocation) → IsAccepted (Event.Begin id now ∷ events)
+    → invocation_begun events id ≡ Some new → AllFit id events → now < 2 ^ 64
+    → IsBegunAs next options fallback_seed (Event.Begin id now ∷ events) id (start_after options fallback_seed events id now new) → CanStart (start_after options fallback_seed events id now new)
+
+-- an invocation that was not begun has no event that does not fit
+abbrev pub UnbornFit : Type 0
+UnbornFit = (id : Text) (events : List Event) → IsAccepted events → invocation_begun events id ≡ None → AllFit id events
