@@ -1,8 +1,8 @@
 //! The machine of an invocation, in one crate to name: what a host embeds (`CoreVM` behind the trait `VM`), what it hands over and
 //! is answered, and what a handler is written in.
 //!
-//! Each item is made in a crate of its own below this one and named here. An `Attempt` drives a handler by a machine of its own,
-//! which knows the calls of a first path and no journal; it stands on `CoreVM` as soon as that drives handlers.
+//! Each item is made in a crate of its own below this one and named here. Who has handlers that answer the trait `Handler` takes an
+//! `Attempt`, which drives one of them by a `CoreVM` of its own: bytes in, turns, bytes out.
 #![tactic(auto)]
 
 pub mod async_results;
@@ -11,7 +11,7 @@ pub mod ephemeral;
 pub mod transitions;
 
 // The machine.
-pub use vm_core::{CoreVM, VM, VMResult};
+pub use vm_attempt::{CoreVM, VM, VMResult};
 
 // What a host hands over, and is answered.
 pub use vm_types::{
@@ -33,6 +33,6 @@ pub use protocol_differences::CommandRelationship;
 pub use protocol_errors::{Error, ErrorBehavior, InvocationErrorCode, codes};
 pub use protocol_stream::{CommandType, HeaderMap, Version};
 
-// The handler of an attempt, and the attempt that drives it.
-pub use fresh_attempt::{Attempt, AttemptFailure, Turn};
+// The handler of an attempt, and the attempt that drives it. A turn that fails brings an `Error`.
 pub use journal_model::{Answer, AwaitedFuture, Call, Handler};
+pub use vm_attempt::{Attempt, Turn};

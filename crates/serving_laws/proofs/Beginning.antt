@@ -4,41 +4,23 @@ use Rattle.std.proofs.lemmas.List.{append_cancel_right}
 use Rattle.std.specs.declared.convert.Infallible.{Infallible}
 use Rattle.std.specs.List.{AllByRecursion}
 use Rattle.protocol_stream.specs.Frame.{message_of}
-use Rattle.protocol_stream.specs.Item.{item_at, message}
 use Rattle.protocol_types.specs.declared.message_type.MessageType.TheVariants.{Start}
 use Rattle.protocol_types.specs.declared.version.ContentTypeError.{ContentTypeError}
-use Rattle.protocol_types.specs.declared.version.Version.{Version}
 use Rattle.protocol_types.specs.declared.version.Version.TheVariants.{V1, V2, V3, V4, V5, V6, V7, V8}
-use Rattle.protocol_types.specs.Version.{version_content_type, has_content_type, version_with, content_type_read}
 use Rattle.journal_model.specs.declared.options.SignalDelivery.{SignalDelivery}
-use Rattle.journal_model.specs.Attempt.{input_bytes}
-use Rattle.journal_model.specs.Notification.{Bytes}
-use Rattle.journal_model.specs.Run.{Handler, Invocation}
 use Rattle.journal_model.specs.Start.{start_payload_of}
-use Rattle.input_laws.specs.Message.{InputMessage, CarriesInput, piece_of}
-use Rattle.position_laws.specs.Beginning.{AttemptStart, ShowsStart}
-use Rattle.machine_laws.specs.Living.{attempt_begun}
-use Rattle.vm_beginning.specs.Beginning.{IsNew, BeginsAs}
-use Rattle.vm_context.specs.Output.{Written}
 use Rattle.vm_entries.specs.Starting.{IsFresh}
-use Rattle.vm_feeding.specs.Feeding.{IsFed}
-use Rattle.vm_machine.specs.declared.machine_state.MachineState.{MachineState}
 use Rattle.vm_start.specs.Negotiation.{Negotiates}
 use Rattle.vm_start.specs.declared.negotiation.NegotiationError.{NegotiationError}
-use Rattle.vm_types.specs.declared.options.VMOptions.{VMOptions}
-use Rattle.feeding_laws.specs.Memory.{FailsForMemory}
-use Rattle.feeding_laws.specs.Messages.{raw_of, MessageFits}
-use Rattle.feeding_laws.specs.Inputs.{bytes_of}
 use Rattle.feeding_laws.proofs.Inputs.{front, nothing_at, some_is_none}
 use Rattle.feeding_laws.proofs.Beginning.{starts_read_back}
-use Rattle.beginning_laws.specs.Standing.{start_told, CanBegin, IsRunOf, kind_of, HasStarted}
-use Rattle.beginning_laws.specs.Laws.{HoldsStart, ReadsOn, StartsAreRead}
-use Rattle.vm_attempt.specs.Attempt.{IsUnasked, FeedsUnless}
-use Rattle.vm_attempt.specs.Output.{output_of}
-use Rattle.vm_attempt.specs.declared.attempt.Attempt.{Attempt}
-use Rattle.vm_attempt.specs.declared.turn.Finish.{Finish}
+use Rattle.beginning_laws.proofs.Messages.{all_in_front}
+use Rattle.serving_laws.specs.Attempts.{IsUnasked, FeedsUnless, output_of, Attempt, Finish}
 use Rattle.serving_laws.specs.Serving.{kind_where, IsFedBy, Serves}
 use Rattle.serving_laws.specs.Keeping.{attempt_started, LacksMemory, BeginsServing}
+use Rattle.serving_laws.specs.Machine.{Written, MachineState, IsFed, IsNew, BeginsAs}
+use Rattle.serving_laws.specs.Reading.{FailsForMemory, raw_of, MessageFits, bytes_of, start_told, CanBegin, IsRunOf, kind_of, HasStarted, HoldsStart, ReadsOn, StartsAreRead}
+use Rattle.serving_laws.specs.Words.{item_at, message, Version, version_content_type, has_content_type, version_with, content_type_read, input_bytes, Bytes, Handler, Invocation, InputMessage, CarriesInput, piece_of, AttemptStart, ShowsStart, attempt_begun, VMOptions}
 
 -- ---- the version
 
@@ -56,7 +38,7 @@ read_of V8 = refl
 same_version : (version other : Version) → ◌≡◌ {A = Result Version ContentTypeError} (Ok other) (Ok version) → other ≡ version
 same_version version other e = cc
 
-begins_new : (version : Version) (options : VMOptions) (vm : MachineState) (negotiated : Result Version (NegotiationError Infallible)) → Negotiates (Some (version_content_type version)) negotiated
+begins_new : (version : Version) (options : VMOptions) (vm : MachineState) (negotiated : Result Version (NegotiationError Infallible)) → Negotiates (λ error. ⊥) (Some (version_content_type version)) negotiated
     → BeginsAs negotiated options (Ok vm) → IsNew version options vm
 begins_new version options vm (Ok other) negotiates begins =
     subst (λ (v : Version). IsNew v options vm) (same_version version other (sym negotiates.0 ∙ read_of version)) begins
@@ -64,11 +46,11 @@ begins_new version options vm (Err refused) negotiates begins = absurd begins
 
 -- ---- the bytes
 
-nothing_held : (held bytes : List ℕ) → held ++ bytes ≡ [] → held ≡ []
+pub nothing_held : (held bytes : List ℕ) → held ++ bytes ≡ [] → held ≡ []
 nothing_held [] bytes e = refl
 nothing_held (byte ∷ held) bytes e = cc
 
-nothing_more : (held bytes : List ℕ) → held ++ bytes ≡ [] → bytes ≡ []
+pub nothing_more : (held bytes : List ℕ) → held ++ bytes ≡ [] → bytes ≡ []
 nothing_more [] bytes e = e
 nothing_more (byte ∷ held) bytes e = cc
 
@@ -83,10 +65,6 @@ no_bytes : (some : List InputMessage) → AllByRecursion MessageFits some → in
 no_bytes [] fit none = refl
 no_bytes (one ∷ some) fit none =
     absurd (some_is_none (message (raw_of one), input_bytes (map piece_of some)) (sym (front one fit.0 (input_bytes (map piece_of some))) ∙ ap item_at none ∙ nothing_at))
-
-all_in_front : (some more : List InputMessage) → AllByRecursion MessageFits (some ++ more) → AllByRecursion MessageFits some
-all_in_front [] more all = tt
-all_in_front (one ∷ some) more all = (all.0, all_in_front some more all.1)
 
 module _ {H : Type 0} (function : H → Handler) (next : Handler) (version : Version) (options : VMOptions) (starts : StartsAreRead) (start : AttemptStart) (shows : ShowsStart start) (handler : H) (new fed : Attempt H)
     (is_next : function handler ≡ next) (of_run : IsRunOf start version options) (can : CanBegin start shows) (by : IsFedBy (attempt_begun start)) (unasked : IsUnasked handler new)
@@ -165,7 +143,7 @@ module _ {H : Type 0} (function : H → Handler) (next : Handler) (version : Ver
       none_held = nothing_held fed.vm.state.decoder (input_bytes (map piece_of on.some)) both
 
       none_read : on.some ≡ []
-      none_read = no_bytes on.some (all_in_front on.some on.still (subst (AllByRecursion MessageFits) on.parts by.input.fit)) (nothing_more fed.vm.state.decoder (input_bytes (map piece_of on.some)) both)
+      none_read = no_bytes on.some (all_in_front MessageFits on.some on.still (subst (AllByRecursion MessageFits) on.parts by.input.fit)) (nothing_more fed.vm.state.decoder (input_bytes (map piece_of on.some)) both)
 
   lacks : FailsForMemory new.vm.state fed.vm.state → Outcome
   lacks failed = (

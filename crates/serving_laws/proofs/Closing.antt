@@ -1,105 +1,24 @@
 -- The input of an attempt is closed.
-use Rattle.std.proofs.Common.{◌≡◌, ◌⊎◌, inl, inr, ◌∙◌, ◌<◌, ◌≤◌, ◌^◌, ℕ, zero, suc, arith, Bool, true, false, ◌&&◌, IsUtf8, get_or, List, [], ◌∷◌, ◌++◌, map, length, Option, Some, None, Ok, refl, sym, ap, subst}
-use Rattle.std.proofs.lemmas.Str.{IsUtf8-from_ascii}
-use Rattle.std.proofs.lemmas.Bool.{ltb-true}
-use Rattle.std.specs.List.{AllByRecursion, list_all}
-use Rattle.protocol_wire.specs.Spelling.{varint_spelling_within, varint_spelling, tagged}
-use Rattle.std.specs.Prelude.{nat_lt}
-use Rattle.protocol_controls.specs.Error.{error_parts}
+use Rattle.std.proofs.Common.{◌≡◌, ◌⊎◌, inl, inr, ◌∙◌, ℕ, Bool, true, ◌++◌, map, Option, Some, None, Ok, refl, sym, ap, subst}
+use Rattle.std.specs.List.{AllByRecursion}
 use Rattle.protocol_errors.specs.Error.{plain_error}
 use Rattle.protocol_errors.specs.Fixed.{fixed_code, fixed_text}
-use Rattle.protocol_errors.specs.declared.error.Error.{Error}
 use Rattle.protocol_errors.specs.declared.fixed.FixedError.TheVariants.{InputClosedWhileWaitingEntries}
-use Rattle.protocol_types.specs.declared.version.Version.{Version}
-use Rattle.protocol_wire.specs.Parts.{payload_of}
-use Rattle.journal_model.specs.Run.{Handler, Invocation}
-use Rattle.attempt_model.specs.Machine.{Machine}
-use Rattle.machine_laws.specs.Living.{LiveAttempt, HasReadJournal}
-use Rattle.children_laws.specs.Childless.{untracked, childless}
-use Rattle.vm_context.specs.Output.{Written}
-use Rattle.vm_errors.specs.Failing.{out_of_memory, Tells, FailsNow, FailsAs}
-use Rattle.vm_errors.specs.Failure.{told_error}
 use Rattle.vm_errors.specs.Phases.{kept_error}
-use Rattle.vm_errors.specs.declared.phase.Phase.TheVariants as phases
-use Rattle.vm_feeding.specs.Closing.{is_waiting, input_closed, ClosesWhere, ClosesInput as ClosesMachine}
-use Rattle.vm_feeding.specs.Failing.{HasFailed}
-use Rattle.vm_machine.specs.declared.machine_state.MachineState.{MachineState}
-use Rattle.vm_outcomes.specs.Driven.{IsDriven}
-use Rattle.vm_types.specs.declared.options.VMOptions.{VMOptions}
-use Rattle.beginning_laws.specs.Standing.{start_told, Kind, kind_of, HasStarted}
-use Rattle.protocol_stream.specs.Item.{item_at}
-use Rattle.turn_laws.specs.Turning.{IsNote}
-use Rattle.sending_laws.specs.Sent.{Fails, sent_stream, SentFits, AllFit, frame_meant}
-use Rattle.vm_attempt.specs.Attempt.{ClosesUnless}
-use Rattle.vm_attempt.specs.declared.attempt.Attempt.{Attempt}
-use Rattle.vm_attempt.specs.declared.turn.Finish.{Finish}
 use Rattle.serving_laws.specs.Serving.{kind_where, HasNotRead, HasRead, Serves}
 use Rattle.serving_laws.specs.Keeping.{StaysClosed, ClosesEarly, ClosesServing, WritesNothing}
 use Rattle.serving_laws.proofs.Notes.{TellsNotes, cause_tells, waits_more}
 use Rattle.serving_laws.proofs.Over.{waits_same}
 use Rattle.serving_laws.proofs.Phases.{stage}
+use Rattle.serving_laws.specs.Attempts.{ClosesUnless, Attempt, Finish}
+use Rattle.serving_laws.specs.Machine.phases
+use Rattle.serving_laws.specs.Machine.{Written, FailsNow, FailsAs, MachineState, is_waiting, input_closed, ClosesWhere, ClosesInput as ClosesMachine, HasFailed, IsDriven}
+use Rattle.serving_laws.specs.Reading.{start_told, Kind, kind_of, HasStarted}
+use Rattle.serving_laws.specs.Sending.{sent_stream, AllFit, frame_meant}
+use Rattle.serving_laws.specs.Words.{Error, Version, Handler, Invocation, Machine, LiveAttempt, HasReadJournal, untracked, childless, VMOptions, item_at, IsNote}
 
 abbrev early_error : Error
 early_error = plain_error (fixed_code InputClosedWhileWaitingEntries) (fixed_text InputClosedWhileWaitingEntries)
-
-ascii_at : (bytes : List ℕ) → list_all (λ byte. nat_lt byte 128) bytes ≡ true → (i : ℕ) → get_or bytes i 0 < 128
-ascii_at [] e i = omega arith
-ascii_at (byte ∷ bytes) e i = by_test (nat_lt byte 128) refl e i (ascii_at bytes)
-  where
-    by_test : (b : Bool) → nat_lt byte 128 ≡ b → (b && list_all (λ byte. nat_lt byte 128) bytes) ≡ true → (i : ℕ)
-        → (list_all (λ byte. nat_lt byte 128) bytes ≡ true → (i : ℕ) → get_or bytes i 0 < 128) → get_or (byte ∷ bytes) i 0 < 128
-    by_test true small rest zero later = ltb-true byte 128 small
-    by_test true small rest (suc i) later = later rest i
-    by_test false small rest i later = cc
-
-ascii_text : (bytes : List ℕ) → list_all (λ byte. nat_lt byte 128) bytes ≡ true → IsUtf8 bytes
-ascii_text bytes e = IsUtf8-from_ascii bytes (ascii_at bytes e)
-
-early_short : nat_lt (length (payload_of (error_parts (told_error early_error)))) (2 ^ 32) ≡ true
-unfolding varint_spelling_within varint_spelling tagged
-early_short = refl
-
-memory_short : nat_lt (length (payload_of (error_parts (told_error out_of_memory)))) (2 ^ 32) ≡ true
-unfolding varint_spelling_within varint_spelling tagged
-memory_short = refl
-
-early_fits : (version : Version) → SentFits version (Fails (told_error early_error))
-early_fits version = record {
-  told = record {
-    level = omega arith;
-    code = omega arith;
-    message = ascii_text _ refl;
-    related_command_index = tt;
-    related_command_name = tt;
-    related_command_type = tt;
-    next_retry_delay = tt;
-    behavior = omega arith;
-  };
-  short = ltb-true (length (payload_of (error_parts (told_error early_error)))) (2 ^ 32) early_short;
-}
-
-memory_fits : (version : Version) → SentFits version (Fails (told_error out_of_memory))
-memory_fits version = record {
-  told = record {
-    level = omega arith;
-    code = omega arith;
-    message = ascii_text _ refl;
-    related_command_index = tt;
-    related_command_name = tt;
-    related_command_type = tt;
-    next_retry_delay = tt;
-    behavior = omega arith;
-  };
-  short = ltb-true (length (payload_of (error_parts (told_error out_of_memory)))) (2 ^ 32) memory_short;
-}
-
-told_fits : (old : Written) (told : Error) (new : Written) → Tells early_error old told new → SentFits old.version (Fails (told_error told))
-told_fits old told new (inl tells) = subst (λ (e : Error). SentFits old.version (Fails (told_error e))) (sym tells.0) (early_fits old.version)
-told_fits old told new (inr (inl tells)) =
-    let short : length (payload_of (error_parts (told_error early_error))) < 2 ^ 32 = ltb-true (length (payload_of (error_parts (told_error early_error)))) (2 ^ 32) early_short in
-    let long : 2 ^ 32 ≤ length (payload_of (error_parts (told_error early_error))) = tells.0.1 in
-    absurd (omega (arith, short, long))
-told_fits old told new (inr (inr tells)) = subst (λ (e : Error). SentFits old.version (Fails (told_error e))) (sym tells.0) (memory_fits old.version)
 
 closes_new : {H : Type 0} (over : Option Finish) (before after : Attempt H) → before.over ≡ over → before.over ≡ None → ClosesUnless over before after
     → ClosesMachine before.vm.state after.vm.state × (after ≡ record before { vm = after.vm })
@@ -189,7 +108,7 @@ module _ {H : Type 0} (function : H → Handler) (next : Handler) (version : Ver
     told : TellsNotes before.vm.state.active.output now.before
     told =
         cause_tells before.vm.state.version before.vm.state.options.journal_mismatch_retry_behavior (Ok early_error) before.vm.state.active.output now.told now.before
-        (ap (λ (w : Written). w.is_closed) n.started.output) (told_fits before.vm.state.active.output now.told now.before now.tells) now.tells
+        (ap (λ (w : Written). w.is_closed) n.started.output) now.tells
 
     early : ClosesEarly function next version options live before after
     early = record {

@@ -1,43 +1,15 @@
 -- Calls see a machine that tracks no child.
 use Rattle.std.proofs.Common.{◌≡◌, ◌∙◌, arith, Bool, List, [], ◌∷◌, Result, refl, sym, ap}
-use Rattle.protocol_errors.specs.declared.error.Error.{Error}
-use Rattle.protocol_types.specs.Version.{version_number}
-use Rattle.protocol_types.specs.declared.version.Version.{Version}
-use Rattle.journal_model.specs.declared.handler.Input.{Input}
 use Rattle.journal_model.specs.declared.options.ImplicitCancellationOption.{ImplicitCancellationOption}
 use Rattle.journal_model.specs.declared.options.ImplicitCancellationOption.TheVariants.{Disabled, Enabled}
-use Rattle.journal_model.specs.Await.{ends_awaits}
-use Rattle.journal_model.specs.Journal.{Entry, Recorded, Arrived}
-use Rattle.journal_model.specs.State.{StartState}
-use Rattle.journal_model.specs.Run.{Invocation}
-use Rattle.input_laws.specs.Message.{InputMessage}
-use Rattle.attempt_model.specs.Machine.{Machine, machine_at_start, with_arrival}
-use Rattle.attempt_model.specs.Attempts.{with_entry, with_entries}
-use Rattle.position_laws.specs.Beginning.{AttemptStart, ShowsStart}
-use Rattle.position_laws.specs.Reading.{entries_carried, with_messages}
-use Rattle.children_laws.specs.Childless.{without_children, untracked, childless}
-use Rattle.beginning_laws.specs.Standing.{IsRunOf, start_told, Kind, HasStarted}
-use Rattle.beginning_laws.specs.Laws.{AnswersInput}
-use Rattle.vm_calls.specs.Active.{Sees}
-use Rattle.vm_calls.specs.declared.active.Active.{Active}
-use Rattle.vm_context.specs.Output.{Written}
-use Rattle.vm_handles.specs.Handles.{id_of}
-use Rattle.vm_machine.specs.declared.machine_state.MachineState.{MachineState}
-use Rattle.vm_outcomes.specs.Driven.{IsDriven}
-use Rattle.vm_types.specs.declared.options.VMOptions.{VMOptions}
+use Rattle.serving_laws.specs.Machine.{Sees, Active, Written, MachineState, IsDriven}
+use Rattle.serving_laws.specs.Reading.{IsRunOf, start_told, Kind, HasStarted, AnswersInput}
 use Rattle.serving_laws.specs.Serving.{HasNumbers, kind_where}
+use Rattle.serving_laws.specs.Words.{Error, version_number, Version, Input, ends_awaits, Entry, Recorded, Arrived, StartState, Invocation, InputMessage, Machine, machine_at_start, with_arrival, with_entry, with_entries, AttemptStart, ShowsStart, entries_carried, with_messages, without_children, untracked, childless, id_of, VMOptions}
 
 pub seen_untracked : (given : Invocation) (m : Machine) (active : Active) → Sees given active m → Sees (untracked given) active (childless m)
-seen_untracked given m active s = record {
-  left = s.left;
-  replaying = s.replaying;
-  results = s.results;
-  state = s.state;
-  completions = s.completions;
-  signals = s.signals;
-  opened = s.opened;
-  children = refl;
-}
+seen_untracked given m active s =
+    record { left = s.left; replaying = s.replaying; results = s.results; state = s.state; completions = s.completions; signals = s.signals; opened = s.opened; children = refl }
 
 ends_same : (option : ImplicitCancellationOption) → ends_awaits (without_children option) ≡ ends_awaits option
 ends_same Disabled = refl

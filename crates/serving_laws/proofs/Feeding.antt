@@ -2,49 +2,21 @@
 use Rattle.std.proofs.Common.{◌≡◌, ◌⊎◌, inl, inr, ◌∙◌, ℕ, Bool, List, [], ◌∷◌, ◌++◌, append_assoc, map, Option, None, refl, sym, ap, subst}
 use Rattle.std.proofs.lemmas.List.{append_cancel_right}
 use Rattle.std.specs.List.{AllByRecursion, list_any}
-use Rattle.protocol_stream.specs.Item.{item_at}
-use Rattle.protocol_types.specs.Version.{version_number}
-use Rattle.protocol_types.specs.declared.version.Version.{Version}
-use Rattle.journal_model.specs.AwaitTree.{AwaitTree}
-use Rattle.journal_model.specs.declared.notification.NotificationId.{NotificationId}
-use Rattle.journal_model.specs.Attempt.{input_bytes, input_left}
-use Rattle.journal_model.specs.Await.{ends_awaits}
-use Rattle.journal_model.specs.Cause.{IsAccepted}
-use Rattle.journal_model.specs.Event.{Event}
-use Rattle.journal_model.specs.History.{answers_of}
-use Rattle.journal_model.specs.Notification.{Bytes, Text, Arrival}
-use Rattle.journal_model.specs.Run.{Handler, Invocation, Progress, Ending, GoesOn, Waits, run}
 use Rattle.journal_model.proofs.Extension.{run-same}
-use Rattle.input_laws.specs.Message.{InputMessage, piece_of, arrivals_carried}
 use Rattle.input_laws.proofs.Telling.{arrivals_carried-append}
-use Rattle.attempt_model.specs.Machine.{Machine, machine_at_start}
-use Rattle.position_laws.specs.Reading.{with_messages, IsMachineAt}
-use Rattle.machine_laws.specs.Living.{LiveAttempt, handed_bytes, after_reading}
 use Rattle.machine_laws.specs.Laws.{MachinesStayLive}
-use Rattle.children_laws.specs.Childless.{untracked, childless, is_cancellation}
-use Rattle.vm_calls.specs.Active.{Sees}
-use Rattle.vm_context.specs.Output.{Written}
-use Rattle.vm_errors.specs.declared.phase.Phase.{Phase}
-use Rattle.vm_feeding.specs.Feeding.{has_failed, IsFed}
-use Rattle.vm_machine.specs.declared.machine_state.MachineState.{MachineState}
-use Rattle.vm_handles.specs.Handles.{id_of}
-use Rattle.vm_outcomes.specs.Driven.{IsDriven}
-use Rattle.vm_types.specs.Options.{run_options}
-use Rattle.vm_types.specs.declared.options.VMOptions.{VMOptions}
-use Rattle.feeding_laws.specs.Inputs.{bytes_of, IsFedEach, AreWaitedFor, phase_behind, TakesFirst, InputsAreKept}
-use Rattle.feeding_laws.specs.Memory.{FailsForMemory}
-use Rattle.beginning_laws.specs.Standing.{IsInputOf, start_told, Kind, kind_of}
-use Rattle.beginning_laws.specs.Laws.{ReadsOn as MachineReadsOn, JournalsAreRead}
 use Rattle.feeding_laws.proofs.Inputs.{stays_active}
 use Rattle.beginning_laws.proofs.Messages.{arrivals_waited_for, arrivals_gathered, all_in_front}
-use Rattle.vm_attempt.specs.declared.attempt.Attempt.{Attempt}
-use Rattle.beginning_laws.specs.Standing.{IsArrival}
 use Rattle.serving_laws.specs.Serving.{IsFedBy, kind_where, HasNotRead, HasRead, Serves}
 use Rattle.serving_laws.specs.Keeping.{IsLiveAt, StaysServing, ReadsOn, LacksMemory, WritesNothing, FeedsServing}
 use Rattle.serving_laws.proofs.Beginning.{bytes_append, feeds_new}
 use Rattle.serving_laws.proofs.Driven.{messages_number}
 use Rattle.serving_laws.proofs.Messages.{messages_append, messages_childless, unread_arrive, unread_fit, journal_more, fed_same, fed_more}
 use Rattle.serving_laws.proofs.Over.{waits_same}
+use Rattle.serving_laws.specs.Attempts.{Attempt}
+use Rattle.serving_laws.specs.Machine.{Sees, Written, Phase, MachineState, has_failed, IsFed, IsDriven}
+use Rattle.serving_laws.specs.Reading.{bytes_of, IsFedEach, AreWaitedFor, phase_behind, TakesFirst, InputsAreKept, FailsForMemory, IsInputOf, start_told, Kind, kind_of, ReadsOn as MachineReadsOn, JournalsAreRead, IsArrival}
+use Rattle.serving_laws.specs.Words.{item_at, version_number, Version, AwaitTree, NotificationId, input_bytes, input_left, ends_awaits, IsAccepted, Event, answers_of, Bytes, Text, Arrival, Handler, Invocation, Progress, Ending, GoesOn, Waits, run, InputMessage, piece_of, arrivals_carried, Machine, machine_at_start, with_messages, IsMachineAt, LiveAttempt, handed_bytes, after_reading, untracked, childless, is_cancellation, id_of, run_options, VMOptions}
 
 -- a run that goes on does not wait
 goes_on : (ending : Ending) (tree : AwaitTree (Option NotificationId)) → ending ≡ GoesOn → ending ≡ Waits tree → ⊥
@@ -210,17 +182,8 @@ feeds_keep function next version options stays journals keeps id events live is_
 -- ---- events that do nothing to it
 
 pub events_keep : {H : Type 0} (function : H → Handler) (next : Handler) (version : Version) (options : VMOptions) → StaysServing function next version options
-events_keep function next version options live is_closed a more coming s may = record {
-  handler = s.handler;
-  going = s.going;
-  kind = s.kind;
-  of_run = s.of_run;
-  fed = by;
-  started = s.started;
-  bytes = s.bytes;
-  whole = s.whole;
-  stands = stands s.stands;
-}
+events_keep function next version options live is_closed a more coming s may =
+    record { handler = s.handler; going = s.going; kind = s.kind; of_run = s.of_run; fed = by; started = s.started; bytes = s.bytes; whole = s.whole; stands = stands s.stands }
   where
     by : IsFedBy (record live { unread = live.unread ++ more; coming = coming })
     by = let b = fed_more live more may s.fed in record { input = b.input; uncancelled = b.uncancelled }

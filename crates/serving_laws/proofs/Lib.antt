@@ -7,4 +7,4 @@ pub mod Feeding
 pub mod Phases
 pub mod Notes
 pub mod Closing
-pub mod Texts
+pub mod Reading

@@ -2,22 +2,14 @@
 use Rattle.std.proofs.Common.{◌≡◌, ◌∙◌, Bool, false, ◌||◌, List, [], ◌∷◌, ◌++◌, append_assoc, refl, sym, ap, subst}
 use Rattle.std.proofs.lemmas.List.{append_cancel_left}
 use Rattle.std.specs.List.{AllByRecursion, list_any}
-use Rattle.journal_model.specs.Journal.{Entry, Recorded, Arrived, completion}
-use Rattle.journal_model.specs.Notification.{Arrival}
 use Rattle.journal_model.specs.Value.{result_of_value}
-use Rattle.input_laws.specs.Message.{InputMessage, CarriesInput, CarriesRequest, CarriesArrival, CarriesOutcome, arrivals_carried}
 use Rattle.input_laws.proofs.Telling.{arrivals_carried-append}
-use Rattle.attempt_model.specs.Machine.{Machine, with_arrival}
-use Rattle.attempt_model.specs.Attempts.{with_entry, with_entries}
-use Rattle.position_laws.specs.Reading.{entries_carried, with_messages}
-use Rattle.machine_laws.specs.Living.{LiveAttempt, HasReadJournal}
-use Rattle.children_laws.specs.Childless.{childless, is_cancellation}
-use Rattle.feeding_laws.specs.Messages.{MessageFits}
-use Rattle.beginning_laws.specs.Standing.{IsArrival, IsInputOf}
 use Rattle.beginning_laws.proofs.Messages.{all_behind, all_in_front}
 use Rattle.handle_laws.proofs.Fitting.{all_append}
 use Rattle.serving_laws.specs.Serving.{IsFedBy}
 use Rattle.serving_laws.specs.Keeping.{MayCome}
+use Rattle.serving_laws.specs.Reading.{MessageFits, IsArrival, IsInputOf}
+use Rattle.serving_laws.specs.Words.{Entry, Recorded, Arrived, completion, Arrival, InputMessage, CarriesInput, CarriesRequest, CarriesArrival, CarriesOutcome, arrivals_carried, Machine, with_arrival, with_entry, with_entries, entries_carried, with_messages, LiveAttempt, HasReadJournal, childless, is_cancellation}
 
 pub messages_append : (m : Machine) (some more : List InputMessage) → with_messages m (some ++ more) ≡ with_messages (with_messages m some) more
 messages_append m [] more = refl

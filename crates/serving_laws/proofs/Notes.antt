@@ -2,26 +2,18 @@
 use Rattle.std.proofs.Common.{◌≡◌, inl, inr, ◌∙◌, ℕ, false, List, [], ◌∷◌, ◌++◌, append-nil, append_assoc, map, Result, Ok, Err, sym, ap, subst}
 use Rattle.std.specs.List.{AllByRecursion}
 use Rattle.std.specs.declared.alloc.AllocError.{AllocError}
-use Rattle.protocol_errors.specs.declared.error.Error.{Error}
-use Rattle.protocol_types.specs.Version.{version_number}
-use Rattle.protocol_types.specs.declared.version.Version.{Version}
-use Rattle.journal_model.specs.Attempt.{is_input_closed}
 use Rattle.journal_model.specs.Headline.{arrivals_handed}
-use Rattle.journal_model.specs.Journal.{recorded_requests}
-use Rattle.turn_laws.specs.Sending.{requests_sent}
-use Rattle.turn_laws.specs.Turning.{IsNote, notes}
 use Rattle.turn_laws.proofs.Sending.{sends-append}
 use Rattle.turn_laws.proofs.Turning.{writes_send}
-use Rattle.vm_context.specs.Output.{Written}
-use Rattle.vm_errors.specs.Failing.{TellsCause, Tells, Writes}
 use Rattle.vm_errors.specs.Failure.{told_error, failed_with}
 use Rattle.vm_types.specs.declared.options.JournalMismatchRetryBehavior.{JournalMismatchRetryBehavior}
-use Rattle.sending_laws.specs.Sent.{Sent, Fails, sent_stream, SentFits, AllFit, frame_meant}
 use Rattle.sending_laws.specs.Writing.{Sends}
 use Rattle.sending_laws.proofs.Writing.{frames_are_written}
-use Rattle.vm_attempt.specs.Output.{output_of}
-use Rattle.vm_attempt.specs.declared.attempt.Attempt.{Attempt}
+use Rattle.serving_laws.specs.Attempts.{output_of, Attempt}
 use Rattle.serving_laws.specs.Keeping.{NotesFollow}
+use Rattle.serving_laws.specs.Machine.{Written, TellsCause, Tells, Writes}
+use Rattle.serving_laws.specs.Sending.{Sent, Fails, sent_stream, AllFit, frame_meant}
+use Rattle.serving_laws.specs.Words.{Error, version_number, Version, is_input_closed, recorded_requests, requests_sent, IsNote, notes}
 
 pub notes_follow : NotesFollow
 notes_follow next given id events coming frames f all = record {
@@ -49,20 +41,20 @@ tells_none old new same = record {
   notes = tt;
 }
 
-tells_one : (error : Error) (old new : Written) → old.is_closed ≡ false → SentFits old.version (Fails (told_error error)) → Writes error old new → TellsNotes old new
-tells_one error old new opens fits writes =
-    let one = frames_are_written.errors error old new opens fits.told fits.short writes in
+tells_one : (error : Error) (old new : Written) → old.is_closed ≡ false → Writes error old new → TellsNotes old new
+tells_one error old new opens writes =
+    let one = frames_are_written.errors error old new opens writes in
     record { coming = Fails (told_error error) ∷ []; fit = (one.fits, tt); written = one.sends; notes = (tt, tt) }
 
-tells_of : (error : Error) (old : Written) (told : Error) (new : Written) → old.is_closed ≡ false → SentFits old.version (Fails (told_error told)) → Tells error old told new → TellsNotes old new
-tells_of error old told new opens fits (inl tells) = tells_one told old new opens fits (subst (λ (e : Error). Writes e old new) (sym tells.0) tells.1)
-tells_of error old told new opens fits (inr (inl tells)) = tells_one told old new opens fits tells.2
-tells_of error old told new opens fits (inr (inr tells)) = tells_none old new tells.1
+tells_of : (error : Error) (old : Written) (told : Error) (new : Written) → old.is_closed ≡ false → Tells error old told new → TellsNotes old new
+tells_of error old told new opens (inl tells) = tells_one told old new opens (subst (λ (e : Error). Writes e old new) (sym tells.0) tells.1)
+tells_of error old told new opens (inr (inl tells)) = tells_one told old new opens tells.2
+tells_of error old told new opens (inr (inr tells)) = tells_none old new tells.1
 
 pub cause_tells : (version : Version) (asked : JournalMismatchRetryBehavior) (cause : Result Error AllocError) (old : Written) (told : Error) (new : Written) → old.is_closed ≡ false
-    → SentFits old.version (Fails (told_error told)) → TellsCause version asked cause old told new → TellsNotes old new
-cause_tells version asked (Ok error) old told new opens fits tells = tells_of (failed_with (version_number version) asked error) old told new opens fits tells
-cause_tells version asked (Err refused) old told new opens fits tells = tells_none old new tells.1
+    → TellsCause version asked cause old told new → TellsNotes old new
+cause_tells version asked (Ok error) old told new opens tells = tells_of (failed_with (version_number version) asked error) old told new opens tells
+cause_tells version asked (Err refused) old told new opens tells = tells_none old new tells.1
 
 -- ---- what waits behind that
 

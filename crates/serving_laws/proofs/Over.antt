@@ -1,26 +1,14 @@
 -- An attempt that is over stays over.
 use Rattle.std.proofs.Common.{◌≡◌, ◌⊎◌, inl, inr, ◌∙◌, ℕ, Bool, List, ◌++◌, Option, Some, None, Result, Ok, Err, refl, sym, ap, subst}
 use Rattle.std.specs.declared.alloc.AllocError.{AllocError}
-use Rattle.protocol_errors.specs.declared.error.Error.{Error}
-use Rattle.journal_model.specs.Notification.{Bytes}
-use Rattle.journal_model.specs.Run.{Handler}
-use Rattle.vm_errors.specs.declared.phase.Phase.{Phase}
-use Rattle.vm_errors.specs.declared.phase.Phase.TheVariants as phases
-use Rattle.vm_feeding.specs.Asking.{IsReady}
-use Rattle.vm_feeding.specs.Closing.{is_waiting, input_closed, ClosesWhere}
-use Rattle.vm_feeding.specs.Feeding.{with_input}
-use Rattle.vm_core.specs.declared.core_vm.CoreVM.{CoreVM}
-use Rattle.vm_machine.specs.declared.machine_state.MachineState.{MachineState}
 use Rattle.feeding_laws.proofs.Staying.{failed_fed}
-use Rattle.vm_attempt.specs.Attempt.{FeedsUnless, ClosesUnless}
-use Rattle.vm_attempt.specs.Output.{output_of, OnlyTaken, OnlyMoves, Shows, LetsGo, TakesOutput}
-use Rattle.vm_attempt.specs.Turning.{again, TurnsWhere, TurnsUnless}
-use Rattle.vm_attempt.specs.declared.attempt.Attempt.{Attempt}
-use Rattle.vm_attempt.specs.declared.turn.Finish.{Finish}
 use Rattle.vm_attempt.specs.declared.turn.Finish.TheVariants as finishes
-use Rattle.vm_attempt.specs.declared.turn.Turn.{Turn}
+use Rattle.serving_laws.specs.Attempts.{FeedsUnless, ClosesUnless, output_of, OnlyTaken, OnlyMoves, Shows, LetsGo, TakesOutput, again, TurnsWhere, TurnsUnless, Attempt, Finish, Turn}
 use Rattle.serving_laws.specs.Serving.{IsOver, finished, machine_failed}
 use Rattle.serving_laws.specs.Keeping.{IsLast, WritesNothing, OversStay}
+use Rattle.serving_laws.specs.Machine.phases
+use Rattle.serving_laws.specs.Machine.{Phase, MachineState, IsReady, is_waiting, input_closed, ClosesWhere, with_input, CoreVM}
+use Rattle.serving_laws.specs.Words.{Error, Bytes, Handler}
 
 again_last : (finish : Finish) → IsLast (again finish)
 again_last finishes.Suspended = tt
@@ -36,29 +24,26 @@ module _ {H : Type 0} where
   never : {A : Type 0} (finish : Finish) (before : Attempt H) → before.over ≡ None → before.over ≡ Some finish → A
   never finish before none some = cc
 
+  -- its machine has failed before, and tells nothing more
+  stays_failed : (error : Error) (before after : Attempt H) → after ≡ record before { vm = after.vm } → before.vm.state.phase ≡ phases.Failed error → after.vm.state.phase ≡ before.vm.state.phase
+      → after.vm.state.active.output.bytes ≡ before.vm.state.active.output.bytes → IsOver after × WritesNothing before after
+  stays_failed error before after others failed phase bytes = (machine_failed error (phase ∙ failed), waits_same before after others bytes)
+
   fed : (over : Option Finish) (bytes : Bytes) (before after : Attempt H) → before.over ≡ over → IsOver before → FeedsUnless over bytes before after → IsOver after × WritesNothing before after
   fed (Some finish) bytes before after is o same = (finished finish (ap (λ (a : Attempt H). a.over) same ∙ is), ap output_of same)
   fed None bytes before after is (finished finish some) does = never finish before is some
   fed None bytes before after is (machine_failed error failed) does = go (failed_fed error bytes before.vm.state after.vm.state failed does.0)
     where
       go : (after.vm.state ≡ with_input bytes before.vm.state) ⊎ (after.vm.state ≡ before.vm.state) → IsOver after × WritesNothing before after
-      go (inl same) = (
-        machine_failed error (ap (λ (vm : MachineState). vm.phase) same ∙ failed),
-        waits_same before after does.1 (ap (λ (vm : MachineState). vm.active.output.bytes) same),
-      )
-      go (inr same) = (
-        machine_failed error (ap (λ (vm : MachineState). vm.phase) same ∙ failed),
-        waits_same before after does.1 (ap (λ (vm : MachineState). vm.active.output.bytes) same),
-      )
+      go (inl same) = stays_failed error before after does.1 failed (ap (λ (vm : MachineState). vm.phase) same) (ap (λ (vm : MachineState). vm.active.output.bytes) same)
+      go (inr same) = stays_failed error before after does.1 failed (ap (λ (vm : MachineState). vm.phase) same) (ap (λ (vm : MachineState). vm.active.output.bytes) same)
 
   closed : (over : Option Finish) (before after : Attempt H) → before.over ≡ over → IsOver before → ClosesUnless over before after → IsOver after × WritesNothing before after
   closed (Some finish) before after is o same = (finished finish (ap (λ (a : Attempt H). a.over) same ∙ is), ap output_of same)
   closed None before after is (finished finish some) does = never finish before is some
   closed None before after is (machine_failed error failed) does =
-      let same : after.vm.state ≡ input_closed before.vm.state = subst (λ (b : Bool). ClosesWhere b (input_closed before.vm.state) after.vm.state) (ap is_waiting failed) does.0 in (
-        machine_failed error (ap (λ (vm : MachineState). vm.phase) same ∙ failed),
-        waits_same before after does.1 (ap (λ (vm : MachineState). vm.active.output.bytes) same),
-      )
+      let same : after.vm.state ≡ input_closed before.vm.state = subst (λ (b : Bool). ClosesWhere b (input_closed before.vm.state) after.vm.state) (ap is_waiting failed) does.0 in
+      stays_failed error before after does.1 failed (ap (λ (vm : MachineState). vm.phase) same) (ap (λ (vm : MachineState). vm.active.output.bytes) same)
 
   module _ (function : H → Handler) where
     failed_turn : (ready : Result Bool Error) (error : Error) (before : Attempt H) (turn : Turn) (after : Attempt H) → IsReady (phases.Failed error) ready → TurnsWhere function ready before turn after

@@ -1,32 +1,31 @@
 -- Whether an attempt whose input was not read has its journal.
-use Rattle.std.proofs.Common.{◌≡◌, ◌⊎◌, inl, inr, ◌∙◌, ◌+◌, ◌-◌, arith, ℕ, zero, suc, Bool, true, List, [], ◌∷◌, ◌++◌, length, length-append, if◌then◌else◌, refl, sym, ap}
+use Rattle.std.proofs.Common.{◌≡◌, ◌⊎◌, inl, inr, ◌∙◌, ◌+◌, ◌-◌, ◌<◌, arith, ℕ, suc, Bool, true, List, [], ◌∷◌, ◌++◌, length, length-append, if◌then◌else◌, refl, sym, ap}
 use Rattle.std.specs.Prelude.{nat_lt}
 use Rattle.std.proofs.lemmas.Bool.{lt-ltb}
-use Rattle.input_laws.specs.Message.{InputMessage, CarriesInput}
-use Rattle.machine_laws.specs.Living.{LiveAttempt, HasReadJournal}
-use Rattle.vm_errors.specs.declared.phase.Phase.{Phase}
-use Rattle.vm_errors.specs.declared.phase.Phase.TheVariants as phases
-use Rattle.feeding_laws.specs.Messages.{phase_then}
-use Rattle.feeding_laws.specs.Inputs.{phase_behind}
-use Rattle.beginning_laws.specs.Standing.{IsInputOf}
 use Rattle.beginning_laws.proofs.Messages.{input_active}
 use Rattle.serving_laws.proofs.Messages.{read_input}
+use Rattle.serving_laws.specs.Machine.phases
+use Rattle.serving_laws.specs.Machine.{Phase}
+use Rattle.serving_laws.specs.Reading.{phase_then, phase_behind, IsInputOf}
+use Rattle.serving_laws.specs.Words.{InputMessage, CarriesInput, LiveAttempt, HasReadJournal}
 
--- where so many entries are waited for
-abbrev waiting : ℕ → Phase
-waiting zero = phases.Active
-waiting (suc left) = phases.WaitingReplayEntries (suc left)
+-- one entry fewer is waited for, and not the last
+one_less : (left : ℕ) → 0 < left → phase_then (phases.WaitingReplayEntries (suc left)) ≡ phases.WaitingReplayEntries left
+one_less left some =
+    let more : nat_lt 1 (suc left) ≡ true = lt-ltb 1 (suc left) (omega (arith, some)) in
+    let less : suc left - 1 ≡ left = omega arith in
+    ap (λ (b : Bool). if b then phases.WaitingReplayEntries (suc left - 1) else phases.Active) more ∙ ap (λ (n : ℕ). phases.WaitingReplayEntries n) less
 
-one_less : (left : ℕ) → phase_then (phases.WaitingReplayEntries (suc left)) ≡ waiting left
-one_less zero = refl
-one_less (suc left) =
-    let more : nat_lt 1 (suc (suc left)) ≡ true = lt-ltb 1 (suc (suc left)) (omega arith) in
-    let less : suc (suc left) - 1 ≡ suc left = omega arith in
-    ap (λ (b : Bool). if b then phases.WaitingReplayEntries (suc (suc left) - 1) else phases.Active) more ∙ ap (λ (n : ℕ). phases.WaitingReplayEntries n) less
+still_waits : (read : List InputMessage) (next : InputMessage) (more : List InputMessage)
+    → phase_behind read (phases.WaitingReplayEntries (length (read ++ next ∷ more))) ≡ phases.WaitingReplayEntries (length (next ∷ more))
+still_waits [] next more = refl
+still_waits (one ∷ read) next more = ap (phase_behind read) (one_less (length (read ++ next ∷ more)) some) ∙ still_waits read next more
+  where
+    all : length (read ++ next ∷ more) ≡ length read + suc (length more)
+    all = length-append read (next ∷ more)
 
-still_waits : (read more : List InputMessage) → phase_behind read (waiting (length (read ++ more))) ≡ waiting (length more)
-still_waits [] more = refl
-still_waits (one ∷ read) more = ap (phase_behind read) (one_less (length (read ++ more))) ∙ still_waits read more
+    some : 0 < length (read ++ next ∷ more)
+    some = omega (arith, all)
 
 -- the first of all these are those, or some of those
 data Splits (some first : List InputMessage) : Type 0 where
@@ -78,7 +77,7 @@ module _ (live : LiveAttempt) (phase : Phase) (is : IsInputOf live.start (live.r
     (
       suc (length more),
       waits ∙ ap (λ (n : ℕ). phase_behind live.read (phases.WaitingReplayEntries n)) (sym (one_more (length live.start.journal)))
-          ∙ ap (λ (all : List InputMessage). phase_behind live.read (waiting (length all))) short ∙ still_waits live.read (one ∷ more),
+          ∙ ap (λ (all : List InputMessage). phase_behind live.read (phases.WaitingReplayEntries (length all))) short ∙ still_waits live.read one more,
     ),
   )
 

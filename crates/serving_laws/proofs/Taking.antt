@@ -1,69 +1,32 @@
 -- What an attempt has written is taken, and it goes on as before.
-use Rattle.std.proofs.Common.{◌≡◌, ◌⊎◌, inl, inr, ◌∙◌, ℕ, zero, suc, Bool, List, [], ◌∷◌, ◌++◌, drop, Result, Ok, Err, refl, sym, ap, subst}
+use Rattle.std.proofs.Common.{◌≡◌, ◌⊎◌, inl, inr, ◌∙◌, ℕ, zero, suc, Bool, List, [], ◌++◌, drop, Result, Ok, Err, sym, ap, subst}
 use Rattle.std.specs.declared.alloc.AllocError.{AllocError}
 use Rattle.protocol_records.specs.declared.start.StartMessage.{StartMessage}
-use Rattle.protocol_stream.specs.Item.{item_at}
-use Rattle.protocol_types.specs.declared.version.Version.{Version}
-use Rattle.journal_model.specs.Notification.{Bytes}
-use Rattle.journal_model.specs.Run.{Handler, Invocation}
-use Rattle.input_laws.specs.Message.{InputMessage}
-use Rattle.attempt_model.specs.Machine.{Machine, machine_at_start}
-use Rattle.position_laws.specs.Beginning.{AttemptStart}
-use Rattle.machine_laws.specs.Living.{LiveAttempt}
-use Rattle.children_laws.specs.Childless.{untracked, childless}
-use Rattle.beginning_laws.specs.Standing.{start_told, Kind, kind_of, HasStarted}
-use Rattle.feeding_laws.specs.Inputs.{gathered_all}
-use Rattle.vm_calls.specs.Active.{Sees}
-use Rattle.vm_calls.specs.declared.active.Active.{Active}
 use Rattle.vm_entries.specs.Gathering.{Gathers as GathersAll}
-use Rattle.vm_machine.specs.declared.machine_state.MachineState.{MachineState}
-use Rattle.vm_outcomes.specs.Driven.{IsDriven}
-use Rattle.vm_types.specs.declared.options.VMOptions.{VMOptions}
-use Rattle.vm_attempt.specs.Output.{taken_of, output_of, OnlyMoves, Shows, LetsGo, TakesOutput}
-use Rattle.vm_core.specs.declared.core_vm.CoreVM.{CoreVM}
-use Rattle.vm_attempt.specs.declared.attempt.Attempt.{Attempt}
 use Rattle.serving_laws.specs.Serving.{kind_where, HasNotRead, HasRead, Serves}
 use Rattle.serving_laws.specs.Keeping.{TakesServing}
+use Rattle.serving_laws.proofs.Beginning.{nothing_held, nothing_more}
 use Rattle.serving_laws.proofs.Over.{moves_of, shown_moves, let_go_moves}
+use Rattle.serving_laws.specs.Attempts.{taken_of, output_of, OnlyMoves, Shows, LetsGo, TakesOutput, Attempt}
+use Rattle.serving_laws.specs.Machine.{Sees, Active, MachineState, CoreVM, IsDriven}
+use Rattle.serving_laws.specs.Reading.{start_told, Kind, kind_of, HasStarted, gathered_all}
+use Rattle.serving_laws.specs.Words.{item_at, Version, Bytes, Handler, Invocation, InputMessage, Machine, machine_at_start, AttemptStart, LiveAttempt, untracked, childless, VMOptions}
 
 -- with these bytes written
 abbrev with_written : Bytes → MachineState → MachineState
 with_written bytes vm = record vm { active = record vm.active { output = record vm.active.output { bytes = bytes } } }
 
 seen_written : (given : Invocation) (m : Machine) (bytes : Bytes) (active : Active) → Sees given active m → Sees given (record active { output = record active.output { bytes = bytes } }) m
-seen_written given m bytes active s = record {
-  left = s.left;
-  replaying = s.replaying;
-  results = s.results;
-  state = s.state;
-  completions = s.completions;
-  signals = s.signals;
-  opened = s.opened;
-  children = s.children;
-}
+seen_written given m bytes active s =
+    record { left = s.left; replaying = s.replaying; results = s.results; state = s.state; completions = s.completions; signals = s.signals; opened = s.opened; children = s.children }
 
 driven_written : (given : Invocation) (m : Machine) (bytes : Bytes) (vm : MachineState) → IsDriven given m vm → IsDriven given m (with_written bytes vm)
-driven_written given m bytes vm d = record {
-  sees = seen_written given m bytes vm.active d.sees;
-  phase = d.phase;
-  version = d.version;
-  written = d.written;
-  id = d.id;
-  cancellation = d.cancellation;
-  reads = d.reads;
-}
+driven_written given m bytes vm d =
+    record { sees = seen_written given m bytes vm.active d.sees; phase = d.phase; version = d.version; written = d.written; id = d.id; cancellation = d.cancellation; reads = d.reads }
 
 gathers_written : (given : Invocation) (m : Machine) (bytes : Bytes) (active : Active) → GathersAll given active m → GathersAll given (record active { output = record active.output { bytes = bytes } }) m
-gathers_written given m bytes active g = record {
-  left = g.left;
-  replaying = g.replaying;
-  results = g.results;
-  state = g.state;
-  completions = g.completions;
-  signals = g.signals;
-  opened = g.opened;
-  children = g.children;
-}
+gathers_written given m bytes active g =
+    record { left = g.left; replaying = g.replaying; results = g.results; state = g.state; completions = g.completions; signals = g.signals; opened = g.opened; children = g.children }
 
 started_written : (start : AttemptStart) (told : StartMessage) (kind : Kind) (read : List InputMessage) (bytes : Bytes) (vm : MachineState) → bytes ≡ [] → HasStarted start told kind read vm
     → HasStarted start told kind read (with_written bytes vm)
@@ -75,14 +38,6 @@ started_written start told kind read bytes vm none h = record {
   gathers = gathers_written start.given (gathered_all read (machine_at_start start.shown [] [])) bytes vm.active h.gathers;
   output = λ i. record (h.output i) { bytes = none i };
 }
-
-none_behind : (some more : Bytes) → some ++ more ≡ [] → more ≡ []
-none_behind [] more e = e
-none_behind (byte ∷ some) more e = cc
-
-none_before : (some more : Bytes) → some ++ more ≡ [] → some ≡ []
-none_before [] more e = refl
-none_before (byte ∷ some) more e = cc
 
 none_left : (max : ℕ) (bytes : Bytes) → bytes ≡ [] → drop max bytes ≡ []
 none_left zero bytes e = e
@@ -98,7 +53,7 @@ module _ {H : Type 0} (function : H → Handler) (next : Handler) (version : Ver
       machine = n.machine;
       shows = n.shows;
       started = subst (λ (vm : MachineState). HasStarted live.start (start_told live.start n.shows) (kind_where version options is_closed) live.read vm) (sym (ap (λ (vm : CoreVM). vm.state) moves.machine))
-          (started_written live.start (start_told live.start n.shows) (kind_where version options is_closed) live.read after.vm.state.active.output.bytes before.vm.state (none_behind (after.front ++ after.behind) after.vm.state.active.output.bytes none) n.started);
+          (started_written live.start (start_told live.start n.shows) (kind_where version options is_closed) live.read after.vm.state.active.output.bytes before.vm.state (nothing_more (after.front ++ after.behind) after.vm.state.active.output.bytes none) n.started);
       unwritten = none;
     }
 
@@ -141,8 +96,8 @@ module _ {H : Type 0} (function : H → Handler) (next : Handler) (version : Ver
 
   let_go_none : (count : ℕ) (before after : Attempt H) → LetsGo count before after → output_of before ≡ [] → output_of after ≡ []
   let_go_none count before after lets none =
-      ap (λ (bytes : Bytes). bytes ++ after.vm.state.active.output.bytes) (lets.taken ∙ none_left count (taken_of before) (none_before (taken_of before) before.vm.state.active.output.bytes none))
-      ∙ ap (λ (a : Attempt H). a.vm.state.active.output.bytes) lets.others ∙ none_behind (taken_of before) before.vm.state.active.output.bytes none
+      ap (λ (bytes : Bytes). bytes ++ after.vm.state.active.output.bytes) (lets.taken ∙ none_left count (taken_of before) (nothing_held (taken_of before) before.vm.state.active.output.bytes none))
+      ∙ ap (λ (a : Attempt H). a.vm.state.active.output.bytes) lets.others ∙ nothing_more (taken_of before) before.vm.state.active.output.bytes none
 
   pub takes_keep : TakesServing function next version options
   takes_keep live is_closed before after s = record {

@@ -2,31 +2,14 @@
 use Rattle.std.specs.Prelude.{◌≡◌, ◌⊎◌, ℕ, Bool, true, false, List, [], ◌++◌, map, Result, Ok}
 use Rattle.std.specs.List.{AllByRecursion}
 use Rattle.std.specs.declared.alloc.AllocError.{AllocError}
-use Rattle.protocol_errors.specs.declared.error.Error.{Error}
-use Rattle.protocol_types.specs.declared.version.Version.{Version}
-use Rattle.journal_model.specs.Notification.{Bytes, Text}
-use Rattle.journal_model.specs.Run.{Handler, Invocation}
-use Rattle.journal_model.specs.Event.{Event, Frame}
-use Rattle.journal_model.specs.Cause.{IsAccepted}
-use Rattle.input_laws.specs.Message.{InputMessage, CarriesArrival}
-use Rattle.turn_laws.specs.Sending.{FollowsSo}
-use Rattle.turn_laws.specs.Turning.{IsNote}
-use Rattle.position_laws.specs.Beginning.{AttemptStart, ShowsStart}
-use Rattle.machine_laws.specs.Living.{LiveAttempt, IsLiveMachine, HasReadJournal, attempt_begun, handed_bytes, after_reading}
-use Rattle.children_laws.specs.Childless.{is_cancellation}
-use Rattle.feeding_laws.specs.Messages.{MessageFits}
-use Rattle.sending_laws.specs.Sent.{Sent, sent_stream, AllFit, frame_meant}
-use Rattle.beginning_laws.specs.Standing.{CanBegin, IsRunOf}
-use Rattle.vm_errors.specs.Failing.{out_of_memory}
-use Rattle.vm_errors.specs.declared.phase.Phase.TheVariants as phases
-use Rattle.vm_types.specs.Options.{run_options}
-use Rattle.vm_types.specs.declared.options.VMOptions.{VMOptions}
-use Rattle.vm_attempt.specs.Attempt.{IsBegun, Feeds, ClosesInput}
-use Rattle.vm_attempt.specs.Output.{output_of, Shows, LetsGo, TakesOutput}
-use Rattle.vm_attempt.specs.Turning.{Turns}
-use Rattle.vm_attempt.specs.declared.attempt.Attempt.{Attempt}
-use Rattle.vm_attempt.specs.declared.turn.Turn.{Turn}
+use Rattle.vm_attempt.specs.Attempt.{ClosesInput}
+use Rattle.serving_laws.specs.Attempts.{IsBegun, Feeds, output_of, Shows, LetsGo, TakesOutput, Turns, Attempt, Turn}
+use Rattle.serving_laws.specs.Machine.phases
+use Rattle.serving_laws.specs.Machine.{out_of_memory}
+use Rattle.serving_laws.specs.Reading.{MessageFits, CanBegin, IsRunOf}
+use Rattle.serving_laws.specs.Sending.{Sent, sent_stream, AllFit, frame_meant}
 use Rattle.serving_laws.specs.Serving.{IsFedBy, Serves, IsOver}
+use Rattle.serving_laws.specs.Words.{Error, Version, Bytes, Text, Handler, Invocation, Event, Frame, IsAccepted, InputMessage, CarriesArrival, FollowsSo, IsNote, AttemptStart, ShowsStart, LiveAttempt, IsLiveMachine, HasReadJournal, attempt_begun, handed_bytes, after_reading, is_cancellation, run_options, VMOptions}
 
 -- as it is begun, once it has read its start frame
 abbrev pub attempt_started : AttemptStart → LiveAttempt

@@ -1,8 +1,6 @@
 -- The laws of this crate, of a handler with each function, version and options.
-use Rattle.protocol_types.specs.declared.version.Version.{Version}
-use Rattle.journal_model.specs.Run.{Handler}
-use Rattle.vm_types.specs.declared.options.VMOptions.{VMOptions}
 use Rattle.serving_laws.specs.Keeping.{BeginsServing, StaysServing, FeedsServing, ClosesServing, TakesServing}
+use Rattle.serving_laws.specs.Words.{Version, Handler, VMOptions}
 
 module _ {H : Type 0} (function : H → Handler) where
   abbrev pub AttemptsBegin : Type 0

@@ -1,37 +1,16 @@
 -- How an attempt over a machine stands to the live attempt of which the definitions speak.
 use Rattle.std.specs.Prelude.{◌≡◌, ◌⊎◌, ◌≤◌, ◌-◌, ◌^◌, ℕ, Bool, true, false, List, [], ◌++◌, Some, None}
 use Rattle.std.specs.List.{AllByRecursion, list_any}
-use Rattle.protocol_wire.specs.declared.record.TheConstants.{LEVELS}
-use Rattle.protocol_stream.specs.Item.{item_at}
-use Rattle.protocol_types.specs.declared.version.Version.{Version}
-use Rattle.protocol_errors.specs.declared.error.Error.{Error}
-use Rattle.journal_model.specs.declared.call.Answer.{Answer}
-use Rattle.journal_model.specs.declared.call.Call.{Call}
-use Rattle.journal_model.specs.declared.handler.Input.{Input}
-use Rattle.journal_model.specs.declared.options.RunOptions.{RunOptions}
-use Rattle.journal_model.specs.Await.{awaited_tree}
-use Rattle.journal_model.specs.History.{answers_of}
-use Rattle.journal_model.specs.Request.{Request}
-use Rattle.journal_model.specs.State.{StartState}
-use Rattle.journal_model.specs.Run.{Handler, run}
-use Rattle.input_laws.specs.Message.{arrivals_carried}
 use Rattle.attempt_model.specs.Requests.{Commands, requests_by}
-use Rattle.attempt_model.specs.Machine.{Machine, machine_at_start}
-use Rattle.position_laws.specs.Beginning.{ShowsStart}
-use Rattle.position_laws.specs.Reading.{with_messages}
-use Rattle.machine_laws.specs.Living.{LiveAttempt, HasReadJournal}
-use Rattle.children_laws.specs.Childless.{untracked, childless, is_cancellation}
 use Rattle.request_laws.specs.Calls.{IsTypedCall}
 use Rattle.handle_laws.specs.Trees.{IsWithin, SlotsFit}
-use Rattle.sending_laws.specs.Sent.{is_recorded}
-use Rattle.beginning_laws.specs.Standing.{IsInputOf, IsRunOf, Kind, kind_of, start_told, HasStarted}
 use Rattle.vm_ephemeral.specs.Reads.{no_reads}
-use Rattle.vm_errors.specs.declared.phase.Phase.TheVariants as phases
-use Rattle.vm_outcomes.specs.Driven.{IsDriven}
-use Rattle.vm_types.specs.declared.options.VMOptions.{VMOptions}
-use Rattle.vm_attempt.specs.Output.{output_of}
-use Rattle.vm_attempt.specs.declared.attempt.Attempt.{Attempt}
-use Rattle.vm_attempt.specs.declared.turn.Finish.{Finish}
+use Rattle.serving_laws.specs.Attempts.{output_of, Attempt, Finish}
+use Rattle.serving_laws.specs.Machine.phases
+use Rattle.serving_laws.specs.Machine.{IsDriven}
+use Rattle.serving_laws.specs.Reading.{IsInputOf, IsRunOf, Kind, kind_of, start_told, HasStarted}
+use Rattle.serving_laws.specs.Sending.{is_recorded}
+use Rattle.serving_laws.specs.Words.{LEVELS, item_at, Version, Error, Answer, Call, Input, RunOptions, awaited_tree, answers_of, Request, StartState, Handler, run, arrivals_carried, Machine, machine_at_start, ShowsStart, with_messages, LiveAttempt, HasReadJournal, untracked, childless, is_cancellation, VMOptions}
 
 -- ---- its handler
 

@@ -1,38 +1,21 @@
 -- A call is not carried out: for which cause, and what is told of it.
-use Rattle.std.proofs.Common.{◌≡◌, ◌∙◌, true, false, true≢false, List, [], ◌++◌, map, sym, ap, subst}
+use Rattle.std.proofs.Common.{◌≡◌, ◌∙◌, false, true≢false, List, [], ◌++◌, map, sym, ap, subst}
 use Rattle.std.specs.List.{AllByRecursion}
-use Rattle.protocol_errors.specs.declared.error.Error.{Error}
-use Rattle.protocol_types.specs.declared.version.Version.{Version}
-use Rattle.journal_model.specs.declared.call.Answer.{Answer}
-use Rattle.journal_model.specs.declared.call.Call.{Call}
-use Rattle.journal_model.specs.Event.{Event}
-use Rattle.journal_model.specs.History.{answers_of}
-use Rattle.journal_model.specs.Notification.{Text}
-use Rattle.journal_model.specs.Run.{Handler}
-use Rattle.input_laws.specs.Message.{arrivals_carried, requests_carried}
-use Rattle.turn_laws.specs.Turning.{IsNote}
 use Rattle.attempt_model.specs.Machine.{FailedBy, Fault, Mismatch, UncompletedInReplay, EndInReplay, KeysNotText, ChildNotId, Refused}
-use Rattle.attempt_model.specs.Standing.{RepliesAsRun}
-use Rattle.machine_laws.specs.Living.{LiveAttempt}
-use Rattle.children_laws.specs.Childless.{untracked, childless}
-use Rattle.vm_context.specs.Output.{Written}
-use Rattle.vm_errors.specs.Failure.{told_error}
-use Rattle.vm_errors.specs.declared.phase.Phase.TheVariants as phases
-use Rattle.vm_machine.specs.declared.machine_state.MachineState.{MachineState}
-use Rattle.vm_outcomes.specs.Carrying.{Fails}
-use Rattle.vm_outcomes.specs.Causes.{Cause, ByFault, NoNumber, TooLong, NoReplay, NoRuns, NoMemory, FailsWhen}
-use Rattle.vm_types.specs.Options.{run_options}
 use Rattle.vm_types.specs.declared.options.JournalReplay.{JournalReplay}
 use Rattle.vm_types.specs.declared.options.JournalReplay.TheVariants.{Enabled, Disabled}
-use Rattle.vm_types.specs.declared.options.VMOptions.{VMOptions}
-use Rattle.beginning_laws.specs.Standing.{Kind}
-use Rattle.sending_laws.specs.Sent.{Sent, Fails as FailsWith, sent_stream, SentFits, AllFit, frame_meant}
 use Rattle.serving_laws.specs.Serving.{IsCarriedOut, IsOfStore}
 use Rattle.serving_laws.proofs.Notes.{TellsNotes, cause_tells}
+use Rattle.serving_laws.specs.Machine.phases
+use Rattle.serving_laws.specs.Machine.{MachineState, Written, Fails, Cause, ByFault, NoNumber, TooLong, NoReplay, NoRuns, NoMemory, FailsWhen}
+use Rattle.serving_laws.specs.Reading.{Kind}
+use Rattle.serving_laws.specs.Sending.{Sent, sent_stream, AllFit, frame_meant}
+use Rattle.serving_laws.specs.Words.{Error, Version, Answer, Call, Event, answers_of, Text, Handler, arrivals_carried, requests_carried, IsNote, LiveAttempt, untracked, childless, run_options, VMOptions}
 use Rattle.turning_laws.specs.Turning.{IsOwnCause}
 use Rattle.turning_laws.proofs.Now.{Now, call_of, reply_at}
 use Rattle.turning_laws.proofs.Replies.{failed_of}
 use Rattle.turning_laws.proofs.Sending.{of_output, opened}
+use Rattle.turning_laws.specs.Words.{RepliesAsRun}
 
 -- what a failing turn has told, and why
 pub record FailsSo (next : Handler) (version : Version) (live : LiveAttempt) (answers : List Answer) (vm new : MachineState) : Type 0 where
@@ -76,12 +59,12 @@ module _ (next : Handler) (version : Version) (options : VMOptions) (id : Text) 
 
   pub fails_so : (carried : IsCarriedOut (run_options options) next) (answers : List Answer) → answers ≡ answers_of n.at.stands.steps → (error : Error) (new : MachineState)
       → Fails (untracked live.start.given) (childless live.machine) (call_of next live n.at) vm error new
-      → ((told : Error) → new.phase ≡ phases.Failed told → SentFits version (FailsWith (told_error told))) → FailsSo next version live answers vm new
-  fails_so carried answers same error new f keeps =
+      → FailsSo next version live answers vm new
+  fails_so carried answers same error new f =
       let of_version = of_output next version options id events live vm n in
       let told : TellsNotes vm.active.output f.fails.before =
       cause_tells vm.version vm.options.journal_mismatch_retry_behavior f.told vm.active.output f.fails.told f.fails.before (opened next version options id events live vm n)
-      (subst (λ (v : Version). SentFits v (FailsWith (told_error f.fails.told))) (sym of_version) (keeps f.fails.told f.fails.phase_is)) f.fails.tells in
+      f.fails.tells in
       record {
         coming = told.coming;
         fit = subst (λ (v : Version). AllFit v told.coming) of_version told.fit;

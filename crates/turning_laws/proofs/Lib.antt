@@ -1,3 +1,4 @@
+pub mod Texts
 pub mod Replies
 pub mod Now
 pub mod Sending
@@ -6,3 +7,4 @@ pub mod Failing
 pub mod Turning
 pub mod Turns
 pub mod Progress
+pub mod Passed

@@ -1,48 +1,25 @@
 -- What is known of a machine of whose attempt the input was read, at a turn.
 use Rattle.std.proofs.Common.{◌≡◌, ◌∙◌, Bool, false, ◌||◌, List, [], ◌∷◌, ◌++◌, map, length, refl, sym, ap}
 use Rattle.std.specs.List.{list_any}
-use Rattle.protocol_types.specs.Version.{version_number}
-use Rattle.protocol_types.specs.declared.version.Version.{Version}
-use Rattle.journal_model.specs.declared.call.Answer.{Answer}
-use Rattle.journal_model.specs.declared.call.Call.{Call}
 use Rattle.journal_model.specs.declared.options.ImplicitCancellationOption.{ImplicitCancellationOption}
 use Rattle.journal_model.specs.declared.options.ImplicitCancellationOption.TheVariants.{Disabled, Enabled}
-use Rattle.journal_model.specs.declared.options.SignalDelivery.TheVariants.{Queued}
-use Rattle.protocol_stream.specs.Item.{item_at}
-use Rattle.journal_model.specs.Attempt.{arrivals_within, input_left, is_input_closed}
-use Rattle.journal_model.specs.Await.{child_of}
-use Rattle.journal_model.specs.Event.{Event}
-use Rattle.journal_model.specs.History.{answers_of}
-use Rattle.journal_model.specs.Notification.{Text, Arrival}
-use Rattle.journal_model.specs.Request.{Request}
-use Rattle.journal_model.specs.Run.{Handler, Invocation, Progress}
-use Rattle.input_laws.specs.Message.{piece_of, arrivals_carried, requests_carried}
 use Rattle.input_laws.proofs.Telling.{arrivals_carried-append}
-use Rattle.turn_laws.specs.Sending.{FollowsSo}
-use Rattle.attempt_model.specs.Machine.{Machine, Reply, reply_to}
-use Rattle.attempt_model.specs.Standing.{Fits, next_call, RepliesAsRun}
 use Rattle.attempt_calls.proofs.Simulating.{simulates}
 use Rattle.attempt_laws.proofs.Coming.{kinds_by_asking}
-use Rattle.position_laws.specs.Reading.{IsInRun}
-use Rattle.machine_laws.specs.Living.{LiveAttempt}
-use Rattle.machine_laws.specs.Laws.{StandsWithJournal, JournalsStand, KeepsOn, MachinesKeepOn}
-use Rattle.children_laws.specs.Childless.{without_children, untracked, childless, childless_reply, is_cancellation}
 use Rattle.children_laws.proofs.Coming.{next_replies_are_same}
 use Rattle.request_laws.specs.Calls.{IsTypedCall}
 use Rattle.vm_commands.specs.HeaderEquality.{same_header}
 use Rattle.vm_commands.proofs.Comparing.{compares_reflexively}
-use Rattle.vm_machine.specs.Calls.{checks_off}
-use Rattle.vm_machine.specs.declared.machine_state.MachineState.{MachineState}
-use Rattle.vm_outcomes.specs.Driven.{IsDriven, TracksNone}
-use Rattle.vm_types.specs.Options.{run_options}
-use Rattle.vm_types.specs.declared.options.VMOptions.{VMOptions}
-use Rattle.beginning_laws.specs.Standing.{kind_of}
-use Rattle.feeding_laws.proofs.Holding.{no_arrival_is_held}
-use Rattle.vm_attempt.specs.declared.attempt.Attempt.{Attempt}
 use Rattle.serving_laws.specs.Serving.{IsCarriedOut, IsOfStore, AwaitsWithin, HasNumbers, kind_where, HasRead, Serves}
 use Rattle.serving_laws.specs.Keeping.{IsLiveAt}
 use Rattle.serving_laws.proofs.Messages.{unread_fit}
-use Rattle.serving_laws.proofs.Texts.{asks_by_text}
+use Rattle.serving_laws.proofs.Reading.{no_arrival_is_held}
+use Rattle.serving_laws.specs.Attempts.{Attempt}
+use Rattle.serving_laws.specs.Machine.{checks_off, MachineState, IsDriven, TracksNone}
+use Rattle.serving_laws.specs.Reading.{kind_of}
+use Rattle.serving_laws.specs.Words.{version_number, Version, Answer, Call, item_at, arrivals_within, input_left, is_input_closed, child_of, Event, answers_of, Text, Arrival, Request, Handler, Invocation, Progress, piece_of, arrivals_carried, requests_carried, FollowsSo, Machine, Reply, reply_to, IsInRun, LiveAttempt, without_children, untracked, childless, childless_reply, is_cancellation, run_options, VMOptions}
+use Rattle.turning_laws.specs.Words.{Queued, Fits, next_call, RepliesAsRun, StandsWithJournal, JournalsStand, KeepsOn, MachinesKeepOn}
+use Rattle.turning_laws.proofs.Texts.{asks_by_text}
 
 -- what its requests are compared by
 abbrev pub compares : MachineState → Call → Request → Request → Bool

@@ -1,30 +1,21 @@
 -- Turns one after the other, with the journal read and the input closed.
 use Rattle.std.proofs.Common.{◌≡◌, ◌⊎◌, inl, inr, ◌∙◌, ◌+◌, arith, ℕ, suc, Bool, true, false, true≢false, List, [], ◌∷◌, ◌++◌, length, map, sym, ap, subst}
-use Rattle.protocol_types.specs.declared.version.Version.{Version}
-use Rattle.journal_model.specs.declared.options.SignalDelivery.TheVariants.{Queued}
-use Rattle.journal_model.specs.Attempt.{is_input_closed}
-use Rattle.journal_model.specs.Event.{Event}
-use Rattle.journal_model.specs.Notification.{Text}
-use Rattle.journal_model.specs.Run.{Handler}
-use Rattle.turn_laws.specs.Sending.{FollowsSo}
-use Rattle.machine_laws.specs.Living.{LiveAttempt, HasReadJournal, after_turn}
-use Rattle.sending_laws.specs.Sent.{Sent, frame_meant}
-use Rattle.vm_types.specs.Options.{run_options}
-use Rattle.vm_types.specs.declared.options.VMOptions.{VMOptions}
-use Rattle.vm_attempt.specs.declared.attempt.Attempt.{Attempt}
-use Rattle.vm_attempt.specs.declared.turn.Turn.{Turn}
-use Rattle.vm_attempt.specs.declared.turn.Turn.TheVariants as turns
 use Rattle.serving_laws.specs.Serving.{IsCarriedOut, Serves, IsOver}
 use Rattle.serving_laws.specs.Keeping.{IsLiveAt}
 use Rattle.serving_laws.proofs.Over.{overs_stay}
+use Rattle.serving_laws.specs.Attempts.turns
+use Rattle.serving_laws.specs.Attempts.{Attempt, Turn}
+use Rattle.serving_laws.specs.Sending.{Sent, frame_meant}
+use Rattle.serving_laws.specs.Words.{Version, is_input_closed, Event, Text, Handler, FollowsSo, LiveAttempt, HasReadJournal, after_turn, run_options, VMOptions}
 use Rattle.turning_laws.specs.Turning.{turns_answered, TurnsBehind, TurnKeeps, TurnServes, TurnsEach, AnswersEach, TurnsAnswer}
+use Rattle.turning_laws.specs.Words.{Queued}
 
 module _ {H : Type 0} (function : H → Handler) (next : Handler) (version : Version) (options : VMOptions) (id : Text) (events : List Event) where
   -- one that is over stays so
   over_each : (some : List Turn) (before after : Attempt H) → IsOver before → TurnsEach function next version options some before after → IsOver after
   over_each [] before after over same = subst IsOver (sym same) over
   over_each (turn ∷ more) before after over each =
-      over_each more each.0 after (subst IsOver (sym ((overs_stay function before over).turned turn each.0 each.1).1) over) each.3
+      over_each more each.0 after (subst IsOver (sym ((overs_stay function before over).turned turn each.0 each.1).1) over) each.2
 
   -- where it was the live attempt that waits, its journal was not read or more could come
   never_waits : (live : LiveAttempt) (before : Attempt H) → HasReadJournal live → is_input_closed events id ≡ true → {A : Type 0} → {B : Type 0}
@@ -52,7 +43,7 @@ module _ {H : Type 0} (function : H → Handler) (next : Handler) (version : Ver
         by_turn turn kept.sent kept.follows kept.behind (λ now. progress more now each.0 after)
       where
         kept : TurnKeeps function next version options id events live before turn each.0
-        kept = keeps id events live before turn each.0 queued carried f l s each.1 each.2
+        kept = keeps id events live before turn each.0 queued carried f l s each.1
 
         by_turn : (turn' : Turn) (sent : List Sent) → FollowsSo next live.start.given id events (live.coming ++ map (frame_meant version) sent)
             → TurnsBehind function next version options id events live before sent turn' each.0
@@ -61,7 +52,7 @@ module _ {H : Type 0} (function : H → Handler) (next : Handler) (version : Ver
             → IsOver after ⊎ AnswersEach function next version options id events now each.0 more after)
             → IsOver after ⊎ AnswersEach function next version options id events live before (turn ∷ more) after
         by_turn turns.Answered sent follows behind later =
-            go (later (after_turn live (map (frame_meant version) sent) behind.0 behind.1) follows behind.3.lives (record { later = journal.later; parts = journal.parts }) behind.3.serves each.3)
+            go (later (after_turn live (map (frame_meant version) sent) behind.0 behind.1) follows behind.3.lives (record { later = journal.later; parts = journal.parts }) behind.3.serves each.2)
           where
             go : IsOver after ⊎ AnswersEach function next version options id events (after_turn live (map (frame_meant version) sent) behind.0 behind.1) each.0 more after
                 → IsOver after ⊎ AnswersEach function next version options id events live before (turn ∷ more) after
@@ -73,9 +64,9 @@ module _ {H : Type 0} (function : H → Handler) (next : Handler) (version : Ver
               answered = a.answered ∙ one_more (turns_answered before.input live.calls) (length more) (turns_answered each.0.input behind.0) behind.2;
             })
         by_turn turns.Waiting sent follows behind later = never_waits live before journal closed behind.0
-        by_turn turns.Suspended sent follows behind later = inl (over_each more each.0 after behind.2 each.3)
-        by_turn turns.Ended sent follows behind later = inl (over_each more each.0 after behind.1 each.3)
-        by_turn (turns.Failed error) sent follows behind later = inl (over_each more each.0 after behind.1 each.3)
+        by_turn turns.Suspended sent follows behind later = inl (over_each more each.0 after behind.2 each.2)
+        by_turn turns.Ended sent follows behind later = inl (over_each more each.0 after behind.1 each.2)
+        by_turn (turns.Failed error) sent follows behind later = inl (over_each more each.0 after behind.1 each.2)
 
 pub turns_answer : {H : Type 0} (function : H → Handler) (next : Handler) (version : Version) (options : VMOptions) → TurnServes function next version options → TurnsAnswer function next version options
 turns_answer function next version options keeps id events live some before after queued carried f l journal closed s each =

@@ -2,30 +2,9 @@
 use Rattle.std.proofs.Common.{◌≡◌, ◌⊎◌, inl, inr, ◌∙◌, ◌+◌, ◌≤◌, ◌-◌, ◌^◌, ℕ, arith, Bool, true, false, List, [], ◌∷◌, ◌++◌, map, if◌then◌else◌, None, Ok, refl, sym, ap, subst}
 use Rattle.std.proofs.lemmas.List.{append_cancel_left}
 use Rattle.std.specs.List.{AllByRecursion}
-use Rattle.protocol_wire.specs.declared.record.TheConstants.{LEVELS}
-use Rattle.protocol_types.specs.Version.{version_number}
 use Rattle.protocol_types.specs.declared.message_type.MessageType.TheVariants as types
-use Rattle.protocol_types.specs.declared.version.Version.{Version}
-use Rattle.journal_model.specs.declared.call.Answer.{Answer}
-use Rattle.journal_model.specs.declared.call.Call.{Call}
-use Rattle.journal_model.specs.Attempt.{is_input_closed}
-use Rattle.journal_model.specs.Await.{awaited_tree}
-use Rattle.journal_model.specs.AwaitTree.{AwaitTree}
-use Rattle.journal_model.specs.Event.{Event, Frame}
-use Rattle.journal_model.specs.History.{completions_of, signals_of}
-use Rattle.journal_model.specs.Notification.{Text}
-use Rattle.journal_model.specs.Refusal.{refusal_of}
-use Rattle.journal_model.specs.Request.{Request}
-use Rattle.journal_model.specs.Run.{Handler, Invocation}
 use Rattle.journal_model.specs.Spelling.{frame_bytes}
 use Rattle.journal_model.specs.Waiting.{only_leaves}
-use Rattle.journal_model.specs.declared.options.RunOptions.{RunOptions}
-use Rattle.attempt_model.specs.Results.{Slots, slot_of}
-use Rattle.attempt_model.specs.Requests.{requests_by}
-use Rattle.attempt_model.specs.Machine.{Machine, Reply, Answered, AwaitsTree, Finished, reply_to}
-use Rattle.position_laws.specs.Replies.{SendsReply}
-use Rattle.machine_laws.specs.Living.{LiveAttempt}
-use Rattle.children_laws.specs.Childless.{untracked, childless}
 use Rattle.request_laws.specs.Fitting.{RequestFits}
 use Rattle.request_laws.proofs.Making.{calls_make_fit}
 use Rattle.handle_laws.specs.Awaiting.{IsLeft}
@@ -34,34 +13,18 @@ use Rattle.handle_laws.specs.Machines.{Leaves}
 use Rattle.handle_laws.proofs.Handles.{awaited_trees_fit}
 use Rattle.handle_laws.proofs.Machines.{machines_fit}
 use Rattle.vm_awaits.specs.Views.{AsyncResults, slots_of}
-use Rattle.vm_calls.specs.Active.{Fits}
-use Rattle.vm_calls.specs.declared.active.Active.{Active}
-use Rattle.vm_context.specs.Output.{Written, with_frame}
-use Rattle.vm_machine.specs.declared.machine_state.MachineState.{MachineState}
-use Rattle.vm_outcomes.specs.Carrying.{Answers, Waits, Suspends, Ends}
-use Rattle.vm_outcomes.specs.Driven.{IsDriven}
-use Rattle.vm_types.specs.Options.{run_options}
-use Rattle.vm_types.specs.declared.options.VMOptions.{VMOptions}
 use Rattle.vm_waiting.specs.Suspending.{over_ids, tells_awaiting, TellsIf}
-use Rattle.beginning_laws.specs.Standing.{Kind}
-use Rattle.sending_laws.specs.Sent.{Sent, Asks, sent_stream, AllFit, is_recorded, frame_meant}
-use Rattle.sending_laws.specs.Turning.{TurnSends}
-use Rattle.sending_laws.proofs.Turning.{turns_send}
-use Rattle.sending_laws.proofs.Writing.{frames_are_written}
+use Rattle.serving_laws.proofs.Reading.{turns_send, frames_are_written}
+use Rattle.serving_laws.specs.Machine.{MachineState, Fits, Active, Written, with_frame, Answers, Waits, Suspends, Ends, IsDriven}
+use Rattle.serving_laws.specs.Reading.{Kind}
+use Rattle.serving_laws.specs.Sending.{Sent, Asks, sent_stream, AllFit, is_recorded, frame_meant, TurnSends}
 use Rattle.serving_laws.specs.Serving.{AwaitsWithin, HasNumbers}
+use Rattle.serving_laws.specs.Words.{LEVELS, version_number, Version, Answer, Call, is_input_closed, awaited_tree, AwaitTree, Event, Frame, completions_of, signals_of, Text, Request, Handler, Invocation, RunOptions, Machine, Reply, Answered, AwaitsTree, Finished, reply_to, LiveAttempt, untracked, childless, run_options, VMOptions}
 use Rattle.turning_laws.proofs.Now.{Now, compares, call_of, reply_at}
 use Rattle.turning_laws.proofs.Replies.{Grown, Stayed, Grows, reply_grows, awaits_of, answered_of, awaiting_of, finished_of}
+use Rattle.turning_laws.specs.Words.{refusal_of, Slots, slot_of, requests_by, SendsReply}
 
 -- ---- requests
-
-all_told : (version : Version) (requests : List Request) → AllByRecursion RequestFits requests → AllFit version (map Asks requests)
-all_told version [] h = tt
-all_told version (request ∷ requests) h = (record { told = h.0; short = h.0.short }, all_told version requests h.1)
-
-all_meant : (version : Version) (requests : List Request) → AllByRecursion (λ request. is_recorded request ≡ true) requests → map (frame_meant version) (map Asks requests) ≡ map Frame.Command requests
-all_meant version [] h = refl
-all_meant version (request ∷ requests) h =
-    λ i. (ap (λ (b : Bool). if b then Frame.Command request else Frame.NotAccepted) h.0 i) ∷ all_meant version requests h.1 i
 
 -- a request that a store records, and that fits where its frame does
 abbrev MayBeSent : Request → Type 0
@@ -72,13 +35,14 @@ both_hold : (requests : List Request) → AllByRecursion (λ request. Fits reque
 both_hold [] fit recorded = tt
 both_hold (request ∷ requests) fit recorded = ((fit.0, recorded.0), both_hold requests fit.1 recorded.1)
 
-sent_fit : (requests : List Request) → AllByRecursion MayBeSent requests → AllByRecursion Fits requests → AllByRecursion RequestFits requests
-sent_fit [] may short = tt
-sent_fit (request ∷ requests) may short = (may.0.0 short.0, sent_fit requests may.1 short.1)
+sent_fit : (version : Version) (requests : List Request) → AllByRecursion MayBeSent requests → AllByRecursion Fits requests → AllFit version (map Asks requests)
+sent_fit version [] may short = tt
+sent_fit version (request ∷ requests) may short = let fits = may.0.0 short.0 in (record { told = fits; short = fits.short }, sent_fit version requests may.1 short.1)
 
-sent_recorded : (requests : List Request) → AllByRecursion MayBeSent requests → AllByRecursion (λ request. is_recorded request ≡ true) requests
-sent_recorded [] may = tt
-sent_recorded (request ∷ requests) may = (may.0.1, sent_recorded requests may.1)
+sent_meant : (version : Version) (requests : List Request) → AllByRecursion MayBeSent requests → map (frame_meant version) (map Asks requests) ≡ map Frame.Command requests
+sent_meant version [] may = refl
+sent_meant version (request ∷ requests) may =
+    λ i. (ap (λ (b : Bool). if b then Frame.Command request else Frame.NotAccepted) may.0.1 i) ∷ sent_meant version requests may.1 i
 
 -- ---- numbers
 
@@ -186,14 +150,14 @@ module _ (next : Handler) (version : Version) (options : VMOptions) (id : Text) 
       numbers = whole_number behind.0 (subst HasNumbers (sym behind.2) numbers_left);
       sends = record {
         coming = map Asks a.more;
-        fit = all_told version a.more (sent_fit a.more may a.fit);
+        fit = sent_fit version a.more may a.fit;
         bytes =
             ap (λ (w : Written). w.bytes) a.frames ∙ (frames_are_written.commands a.more vm.active.output).bytes
             ∙ ap (λ (v : Version). vm.active.output.bytes ++ sent_stream v (map Asks a.more)) of_output;
         version_is = ap (λ (w : Written). w.version) a.frames ∙ of_output;
         sends =
             subst (λ (some : Reply). SendsReply live.start.given.version (is_input_closed events id) live.machine some (map (frame_meant version) (map Asks a.more))) (sym behind.1)
-            (a.more, ap (λ (m : Machine). m.written) behind.2 ∙ a.written, all_meant version a.more (sent_recorded a.more may));
+            (a.more, ap (λ (m : Machine). m.written) behind.2 ∙ a.written, sent_meant version a.more may);
       };
       others = a.others;
     }

@@ -1,16 +1,9 @@
 -- What a turn sends asks for what a store records.
 use Rattle.std.proofs.Common.{◌≡◌, inl, inr, ℕ, Bool, true, false, if◌then◌else◌, List, [], ◌∷◌, map, Option, refl, sym, subst}
 use Rattle.std.specs.List.{AllByRecursion}
-use Rattle.protocol_types.specs.declared.version.Version.{Version}
-use Rattle.journal_model.specs.AwaitTree.{AwaitTree}
-use Rattle.journal_model.specs.Event.{Frame}
-use Rattle.journal_model.specs.Request.{Request}
-use Rattle.journal_model.specs.declared.notification.NotificationId.{NotificationId}
-use Rattle.turn_laws.specs.Turning.{IsNote}
-use Rattle.attempt_model.specs.Machine.{Machine, Reply, Answered, AwaitsTree, AwaitsChild, Finished, FailedBy}
-use Rattle.position_laws.specs.Replies.{SendsWaiting, SendsReply}
-use Rattle.sending_laws.specs.Sent.{Sent, Asks, Awaits, Suspends, Fails, Ends, is_recorded, frame_meant}
-use Rattle.sending_laws.specs.Taking.{IsOfStore}
+use Rattle.serving_laws.specs.Sending.{Sent, Asks, Awaits, Suspends, Fails, Ends, is_recorded, frame_meant, IsOfStore}
+use Rattle.serving_laws.specs.Words.{Version, AwaitTree, Frame, Request, NotificationId, IsNote, Machine, Reply, Answered, AwaitsTree, AwaitsChild, Finished, FailedBy}
+use Rattle.turning_laws.specs.Words.{SendsWaiting, SendsReply}
 
 abbrev IsAccepted : Frame → Type 0
 IsAccepted Frame.NotAccepted = ⊥

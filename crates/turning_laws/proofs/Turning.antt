@@ -1,48 +1,20 @@
 -- Each turn of an attempt, by what its machine does.
 use Rattle.std.proofs.Common.{◌≡◌, ◌⊎◌, inl, inr, ◌∙◌, ◌+◌, ℕ, suc, List, [], ◌∷◌, ◌++◌, map, Option, Some, sym, ap, subst}
-use Rattle.protocol_stream.specs.Item.{item_at}
-use Rattle.protocol_errors.specs.declared.error.Error.{Error}
-use Rattle.protocol_types.specs.declared.version.Version.{Version}
-use Rattle.journal_model.specs.declared.call.Answer.{Answer}
-use Rattle.journal_model.specs.declared.handler.Input.{Input}
-use Rattle.journal_model.specs.declared.notification.NotificationId.{NotificationId}
-use Rattle.journal_model.specs.Attempt.{is_input_closed}
-use Rattle.journal_model.specs.AwaitTree.{AwaitTree}
-use Rattle.journal_model.specs.Event.{Event}
-use Rattle.journal_model.specs.History.{answers_of}
-use Rattle.journal_model.specs.Notification.{Text}
-use Rattle.journal_model.specs.Request.{Request}
-use Rattle.journal_model.specs.Run.{Handler, Progress, Waits as WaitsFor, run}
-use Rattle.input_laws.specs.Message.{arrivals_carried, requests_carried}
-use Rattle.attempt_model.specs.Machine.{Machine, Answered, AwaitsTree}
-use Rattle.attempt_model.specs.Standing.{AnswersNext, RepliesAsRun}
-use Rattle.position_laws.specs.Replies.{goes_on}
-use Rattle.machine_laws.specs.Living.{LiveAttempt, after_turn}
-use Rattle.children_laws.specs.Childless.{untracked, childless}
-use Rattle.vm_context.specs.Output.{Written}
-use Rattle.vm_core.specs.declared.core_vm.CoreVM.{CoreVM}
-use Rattle.vm_errors.specs.Failing.{out_of_memory}
-use Rattle.vm_machine.specs.declared.machine_state.MachineState.{MachineState}
-use Rattle.vm_outcomes.specs.Carrying.{Answers, Waits, Suspends, Ends, Fails}
-use Rattle.vm_outcomes.specs.Causes.{NoMemory}
-use Rattle.vm_outcomes.specs.Driven.{IsDriven}
-use Rattle.vm_types.specs.Options.{run_options}
-use Rattle.vm_types.specs.declared.options.VMOptions.{VMOptions}
-use Rattle.beginning_laws.specs.Standing.{Kind, kind_of}
-use Rattle.sending_laws.specs.Sent.{sent_stream, frame_meant}
-use Rattle.vm_attempt.specs.Output.{output_of}
-use Rattle.vm_attempt.specs.Turning.{IsOver as IsOverBy, TakesAnswer}
-use Rattle.vm_attempt.specs.declared.attempt.Attempt.{Attempt}
-use Rattle.vm_attempt.specs.declared.turn.Finish.TheVariants as finishes
-use Rattle.vm_attempt.specs.declared.turn.Turn.{Turn}
 use Rattle.serving_laws.specs.Serving.{IsCarriedOut, HasNumbers, HasRead, Serves, finished, machine_failed}
 use Rattle.serving_laws.specs.Keeping.{IsLiveAt}
 use Rattle.serving_laws.proofs.Notes.{notes_follow, waits_more}
-use Rattle.turning_laws.specs.Turning.{ComesTo, KeepsTold, turns_answered, GoesOnWith, FailsBy, TurnsBehind, TurnKeeps}
+use Rattle.serving_laws.specs.Attempts.finishes
+use Rattle.serving_laws.specs.Attempts.{output_of, IsOver as IsOverBy, TakesAnswer, Attempt, Turn}
+use Rattle.serving_laws.specs.Machine.{MachineState, Written, out_of_memory, CoreVM, Answers, Waits, Suspends, Ends, Fails, NoMemory, IsDriven}
+use Rattle.serving_laws.specs.Reading.{Kind, kind_of}
+use Rattle.serving_laws.specs.Sending.{sent_stream, frame_meant}
+use Rattle.serving_laws.specs.Words.{item_at, Error, Version, Answer, Input, NotificationId, is_input_closed, AwaitTree, Event, answers_of, Text, Request, Handler, Progress, Waits as WaitsFor, run, arrivals_carried, requests_carried, Machine, Answered, AwaitsTree, LiveAttempt, after_turn, untracked, childless, run_options, VMOptions}
+use Rattle.turning_laws.specs.Turning.{ComesTo, turns_answered, GoesOnWith, FailsBy, TurnsBehind, TurnKeeps}
 use Rattle.turning_laws.proofs.Failing.{fails_so}
 use Rattle.turning_laws.proofs.Now.{Now, call_of, reply_at}
 use Rattle.turning_laws.proofs.Stored.{sent_of_store, notes_of_store}
 use Rattle.turning_laws.proofs.Sending.{SendsFor, AnswersSo, answers_so, waits_behind, waits_written, waits_number, waits_send, suspends_send, ends_send}
+use Rattle.turning_laws.specs.Words.{AnswersNext, RepliesAsRun, goes_on}
 
 module _ {H : Type 0} (function : H → Handler) (next : Handler) (version : Version) (options : VMOptions) (id : Text) (events : List Event) (live : LiveAttempt) (before : Attempt H)
     (l : IsLiveAt function next version options id events live) (s : Serves function next version options live (is_input_closed events id) before)
@@ -187,10 +159,10 @@ module _ {H : Type 0} (function : H → Handler) (next : Handler) (version : Ver
         ))
 
     pub failed : (error : Error) → Fails (untracked live.start.given) (childless live.machine) (call_of next live n.at) before.vm.state error vm.state → turn ≡ Turn.Failed error → after ≡ record before { vm = vm }
-        → IsCarriedOut (run_options options) next → KeepsTold version after → Keeps turn after
-    failed error f is_turn is carried keeps_told =
+        → IsCarriedOut (run_options options) next → Keeps turn after
+    failed error f is_turn is carried =
         let state_is : after.vm.state ≡ vm.state = ap (λ (a : Attempt H). a.vm.state) is in
-        let so = fails_so next version options id events live before.vm.state n s.of_run.replays carried before.answers same_answers error vm.state f (λ told kept. keeps_told told (ap (λ (m : MachineState). m.phase) state_is ∙ kept)) in
+        let so = fails_so next version options id events live before.vm.state n s.of_run.replays carried before.answers same_answers error vm.state f in
         subst (λ (t : Turn). Keeps t after) (sym is_turn) (record {
           sent = so.coming;
           fit = so.fit;

@@ -1,52 +1,22 @@
 -- A turn of an attempt, wherever it stands.
 use Rattle.std.proofs.Common.{◌≡◌, ◌⊎◌, inl, inr, ◌∙◌, ◌+◌, ℕ, suc, Bool, true, false, List, [], ◌++◌, append-nil, Option, Some, None, Result, Ok, refl, sym, ap, subst}
-use Rattle.protocol_stream.specs.Item.{item_at}
-use Rattle.protocol_errors.specs.declared.error.Error.{Error}
-use Rattle.protocol_types.specs.declared.version.Version.{Version}
-use Rattle.journal_model.specs.declared.call.Call.{Call}
-use Rattle.journal_model.specs.declared.handler.Input.{Input}
-use Rattle.journal_model.specs.declared.options.SignalDelivery.TheVariants.{Queued}
-use Rattle.journal_model.specs.Attempt.{is_input_closed}
-use Rattle.journal_model.specs.Event.{Event, Frame}
-use Rattle.journal_model.specs.History.{answers_of}
-use Rattle.journal_model.specs.Notification.{Text}
-use Rattle.journal_model.specs.Run.{Handler, run}
-use Rattle.input_laws.specs.Message.{arrivals_carried}
-use Rattle.turn_laws.specs.Sending.{FollowsSo}
-use Rattle.attempt_model.specs.Machine.{Machine, machine_at_start}
-use Rattle.position_laws.specs.Reading.{with_messages}
-use Rattle.machine_laws.specs.Living.{LiveAttempt, HasReadJournal, after_turn}
-use Rattle.machine_laws.specs.Laws.{JournalsStand, MachinesKeepOn}
-use Rattle.children_laws.specs.Childless.{untracked, childless}
-use Rattle.vm_context.specs.Output.{Written}
-use Rattle.vm_errors.specs.Failing.{out_of_memory}
-use Rattle.vm_errors.specs.declared.phase.Phase.{Phase}
-use Rattle.vm_errors.specs.declared.phase.Phase.TheVariants as phases
-use Rattle.vm_feeding.specs.Asking.{IsReady}
-use Rattle.vm_machine.specs.declared.machine_state.MachineState.{MachineState}
-use Rattle.vm_outcomes.specs.Carrying.{Comes}
-use Rattle.vm_outcomes.specs.Causes.{NoMemory}
-use Rattle.vm_outcomes.specs.Driven.{IsDriven}
-use Rattle.vm_outcomes.specs.declared.outcome.CallOutcome.{CallOutcome}
-use Rattle.vm_outcomes.specs.declared.outcome.CallOutcome.TheVariants as outcomes
-use Rattle.vm_types.specs.Options.{run_options}
-use Rattle.vm_types.specs.declared.options.VMOptions.{VMOptions}
-use Rattle.beginning_laws.specs.Laws.{AnswersInput, RefusesInput, InputsAreAnswered}
-use Rattle.vm_attempt.specs.Output.{output_of}
-use Rattle.vm_attempt.specs.Turning.{IsOver as IsOverBy, ComesTo as ComesToTurn, CarriesCall, GivesInput, ReadsInput, GoesOn, TurnsWhere, TurnsOn, TurnsUnless}
-use Rattle.vm_attempt.specs.declared.attempt.Attempt.{Attempt}
-use Rattle.vm_attempt.specs.declared.turn.Finish.{Finish}
-use Rattle.vm_attempt.specs.declared.turn.Finish.TheVariants as finishes
-use Rattle.vm_attempt.specs.declared.turn.Turn.{Turn}
 use Rattle.serving_laws.specs.Serving.{IsCarriedOut, HasNumbers, kind_where, HasNotRead, HasRead, Serves, finished, machine_failed}
 use Rattle.serving_laws.specs.Keeping.{IsLiveAt}
 use Rattle.serving_laws.proofs.Driven.{begins_driven, numbers_begin}
 use Rattle.serving_laws.proofs.Messages.{read_input}
 use Rattle.serving_laws.proofs.Over.{waits_same}
 use Rattle.serving_laws.proofs.Phases.{stage}
-use Rattle.turning_laws.specs.Turning.{KeepsTold, turns_answered, GoesOnWith, FailsBy, TurnsBehind, TurnKeeps, TurnServes}
+use Rattle.serving_laws.specs.Attempts.finishes
+use Rattle.serving_laws.specs.Attempts.{output_of, IsOver as IsOverBy, ComesTo as ComesToTurn, CarriesCall, GivesInput, ReadsInput, GoesOn, TurnsWhere, TurnsOn, TurnsUnless, Attempt, Finish, Turn}
+use Rattle.serving_laws.specs.Machine.phases
+use Rattle.serving_laws.specs.Machine.outcomes
+use Rattle.serving_laws.specs.Machine.{MachineState, Written, out_of_memory, Phase, Comes, NoMemory, IsDriven, CallOutcome, IsReady}
+use Rattle.serving_laws.specs.Reading.{AnswersInput, RefusesInput, InputsAreAnswered}
+use Rattle.serving_laws.specs.Words.{item_at, Error, Version, Call, Input, is_input_closed, Event, Frame, answers_of, Text, Handler, run, arrivals_carried, FollowsSo, Machine, machine_at_start, with_messages, LiveAttempt, HasReadJournal, after_turn, untracked, childless, run_options, VMOptions}
+use Rattle.turning_laws.specs.Turning.{turns_answered, GoesOnWith, FailsBy, TurnsBehind, TurnKeeps, TurnServes}
 use Rattle.turning_laws.proofs.Now.{Now, call_of, tracks_none, now, same_call}
 use Rattle.turning_laws.proofs.Turning.{answered, waiting, suspended, ended as has_ended, failed}
+use Rattle.turning_laws.specs.Words.{Queued, JournalsStand, MachinesKeepOn}
 
 -- ---- readiness
 
@@ -174,7 +144,7 @@ module _ {H : Type 0} (function : H → Handler) (next : Handler) (version : Ver
 
   -- ---- its handler is asked
 
-  module _ (stand : JournalsStand) (keep_on : MachinesKeepOn) (queued : options.signal_delivery ≡ Queued) (carried : IsCarriedOut (run_options options) next) (told : KeepsTold version after)
+  module _ (stand : JournalsStand) (keep_on : MachinesKeepOn) (queued : options.signal_delivery ≡ Queued) (carried : IsCarriedOut (run_options options) next)
       (r : HasRead function next version options live before) where
     here : Now next version options id events live before.vm.state
     here = now function next version options stand keep_on id events live before queued carried f l s r
@@ -185,7 +155,7 @@ module _ {H : Type 0} (function : H → Handler) (next : Handler) (version : Ver
     by_outcome outcomes.Waiting comes to = waiting function next version options id events live before l s r here after.vm turn after comes to.0 to.1
     by_outcome outcomes.Suspended comes to = suspended function next version options id events live before l s r here after.vm turn after comes to
     by_outcome outcomes.Ended comes to = has_ended function next version options id events live before l s r here after.vm turn after comes to
-    by_outcome (outcomes.Failed error) comes to = failed function next version options id events live before l s r here after.vm turn after error comes to.0 to.1 carried told
+    by_outcome (outcomes.Failed error) comes to = failed function next version options id events live before l s r here after.vm turn after error comes to.0 to.1 carried
 
     carries : CarriesCall (function before.handler live.start.given.input before.answers) before turn after ⊎ IsOverBy finishes.OutOfMemory before turn after → Keeps turn
     carries (inl c) =
@@ -202,11 +172,11 @@ module _ {H : Type 0} (function : H → Handler) (next : Handler) (version : Ver
         (subst (λ (ready : Result Bool Error). TurnsWhere function ready before turn after) (ready_where before.vm.state.phase turns.ready r.driven.phase turns.is_ready) turns.turns))
 
 pub turn_keeps : {H : Type 0} (function : H → Handler) (next : Handler) (version : Version) (options : VMOptions) → JournalsStand → MachinesKeepOn → InputsAreAnswered → TurnServes function next version options
-turn_keeps function next version options stand keep_on answers id events live before turn after queued carried f l s turns told = go s.stands
+turn_keeps function next version options stand keep_on answers id events live before turn after queued carried f l s turns = go s.stands
   where
     on : TurnsOn function before turn after
     on = turns_new function before.over before turn after refl s.going turns
 
     go : HasNotRead function next version options live (is_input_closed events id) before ⊎ HasRead function next version options live before → TurnKeeps function next version options id events live before turn after
     go (inl n) = not_read function next version options id events live before turn after f l s answers n on
-    go (inr r) = has_read function next version options id events live before turn after f l s stand keep_on queued carried told r on
+    go (inr r) = has_read function next version options id events live before turn after f l s stand keep_on queued carried r on

@@ -1,2 +1,6 @@
 pub mod Turning
-pub mod Laws
+pub mod Words
+pub mod Servings
+pub mod Attempts
+pub mod Reading
+pub mod Sending

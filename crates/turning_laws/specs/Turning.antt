@@ -1,35 +1,14 @@
 -- What each turn of an attempt comes to: the run goes on by one answer, waits, has ended, or the attempt has failed for a cause.
 use Rattle.std.specs.Prelude.{◌≡◌, ◌⊎◌, ◌+◌, ℕ, suc, true, false, List, [], ◌∷◌, ◌++◌, map, length, Option, Some, None}
 use Rattle.std.specs.List.{AllByRecursion}
-use Rattle.protocol_errors.specs.declared.error.Error.{Error}
-use Rattle.protocol_types.specs.declared.version.Version.{Version}
-use Rattle.journal_model.specs.declared.handler.Input.{Input}
-use Rattle.journal_model.specs.declared.options.SignalDelivery.TheVariants.{Queued}
-use Rattle.journal_model.specs.declared.notification.NotificationId.{NotificationId}
-use Rattle.journal_model.specs.AwaitTree.{AwaitTree}
-use Rattle.journal_model.specs.Notification.{Text, Arrival}
-use Rattle.journal_model.specs.Request.{Request}
 use Rattle.journal_model.specs.Run.{Handler, Invocation, Ending, Waits, RefusedCall, Ended, run, run_requests}
-use Rattle.journal_model.specs.Event.{Event}
-use Rattle.journal_model.specs.Attempt.{is_input_closed}
-use Rattle.input_laws.specs.Message.{arrivals_carried, requests_carried}
-use Rattle.turn_laws.specs.Sending.{FollowsSo}
-use Rattle.attempt_model.specs.Machine.{Machine, Refused}
-use Rattle.machine_laws.specs.Living.{LiveAttempt, HasReadJournal, after_turn}
-use Rattle.children_laws.specs.Childless.{untracked, childless}
-use Rattle.sending_laws.specs.Sent.{Sent, Fails, sent_stream, SentFits, AllFit, frame_meant}
-use Rattle.sending_laws.specs.Taking.{IsOfStore}
-use Rattle.vm_errors.specs.Failure.{told_error}
-use Rattle.vm_errors.specs.declared.phase.Phase.TheVariants as phases
-use Rattle.vm_outcomes.specs.Causes.{Cause, ByFault, NoReplay, NoRuns, FailsWhen}
-use Rattle.vm_types.specs.Options.{run_options}
-use Rattle.vm_types.specs.declared.options.VMOptions.{VMOptions}
-use Rattle.vm_attempt.specs.Output.{output_of}
-use Rattle.vm_attempt.specs.Turning.{Turns}
-use Rattle.vm_attempt.specs.declared.attempt.Attempt.{Attempt}
-use Rattle.vm_attempt.specs.declared.turn.Turn.{Turn}
+use Rattle.serving_laws.specs.Attempts.{output_of, Turns, Attempt, Turn}
 use Rattle.serving_laws.specs.Serving.{IsCarriedOut, Serves, IsOver}
 use Rattle.serving_laws.specs.Keeping.{IsLiveAt}
+use Rattle.serving_laws.specs.Machine.{Cause, ByFault, NoReplay, NoRuns, FailsWhen}
+use Rattle.serving_laws.specs.Sending.{Sent, sent_stream, AllFit, frame_meant, IsOfStore}
+use Rattle.serving_laws.specs.Words.{Version, Input, NotificationId, AwaitTree, Text, Arrival, Request, Event, is_input_closed, arrivals_carried, requests_carried, FollowsSo, Machine, Refused, LiveAttempt, HasReadJournal, after_turn, untracked, childless, run_options, VMOptions}
+use Rattle.turning_laws.specs.Words.{Queued}
 
 -- the run over these arrivals comes to this with one more call, with exactly these requests
 pub record ComesTo (next : Handler) (given : Invocation) (arrivals : List Arrival) (calls : ℕ) (requests : List Request) (ending : Ending) : Type 0 where
@@ -44,10 +23,6 @@ IsOwnCause next given arrivals calls (ByFault fault) = ⊥
 IsOwnCause next given arrivals calls NoReplay = ⊥
 IsOwnCause next given arrivals calls NoRuns = ⊥
 IsOwnCause next given arrivals calls cause = Unit {0}
-
--- the error that a failed machine keeps is of its type, and its frame no longer than one can be
-abbrev pub KeepsTold : {H : Type 0} → Version → Attempt H → Type 0
-KeepsTold version a = (error : Error) → a.vm.state.phase ≡ phases.Failed error → SentFits version (Fails (told_error error))
 
 -- how many turns have answered something: the first reads the input, and each further one answers a call
 abbrev pub turns_answered : Option Input → (calls : ℕ) → ℕ
@@ -99,14 +74,14 @@ module _ {H : Type 0} (function : H → Handler) (next : Handler) (version : Ver
   abbrev pub TurnServes : Type 0
   TurnServes = (id : Text) (events : List Event) (live : LiveAttempt) (before : Attempt H) (turn : Turn) (after : Attempt H) → options.signal_delivery ≡ Queued
       → IsCarriedOut (run_options options) next → FollowsSo next live.start.given id events live.coming → IsLiveAt function next version options id events live
-      → Serves function next version options live (is_input_closed events id) before → Turns function before turn after → KeepsTold version after
+      → Serves function next version options live (is_input_closed events id) before → Turns function before turn after
       → TurnKeeps function next version options id events live before turn after
 
   -- ---- turns one after the other, the first first
 
   abbrev pub TurnsEach : List Turn → (before after : Attempt H) → Type 0
   TurnsEach [] before after = after ≡ before
-  TurnsEach (turn ∷ turns) before after = (between : Attempt H) × Turns function before turn between × KeepsTold version between × TurnsEach turns between after
+  TurnsEach (turn ∷ turns) before after = (between : Attempt H) × Turns function before turn between × TurnsEach turns between after
 
   -- the attempt is live after all of them, each of which has answered something
   pub record AnswersEach (id : Text) (events : List Event) (live : LiveAttempt) (before : Attempt H) (turns : List Turn) (after : Attempt H) : Type 0 where
@@ -121,3 +96,12 @@ module _ {H : Type 0} (function : H → Handler) (next : Handler) (version : Ver
       → FollowsSo next live.start.given id events live.coming → IsLiveAt function next version options id events live → HasReadJournal live → is_input_closed events id ≡ true
       → Serves function next version options live true before → TurnsEach turns before after
       → IsOver after ⊎ AnswersEach id events live before turns after
+
+-- ---- of a handler with each function, version and options
+
+module _ {H : Type 0} (function : H → Handler) where
+  abbrev pub TurnsKeep : Type 0
+  TurnsKeep = (next : Handler) (version : Version) (options : VMOptions) → TurnServes function next version options
+
+  abbrev pub TurnsProgress : Type 0
+  TurnsProgress = (next : Handler) (version : Version) (options : VMOptions) → TurnsAnswer function next version options

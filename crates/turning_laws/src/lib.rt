@@ -2,11 +2,14 @@
 //! nothing: its contract is the law.
 #![tactic(auto)]
 
-ghost use Rattle.turning_laws.specs.Laws.{TurnsKeep, TurnsProgress};
+ghost use Rattle.turning_laws.specs.Turning.{TurnsKeep, TurnsProgress};
 
-use beginning_laws::inputs_are_answered;
 use journal_model::Handler;
 use machine_laws::{journals_stand, machines_keep_on};
+use serving_laws::inputs_are_answered;
+pub use serving_laws::{
+    attempts_begin, closes_keep, events_keep, feeds_keep, notes_follow, overs_stay, takes_keep,
+};
 
 /// Answered continues the run by one answer, or reads the input; Waiting comes only where the journal was not read, or the run waits and
 /// more can come; Suspended and Ended come where the run waits or has ended with exactly its requests; Failed has a cause. What was

@@ -1,10 +1,9 @@
 -- A call that the machine has carried out, and how the attempt goes on then.
 use Rattle.std.proofs.Common.{◌≡◌, inl, inr, ap, sym, subst}
 use Rattle.journal_model.specs.declared.call.Call.{Call}
-use Rattle.vm_core.specs.declared.core_vm.CoreVM.{CoreVM}
-use Rattle.vm_outcomes.specs.Carrying.{CarriesOut}
-use Rattle.vm_outcomes.specs.declared.outcome.CallOutcome.{CallOutcome}
-use Rattle.vm_outcomes.specs.declared.outcome.CallOutcome.TheVariants as outcomes
+use Rattle.vm_driving.specs.Machine.{CoreVM}
+use Rattle.vm_driving.specs.Outcomes.outcomes
+use Rattle.vm_driving.specs.Outcomes.{CarriesOut, CallOutcome}
 use Rattle.vm_attempt.specs.Turning.{ComesTo, CarriesCall}
 use Rattle.vm_attempt.specs.declared.attempt.Attempt.{Attempt}
 use Rattle.vm_attempt.specs.declared.turn.Turn.{Turn}

@@ -2,7 +2,7 @@
 use Rattle.std.proofs.Common.{◌≡◌, ◌≤◌, ℕ, ◌++◌, length, drop, ap, sym, subst, ◌∙◌}
 use Rattle.std.proofs.lemmas.List.{drop-append-le}
 use Rattle.journal_model.specs.Notification.{Bytes}
-use Rattle.vm_core.specs.declared.core_vm.CoreVM.{CoreVM}
+use Rattle.vm_driving.specs.Machine.{CoreVM}
 use Rattle.vm_attempt.specs.Output.{taken_of, output_of, OnlyTaken, ShowsFirst, LetsGo, HandsOut}
 use Rattle.vm_attempt.proofs.Pieces.{left_behind}
 use Rattle.vm_attempt.specs.declared.attempt.Attempt.{Attempt}

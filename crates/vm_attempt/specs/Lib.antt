@@ -1,3 +1,6 @@
 pub mod Attempt
 pub mod Output
 pub mod Turning
+pub mod Machine
+pub mod Outcomes
+pub mod Feeding

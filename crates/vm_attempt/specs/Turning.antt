@@ -8,9 +8,8 @@ use Rattle.protocol_errors.specs.declared.error.Error.{Error}
 use Rattle.vm_beginning.specs.Reading.{IsRead}
 use Rattle.vm_errors.specs.Failing.{out_of_memory}
 use Rattle.vm_feeding.specs.Asking.{IsReady}
-use Rattle.vm_outcomes.specs.Carrying.{CarriesOut}
-use Rattle.vm_outcomes.specs.declared.outcome.CallOutcome.{CallOutcome}
-use Rattle.vm_outcomes.specs.declared.outcome.CallOutcome.TheVariants as outcomes
+use Rattle.vm_driving.specs.Outcomes.outcomes
+use Rattle.vm_driving.specs.Outcomes.{CarriesOut, CallOutcome}
 use Rattle.vm_attempt.specs.declared.attempt.Attempt.{Attempt}
 use Rattle.vm_attempt.specs.declared.turn.Finish.{Finish}
 use Rattle.vm_attempt.specs.declared.turn.Finish.TheVariants as finishes

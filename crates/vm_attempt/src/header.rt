@@ -15,6 +15,8 @@ impl HeaderMap for ContentType {
 
     ghost text_of = { λ header name. Some (version_content_type header.0) };
 
+    ghost fails = { λ header name error. ⊥ };
+
     fn extract(&self, _name: &str) -> Result<Option<&str>, Infallible> {
         Ok(Some(self.0.content_type()))
     }

@@ -8,3 +8,4 @@ mod turn;
 
 pub use attempt::Attempt;
 pub use turn::{Finish, Turn};
+pub use vm_driving::{CoreVM, VM, VMResult};

@@ -11,4 +11,5 @@ mod runs;
 mod state;
 
 pub use carrying::carry_out;
+pub use vm_core::{CoreVM, VM, VMResult};
 pub use vm_outcomes::CallOutcome;

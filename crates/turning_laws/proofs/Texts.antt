@@ -2,24 +2,14 @@
 use Rattle.std.proofs.Common.{◌≡◌, ℕ, zero, suc, Bool, true, false, true≢false, if◌then◌else◌, List, [], ◌∷◌, ◌++◌, Option, Some, None, refl, sym}
 use Rattle.std.specs.List.{list_all}
 use Rattle.std.specs.Str.{is_utf8}
-use Rattle.journal_model.specs.declared.call.Answer.{Answer}
-use Rattle.journal_model.specs.declared.call.Call.{Call}
-use Rattle.journal_model.specs.declared.handler.Input.{Input}
-use Rattle.journal_model.specs.declared.notification.NotificationId.{NotificationId}
-use Rattle.journal_model.specs.declared.options.RunOptions.{RunOptions}
 use Rattle.journal_model.specs.declared.value.Value.{Value}
 use Rattle.journal_model.specs.Await.{AwaitOutcome, WaitsFor, WokenAt, CancelledAt, is_cancelled_at, children_place, child_result, tracked_children, cancel_request, cancel_requests, cancellation_outcome, outcome_from, awake_place, awaited_ids, await_outcome}
-use Rattle.journal_model.specs.AwaitTree.{AwaitTree}
-use Rattle.journal_model.specs.Cause.{keys_of}
-use Rattle.journal_model.specs.History.{Step, answers_of, requests_of}
-use Rattle.journal_model.specs.Notification.{Arrival}
 use Rattle.journal_model.specs.Refusal.{Refusal, refusal_of}
-use Rattle.journal_model.specs.Request.{Request}
-use Rattle.journal_model.specs.Run.{Handler, Invocation, Progress, Ending, GoesOn, Kind, Awaits, Ends, Answers, kind_of, requests_to, after_await, carried_out, unless_refused, continued_by, run}
-use Rattle.journal_model.specs.State.{StartState}
+use Rattle.journal_model.specs.Run.{Kind, Awaits, Ends, Answers, kind_of, requests_to, after_await, carried_out, unless_refused, continued_by}
 use Rattle.attempt_laws.proofs.Coming.{all-both}
 use Rattle.machine_laws.specs.Asking.{AsksByText}
 use Rattle.serving_laws.specs.Serving.{IsOfStore}
+use Rattle.serving_laws.specs.Words.{Answer, Call, Input, NotificationId, RunOptions, AwaitTree, keys_of, Step, answers_of, requests_of, Arrival, Request, Handler, Invocation, Progress, Ending, GoesOn, run, StartState}
 
 abbrev has_text : Request → Bool
 has_text request = list_all is_utf8 (keys_of request)

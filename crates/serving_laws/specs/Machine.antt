@@ -1,0 +1,13 @@
+-- The machine of an attempt, and what its calls come to, as the laws name them.
+pub use Rattle.vm_attempt.specs.Feeding.{IsFed, IsNew, BeginsAs, is_waiting, input_closed, ClosesWhere, ClosesInput, HasFailed, has_failed, IsReady, with_input}
+pub use Rattle.vm_attempt.specs.Machine.{CoreVM}
+pub use Rattle.vm_attempt.specs.Outcomes.outcomes
+pub use Rattle.vm_attempt.specs.Outcomes.{IsDriven, Fails, Cause, ByFault, NoNumber, TooLong, NoReplay, NoRuns, NoMemory, FailsWhen, TracksNone, Answers, Waits, Suspends, Ends, Comes, CallOutcome}
+pub use Rattle.vm_calls.specs.Active.{Sees, Fits}
+pub use Rattle.vm_calls.specs.declared.active.Active.{Active}
+pub use Rattle.vm_context.specs.Output.{Written, with_frame}
+pub use Rattle.vm_errors.specs.Failing.{FailsNow, FailsAs, TellsCause, Tells, Writes, out_of_memory}
+pub use Rattle.vm_errors.specs.declared.phase.Phase.TheVariants as phases
+pub use Rattle.vm_errors.specs.declared.phase.Phase.{Phase}
+pub use Rattle.vm_machine.specs.Calls.{checks_off}
+pub use Rattle.vm_machine.specs.declared.machine_state.MachineState.{MachineState}
