@@ -7,6 +7,7 @@ use Rattle.protocol_stream.specs.Frame.{message_of}
 use Rattle.protocol_types.specs.declared.message_type.MessageType.TheVariants.{Start}
 use Rattle.protocol_types.specs.declared.version.ContentTypeError.{ContentTypeError}
 use Rattle.protocol_types.specs.declared.version.Version.TheVariants.{V1, V2, V3, V4, V5, V6, V7, V8}
+use Rattle.protocol_types.specs.Version.{has_content_type, version_with}
 use Rattle.journal_model.specs.declared.options.SignalDelivery.{SignalDelivery}
 use Rattle.journal_model.specs.Start.{start_payload_of}
 use Rattle.vm_entries.specs.Starting.{IsFresh}
@@ -20,7 +21,7 @@ use Rattle.serving_laws.specs.Serving.{kind_where, IsFedBy, Serves}
 use Rattle.serving_laws.specs.Keeping.{attempt_started, LacksMemory, BeginsServing}
 use Rattle.serving_laws.specs.Machine.{Written, MachineState, IsFed, IsNew, BeginsAs}
 use Rattle.serving_laws.specs.Reading.{FailsForMemory, raw_of, MessageFits, bytes_of, start_told, CanBegin, IsRunOf, kind_of, HasStarted, HoldsStart, ReadsOn, StartsAreRead}
-use Rattle.serving_laws.specs.Words.{item_at, message, Version, version_content_type, has_content_type, version_with, content_type_read, input_bytes, Bytes, Handler, Invocation, InputMessage, CarriesInput, piece_of, AttemptStart, ShowsStart, attempt_begun, VMOptions}
+use Rattle.serving_laws.specs.Words.{item_at, message, Version, version_content_type, content_type_read, input_bytes, Bytes, Handler, Invocation, InputMessage, CarriesInput, piece_of, AttemptStart, ShowsStart, attempt_begun, VMOptions}
 
 -- ---- the version
 

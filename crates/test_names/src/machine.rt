@@ -10,10 +10,13 @@ pub use invocation_vm::{
 };
 
 /// What is called of an attempt.
-pub fn name_attempts<H: Handler>() {
+pub fn name_attempts<H: Handler + Drop>() {
     let _ = Attempt::<H>::new;
     let _ = Attempt::<H>::feed;
+    let _ = Attempt::<H>::close_input;
     let _ = Attempt::<H>::turn;
+    let _ = Attempt::<H>::first_output;
+    let _ = Attempt::<H>::advance_output;
     let _ = Attempt::<H>::take_output;
 }
 
