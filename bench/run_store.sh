@@ -17,12 +17,7 @@ built=$(mktemp -d)
 trap 'rm -rf "$built"' EXIT
 
 # The statements of both are the same.
-grep -o '"[A-Z]* [^"]* [^"]*"' sqlite_times.c | while read -r text; do
-    if ! grep -qF "$text" ../crates/store_tables/src/*.rt; then
-        echo "store_tables has no such statement: $text" >&2
-        exit 1
-    fi
-done
+./statements.sh
 cc -std=c11 -D_POSIX_C_SOURCE=199309L -O2 sqlite_times.c -o "$built"/sqlite_times -lsqlite3
 # Builds the program, and runs it with no word: it does a little of each then.
 (cd "$crate" && rt run) >&2

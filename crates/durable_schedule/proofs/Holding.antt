@@ -1,68 +1,63 @@
 -- Calls on an attempt that is held, or is not.
-use Rattle.std.proofs.Common.{◌≡◌, refl, sym, ap, subst, ◌∙◌, ℕ, List, Option, Some, None, get_or}
-use Rattle.std.specs.Prelude.{slice_set}
-use Rattle.std.specs.List.{position}
+use Rattle.std.proofs.Common.{◌≡◌, refl, sym, ap, subst, ◌∙◌, ℕ, List, Option, Some, None}
+use Rattle.std.specs.Borrow.{MutBor}
+use Rattle.std.specs.Option.{option_copied_mut, option_map}
 use Rattle.sqlite_trees.specs.declared.store.Store.{Ghosts}
-use Rattle.sqlite.specs.Held.{state}
 use Rattle.journal_model.specs.Notification.{Text}
-use Rattle.fresh_attempt.specs.View.{AttemptView}
 use Rattle.schedule_model.specs.declared.event.Reply.{Reply}
 use Rattle.schedule_model.specs.declared.event.Reply.TheVariants as reply
 use Rattle.schedule_model.specs.declared.event.Refusal.TheVariants as refusal
 use Rattle.schedule_model.specs.declared.held.HeldAttempt.{HeldAttempt}
-use Rattle.schedule_model.specs.Following.{is_held, held_of}
+use Rattle.schedule_model.specs.Held.{held_of, with_attempt}
+use Rattle.schedule_model.specs.Lends.{held_as}
 use Rattle.schedule_model.specs.Schedule.{IfHeld}
-use Rattle.schedule_model.proofs.Applying.{not_held, found_at, changes_held}
-use Rattle.schedule_model.proofs.Holding.{held_is}
+use Rattle.schedule_model.specs.Attempts.{Attempt}
 use Rattle.store_calls.specs.Standing.{Standing}
+use Rattle.store_calls.proofs.Taking.{same_stays}
 use Rattle.journal_store.specs.Stored.{Stored}
 use Rattle.journal_store.specs.Stands.{Endures, Leads}
 use Rattle.journal_store.proofs.Enduring.{endures_so}
-use Rattle.durable_schedule.specs.Scheduled.{LeadsMoved, OutlastsMove}
+use Rattle.durable_schedule.specs.Scheduled.{LeadsMoved}
 
 -- what is done to one that is held
 abbrev Changes : Type 0 → Type 1
-Changes H = HeldAttempt H → Standing → Reply → Standing → AttemptView H → Type 0
+Changes H = HeldAttempt H → Standing → Reply → Standing → Attempt H → Type 0
 
-module _ {H S : Type 0} (g : Ghosts S) (Change : Changes H) (id : Text) (n : ℕ) (held seen : List (HeldAttempt H)) (same : seen ≡ held) (found : Option ℕ)
-    (is : found ≡ position (is_held id n) seen) where
-  place_is : (place : Option ℕ) → found ≡ place → position (is_held id n) held ≡ place
-  place_is place at = ap (position (is_held id n)) (sym same) ∙ sym is ∙ at
+module _ {H S : Type 0} (g : Ghosts S) (Change : Changes H) (id : Text) (n : ℕ) (held : List (HeldAttempt H)) (told : Option (MutBor (Attempt H)))
+    (found : option_map (held_as id n) (option_copied_mut told) ≡ held_of held id n) where
+  held_is : (lent : Option (MutBor (Attempt H))) → told ≡ lent → option_map (held_as id n) (option_copied_mut lent) ≡ held_of held id n
+  held_is lent is = subst (λ (o : Option (MutBor (Attempt H))). option_map (held_as id n) (option_copied_mut o) ≡ held_of held id n) is found
 
   -- it is not held
-  pub misses : found ≡ None → (store : Stored S) → Leads g (λ (s t : Standing). IfHeld Change (held_of held id n) s held (reply.Refused refusal.AttemptNotHeld) t held) store store
-  misses none store clean s standing = (s, standing, not_held Change id n s held (place_is None none))
+  pub misses : told ≡ None → (store : Stored S) → Leads g (λ (s t : Standing). IfHeld Change (held_of held id n) s held (reply.Refused refusal.AttemptNotHeld) t held) store store
+  misses none store clean s standing =
+      (s, standing, subst (λ (o : Option (HeldAttempt H)). IfHeld Change o s held (reply.Refused refusal.AttemptNotHeld) s held) (held_is None none) (refl, same_stays s, refl))
 
-  module _ (place : ℕ) (one : HeldAttempt H) (at : found ≡ Some place) (read : one ≡ get_or held place one) (old new : Stored S) where
-    -- it is changed in its place
-    pub finds : (changed : HeldAttempt H) (answer : Reply) → changed ≡ record one { attempt = changed.attempt }
-        → Leads g (λ (s t : Standing). Change one s answer t changed.attempt) old new
-        → Leads g (λ (s t : Standing). IfHeld Change (held_of held id n) s held answer t (slice_set held place changed)) old new
-    finds changed answer kept does clean s standing =
-        let it = does clean s standing in
-        (it.0, it.1, changes_held Change id n held place one changed s it.0 answer (found_at id n held place one (place_is (Some place) at) read) kept it.2)
+  module _ (lent : MutBor (Attempt H)) (is : told ≡ Some lent) where
+    changes : (changed : Attempt H) (answer : Reply) (s t : Standing) → Change (held_as id n lent.now) s answer t changed
+        → IfHeld Change (held_of held id n) s held answer t (with_attempt held (held_as id n changed) changed)
+    changes changed answer s t it =
+        subst (λ (o : Option (HeldAttempt H)). IfHeld Change o s held answer t (with_attempt held (held_as id n changed) changed)) (held_is (Some lent) is) (changed, it, refl)
 
-    -- and what lasts of it
-    pub finds_lasting : (changed : HeldAttempt H) (answer : Reply) → changed ≡ record one { attempt = changed.attempt }
-        → LeadsMoved g one.invocation one.number answer (λ (s t : Standing). Change one s answer t changed.attempt) old new
-        → LeadsMoved g id n answer (λ (s t : Standing). IfHeld Change (held_of held id n) s held answer t (slice_set held place changed)) old new
-    finds_lasting changed answer kept does clean s standing =
-        let it = does clean s standing in
-        let found = found_at id n held place one (place_is (Some place) at) read in
-        let is = held_is id n one found.at.passes in
-        let database = state g new.connection in
-        let lasts = subst (λ (i : Text). OutlastsMove i one.number answer it.0 database) is.0 it.2.1 in
-        (it.0, it.1, (changes_held Change id n held place one changed s it.0 answer found kept it.2.0, subst (λ (m : ℕ). OutlastsMove id m answer it.0 database) is.1 lasts))
+    module _ (old new : Stored S) where
+      -- it is changed in its place
+      pub finds : (changed : Attempt H) (answer : Reply) → Leads g (λ (s t : Standing). Change (held_as id n lent.now) s answer t changed) old new
+          → Leads g (λ (s t : Standing). IfHeld Change (held_of held id n) s held answer t (with_attempt held (held_as id n changed) changed)) old new
+      finds changed answer does clean s standing =
+          let it = does clean s standing in
+          (it.0, it.1, changes changed answer s it.0 it.2)
 
-    -- where a crash comes
-    pub finds_crashed : Endures g (λ (s t : Standing). (answer : Reply) × (changed : AttemptView H) × Change one s answer t changed) old new
-        → Endures g (λ (s t : Standing). (answer : Reply) × (more : List (HeldAttempt H)) × IfHeld Change (held_of held id n) s held answer t more) old new
-    finds_crashed lives =
-        endures_so g (λ (s t : Standing). (answer : Reply) × (changed : AttemptView H) × Change one s answer t changed)
-        (λ (s t : Standing). (answer : Reply) × (more : List (HeldAttempt H)) × IfHeld Change (held_of held id n) s held answer t more) old new
-        (λ s t it. (
-          it.0,
-          slice_set held place (record one { attempt = it.1 }),
-          changes_held Change id n held place one (record one { attempt = it.1 }) s t it.0 (found_at id n held place one (place_is (Some place) at) read) refl it.2,
-        ))
-        lives
+      -- and what lasts of it
+      pub finds_lasting : (changed : Attempt H) (answer : Reply) → LeadsMoved g id n answer (λ (s t : Standing). Change (held_as id n lent.now) s answer t changed) old new
+          → LeadsMoved g id n answer (λ (s t : Standing). IfHeld Change (held_of held id n) s held answer t (with_attempt held (held_as id n changed) changed)) old new
+      finds_lasting changed answer does clean s standing =
+          let it = does clean s standing in
+          (it.0, it.1, (changes changed answer s it.0 it.2.0, it.2.1))
+
+      -- where a crash comes
+      pub finds_crashed : Endures g (λ (s t : Standing). (answer : Reply) × (changed : Attempt H) × Change (held_as id n lent.now) s answer t changed) old new
+          → Endures g (λ (s t : Standing). (answer : Reply) × (more : List (HeldAttempt H)) × IfHeld Change (held_of held id n) s held answer t more) old new
+      finds_crashed lives =
+          endures_so g (λ (s t : Standing). (answer : Reply) × (changed : Attempt H) × Change (held_as id n lent.now) s answer t changed)
+          (λ (s t : Standing). (answer : Reply) × (more : List (HeldAttempt H)) × IfHeld Change (held_of held id n) s held answer t more) old new
+          (λ s t it. (it.0, with_attempt held (held_as id n it.1) it.1, changes it.1 it.0 s t it.2)) lives

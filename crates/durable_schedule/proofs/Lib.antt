@@ -1,4 +1,4 @@
-pub mod Growing
+pub mod Landing
 pub mod Scheduling
 pub mod Moving
 pub mod Holding

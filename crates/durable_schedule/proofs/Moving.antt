@@ -1,39 +1,79 @@
--- What a crash leaves of a move.
-use Rattle.std.proofs.Common.{◌≡◌, ◌∙◌, refl, sym, ap, ap₂, subst, ℕ, List, ◌∷◌, length, min, take, drop, true, Option, Some, None, inl, inr}
+-- A move: bytes of an attempt that were shown are accepted and let go; and what a crash leaves of it.
+use Rattle.std.proofs.Common.{◌≡◌, ◌∙◌, refl, sym, ap, subst, ℕ, List, [], ◌∷◌, ◌++◌, append-nil, length, min, take, drop, true, Option, Some, None, Ok, Err, inl, inr}
 use Rattle.sqlite_trees.specs.declared.store.Store.{Ghosts}
+use Rattle.journal_model.specs.Notification.{Bytes}
 use Rattle.journal_model.specs.Event.{Event}
 use Rattle.journal_model.specs.Attempt.{is_live}
 use Rattle.store_refusals.specs.declared.refusal.Refusal.{Refusal}
 use Rattle.store_refusals.specs.declared.refusal.Refusal.TheVariants.{OutOfMemory}
+use Rattle.schedule_model.specs.declared.event.Reply.{Reply}
 use Rattle.schedule_model.specs.declared.event.Reply.TheVariants as reply
+use Rattle.schedule_model.specs.declared.event.Refusal.TheVariants as refusal
 use Rattle.schedule_model.specs.declared.held.HeldAttempt.{HeldAttempt}
+use Rattle.schedule_model.specs.Schedule.{Advances, MovesOne}
+use Rattle.schedule_model.proofs.Advancing.{advances, shown_count, shown_bytes}
+use Rattle.schedule_model.specs.Attempts.{Attempt, output_of, Gathers, LetsGo, ShowsFirst}
 use Rattle.store_calls.specs.Standing.{Standing}
 use Rattle.store_calls.specs.Calls.{PutsBehind}
-use Rattle.store_calls.specs.Frames.{AcceptsFirst, Rests}
+use Rattle.store_calls.specs.Frames.{Accepts, AcceptsFirst, Rests}
 use Rattle.store_calls.proofs.Taking.{live_or_over, same_stays}
 use Rattle.journal_store.specs.Stored.{Stored}
 use Rattle.journal_store.specs.Stands.{Endures}
 use Rattle.journal_store.proofs.Enduring.{endures_so}
-use Rattle.durable_schedule.specs.Scheduled.{MovesSome}
+use Rattle.durable_schedule.specs.Scheduled.{AcceptsOne, MovesSome}
+
+-- bytes that were shown first are what the move asks for
+pub moves_shown : {H : Type 0} (count : ℕ) (bytes : Bytes) (one : HeldAttempt H) (between : Attempt H) → ShowsFirst count bytes one.attempt between → (s t : Standing) (answer : Reply) (changed : Attempt H)
+    → AcceptsOne bytes (record one { attempt = between }) s answer t changed → MovesOne count one s answer t changed
+moves_shown {H} count bytes one between shows s t (reply.Moved moved frames why) changed it = (
+  it.0,
+  it.1,
+  it.2 ∙ shown_count count bytes one.attempt between shows,
+  subst (λ (some : Bytes). Accepts one.invocation one.number some (Ok (it.0, why)) s t) (shown_bytes count bytes one.attempt between shows ∙ ap (λ (n : ℕ). take n (output_of one.attempt)) (sym it.2)) it.3,
+  subst (λ (n : ℕ). Advances n one.attempt changed) (sym it.2)
+      (advances count bytes one.attempt between changed shows (subst (λ (n : ℕ). LetsGo n between changed) it.2 it.4)),
+)
+moves_shown {H} count bytes one between shows s t (reply.Refused (refusal.Store why)) changed it = (
+  subst (λ (some : Bytes). Accepts one.invocation one.number some (Err why) s t)
+      (shown_bytes count bytes one.attempt between shows ∙ ap (λ (n : ℕ). take n (output_of one.attempt)) (shown_count count bytes one.attempt between shows)) it.0,
+  subst (λ (a : Attempt H). Gathers one.attempt a) (sym it.1) shows.gathers,
+)
+moves_shown {H} count bytes one between shows s t _ changed it = absurd it
+
+-- ---- a crash
+
+-- the attempt without the first bytes that wait
+abbrev without : {H : Type 0} → ℕ → Attempt H → Attempt H
+without count a = record a {
+  front = drop count (output_of a);
+  behind = [];
+  vm = record a.vm { state = record a.vm.state { active = record a.vm.state.active { output = record a.vm.state.active.output { bytes = [] } } } };
+}
+
+lets_first_go : {H : Type 0} (count : ℕ) (a : Attempt H) → Advances count a (without count a)
+lets_first_go count a = record {
+  moves = record { machine = refl; others = refl };
+  rest = append-nil (drop count (output_of a) ++ []) ∙ append-nil (drop count (output_of a));
+}
 
 -- the first frames are taken, and then no further one
-rests_behind : {H : Type 0} (count : ℕ) (one : HeldAttempt H) (moved : List ℕ) → moved ≡ take (min count (length one.attempt.output)) one.attempt.output
+rests_behind : {H : Type 0} (count : ℕ) (one : HeldAttempt H) (moved : Bytes) → moved ≡ take (min count (length (output_of one.attempt))) (output_of one.attempt)
     → (s t : Standing) → AcceptsFirst one.invocation one.number moved s t → (why : Option Refusal) → Rests one.invocation one.number why t t → MovesSome count one s t
 rests_behind count one moved same s t it why rests =
-    let bytes : ℕ = min count (length one.attempt.output) in (
+    let bytes : ℕ = min count (length (output_of one.attempt)) in (
       reply.Moved bytes (length (it.2.0 ∷ it.2.1)) why,
-      record (one.attempt) { output = drop bytes one.attempt.output },
+      without bytes one.attempt,
       (
         it.2.0 ∷ it.2.1,
         refl,
         refl,
-        (it.0, subst (λ (all : List ℕ). PutsBehind one.invocation one.number all s it.0) same it.1, record { between = t; taken = it.2.2; rests = rests }),
-        refl,
+        (it.0, subst (λ (all : Bytes). PutsBehind one.invocation one.number all s it.0) same it.1, record { between = t; taken = it.2.2; rests = rests }),
+        lets_first_go bytes one.attempt,
       ),
     )
 
 -- the last of them ended the attempt, or no room is left for more answers
-pub moves_first : {H : Type 0} (count : ℕ) (one : HeldAttempt H) (moved : List ℕ) → moved ≡ take (min count (length one.attempt.output)) one.attempt.output
+moves_first : {H : Type 0} (count : ℕ) (one : HeldAttempt H) (moved : Bytes) → moved ≡ take (min count (length (output_of one.attempt))) (output_of one.attempt)
     → (s t : Standing) → AcceptsFirst one.invocation one.number moved s t → MovesSome count one s t
 moves_first count one moved same s t it =
     let id = one.invocation in
@@ -43,9 +83,10 @@ moves_first count one moved same s t it =
       | inr over ↦ rests_behind count one moved same s t it None (inl (record { over = over; stays = same_stays t }))
     ]
 
--- so it is of the bytes that were seen first in line
-pub moves_crashed : {H S : Type 0} (g : Ghosts S) (count : ℕ) (one : HeldAttempt H) (bytes : ℕ) (all seen : List ℕ) → bytes ≡ min count (length all) → all ≡ one.attempt.output → seen ≡ one.attempt.output
-    → (old new : Stored S) → Endures g (AcceptsFirst one.invocation one.number (take bytes seen)) old new → Endures g (MovesSome count one) old new
-moves_crashed g count one bytes all seen fewest whole same old new lives =
-    endures_so g (AcceptsFirst one.invocation one.number (take bytes seen)) (MovesSome count one) old new
-    (moves_first count one (take bytes seen) (ap₂ (λ (n : ℕ) (output : List ℕ). take n output) (fewest ∙ ap (λ (output : List ℕ). min count (length output)) whole) same)) lives
+-- so it is of the bytes that were shown
+pub moves_crashed : {H S : Type 0} (g : Ghosts S) (count : ℕ) (bytes : Bytes) (one : HeldAttempt H) (between : Attempt H) → ShowsFirst count bytes one.attempt between
+    → (old new : Stored S) → Endures g (AcceptsFirst one.invocation one.number bytes) old new → Endures g (MovesSome count one) old new
+moves_crashed g count bytes one between shows old new lives =
+    endures_so g (AcceptsFirst one.invocation one.number bytes) (MovesSome count one) old new
+    (moves_first count one bytes
+    (shown_bytes count bytes one.attempt between shows ∙ ap (λ (n : ℕ). take n (output_of one.attempt)) (shown_count count bytes one.attempt between shows))) lives

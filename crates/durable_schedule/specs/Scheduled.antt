@@ -1,46 +1,30 @@
 -- What a scheduler stands for, and what its calls make of that.
-use Rattle.std.specs.Prelude.{◌≡◌, ◌≢◌, ℕ, List, [], ◌++◌, Option, Some, None}
-use Rattle.std.specs.List.{AllByRecursion}
+use Rattle.std.specs.Prelude.{◌≡◌, ◌≢◌, ℕ, List, length, Option, Ok, Err}
 use Rattle.sqlite_trees.specs.declared.store.Store.{Ghosts}
-use Rattle.sqlite_trees.specs.Tree.{Trees}
 use Rattle.sqlite.specs.Held.{state}
-use Rattle.sqlite.specs.State.{State, Survives}
-use Rattle.journal_model.specs.Notification.{Text}
-use Rattle.journal_model.specs.declared.invocation.NewInvocation.{NewInvocation}
+use Rattle.sqlite.specs.State.{State}
+use Rattle.journal_model.specs.Notification.{Bytes, Text}
 use Rattle.journal_model.specs.Event.{Event}
-use Rattle.journal_model.specs.Cause.{IsAccepted}
-use Rattle.journal_model.specs.Journal.{invocation_begun, starting_state, recorded_requests}
 use Rattle.journal_model.specs.Run.{Handler}
 use Rattle.vm_types.specs.declared.options.VMOptions.{VMOptions}
-use Rattle.fresh_attempt.specs.First.{given_by}
-use Rattle.fresh_attempt.specs.View.{AttemptView}
+use Rattle.protocol_types.specs.declared.version.Version.{Version}
 use Rattle.store_refusals.specs.declared.refusal.Refusal.{Refusal}
 use Rattle.journal_store.specs.Accepting.{OutlastsFrames}
 use Rattle.journal_store.specs.Stored.{Stored}
-use Rattle.journal_store.specs.Stands.{Stands, IsStanding, KeepsAll, Leads, Outlasts}
+use Rattle.journal_store.specs.Stands.{IsStanding, Leads, Outlasts}
+use Rattle.schedule_model.specs.Attempts.attempts
+use Rattle.schedule_model.specs.Attempts.{Attempt, LetsGo}
 use Rattle.schedule_model.specs.declared.event.Event as scheduled
 use Rattle.schedule_model.specs.declared.event.Event.TheVariants as event
 use Rattle.schedule_model.specs.declared.event.Reply.{Reply}
 use Rattle.schedule_model.specs.declared.event.Reply.TheVariants as reply
+use Rattle.schedule_model.specs.declared.event.Refusal.TheVariants as refusal
+use Rattle.store_steps.specs.declared.frame.FrameReply.{FrameReply}
 use Rattle.schedule_model.specs.declared.held.HeldAttempt.{HeldAttempt}
-use Rattle.store_calls.specs.Frames.{Rests}
+use Rattle.store_calls.specs.Frames.{Accepts, Rests}
 use Rattle.store_calls.specs.Standing.{Standing}
-use Rattle.schedule_model.specs.Schedule.{Scheduled, MovesOne, Does, AppliesAll, Brings}
-use Rattle.schedule_model.specs.Following.{IsBeginningOfRun}
+use Rattle.schedule_model.specs.Schedule.{Scheduled, MovesOne, Does}
 use Rattle.durable_schedule.specs.declared.scheduler.Scheduler.{Scheduler}
-
--- the tables keep these events and further ones in front of them, all of which were accepted, in this relation to those from before
-pub record KeepsMore (Relation : List Event → List Event → Type 0) (events : List Event) (trees : Trees) : Type 0 where
-  pub more : List Event
-  pub accepted : IsAccepted (more ++ events)
-  pub related : Relation events (more ++ events)
-  pub kept : KeepsAll (more ++ events) trees
-
--- What a crash leaves after some calls: what it could leave before them, or such tables, whatever events the store stood for.
-abbrev pub Extends : {S : Type 0} → Ghosts S → (List Event → List Event → Type 0) → Stored S → Stored S → Type 0
-Extends g Relation old new =
-    Survives (state g old.connection) (state g new.connection)
-    (λ trees. (events : List Event) → Stands events (state g old.connection) old.live.attempts → KeepsMore Relation events trees)
 
 -- Whatever the store stood for, it stands for something in this relation to it then, and whatever a crash leaves from then on, the
 -- tables keep that.
@@ -50,6 +34,14 @@ LeadsLasting g Relation old new = Leads g (λ s t. Relation s t × Outlasts t.ev
 abbrev pub IsDone : Reply → Type 0
 IsDone reply.Done = Unit {0}
 IsDone _ = ⊥
+
+abbrev pub IsPlaced : Reply → Type 0
+IsPlaced (reply.Placed place) = Unit {0}
+IsPlaced _ = ⊥
+
+abbrev pub HasTicked : Reply → Type 0
+HasTicked (reply.Ticked count) = Unit {0}
+HasTicked _ = ⊥
 
 abbrev pub HasBegun : Reply → Type 0
 HasBegun (reply.Begun number) = Unit {0}
@@ -63,6 +55,8 @@ HasTakenFrames _ = ⊥
 -- an event is answered so that something of it was written
 abbrev pub IsWritten : {H : Type 0} → scheduled.Event H → Reply → Type 0
 IsWritten (event.Invoke one) answer = IsDone answer
+IsWritten (event.Result id completion value) answer = IsPlaced answer
+IsWritten (event.Tick now) answer = HasTicked answer
 IsWritten (event.Begin id handler now) answer = HasBegun answer
 IsWritten (event.Move id attempt count) answer = HasTakenFrames answer
 IsWritten _ answer = ⊥
@@ -86,27 +80,27 @@ OutlastsEvent _ answer t database = Outlasts t.events database
 abbrev pub LeadsMoved : {S : Type 0} → Ghosts S → Text → (attempt : ℕ) → Reply → (Standing → Standing → Type 0) → Stored S → Stored S → Type 0
 LeadsMoved g id attempt answer Relation old new = Leads g (λ s t. Relation s t × OutlastsMove id attempt answer t (state g new.connection)) old new
 
+-- an attempt of this version was made, and fed its start frame
+pub record IsMade {H : Type 0} (version : Version) (options : VMOptions) (handler : H) (start : Bytes) (attempt : Attempt H) : Type 0 where
+  pub made : Attempt H
+  pub begun : attempts.IsBegun version options handler (Ok made)
+  pub fed : attempts.Feeds start made attempt
+
+-- these bytes were moved, and leave the attempt; or they are refused, and it is as it was
+abbrev pub AcceptsOne : {H : Type 0} → Bytes → HeldAttempt H → Standing → Reply → Standing → Attempt H → Type 0
+AcceptsOne bytes one old (reply.Moved moved frames why) new changed =
+    (replies : List FrameReply) × (frames ≡ length replies) × (moved ≡ length bytes) × Accepts one.invocation one.number bytes (Ok (replies, why)) old new × LetsGo moved one.attempt changed
+AcceptsOne bytes one old (reply.Refused (refusal.Store why)) new changed = Accepts one.invocation one.number bytes (Err why) old new × (changed ≡ one.attempt)
+AcceptsOne bytes one old _ new changed = ⊥
+
 -- so many bytes at most were moved, with some answer
 abbrev pub MovesSome : {H : Type 0} → (count : ℕ) → HeldAttempt H → Standing → Standing → Type 0
-MovesSome {H} count one s t = (answer : Reply) × (changed : AttemptView H) × MovesOne count one s answer t changed
-
--- no attempts are held yet
-abbrev pub at_first : {H : Type 0} → Standing → Scheduled H
-at_first s = record { standing = s; held = [] }
+MovesSome {H} count one s t = (answer : Reply) × (changed : Attempt H) × MovesOne count one s answer t changed
 
 module _ {H : Type 0} (function : H → Handler) (options : VMOptions) where
   -- an event is applied, with some answer
   abbrev pub AppliesWith : scheduled.Event H → (held : List (HeldAttempt H)) → Standing → Standing → Type 0
   AppliesWith one held s t = (answer : Reply) × (more : List (HeldAttempt H)) × Does function options one s held answer t more
-
-  -- the first of these events are applied one after another, with some answers
-  pub record AppliesFirst (events : List (scheduled.Event H)) (s t : Standing) : Type 0 where
-    pub first : List (scheduled.Event H)
-    pub rest : List (scheduled.Event H)
-    pub beginning : events ≡ first ++ rest
-    pub answers : List Reply
-    pub held : List (HeldAttempt H)
-    pub applies : AppliesAll function options first answers (at_first s) (record { standing = t; held = held })
 
 -- ---- what a scheduler stands for
 
@@ -114,12 +108,4 @@ module _ {H S : Type 0} (g : Ghosts S) where
   -- what its store stands for, and the attempts that it holds
   pub record IsScheduled (s : Scheduled H) (scheduler : Scheduler H S) : Type 0 where
     pub standing : IsStanding g s.standing scheduler.store
-    pub held : s.held ≡ scheduler.held.items
-
--- Of each invocation that was not begun before a schedule, and whose begins in it all bring one function, the requests that are
--- recorded behind it are the first requests of the one uninterrupted run of that function.
-abbrev pub FollowRuns : {H : Type 0} → (H → Handler) → VMOptions → List (scheduled.Event H) → (before after : List Event) → Type 0
-FollowRuns function options events before after =
-    (id : Text) (next : Handler) → invocation_begun before id ≡ None → AllByRecursion (Brings function id next) events
-    → (invocation : NewInvocation) → invocation_begun after id ≡ Some invocation
-    → IsBeginningOfRun next (given_by options invocation (starting_state after id)) (recorded_requests after id)
+    pub held : s.held ≡ scheduler.held

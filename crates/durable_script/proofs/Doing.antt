@@ -1,5 +1,5 @@
 -- One line more, and each way to come to an end.
-use Rattle.std.proofs.Common.{◌≡◌, ℕ, ◌<◌, false, List, [], ◌∷◌, ◌++◌, length, take, Option, Result, Ok, Err, refl, sym, ap, subst, ◌∙◌, append_assoc, inl, inr}
+use Rattle.std.proofs.Common.{◌≡◌, ℕ, ◌<◌, List, [], ◌∷◌, ◌++◌, length, take, Option, Result, Ok, Err, refl, sym, ap, subst, ◌∙◌, append_assoc, inl, inr}
 use Rattle.std.specs.Io.KnownBytes.{Appends}
 use Rattle.std.proofs.KnownBytes.{Appends-trans}
 use Rattle.sqlite_trees.specs.declared.store.Store.{Ghosts}
@@ -8,13 +8,11 @@ use Rattle.durable_schedule.specs.declared.scheduler.Scheduler.{Scheduler}
 use Rattle.script_lines.specs.Line.{spelled}
 use Rattle.durable_script.specs.declared.fault.ScriptFault.{ScriptFault}
 use Rattle.durable_script.specs.declared.fault.ScriptFault.TheVariants.{LineNotUnderstood, ScriptUnreadable, LineOutOfMemory, TextOutOfMemory, OutputUnwritable}
-use Rattle.durable_script.specs.declared.runner.Asked.{Asked}
 use Rattle.durable_script.specs.declared.runner.Runner.{Runner}
-use Rattle.durable_script.specs.Asked.{is_second, asked_after, IsNotUnderstood}
 use Rattle.durable_script.specs.Line.{DoesLine, DoesSomeLine}
 use Rattle.durable_script.specs.Reaching.{Reaches}
 use Rattle.durable_script.specs.Runner.{DoesNext, StopsAt}
-use Rattle.durable_script.specs.Run.{DoneLine, lines_of, texts_of, asked_by, AreUnderstood, DoesAll, DoesFirst, HasDone, DoesLines, ComesTo}
+use Rattle.durable_script.specs.Run.{DoneLine, lines_of, texts_of, AreUnderstood, DoesAll, DoesFirst, HasDone, DoesLines, ComesTo}
 use Rattle.durable_script.proofs.Reaching.{reaches_then}
 
 module _ {S : Type 0} (g : Ghosts S) (lines : List (ℕ × List ℕ)) (start : Scheduler BuiltIn S) where
@@ -28,27 +26,23 @@ module _ {S : Type 0} (g : Ghosts S) (lines : List (ℕ × List ℕ)) (start : S
     next_line number bytes text old new d = record { number = number; line = d.line; text = text }
 
     pub one_more : (number : ℕ) (bytes text : List ℕ) (old new : Runner S) (rest after : List (ℕ × List ℕ)) (d : DoesNext g bytes text old new)
-        → HasDone lines (Did old.scheduler) done rest → old.asked ≡ asked_by done → rest ≡ (number, bytes) ∷ after
+        → HasDone lines (Did old.scheduler) done rest → rest ≡ (number, bytes) ∷ after
         → HasDone lines (Did new.scheduler) (next_line number bytes text old new d ∷ done) after
-    one_more number bytes text old new rest after d h asked e = record {
+    one_more number bytes text old new rest after d h e = record {
       lines_are =
           h.lines_are
           ∙ ap (λ (ls : List (ℕ × List ℕ)). lines_of done ++ ls) (e ∙ ap (λ (bs : List ℕ). (number, bs) ∷ after) d.understood.spelling)
           ∙ sym (append_assoc (lines_of done) ((number, spelled d.line) ∷ []) after);
-      understood = (h.understood, d.understood.is_line, subst (λ (a : Asked). is_second a d.line ≡ false) asked d.understood.first);
+      understood = (h.understood, d.understood.is_line);
       does = reaches_then g (DoesFirst done) (DoesSomeLine d.line) (DoesFirst (next_line number bytes text old new d ∷ done)) (DoesAll done) (DoesLine d.line text)
           (DoesAll (next_line number bytes text old new d ∷ done)) start old.scheduler new.scheduler (λ x y earlier. inl earlier) (λ x y z p q. inr (y, p, q)) (λ x y z p q. (y, p, q)) h.does d.does;
     }
 
-    pub asked_more : (number : ℕ) (bytes text : List ℕ) (old new : Runner S) (d : DoesNext g bytes text old new) → old.asked ≡ asked_by done
-        → new.asked ≡ asked_by (next_line number bytes text old new d ∷ done)
-    asked_more number bytes text old new d asked = d.asked ∙ ap (λ (a : Asked). asked_after a d.line) asked
-
     -- the line was not read, or there is no memory for its text
     pub stops : (number : ℕ) (bytes : List ℕ) (fault : ScriptFault) (old new : Runner S) (rest after : List (ℕ × List ℕ)) (had has : Option (List ℕ)) → StopsAt g number bytes fault old new
-        → HasDone lines (Did old.scheduler) done rest → old.asked ≡ asked_by done → rest ≡ (number, bytes) ∷ after → Appends had has (texts_of done)
+        → HasDone lines (Did old.scheduler) done rest → rest ≡ (number, bytes) ∷ after → Appends had has (texts_of done)
         → DoesLines lines (Did new.scheduler) had has (Err fault)
-    stops number bytes (LineNotUnderstood n) old new rest after had has s h asked e written = record {
+    stops number bytes (LineNotUnderstood n) old new rest after had has s h e written = record {
       output = texts_of done;
       appended = written;
       comes_to = record {
@@ -58,13 +52,13 @@ module _ {S : Type 0} (g : Ghosts S) (lines : List (ℕ × List ℕ)) (start : S
         has_done = record {
           lines_are = h.lines_are ∙ ap (λ (ls : List (ℕ × List ℕ)). lines_of done ++ ls) (e ∙ ap (λ (m : ℕ). (m, bytes) ∷ after) (sym s.0));
           understood = h.understood;
-          does = subst (λ (x : Scheduler BuiltIn S). Did x done) (sym s.2) h.does;
+          does = subst (λ (x : Runner S). Did x.scheduler done) (sym s.2) h.does;
         };
-        unknown = subst (λ (a : Asked). IsNotUnderstood a bytes) asked s.1;
+        unknown = s.1;
         written = refl;
       };
     }
-    stops number bytes LineOutOfMemory old new rest after had has s h asked e written = record {
+    stops number bytes LineOutOfMemory old new rest after had has s h e written = record {
       output = texts_of done;
       appended = written;
       comes_to = record {
@@ -74,37 +68,37 @@ module _ {S : Type 0} (g : Ghosts S) (lines : List (ℕ × List ℕ)) (start : S
         has_done = record {
           lines_are = h.lines_are ∙ ap (λ (ls : List (ℕ × List ℕ)). lines_of done ++ ls) e;
           understood = h.understood;
-          does = subst (λ (x : Scheduler BuiltIn S). Did x done) (sym s) h.does;
+          does = subst (λ (x : Runner S). Did x.scheduler done) (sym s) h.does;
         };
         written = refl;
       };
     }
-    stops number bytes TextOutOfMemory old new rest after had has s h asked e written = record {
+    stops number bytes TextOutOfMemory old new rest after had has s h e written = record {
       output = texts_of done;
       appended = written;
       comes_to = record {
         last = next_line number bytes s.0 old new s.1;
         before = done;
         rest = after;
-        has_done = one_more number bytes s.0 old new rest after s.1 h asked e;
+        has_done = one_more number bytes s.0 old new rest after s.1 h e;
         written = refl;
       };
     }
-    stops number bytes ScriptUnreadable old new rest after had has s h asked e written = absurd s
-    stops number bytes OutputUnwritable old new rest after had has s h asked e written = absurd s
+    stops number bytes ScriptUnreadable old new rest after had has s h e written = absurd s
+    stops number bytes OutputUnwritable old new rest after had has s h e written = absurd s
 
     -- the writer took a part of the line's text
     pub breaks : (number : ℕ) (bytes text : List ℕ) (old new : Runner S) (rest after : List (ℕ × List ℕ)) (had between has : Option (List ℕ)) (taken : ℕ) → DoesNext g bytes text old new
-        → HasDone lines (Did old.scheduler) done rest → old.asked ≡ asked_by done → rest ≡ (number, bytes) ∷ after → Appends had between (texts_of done)
+        → HasDone lines (Did old.scheduler) done rest → rest ≡ (number, bytes) ∷ after → Appends had between (texts_of done)
         → taken < length text → Appends between has (take taken text) → DoesLines lines (Did new.scheduler) had has (Err OutputUnwritable)
-    breaks number bytes text old new rest after had between has taken d h asked e written part more = record {
+    breaks number bytes text old new rest after had between has taken d h e written part more = record {
       output = texts_of done ++ take taken text;
       appended = Appends-trans had between has (texts_of done) (take taken text) written more;
       comes_to = record {
         last = next_line number bytes text old new d;
         before = done;
         rest = after;
-        has_done = one_more number bytes text old new rest after d h asked e;
+        has_done = one_more number bytes text old new rest after d h e;
         taken = taken;
         part = part;
         written = refl;

@@ -2,27 +2,23 @@
 use Rattle.std.proofs.Common.{◌≡◌, ℕ, List, [], ◌∷◌, ◌++◌, Result, refl, subst}
 use Rattle.sqlite_trees.specs.declared.store.Store.{Ghosts}
 use Rattle.built_in_handlers.specs.declared.built_in.BuiltIn.{BuiltIn}
-use Rattle.built_in_handlers.specs.BuiltIn.{function_of}
 use Rattle.journal_model.specs.Notification.{Text}
-use Rattle.vm_types.specs.Options.{default_options}
-use Rattle.schedule_model.specs.declared.event.Event.{Event}
-use Rattle.schedule_model.specs.declared.event.Event.TheVariants as event
-use Rattle.schedule_model.specs.declared.event.Reply.{Reply}
-use Rattle.schedule_model.specs.Schedule.{Scheduled, Applies}
+use Rattle.durable_schedule.specs.Schedules.event
+use Rattle.durable_schedule.specs.Schedules.{Event, Reply, Scheduled}
 use Rattle.durable_schedule.specs.declared.scheduler.Scheduler.{Scheduler}
 use Rattle.script_lines.specs.declared.line.Line.TheVariants as line
 use Rattle.script_lines.specs.declared.word.HandlerName.{HandlerName}
-use Rattle.durable_script.specs.Line.{IsBegin, DoesEvent, DoesSomeEvent, TookTurns, TakesTurns, DoesLine, DoesSomeLine}
+use Rattle.durable_script.specs.Line.{AppliesOne, IsBegin, DoesEvent, DoesSomeEvent, TookTurns, TakesTurns, DoesLine, DoesSomeLine}
 use Rattle.durable_script.specs.Printed.{printed, Makes}
 use Rattle.durable_script.specs.Reaching.{Reaches, Nowhere}
 use Rattle.durable_script.proofs.Reaching.{Applied, reaches_so}
 
 module _ {S : Type 0} (g : Ghosts S) (old new : Scheduler BuiltIn S) where
-  pub event_printed : (one : Event BuiltIn) (reply : Reply) → Reaches g (Applied one) (Applies function_of default_options one reply) old new
+  pub event_printed : (one : Event BuiltIn) (reply : Reply) → Reaches g (Applied one) (AppliesOne one reply) old new
       → (text : List ℕ) → text ≡ printed 1 reply ++ 10 ∷ [] → Reaches g (DoesSomeEvent one) (DoesEvent one text) old new
   event_printed one reply applied text is =
-      reaches_so g (Applied one) (DoesSomeEvent one) (Applies function_of default_options one reply) (DoesEvent one text) old new
-      (λ x y p. (printed 1 p.0 ++ 10 ∷ [], record { reply = p.0; applied = p.1; text_is = refl })) (λ x y p. record { reply = reply; applied = p; text_is = is }) applied
+      reaches_so g (Applied one) (DoesSomeEvent one) (AppliesOne one reply) (DoesEvent one text) old new
+      (λ x y p. (printed 1 p.0 ++ 10 ∷ [], record { reply = p.0; applies = p.1; text_is = refl })) (λ x y p. record { reply = reply; applies = p; text_is = is }) applied
 
   pub turns_printed : (id : Text) (attempt asked taken : ℕ) (last : Reply) → Reaches g Nowhere (TookTurns id attempt asked taken last) old new
       → (text : List ℕ) → text ≡ printed taken last ++ 10 ∷ [] → Reaches g Nowhere (TakesTurns id attempt asked text) old new

@@ -10,19 +10,18 @@ use Rattle.journal_model.specs.Event as model
 use Rattle.vm_types.specs.declared.options.VMOptions.{VMOptions}
 use Rattle.vm_types.specs.Options.{default_options}
 use Rattle.journal_store.specs.Stored.{Stored}
-use Rattle.schedule_model.specs.declared.event.Event.{Event}
-use Rattle.schedule_model.specs.declared.event.Reply.{Reply}
-use Rattle.schedule_model.specs.declared.held.HeldAttempt.{HeldAttempt}
-use Rattle.schedule_model.specs.Schedule.{Scheduled, Does, Applies}
+use Rattle.schedule_laws.specs.Schedules.{FitsEvent}
 use Rattle.durable_schedule.specs.declared.scheduler.Scheduler.{Scheduler}
 use Rattle.journal_store.specs.Stands.{Endures, Keeps}
 use Rattle.durable_schedule.specs.Scheduled.{AppliesWith, IsScheduled}
+use Rattle.durable_schedule.specs.Schedules.{Event, Reply, HeldAttempt, Scheduled, Does, Applies}
+use Rattle.durable_script.specs.Line.{AppliesOne}
 use Rattle.durable_script.specs.Reaching.{KeepsCut, Leaves, Reaches, Nowhere}
 use Rattle.durable_script.specs.Shown.{Looks}
 
 -- an event was applied, with some reply
 abbrev pub Applied : Event BuiltIn → Scheduled BuiltIn → Scheduled BuiltIn → Type 0
-Applied one old new = (reply : Reply) × Applies function_of default_options one reply old new
+Applied one old new = (reply : Reply) × AppliesOne one reply old new
 
 module _ {S : Type 0} (g : Ghosts S) where
   early : (C : Scheduled BuiltIn → Scheduled BuiltIn → Type 0) (old new : Scheduler BuiltIn S) → Leaves g C old new → HasCleanDisk (state g new.store.connection) → HasCleanDisk (state g old.store.connection)
@@ -77,34 +76,46 @@ module _ {S : Type 0} (g : Ghosts S) where
       HasCleanDisk (state g new.store.connection) → (s : Scheduled BuiltIn) → IsScheduled g s old → (t : Scheduled BuiltIn) × IsScheduled g t new × Applies function_of old.options one reply s t
 
   reaches_promised : (C : Scheduled BuiltIn → Scheduled BuiltIn → Type 0) (one : Event BuiltIn) (reply : Reply) (old new : Scheduler BuiltIn S) → Leaves g C old new → Promised one reply old new
-      → new.options ≡ old.options → Reaches g C (Applies function_of default_options one reply) old new
-  reaches_promised C one reply old new leaves does options = record {
+      → FitsEvent one → new.options ≡ old.options → Reaches g C (AppliesOne one reply) old new
+  reaches_promised C one reply old new leaves does fits options = record {
     leaves = leaves;
     reaches = λ clean before at.
-        let it = does clean before at.scheduled in
-        (it.0, record { options = options ∙ at.options; scheduled = it.1 }, subst (λ (o : VMOptions). Applies function_of o one reply before it.0) at.options it.2);
+        let it = does clean before at.scheduled in (
+          it.0,
+          record { options = options ∙ at.options; scheduled = it.1 },
+          record {
+            applied = subst (λ (o : VMOptions). Applies function_of o one reply before it.0) at.options it.2;
+            fits = fits;
+          },
+        );
   }
 
-  pub reaches_applied : (one : Event BuiltIn) (reply : Reply) (old new : Scheduler BuiltIn S) → Endures g (AppliesWith function_of old.options one old.held.items) old.store new.store → Promised one reply old new
-      → new.options ≡ old.options → Reaches g (Applied one) (Applies function_of default_options one reply) old new
-  reaches_applied one reply old new endures does options =
+  pub reaches_applied : (one : Event BuiltIn) (reply : Reply) (old new : Scheduler BuiltIn S) → Endures g (AppliesWith function_of old.options one old.held) old.store new.store → Promised one reply old new
+      → FitsEvent one → new.options ≡ old.options → Reaches g (Applied one) (AppliesOne one reply) old new
+  reaches_applied one reply old new endures does fits options =
       reaches_promised (Applied one) one reply old new
-      (survives_weaker (state g old.store.connection) (state g new.store.connection) (Keeps g (AppliesWith function_of old.options one old.held.items) old.store) (KeepsCut g (Applied one) old)
+      (survives_weaker (state g old.store.connection) (state g new.store.connection) (Keeps g (AppliesWith function_of old.options one old.held) old.store) (KeepsCut g (Applied one) old)
       (λ clean db it before at.
       let kept = it before.standing at.scheduled.standing in
-      let by_options = subst (λ (o : VMOptions). Does function_of o one before.standing old.held.items kept.1.0 kept.0 kept.1.1) at.options kept.1.2 in (
+      let by_options = subst (λ (o : VMOptions). Does function_of o one before.standing old.held kept.1.0 kept.0 kept.1.1) at.options kept.1.2 in (
         record { standing = kept.0; held = kept.1.1 },
-        (kept.1.0, subst (λ (held : List (HeldAttempt BuiltIn)). Does function_of default_options one before.standing held kept.1.0 kept.0 kept.1.1) (sym at.scheduled.held) by_options),
+        (
+          kept.1.0,
+          record {
+            applied = subst (λ (held : List (HeldAttempt BuiltIn)). Does function_of default_options one before.standing held kept.1.0 kept.0 kept.1.1) (sym at.scheduled.held) by_options;
+            fits = fits;
+          },
+        ),
         kept.2,
       )) endures)
-      does options
+      does fits options
 
   -- of a turn, which leaves the store alone
   pub reaches_turned : (one : Event BuiltIn) (reply : Reply) (old new : Scheduler BuiltIn S) → new.store ≡ old.store → Promised one reply old new
-      → new.options ≡ old.options → Reaches g Nowhere (Applies function_of default_options one reply) old new
-  reaches_turned one reply old new same does options =
+      → FitsEvent one → new.options ≡ old.options → Reaches g Nowhere (AppliesOne one reply) old new
+  reaches_turned one reply old new same does fits options =
       reaches_promised Nowhere one reply old new
-      (subst (λ (store : Stored S). Survives (state g old.store.connection) (state g store.connection) (KeepsCut g Nowhere old)) (sym same) (same_leaves Nowhere old)) does options
+      (subst (λ (store : Stored S). Survives (state g old.store.connection) (state g store.connection) (KeepsCut g Nowhere old)) (sym same) (same_leaves Nowhere old)) does fits options
 
   -- a call that tells of the accepted events
   pub reaches_told : (Told : List model.Event → Type 0) (old new : Scheduler BuiltIn S) → Survives (state g old.store.connection) (state g new.store.connection) (λ _. ⊥)

@@ -1,5 +1,5 @@
 -- What is shown of an invocation.
-use Rattle.std.proofs.Common.{◌≡◌, Bool, List, [], ◌∷◌, ◌++◌, Option, refl, inl, inr}
+use Rattle.std.proofs.Common.{◌≡◌, Bool, List, [], ◌∷◌, ◌++◌, Option, refl, inl, inr, subst}
 use Rattle.sqlite_trees.specs.declared.store.Store.{Ghosts}
 use Rattle.built_in_handlers.specs.declared.built_in.BuiltIn.{BuiltIn}
 use Rattle.journal_model.specs.Notification.{Text}
@@ -8,13 +8,18 @@ use Rattle.journal_model.specs.Event.{Event}
 use Rattle.journal_model.specs.Journal.{is_open}
 use Rattle.store_refusals.specs.declared.refusal.Refusal.{Refusal}
 use Rattle.store_refusals.specs.Names.{name_of}
+use Rattle.store_refusals.specs.Refused.{IsRefused}
+use Rattle.store_invocations.specs.Rows.{known_tests}
+use Rattle.journal_model.specs.Cause.{those_that_hold}
 use Rattle.store_reads.specs.declared.recorded.RecordedEntry.{RecordedEntry}
 use Rattle.store_reads.specs.Told.{entries_told}
 use Rattle.store_reads.specs.Answered.{answer_told}
 use Rattle.durable_schedule.specs.declared.scheduler.Scheduler.{Scheduler}
 use Rattle.script_lines.specs.Text.{refused_text}
+use Rattle.script_entries.specs.declared.entry.ShownEntry.{ShownEntry}
+use Rattle.script_entries.specs.Entries.{AreShown, SomeUnread}
 use Rattle.durable_script.specs.Reaching.{Reaches, Nowhere}
-use Rattle.durable_script.specs.Shown.{shown_text, HasRecords, IsKnown, Looks, RefusesShow, Shows}
+use Rattle.durable_script.specs.Shown.{shown_text, HasEntries, HasRecords, IsKnown, Looks, RefusesShow, Shows}
 use Rattle.durable_script.proofs.Reaching.{reaches_both, reaches_so}
 
 -- ---- what is told, question by question
@@ -25,18 +30,39 @@ KnownOpen id now events = IsKnown id events × (now ≡ is_open events id)
 abbrev pub KnownAnswer : Text → Option NonEmptyValue → List Event → Type 0
 KnownAnswer id answer events = IsKnown id events × (answer ≡ answer_told events id)
 
-abbrev pub KnownEntries : Text → List RecordedEntry → List Event → Type 0
-KnownEntries id entries events = IsKnown id events × (entries ≡ entries_told events id)
+abbrev pub KnownRecorded : Text → List RecordedEntry → List Event → Type 0
+KnownRecorded id entries events = IsKnown id events × (entries ≡ entries_told events id)
+
+abbrev pub Unknown : Text → Refusal → List Event → Type 0
+Unknown id why events = IsRefused (those_that_hold (known_tests events id)) why
 
 abbrev KnownBoth : Text → Bool → Option NonEmptyValue → List Event → Type 0
 KnownBoth id now answer events = KnownOpen id now events × KnownAnswer id answer events
 
+module _ {S : Type 0} (g : Ghosts S) (id : Text) (a b : Scheduler BuiltIn S) where
+  -- a question is refused
+  pub refused_so : (why : Refusal) → Reaches g Nowhere (Looks (Unknown id why)) a b → Reaches g Nowhere (Looks (RefusesShow id why)) a b
+  refused_so why is = reaches_so g Nowhere Nowhere (Looks (Unknown id why)) (Looks (RefusesShow id why)) a b (λ x y none. none) (λ x y p. (inl p.0, p.1)) is
+
+  -- what was told is read, or not
+  pub entries_read : (entries : List RecordedEntry) (shown : List ShownEntry) → AreShown entries shown → Reaches g Nowhere (Looks (KnownRecorded id entries)) a b
+      → Reaches g Nowhere (Looks (HasEntries id shown)) a b
+  entries_read entries shown read told =
+      reaches_so g Nowhere Nowhere (Looks (KnownRecorded id entries)) (Looks (HasEntries id shown)) a b (λ x y none. none)
+      (λ x y p. ((p.0.0, subst (λ (told : List RecordedEntry). AreShown told shown) p.0.1 read), p.1)) told
+
+  pub entries_unread : (entries : List RecordedEntry) (why : Refusal) → SomeUnread entries why → Reaches g Nowhere (Looks (KnownRecorded id entries)) a b
+      → Reaches g Nowhere (Looks (RefusesShow id why)) a b
+  entries_unread entries why unread told =
+      reaches_so g Nowhere Nowhere (Looks (KnownRecorded id entries)) (Looks (RefusesShow id why)) a b (λ x y none. none)
+      (λ x y p. (inr (subst (λ (told : List RecordedEntry). SomeUnread told why) p.0.1 unread), p.1)) told
+
 module _ {S : Type 0} (g : Ghosts S) (id : Text) (a b c d : Scheduler BuiltIn S) where
-  pub shown_all : (entries : List RecordedEntry) (answer : Option NonEmptyValue) (now : Bool) → Reaches g Nowhere (Looks (KnownOpen id now)) a b
-      → Reaches g Nowhere (Looks (KnownAnswer id answer)) b c → Reaches g Nowhere (Looks (KnownEntries id entries)) c d
+  pub shown_all : (entries : List ShownEntry) (answer : Option NonEmptyValue) (now : Bool) → Reaches g Nowhere (Looks (KnownOpen id now)) a b
+      → Reaches g Nowhere (Looks (KnownAnswer id answer)) b c → Reaches g Nowhere (Looks (HasEntries id entries)) c d
       → Reaches g Nowhere (Looks (HasRecords id entries answer now)) a d
   shown_all entries answer now one two three =
-      reaches_both g (KnownBoth id now answer) (KnownEntries id entries) (HasRecords id entries answer now) a c d
+      reaches_both g (KnownBoth id now answer) (HasEntries id entries) (HasRecords id entries answer now) a c d
       (λ events p q. record { known = q.0; entries_are = q.1; answer_is = p.1.1; is_open_is = p.0.1 })
       (reaches_both g (KnownOpen id now) (KnownAnswer id answer) (KnownBoth id now answer) a b c (λ events p q. (p, q)) one two) three
 
@@ -54,12 +80,12 @@ module _ {S : Type 0} (g : Ghosts S) (id : Text) (a b c d : Scheduler BuiltIn S)
 -- ---- as text
 
 module _ {S : Type 0} (g : Ghosts S) (id : Text) (old new : Scheduler BuiltIn S) where
-  pub records_printed : (entries : List RecordedEntry) (answer : Option NonEmptyValue) (now : Bool) → Reaches g Nowhere (Looks (HasRecords id entries answer now)) old new
+  pub records_printed : (entries : List ShownEntry) (answer : Option NonEmptyValue) (now : Bool) → Reaches g Nowhere (Looks (HasRecords id entries answer now)) old new
       → Reaches g Nowhere (Looks (Shows id (shown_text entries answer now))) old new
   records_printed entries answer now has =
       reaches_so g Nowhere Nowhere (Looks (HasRecords id entries answer now)) (Looks (Shows id (shown_text entries answer now))) old new (λ x y none. none)
       (λ x y p. (
-        inl (record { known = p.0.known; text_is = λ i. shown_text (p.0.entries_are i) (p.0.answer_is i) (p.0.is_open_is i) }),
+        inl (record { known = p.0.known; entries = entries; entries_are = p.0.entries_are; text_is = λ i. shown_text entries (p.0.answer_is i) (p.0.is_open_is i) }),
         p.1,
       )) has
 

@@ -3,6 +3,5 @@ pub mod Reaching
 pub mod Printed
 pub mod Shown
 pub mod Line
-pub mod Asked
 pub mod Runner
 pub mod Run

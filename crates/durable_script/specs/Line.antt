@@ -5,17 +5,19 @@ use Rattle.built_in_handlers.specs.declared.built_in.BuiltIn.{BuiltIn}
 use Rattle.built_in_handlers.specs.BuiltIn.{built_in, function_of}
 use Rattle.journal_model.specs.Run.{Handler}
 use Rattle.journal_model.specs.declared.invocation.NewInvocation.{NewInvocation}
+use Rattle.journal_model.specs.declared.notification.NotificationResult.{NotificationResult}
+use Rattle.journal_model.specs.declared.notification.NotificationResult.TheVariants as result
 use Rattle.journal_model.specs.declared.invocation.StateMode as model
 use Rattle.journal_model.specs.declared.invocation.StateMode.TheVariants as mode
-use Rattle.fresh_attempt.specs.declared.progress.Turn.TheVariants.{Answered}
+use Rattle.durable_schedule.specs.Attempts.{Answered}
+use Rattle.durable_schedule.specs.Schedules.event
+use Rattle.durable_schedule.specs.Schedules.{Event, Reply, Turned, Scheduled, Applies}
 use Rattle.vm_types.specs.Options.{default_options}
-use Rattle.schedule_model.specs.declared.event.Event.{Event}
-use Rattle.schedule_model.specs.declared.event.Event.TheVariants as event
-use Rattle.schedule_model.specs.declared.event.Reply.{Reply}
-use Rattle.schedule_model.specs.declared.event.Reply.TheVariants.{Turned}
-use Rattle.schedule_model.specs.Schedule.{Scheduled, Applies}
+use Rattle.schedule_laws.specs.Schedules.{FitsEvent}
 use Rattle.script_lines.specs.declared.line.Line.{Line}
-use Rattle.script_lines.specs.declared.line.Line.TheVariants.{Invoke, Begin, Feed, Turn, Move, Stop, Show}
+use Rattle.script_lines.specs.declared.line.Line.TheVariants.{Invoke, Result, Tick, Begin, Feed, Close, Turn, Move, Stop, Show}
+use Rattle.script_lines.specs.declared.value.LineValue.{LineValue}
+use Rattle.script_lines.specs.declared.value.LineValue.TheVariants as value
 use Rattle.script_lines.specs.Word.{handler_word}
 use Rattle.script_lines.specs.declared.word.HandlerName.{HandlerName}
 use Rattle.script_lines.specs.declared.word.StateMode.{StateMode}
@@ -36,14 +38,26 @@ abbrev pub new_invocation : List ℕ → List ℕ → ℕ → StateMode → ℕ 
 new_invocation id object version state seed input =
     record { id = id; object = object; input = input; headers = []; version = version; seed = seed; state = state_mode state }
 
+-- what a line's value brings; its failures have no pairs
+abbrev pub brought : LineValue → NotificationResult
+brought value.Void = result.Void
+brought (value.Value bytes) = result.Value bytes
+brought (value.Failure code message) = result.Failure (record { code = code; message = message; metadata = [] })
+brought (value.InvocationId id) = result.InvocationId id
+
 -- a begin of an invocation with the handler that a name stands for
 abbrev pub IsBegin : List ℕ → HandlerName → ℕ → Event BuiltIn → Type 0
 IsBegin id name now one = (handler : BuiltIn) × IsNamed name handler × (one ≡ event.Begin id handler now)
 
+-- one event is applied, which is such as a caller can bring
+pub record AppliesOne (one : Event BuiltIn) (reply : Reply) (old new : Scheduled BuiltIn) : Type 0 where
+  pub applied : Applies function_of default_options one reply old new
+  pub fits : FitsEvent one
+
 -- one event is applied, and its reply printed
 pub record DoesEvent (one : Event BuiltIn) (text : List ℕ) (old new : Scheduled BuiltIn) : Type 0 where
   pub reply : Reply
-  pub applied : Applies function_of default_options one reply old new
+  pub applies : AppliesOne one reply old new
   pub text_is : text ≡ printed 1 reply ++ 10 ∷ []
 
 -- the same with some text
@@ -59,14 +73,14 @@ was_answered _ = false
 abbrev pub AnsweredTurns : List ℕ → ℕ → ℕ → Scheduled BuiltIn → Scheduled BuiltIn → Type 0
 AnsweredTurns id attempt zero old new = new ≡ old
 AnsweredTurns id attempt (suc turns) old new =
-    (between : Scheduled BuiltIn) × AnsweredTurns id attempt turns old between × Applies function_of default_options (event.Turn id attempt) (Turned Answered) between new
+    (between : Scheduled BuiltIn) × AnsweredTurns id attempt turns old between × AppliesOne (event.Turn id attempt) (Turned Answered) between new
 
 -- so many turns were taken, of as many as were asked for: behind the first that is not answered there is none
 pub record TookTurns (id : List ℕ) (attempt asked taken : ℕ) (last : Reply) (old new : Scheduled BuiltIn) : Type 0 where
   pub before : ℕ
   pub between : Scheduled BuiltIn
   pub answered : AnsweredTurns id attempt before old between
-  pub applied : Applies function_of default_options (event.Turn id attempt) last between new
+  pub applies : AppliesOne (event.Turn id attempt) last between new
   pub taken_are : taken ≡ before + 1
   pub within : taken ≤ asked
   pub all : was_answered last ≡ true → taken ≡ asked
@@ -80,8 +94,11 @@ pub record TakesTurns (id : List ℕ) (attempt asked : ℕ) (text : List ℕ) (o
 -- Each line is one event, but for the turns, and for what is shown, which changes nothing.
 abbrev pub DoesLine : Line → List ℕ → Scheduled BuiltIn → Scheduled BuiltIn → Type 0
 DoesLine (Invoke id object version state seed input) text old new = DoesEvent (event.Invoke (new_invocation id object version state seed input)) text old new
+DoesLine (Result id completion value) text old new = DoesEvent (event.Result id completion (brought value)) text old new
+DoesLine (Tick now) text old new = DoesEvent (event.Tick now) text old new
 DoesLine (Begin id name now) text old new = (handler : BuiltIn) × IsNamed name handler × DoesEvent (event.Begin id handler now) text old new
 DoesLine (Feed id attempt count) text old new = DoesEvent (event.Feed id attempt count) text old new
+DoesLine (Close id attempt) text old new = DoesEvent (event.Close id attempt) text old new
 DoesLine (Turn id attempt count) text old new = TakesTurns id attempt count text old new
 DoesLine (Move id attempt count) text old new = DoesEvent (event.Move id attempt count) text old new
 DoesLine (Stop id attempt) text old new = DoesEvent (event.Stop id attempt) text old new

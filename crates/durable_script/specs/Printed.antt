@@ -1,26 +1,27 @@
 -- What a line prints for the reply that it got, without its line feed.
 use Rattle.std.specs.Prelude.{◌≡◌, ℕ, List, Some, None, Result, IfOk}
-use Rattle.fresh_attempt.specs.declared.progress.Turn.{Turn}
-use Rattle.fresh_attempt.specs.declared.progress.Turn.TheVariants as turn
-use Rattle.fresh_attempt.specs.Failure.{code_of}
+use Rattle.durable_schedule.specs.Attempts.turn
+use Rattle.durable_schedule.specs.Attempts.{Turn}
+use Rattle.durable_schedule.specs.Schedules.reply
+use Rattle.durable_schedule.specs.Schedules.{Reply, name_of}
 use Rattle.store_refusals.specs.Names as store
-use Rattle.schedule_model.specs.declared.event.Reply.{Reply}
-use Rattle.schedule_model.specs.declared.event.Reply.TheVariants as reply
-use Rattle.schedule_model.specs.Names.{name_of}
 use Rattle.script_lines.specs.declared.text.LastTurn.{LastTurn}
 use Rattle.script_lines.specs.declared.text.LastTurn.TheVariants as last
-use Rattle.script_lines.specs.declared.text.LineReply.TheVariants.{Done, Begun, Fed, Turned}
+use Rattle.script_lines.specs.declared.text.LineReply.TheVariants.{Done, Placed, Ticked, Begun, Fed, Turned}
 use Rattle.script_lines.specs.Text.{reply_text, moved_text, moved_until_text, refused_text}
 
 abbrev pub word_of : Turn → LastTurn
 word_of turn.Answered = last.Answered
 word_of turn.Waiting = last.Waiting
+word_of turn.Suspended = last.Suspended
 word_of turn.Ended = last.Ended
-word_of (turn.Failed failure) = last.Failed (code_of failure)
+word_of (turn.Failed error) = last.Failed error.code.0
 
 -- the text of a reply, the last one to so many turns where it is that of a turn
 abbrev pub printed : ℕ → Reply → List ℕ
 printed turns reply.Done = reply_text Done
+printed turns (reply.Placed place) = reply_text (Placed place)
+printed turns (reply.Ticked sleeps) = reply_text (Ticked sleeps)
 printed turns (reply.Begun attempt) = reply_text (Begun attempt)
 printed turns (reply.Fed bytes) = reply_text (Fed bytes)
 printed turns (reply.Turned turn) = reply_text (Turned turns (word_of turn))

@@ -1,34 +1,32 @@
 -- What the lines of a script do, one after another, and what is written of them.
-use Rattle.std.specs.Prelude.{◌≡◌, ◌⊎◌, ℕ, ◌<◌, ◌≤◌, false, List, [], ◌∷◌, ◌++◌, length, take, Option, Some, None, IfSome, Result, Ok, Err}
+use Rattle.std.specs.Prelude.{◌≡◌, ◌⊎◌, ℕ, ◌<◌, ◌≤◌, List, [], ◌∷◌, ◌++◌, length, take, Option, IfSome, Result, Ok, Err}
 use Rattle.std.specs.Io.KnownBytes.{Appends, Keeps, IsAtEnd}
 use Rattle.sqlite_trees.specs.declared.store.Store.{Ghosts}
 use Rattle.sqlite.specs.State.{HasCleanDisk}
 use Rattle.sqlite.specs.Held.{state}
 use Rattle.built_in_handlers.specs.declared.built_in.BuiltIn.{BuiltIn}
 use Rattle.journal_model.specs.Notification.{Text}
-use Rattle.journal_model.specs.declared.invocation.NewInvocation.{NewInvocation}
 use Rattle.journal_model.specs.Event.{Event}
-use Rattle.journal_model.specs.Journal.{invocation_begun, starting_state, recorded_requests}
 use Rattle.journal_model.specs.Run.{Handler}
 use Rattle.vm_types.specs.Options.{default_options}
-use Rattle.fresh_attempt.specs.First.{given_by}
+use Rattle.vm_types.specs.declared.options.VMOptions.{VMOptions}
 use Rattle.journal_store.specs.Stored.{Stored}
 use Rattle.journal_store.specs.Stands.{Stands, IsStanding}
 use Rattle.store_calls.specs.Standing.{Standing}
-use Rattle.schedule_model.specs.Following.{IsBeginningOfRun}
-use Rattle.schedule_model.specs.Schedule.{Scheduled}
-use Rattle.durable_schedule.specs.Scheduled.{Extends, at_first}
+use Rattle.schedule_laws.specs.Words.{IsCovered, HoldsOf}
+use Rattle.schedule_runs.specs.Runs.{Extends, HeadlineAfter, HoldsAfter, NeverLateAfter, WakesExactlyAfter, at_first}
+use Rattle.durable_schedule.specs.Schedules.{Scheduled}
 use Rattle.built_in_handlers.specs.BuiltIn.{function_of}
-use Rattle.built_in_handlers.specs.Handlers.{nap_until}
+use Rattle.built_in_handlers.specs.Handlers.{nap, nap99, race, both, ask, pair}
+use Rattle.script_lines.specs.declared.word.HandlerName.{HandlerName}
 use Rattle.script_lines.specs.declared.word.HandlerName.TheVariants as name
 use Rattle.script_lines.specs.declared.line.Line.{Line}
 use Rattle.script_lines.specs.Line.{spelled, IsLine}
 use Rattle.script_lines.specs.Script.{numbered_lines}
 use Rattle.durable_script.specs.declared.fault.ScriptFault.{ScriptFault}
 use Rattle.durable_script.specs.declared.fault.ScriptFault.TheVariants.{LineNotUnderstood, ScriptUnreadable, LineOutOfMemory, TextOutOfMemory, OutputUnwritable}
-use Rattle.durable_script.specs.declared.runner.Asked.{Asked}
 use Rattle.durable_script.specs.Line.{IsNamed, DoesLine, DoesSomeLine, BringsFunction}
-use Rattle.durable_script.specs.Asked.{none_asked, is_second, asked_after, IsNotUnderstood}
+use Rattle.durable_script.specs.Runner.{IsNotUnderstood}
 
 -- a line that was done, with its text
 pub record DoneLine : Type 0 where
@@ -45,14 +43,10 @@ abbrev pub texts_of : List DoneLine → List ℕ
 texts_of [] = []
 texts_of (one ∷ before) = texts_of before ++ one.text
 
-abbrev pub asked_by : List DoneLine → Asked
-asked_by [] = none_asked
-asked_by (one ∷ before) = asked_after (asked_by before) one.line
-
--- each line is understood behind those before it
+-- each of them has a spelling
 abbrev pub AreUnderstood : List DoneLine → Type 0
 AreUnderstood [] = Unit {0}
-AreUnderstood (one ∷ before) = AreUnderstood before × IsLine one.line × (is_second (asked_by before) one.line ≡ false)
+AreUnderstood (one ∷ before) = AreUnderstood before × IsLine one.line
 
 -- each line was done on what those before it left
 abbrev pub DoesAll : List DoneLine → Scheduled BuiltIn → Scheduled BuiltIn → Type 0
@@ -69,13 +63,11 @@ abbrev pub AllBring : Text → Handler → List DoneLine → Type 0
 AllBring id next [] = Unit {0}
 AllBring id next (one ∷ before) = AllBring id next before × BringsFunction id next one.line
 
--- Of each invocation that was not begun before these lines, and whose begins in them all name handlers of one function, the requests
--- that are recorded behind them are the first requests of the one uninterrupted run of that function.
-abbrev pub FollowLines : List DoneLine → (before after : List Event) → Type 0
-FollowLines done before after =
-    (id : Text) (next : Handler) → invocation_begun before id ≡ None → AllBring id next done
-    → (invocation : NewInvocation) → invocation_begun after id ≡ Some invocation
-    → IsBeginningOfRun next (given_by default_options invocation (starting_state after id)) (recorded_requests after id)
+-- Of each invocation whose begins in these lines all name handlers of one function, whose calls are all carried out, if what is recorded
+-- of it before them is of the run of that function: this holds of what is recorded behind them. Nothing is recorded of one that is new.
+abbrev pub LinesLeave : List DoneLine → (VMOptions → Handler → Text → List Event → Type 0) → (before after : List Event) → Type 0
+LinesLeave done Left before after =
+    (id : Text) (next : Handler) → IsCovered default_options next → AllBring id next done → HoldsOf next default_options id before → Left default_options next id after
 
 -- What was done is all that `Does` tells of.
 module _ (lines : List (ℕ × List ℕ)) (Does : List DoneLine → Type 0) where
@@ -97,7 +89,7 @@ module _ (lines : List (ℕ × List ℕ)) (Does : List DoneLine → Type 0) wher
     pub bytes : List ℕ
     pub rest : List (ℕ × List ℕ)
     pub has_done : HasDone done ((number, bytes) ∷ rest)
-    pub unknown : IsNotUnderstood (asked_by done) bytes
+    pub unknown : IsNotUnderstood bytes
     pub written : output ≡ texts_of done
 
   -- those before some line were, and there is no memory to read that line
@@ -153,19 +145,26 @@ module _ {S : Type 0} (g : Ghosts S) where
       → (end : Scheduled BuiltIn) × IsStanding g end.standing after × DoesAll done (at_first s) end
 
   -- Whatever events a store stood for, the one that is left stands for such, unless the disk failed.
-  abbrev pub LeavesRuns : Stored S → Stored S → List DoneLine → Type 0
-  LeavesRuns store after done =
+  abbrev pub LeavesRuns : (VMOptions → Handler → Text → List Event → Type 0) → Stored S → Stored S → List DoneLine → Type 0
+  LeavesRuns Left store after done =
       HasCleanDisk (state g after.connection) → (before : List Event) → Stands before (state g store.connection) store.live.attempts
-      → (events : List Event) × Stands events (state g after.connection) after.live.attempts × FollowLines done before events
+      → (events : List Event) × Stands events (state g after.connection) after.live.attempts × LinesLeave done Left before events
 
   -- these lines were done on a store, of which this is left
   pub record AreDone (store after : Stored S) (done : List DoneLine) : Type 0 where
     -- what each of them came to
     pub leads : LeadsAll store after done
-    -- what is recorded of an invocation are the first requests of the one uninterrupted run of the handler that they name
-    pub headline : LeavesRuns store after done
+    -- of an invocation all is of the run of the handler that they name: with this the next script begins, also over a store that is
+    -- opened again
+    pub holds : LeavesRuns HoldsAfter store after done
+    -- so the recorded requests are a beginning of those of the one uninterrupted run, and the answer is that of the run
+    pub headline : LeavesRuns HeadlineAfter store after done
+    -- waking is never late, and exact
+    pub never_late : LeavesRuns NeverLateAfter store after done
+    pub wakes_exactly : LeavesRuns WakesExactlyAfter store after done
     -- a crash leaves what it left before, or accepted events of which the same holds, with those from before behind them
-    pub crash : Extends g (FollowLines done) store after
+    pub crash : Extends g (LinesLeave done HoldsAfter) store after
+    pub crash_headline : Extends g (LinesLeave done HeadlineAfter) store after
 
   -- the script was read whole, and its lines were done
   pub record RunsLines (input left had has : Option (List ℕ)) (store after : Stored S) (result : Result (Unit {0}) ScriptFault) : Type 0 where
@@ -184,9 +183,18 @@ module _ {S : Type 0} (g : Ghosts S) where
 
 -- It holds behind each line.
 abbrev pub LinesFollow : Type 0
-LinesFollow = (start end : Scheduled BuiltIn) (done : List DoneLine) → start.held ≡ [] → AreUnderstood done → DoesAll done start end
-    → FollowLines done start.standing.events end.standing.events
+LinesFollow = (start end : Scheduled BuiltIn) (done : List DoneLine) → start.held ≡ [] → DoesAll done start end
+    → LinesLeave done HoldsAfter start.standing.events end.standing.events
 
--- The handler `nap` of a line sleeps until 10.
-abbrev pub NapIsNamed : Type 0
-NapIsNamed = (handler : BuiltIn) → IsNamed name.Nap handler → function_of handler ≡ nap_until 10
+-- the function of a handler that a line may name
+abbrev pub named_function : HandlerName → Handler
+named_function name.Nap = nap
+named_function name.Nap99 = nap99
+named_function name.Race = race
+named_function name.Both = both
+named_function name.Ask = ask
+named_function name.Pair = pair
+
+-- Each name stands for its function.
+abbrev pub HandlersAreNamed : Type 0
+HandlersAreNamed = (name : HandlerName) (handler : BuiltIn) → IsNamed name handler → function_of handler ≡ named_function name

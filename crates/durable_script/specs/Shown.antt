@@ -8,53 +8,49 @@ use Rattle.journal_model.specs.declared.value.NonEmptyValue.TheVariants.{Success
 use Rattle.journal_model.specs.Event.{Event}
 use Rattle.journal_model.specs.Journal.{is_open}
 use Rattle.journal_model.specs.Cause.{those_that_hold}
-use Rattle.protocol_types.specs.MessageType.{number_of}
 use Rattle.store_refusals.specs.declared.refusal.Refusal.{Refusal}
 use Rattle.store_refusals.specs.Names.{name_of}
 use Rattle.store_refusals.specs.Refused.{IsRefused}
 use Rattle.store_invocations.specs.Rows.{known_tests}
-use Rattle.store_reads.specs.declared.recorded.EntryKind.{EntryKind}
-use Rattle.store_reads.specs.declared.recorded.EntryKind.TheVariants as kinds
-use Rattle.store_reads.specs.declared.recorded.RecordedEntry.{RecordedEntry}
 use Rattle.store_reads.specs.Told.{entries_told}
 use Rattle.store_reads.specs.Answered.{answer_told}
-use Rattle.schedule_model.specs.Schedule.{Scheduled}
-use Rattle.script_lines.specs.Text.{request_line, value_line, failure_line, open_text, refused_text}
-
--- the line of a request, with its place; an arrival is not shown
-abbrev pub line_by : EntryKind → List ℕ → List ℕ
-line_by kinds.Request line = line ++ 10 ∷ []
-line_by kinds.Arrival line = []
-
-abbrev pub entry_text : RecordedEntry → List ℕ
-entry_text entry = line_by entry.kind (request_line entry.place (number_of entry.ty) entry.payload)
+use Rattle.durable_schedule.specs.Schedules.{Scheduled}
+use Rattle.script_lines.specs.Text.{value_line, failure_line, open_text, refused_text}
+use Rattle.script_entries.specs.declared.entry.ShownEntry.{ShownEntry}
+use Rattle.script_entries.specs.Entries.{AreShown, SomeUnread, entry_text}
 
 abbrev pub answer_line : Option NonEmptyValue → List ℕ
 answer_line None = codes "answer none"
 answer_line (Some (Success bytes)) = value_line bytes
 answer_line (Some (Failure failure)) = failure_line failure.code failure.message
 
--- the requests, the answer, and whether it is open
-abbrev pub shown_text : List RecordedEntry → Option NonEmptyValue → Bool → List ℕ
+-- the requests and arrivals, the answer, and whether it is open
+abbrev pub shown_text : List ShownEntry → Option NonEmptyValue → Bool → List ℕ
 shown_text entries answer is_open_now = flat_map entry_text entries ++ (answer_line answer ++ 10 ∷ (open_text is_open_now ++ 10 ∷ []))
 
 abbrev pub IsKnown : Text → List Event → Type 0
 IsKnown id events = those_that_hold (known_tests events id) ≡ []
 
+-- these are the requests and arrivals of the invocation, which is known
+abbrev pub HasEntries : Text → List ShownEntry → List Event → Type 0
+HasEntries id entries events = IsKnown id events × AreShown (entries_told events id) entries
+
 -- this is what is recorded of the invocation, which is known
-pub record HasRecords (id : Text) (entries : List RecordedEntry) (answer : Option NonEmptyValue) (is_open_now : Bool) (events : List Event) : Type 0 where
+pub record HasRecords (id : Text) (entries : List ShownEntry) (answer : Option NonEmptyValue) (is_open_now : Bool) (events : List Event) : Type 0 where
   pub known : IsKnown id events
-  pub entries_are : entries ≡ entries_told events id
+  pub entries_are : AreShown (entries_told events id) entries
   pub answer_is : answer ≡ answer_told events id
   pub is_open_is : is_open_now ≡ is_open events id
 
 pub record ShowsRecords (id : Text) (text : List ℕ) (events : List Event) : Type 0 where
   pub known : IsKnown id events
-  pub text_is : text ≡ shown_text (entries_told events id) (answer_told events id) (is_open events id)
+  pub entries : List ShownEntry
+  pub entries_are : AreShown (entries_told events id) entries
+  pub text_is : text ≡ shown_text entries (answer_told events id) (is_open events id)
 
--- an unknown invocation is refused; or what is asked for is not told, for a circumstance
+-- an unknown invocation is refused; or what is asked for is not told, for a circumstance; or an entry is not read
 abbrev pub RefusesShow : Text → Refusal → List Event → Type 0
-RefusesShow id refusal events = IsRefused (those_that_hold (known_tests events id)) refusal
+RefusesShow id refusal events = IsRefused (those_that_hold (known_tests events id)) refusal ⊎ SomeUnread (entries_told events id) refusal
 
 pub record ShowsRefusal (id : Text) (text : List ℕ) (events : List Event) : Type 0 where
   pub refusal : Refusal

@@ -1,13 +1,19 @@
 //! Laws of the definitions. The functions do nothing: their contracts are the laws.
-ghost use Rattle.durable_script.specs.Run.{LinesFollow, NapIsNamed};
+ghost use Rattle.durable_script.specs.Run.{HandlersAreNamed, LinesFollow};
 
-/// Behind each line of a script, what is recorded of an invocation are the first requests of the one uninterrupted run of
-/// the handler that its lines name.
+use built_in_handlers::BuiltIn;
+use schedule_laws::schedules_leave;
+
+/// Behind each line of a script, what is recorded of an invocation is of the one uninterrupted run of the handler that its lines name,
+/// if what was recorded before is.
 pub fn lines_follow()
     ensures { LinesFollow }
-{}
+{
+    schedules_leave::<BuiltIn>();
+}
 
-/// The handler that a line names `nap` sleeps until 10 ms, awaits that, takes it, puts out `ok`, and ends.
-pub fn nap_is_named()
-    ensures { NapIsNamed }
+/// Each name that a line may give a handler stands for the handler of this name: `nap` sleeps until 10 ms, awaits that, takes it, puts
+/// out `ok`, and ends.
+pub fn handlers_are_named()
+    ensures { HandlersAreNamed }
 {}

@@ -3,31 +3,33 @@ ghost use Rattle.std.specs.Prelude.{◌≡◌, ◌∷◌, [], ◌++◌, IfOk, st
 ghost use Rattle.script_lines.specs.Text.{reply_text};
 ghost use Rattle.durable_script.specs.Printed.{word_of, printed};
 
-use fresh_attempt::Turn;
-use schedule_model::Reply;
+use durable_schedule::{Reply, Turn};
 use script_lines::text::{LastTurn, LineReply};
 use std::alloc::{AllocError, Global};
 
 /// What the last of a line's turns came to.
-fn last_turn(turn: Turn) -> LastTurn
-    ensures { result ≡ word_of turn }
+fn last_turn(turn: &Turn) -> LastTurn
+    ensures { result ≡ word_of turn.now }
 {
     match turn {
         Turn::Answered => LastTurn::Answered,
         Turn::Waiting => LastTurn::Waiting,
+        Turn::Suspended => LastTurn::Suspended,
         Turn::Ended => LastTurn::Ended,
-        Turn::Failed(failure) => LastTurn::Failed(failure.code()),
+        Turn::Failed(error) => LastTurn::Failed(error.code()),
     }
 }
 
 /// What a line came to: its last reply, and how many turns it took.
-pub(crate) fn line_reply(turns: u32, reply: Reply) -> LineReply
-    ensures { reply_text result ≡ printed turns reply }
+pub(crate) fn line_reply(turns: u32, reply: &Reply) -> LineReply
+    ensures { reply_text result ≡ printed turns reply.now }
 {
     match reply {
         Reply::Done => LineReply::Done,
-        Reply::Begun(attempt) => LineReply::Begun(attempt),
-        Reply::Fed(bytes) => LineReply::Fed(bytes),
+        Reply::Placed(place) => LineReply::Placed(*place),
+        Reply::Ticked(sleeps) => LineReply::Ticked(*sleeps),
+        Reply::Begun(attempt) => LineReply::Begun(*attempt),
+        Reply::Fed(bytes) => LineReply::Fed(*bytes),
         Reply::Turned(turn) => LineReply::Turned {
             count: turns,
             last: last_turn(turn),
@@ -37,8 +39,8 @@ pub(crate) fn line_reply(turns: u32, reply: Reply) -> LineReply
             frames,
             refusal: None,
         } => LineReply::Moved {
-            bytes,
-            frames,
+            bytes: *bytes,
+            frames: *frames,
             refusal: None,
         },
         Reply::Moved {
@@ -46,8 +48,8 @@ pub(crate) fn line_reply(turns: u32, reply: Reply) -> LineReply
             frames,
             refusal: Some(refusal),
         } => LineReply::Moved {
-            bytes,
-            frames,
+            bytes: *bytes,
+            frames: *frames,
             refusal: Some(refusal.name()),
         },
         Reply::Refused(refusal) => LineReply::Refused(refusal.name()),

@@ -2,14 +2,15 @@
 ghost use Rattle.std.specs.Prelude.{◌≡◌, Err};
 ghost use Rattle.std.specs.Io.KnownBytes.{Keeps};
 ghost use Rattle.script_lines.specs.Script.{numbered_lines};
-ghost use Rattle.durable_script.specs.Asked.{none_asked};
 ghost use Rattle.durable_script.specs.Reaching.{Reaches};
 ghost use Rattle.durable_script.specs.Run.{DoesAll, DoesFirst, DoesLines, EndsWith, RunsScript};
 
 use crate::fault::ScriptFault;
 use crate::output::write_text;
 use crate::runner::Runner;
+use built_in_handlers::BuiltIn;
 use journal_store::Store;
+use schedule_laws::{records_of_runs, schedules_leave};
 use script_lines::reading::read_script;
 use script_lines::script::ScriptLines;
 use sqlite::Alter;
@@ -31,7 +32,6 @@ fn do_lines<W: Write, S: Alter + Drop>(
     script: &[u8],
     writer: &mut W,
 ) -> Result<(), ScriptFault>
-    requires { runner.old.asked ≡ none_asked }
     ensures { DoesLines (numbered_lines script.now) (λ done. Reaches S.Store (DoesFirst done) (DoesAll done) runner.old.scheduler runner.new.scheduler) (W.contents writer.old) (W.contents writer.new) result }
 {
     for line in ScriptLines::new(script) {
@@ -64,9 +64,10 @@ pub fn run_script<R: Read, W: Write, S: Alter + Drop>(
     writer: &mut W,
     store: Store<S>,
 ) -> ScriptEnd<S>
-    // What was done and written, and why no more. Of the lines that were done: what is recorded of an invocation are the first
-    // requests of the one uninterrupted run of the handler that they name, and what a crash leaves is what it left before, or has
-    // accepted events of which the same holds, with those from before behind them.
+    // What was done and written, and why no more. Of the lines that were done: what is recorded of an invocation is of the one
+    // uninterrupted run of the handler that they name, if what was recorded before is, so the headline holds of it, and waking is never
+    // late and exact; and what a crash leaves is what it left before, or has accepted events of which the same holds, with those from
+    // before behind them.
     ensures runs { RunsScript S.Store (R.remaining reader.old) (R.remaining reader.new) (W.contents writer.old) (W.contents writer.new) store result.store result.result }
     ensures unread { result.result ≡ Err ScriptFault.ScriptUnreadable → writer.new ≡ writer.old }
 {
@@ -74,6 +75,8 @@ pub fn run_script<R: Read, W: Write, S: Alter + Drop>(
         let result = Err(ScriptFault::ScriptUnreadable);
         return ScriptEnd { store, result };
     };
+    schedules_leave::<BuiltIn>();
+    records_of_runs();
     let mut runner = Runner::new(alloc, store);
     let reached = do_lines(&mut runner, &script, writer);
     let result = finish(writer, reached);

@@ -1,12 +1,11 @@
 //! A line of a script, from its bytes to its text.
-ghost use Rattle.std.specs.Prelude.{◌≡◌, ◌≤◌, [], not, IfOk, IfErr, string_bytes};
+ghost use Rattle.std.specs.Prelude.{◌≡◌, ◌≤◌, [], IfOk, IfErr, string_bytes};
 ghost use Rattle.script_lines.specs.Word.{handler_word};
 ghost use Rattle.script_lines.specs.Line.{IsLine};
 ghost use Rattle.vm_types.specs.Options.{default_options};
 ghost use Rattle.durable_script.specs.Reaching.{Nowhere, Reaches};
 ghost use Rattle.durable_script.specs.Printed.{Makes};
-ghost use Rattle.durable_script.specs.Line.{new_invocation, was_answered, IsBegin, DoesEvent, DoesSomeEvent, TakesTurns, TookTurns, DoesLine, DoesSomeLine};
-ghost use Rattle.durable_script.specs.Asked.{none_asked, is_second, asked_after, Understands};
+ghost use Rattle.durable_script.specs.Line.{brought, new_invocation, was_answered, IsBegin, DoesEvent, DoesSomeEvent, TakesTurns, TookTurns, DoesLine, DoesSomeLine};
 ghost use Rattle.durable_script.specs.Runner.{DoesNext, StopsAt};
 
 use crate::fault::ScriptFault;
@@ -14,34 +13,21 @@ use crate::reply::{line_reply, reply_line};
 use crate::show::show;
 use built_in_handlers::BuiltIn;
 use bytes::{ByteStr, Bytes};
-use durable_schedule::Scheduler;
-use fresh_attempt::Turn;
-use journal_model::NewInvocation;
+use durable_schedule::{Event, Reply, Scheduler, Turn};
+use journal_model::{Failure, NewInvocation, NotificationResult};
 use journal_store::Store;
-use schedule_model::{Event, Reply};
 use script_lines::line::{Line, parse_line};
-use script_lines::text::LineReply;
+use script_lines::value::LineValue;
 use script_lines::word::{HandlerName, StateMode};
 use sequence::Sequence;
 use sqlite::Alter;
 use std::alloc::{AllocError, Global};
-use std::mem;
 use vm_types::VMOptions;
-
-/// What earlier lines have asked for, whether it was refused or not: a script asks for each once.
-#[derive(Clone, Copy)]
-pub(crate) struct Asked {
-    /// An invocation.
-    pub invoked: bool,
-    /// An attempt.
-    pub begun: bool,
-}
 
 /// A scheduler that the lines of a script are done on.
 #[derive(Drop)]
 pub(crate) struct Runner<S: Alter> {
     pub scheduler: Scheduler<BuiltIn, S>,
-    pub asked: Asked,
 }
 
 /// An invocation is made, without headers.
@@ -70,12 +56,33 @@ fn invoke(
     })
 }
 
+/// What a line's value brings, without pairs.
+fn brought(alloc: Global, value: LineValue) -> NotificationResult
+    ensures { result ≡ brought value }
+{
+    match value {
+        LineValue::Void => NotificationResult::Void,
+        LineValue::Value(bytes) => NotificationResult::Value(bytes),
+        LineValue::Failure { code, message } => NotificationResult::Failure(Failure {
+            code: u32::from(code),
+            message,
+            metadata: Sequence::new(alloc),
+        }),
+        LineValue::InvocationId(id) => NotificationResult::InvocationId(id),
+    }
+}
+
 /// The word that a handler is named by.
 fn handler_word(name: HandlerName) -> &'static [u8]
     ensures { result.now ≡ handler_word name }
 {
     match name {
         HandlerName::Nap => b"nap".as_slice(),
+        HandlerName::Nap99 => b"nap99".as_slice(),
+        HandlerName::Race => b"race".as_slice(),
+        HandlerName::Both => b"both".as_slice(),
+        HandlerName::Ask => b"ask".as_slice(),
+        HandlerName::Pair => b"pair".as_slice(),
     }
 }
 
@@ -99,12 +106,14 @@ fn do_event<S: Alter + Drop>(
     ensures { Makes string_bytes result (λ text. Reaches S.Store (DoesSomeEvent event) (DoesEvent event text) scheduler.old scheduler.new) }
 {
     let reply = scheduler.apply(event);
-    reply_line(scheduler.alloc, line_reply(1, reply))
+    let text = reply_line(scheduler.alloc, line_reply(1, &reply));
+    drop(reply);
+    text
 }
 
 /// Whether a reply is that of a turn that was answered.
-fn was_answered(reply: Reply) -> bool
-    ensures { result ≡ was_answered reply }
+fn was_answered(reply: &Reply) -> bool
+    ensures { result ≡ was_answered reply.now }
 {
     matches!(reply, Reply::Turned(Turn::Answered))
 }
@@ -122,9 +131,10 @@ fn take_turns<S: Alter + Drop>(
     let mut taken = 1u32;
     loop {
         let reply = scheduler.take_turn(id, attempt);
-        if taken == count || !was_answered(reply) {
+        if taken == count || !was_answered(&reply) {
             return (taken, reply);
         }
+        drop(reply);
         taken += 1;
     }
 }
@@ -140,7 +150,9 @@ fn do_turns<S: Alter + Drop>(
     ensures { Makes string_bytes result (λ text. Reaches S.Store Nowhere (TakesTurns id.now attempt count text) scheduler.old scheduler.new) }
 {
     let (taken, reply) = take_turns(scheduler, id, attempt, count);
-    reply_line(scheduler.alloc, line_reply(taken, reply))
+    let text = reply_line(scheduler.alloc, line_reply(taken, &reply));
+    drop(reply);
+    text
 }
 
 /// Does what a line says, and makes its text.
@@ -164,6 +176,22 @@ fn carry_out<S: Alter + Drop>(
             let event = invoke(alloc, id, object, version, state, seed, input);
             do_event(scheduler, event)
         }
+        Line::Result {
+            id,
+            completion,
+            value,
+        } => {
+            let value = brought(alloc, value);
+            do_event(
+                scheduler,
+                Event::Result {
+                    invocation: id,
+                    completion,
+                    value,
+                },
+            )
+        }
+        Line::Tick { now } => do_event(scheduler, Event::Tick(now)),
         Line::Begin {
             id,
             handler: name,
@@ -178,6 +206,13 @@ fn carry_out<S: Alter + Drop>(
                 invocation: id,
                 attempt,
                 count: count as usize,
+            },
+        ),
+        Line::Close { id, attempt } => do_event(
+            scheduler,
+            Event::Close {
+                invocation: id,
+                attempt,
             },
         ),
         Line::Turn { id, attempt, count } => do_turns(scheduler, &id, attempt, count),
@@ -200,51 +235,15 @@ fn carry_out<S: Alter + Drop>(
     }
 }
 
-impl Asked {
-    /// Whether a line may still be asked for; from then on it was.
-    fn admit(&mut self, line: &Line) -> bool
-        ensures admitted { result ≡ not (is_second self.old line.now) }
-        ensures after { self.new ≡ asked_after self.old line.now }
-    {
-        match line {
-            Line::Invoke { .. } => !mem::replace(&mut self.invoked, true),
-            Line::Begin { .. } => !mem::replace(&mut self.begun, true),
-            _ => true,
-        }
-    }
-}
-
-/// Lets go of a line that is not understood.
-fn let_go(_line: Line) {}
-
-/// The line that the bytes spell, where it is understood.
-fn understand(alloc: Global, asked: &mut Asked, bytes: &[u8]) -> Result<Option<Line>, AllocError>
-    ensures { IfOk result (Understands asked.old bytes.now asked.new) }
-{
-    let Some(line) = parse_line(alloc, bytes)? else {
-        return Ok(None);
-    };
-    if asked.admit(&line) {
-        return Ok(Some(line));
-    }
-    let_go(line);
-    Ok(None)
-}
-
 impl<S: Alter + Drop> Runner<S> {
     /// A new scheduler over a store.
     pub fn new(alloc: Global, store: Store<S>) -> Runner<S>
         ensures store { result.scheduler.store ≡ store }
         ensures options { result.scheduler.options ≡ default_options }
-        ensures held { result.scheduler.held.items ≡ [] }
-        ensures asked { result.asked ≡ none_asked }
+        ensures held { result.scheduler.held ≡ [] }
     {
         Runner {
             scheduler: Scheduler::new(alloc, store, VMOptions::default()),
-            asked: Asked {
-                invoked: false,
-                begun: false,
-            },
         }
     }
 
@@ -254,7 +253,7 @@ impl<S: Alter + Drop> Runner<S> {
         ensures err { IfErr result (λ fault. StopsAt S.Store number bytes.now fault self.old self.new) }
     {
         let alloc = self.scheduler.alloc;
-        match understand(alloc, &mut self.asked, bytes)? {
+        match parse_line(alloc, bytes)? {
             Some(understood) => {
                 carry_out(&mut self.scheduler, understood).or(Err(ScriptFault::TextOutOfMemory))
             }

@@ -1,57 +1,28 @@
 //! What is recorded of an invocation, as a line shows it.
 ghost use Rattle.std.specs.Prelude.{◌≡◌, Some, IfOk, IfErr, string_bytes};
-ghost use Rattle.protocol_types.specs.MessageType.{number_of};
-ghost use Rattle.script_lines.specs.Text.{request_line, request_text, answer_text};
+ghost use Rattle.script_lines.specs.Text.{answer_text};
 ghost use Rattle.durable_script.specs.Printed.{Makes};
 ghost use Rattle.durable_script.specs.Reaching.{Nowhere, Reaches};
-ghost use Rattle.durable_script.specs.Shown.{answer_line, entry_text, shown_text, HasRecords, Looks, RefusesShow, Shows};
+ghost use Rattle.durable_script.specs.Shown.{answer_line, shown_text, HasEntries, HasRecords, Looks, RefusesShow, Shows};
 
 use crate::reply::reply_line;
 use built_in_handlers::BuiltIn;
 use bytes::ByteStr;
 use durable_schedule::Scheduler;
 use journal_model::NonEmptyValue;
-use script_lines::text::{LineReply, ShownAnswer, ShownOpenness, ShownRequest};
+use script_entries::{ShownEntry, read_entries};
+use script_lines::text::{LineReply, ShownAnswer, ShownOpenness};
 use sqlite::Alter;
 use std::alloc::AllocError;
 use std::fmt;
-use store_reads::{EntryKind, RecordedEntry};
 use store_refusals::Refusal;
 
 /// What is recorded of an invocation: everything that is asked for before a line is printed.
 #[derive(Drop)]
 struct ShownInvocation {
-    entries: Vec<RecordedEntry>,
+    entries: Vec<ShownEntry>,
     answer: Option<NonEmptyValue>,
     is_open: bool,
-}
-
-fn shown_request(entry: &RecordedEntry) -> ShownRequest<'_>
-    ensures { request_text result ≡ request_line entry.now.place (number_of entry.now.ty) entry.now.payload }
-{
-    ShownRequest {
-        place: entry.place,
-        ty: u32::from(u16::from(entry.ty)),
-        payload: entry.payload.as_slice(),
-    }
-}
-
-/// A request at its place. An arrival is not shown.
-#[derive(Clone, Copy)]
-struct ShownEntry<'a>(&'a RecordedEntry);
-
-impl fmt::Display for ShownEntry<'_> {
-    ghost output = { λ entry. Some (entry_text entry.0.now) };
-
-    fn fmt<W: fmt::Write>(&self, f: &mut fmt::Formatter<W>) -> fmt::Result {
-        match self.0.kind {
-            EntryKind::Request => {
-                let request = shown_request(self.0);
-                write!(f, "{request}\n")
-            }
-            EntryKind::Arrival => Ok(()),
-        }
-    }
 }
 
 fn shown_answer(answer: &Option<NonEmptyValue>) -> ShownAnswer<'_>
@@ -72,12 +43,27 @@ impl fmt::Display for ShownInvocation {
 
     fn fmt<W: fmt::Write>(&self, f: &mut fmt::Formatter<W>) -> fmt::Result {
         for entry in &self.entries {
-            let entry = ShownEntry(entry);
             write!(f, "{entry}")?;
         }
         let answer = shown_answer(&self.answer);
         let is_open = ShownOpenness(self.is_open);
         write!(f, "{answer}\n{is_open}\n")
+    }
+}
+
+/// The requests and arrivals that are recorded.
+fn shown_entries<S: Alter + Drop>(
+    scheduler: &mut Scheduler<BuiltIn, S>,
+    id: &ByteStr,
+) -> Result<Vec<ShownEntry>, Refusal>
+    ensures ok { IfOk result (λ shown. Reaches S.Store Nowhere (Looks (HasEntries id.now shown.items)) scheduler.old scheduler.new) }
+    ensures err { IfErr result (λ refusal. Reaches S.Store Nowhere (Looks (RefusesShow id.now refusal)) scheduler.old scheduler.new) }
+{
+    let alloc = scheduler.alloc;
+    let entries = scheduler.entries(id)?;
+    match read_entries(alloc, entries) {
+        Ok(shown) => Ok(shown),
+        Err(refusal) => Err(refusal),
     }
 }
 
@@ -91,7 +77,7 @@ fn shown<S: Alter + Drop>(
 {
     let is_open = scheduler.is_open(id)?;
     let answer = scheduler.answer(id)?;
-    match scheduler.entries(id) {
+    match shown_entries(scheduler, id) {
         Ok(entries) => Ok(ShownInvocation {
             entries,
             answer,

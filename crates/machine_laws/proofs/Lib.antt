@@ -1,6 +1,6 @@
 mod Asking
 mod Recording
-mod Texts
+pub mod Texts
 mod Living
 mod Going
 mod LivingRows

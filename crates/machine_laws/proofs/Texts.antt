@@ -29,7 +29,7 @@ use Rattle.machine_laws.proofs.Recording.{or-nothing, own_passes}
 abbrev HaveText : List Request → Type 0
 HaveText requests = list_all (λ request. list_all is_utf8 (keys_of request)) requests ≡ true
 
-text_after : (requests : List Request) (entries : StateMap) → HaveText requests → HasTextKeys entries → HasTextKeys (state_after requests entries)
+pub text_after : (requests : List Request) (entries : StateMap) → HaveText requests → HasTextKeys entries → HasTextKeys (state_after requests entries)
 text_after [] entries e all = all
 text_after (request ∷ requests) entries e all = by_first (list_all is_utf8 (keys_of request)) refl e (λ f. text_after requests (state_change request entries) f)
   where
@@ -71,7 +71,7 @@ requests_text (event ∷ events) id accepted = by_begin (begins id event) refl (
 
 -- ---- what one event brings
 
-keys_text : (entries : StateMap) → HasTextKeys entries → list_all is_utf8 (state_keys entries) ≡ true
+pub keys_text : (entries : StateMap) → HasTextKeys entries → list_all is_utf8 (state_keys entries) ≡ true
 keys_text [] all = refl
 keys_text (entry ∷ entries) all = ap (λ (b : Bool). b && list_all is_utf8 (state_keys entries)) all.0 ∙ keys_text entries all.1
 

@@ -4,7 +4,7 @@ use Rattle.std.specs.Prelude.{slice_set}
 use Rattle.std.specs.List.{position}
 use Rattle.journal_model.specs.Notification.{Text}
 use Rattle.journal_model.specs.Run.{Handler}
-use Rattle.fresh_attempt.specs.View.{AttemptView}
+use Rattle.vm_attempt.specs.declared.attempt.Attempt.{Attempt}
 use Rattle.schedule_model.specs.declared.event.Reply.{Reply}
 use Rattle.schedule_model.specs.declared.event.Reply.TheVariants as reply
 use Rattle.schedule_model.specs.declared.event.Refusal.TheVariants as refusal
@@ -12,15 +12,15 @@ use Rattle.schedule_model.specs.declared.held.HeldAttempt.{HeldAttempt}
 use Rattle.schedule_model.specs.First.{with_first, IsFirstAt}
 use Rattle.store_calls.specs.Standing.{Standing}
 use Rattle.store_calls.proofs.Taking.{same_stays}
-use Rattle.schedule_model.specs.Following.{is_held, held_of}
-use Rattle.schedule_model.specs.Schedule.{IfHeld, with_attempt, Scheduled, Applies}
+use Rattle.schedule_model.specs.Held.{is_held, held_of, with_attempt}
+use Rattle.schedule_model.specs.Schedule.{IfHeld, Scheduled, Applies}
 use Rattle.schedule_model.specs.Laws.{NoneHeld, Reaches, SchedulesGrow}
 use Rattle.schedule_model.proofs.Firsts.{first_found, first_missing, first_at, with_first_at}
 use Rattle.schedule_model.proofs.Holding.{held_is}
 
 module _ {H : Type 0} where
   -- none is held
-  pub not_held : (Change : HeldAttempt H → Standing → Reply → Standing → AttemptView H → Type 0) (id : Text) (n : ℕ) (s : Standing) (held : List (HeldAttempt H))
+  pub not_held : (Change : HeldAttempt H → Standing → Reply → Standing → Attempt H → Type 0) (id : Text) (n : ℕ) (s : Standing) (held : List (HeldAttempt H))
       → position (is_held id n) held ≡ None → IfHeld Change (held_of held id n) s held (reply.Refused refusal.AttemptNotHeld) s held
   not_held Change id n s held none =
       subst (λ (o : Option (HeldAttempt H)). IfHeld Change o s held (reply.Refused refusal.AttemptNotHeld) s held) (sym (first_missing (is_held id n) held none)) (refl, same_stays s, refl)
@@ -40,7 +40,7 @@ module _ {H : Type 0} where
       }
 
   -- it is changed in its place
-  pub changes_held : (Change : HeldAttempt H → Standing → Reply → Standing → AttemptView H → Type 0) (id : Text) (n : ℕ) (held : List (HeldAttempt H)) (place : ℕ) (one changed : HeldAttempt H)
+  pub changes_held : (Change : HeldAttempt H → Standing → Reply → Standing → Attempt H → Type 0) (id : Text) (n : ℕ) (held : List (HeldAttempt H)) (place : ℕ) (one changed : HeldAttempt H)
       (old new : Standing) (answer : Reply) → Found id n held place one → changed ≡ record one { attempt = changed.attempt } → Change one old answer new changed.attempt
       → IfHeld Change (held_of held id n) old held answer new (slice_set held place changed)
   changes_held Change id n held place one changed old new answer f same c =
@@ -58,7 +58,7 @@ module _ {H : Type 0} where
   pub none_held : NoneHeld H
   none_held id n held none = first_missing (is_held id n) held none
 
-  pub reaches : (Change : HeldAttempt H → Standing → Reply → Standing → AttemptView H → Type 0) → Reaches Change
+  pub reaches : (Change : HeldAttempt H → Standing → Reply → Standing → Attempt H → Type 0) → Reaches Change
   reaches Change id n held place one changed old new answer at read same c = changes_held Change id n held place one changed old new answer (found_at id n held place one at read) same c
 
 module _ {H : Type 0} (function : H → Handler) where

@@ -1,15 +1,6 @@
 pub mod Firsts
 pub mod Holding
-pub mod Frames
-pub mod Following
-pub mod Turning
-pub mod Moving
-pub mod Seeing
-pub mod Beginning
-pub mod Reading
-pub mod Meanings
-pub mod Taking
-pub mod Changing
-pub mod Keeping
-pub mod Leaving
 pub mod Applying
+pub mod Advancing
+pub mod Speaking
+mod Placing

@@ -1,6 +1,11 @@
 pub mod First
-pub mod Flight
-pub mod Following
+pub mod Held
+pub mod Schedule
+pub mod Fitting
 pub mod Laws
 pub mod Names
-pub mod Schedule
+pub mod Attempts
+pub mod Coding
+pub mod Places
+pub mod Indexed
+pub mod Lends

@@ -1,32 +1,48 @@
 -- What each event answers and leaves, and what a list of events does one after another.
-use Rattle.std.specs.Prelude.{◌≡◌, ◌⊎◌, ◌<◌, ◌^◌, ℕ, min, List, [], ◌∷◌, ◌++◌, length, take, Option, Some, None, Result, Ok, Err}
+use Rattle.std.specs.Prelude.{◌≡◌, ◌⊎◌, ℕ, min, List, [], ◌∷◌, ◌++◌, length, take, drop, Option, Some, None, Result, Ok, Err}
 use Rattle.journal_model.specs.Notification.{Bytes, Text}
 use Rattle.journal_model.specs.Run.{Handler}
+use Rattle.protocol_types.specs.Version.{version_at}
+use Rattle.protocol_types.specs.declared.version.Version.{Version}
 use Rattle.store_refusals.specs.declared.refusal.Refusal.{Refusal}
 use Rattle.store_refusals.specs.declared.refusal.Refusal.TheVariants.{OutOfMemory}
 use Rattle.vm_types.specs.declared.options.VMOptions.{VMOptions}
-use Rattle.fresh_attempt.specs.declared.progress.Turn.{Turn}
-use Rattle.fresh_attempt.specs.View.{AttemptView, fresh}
-use Rattle.fresh_attempt.specs.Attempt as machine
+use Rattle.vm_attempt.specs.declared.attempt.Attempt.{Attempt}
+use Rattle.vm_attempt.specs.Attempt as attempts
+use Rattle.vm_attempt.specs.Output.{output_of, OnlyMoves, Gathers}
+use Rattle.vm_attempt.specs.Turning.{Turns}
 use Rattle.schedule_model.specs.declared.event.Event.{Event}
 use Rattle.schedule_model.specs.declared.event.Event.TheVariants as event
 use Rattle.schedule_model.specs.declared.event.Reply.{Reply}
 use Rattle.schedule_model.specs.declared.event.Reply.TheVariants as reply
 use Rattle.schedule_model.specs.declared.event.Refusal.TheVariants as refusal
 use Rattle.schedule_model.specs.declared.held.HeldAttempt.{HeldAttempt}
-use Rattle.schedule_model.specs.First.{with_first}
 use Rattle.store_steps.specs.declared.frame.FrameReply.{FrameReply}
 use Rattle.store_calls.specs.declared.begun.BegunAttempt.{BegunAttempt}
 use Rattle.store_calls.specs.Standing.{Standing, Stays}
-use Rattle.store_calls.specs.Calls.{Invokes, Begins, BeginsAttempt, HandsOut, Stops}
+use Rattle.store_calls.specs.Calls.{Invokes, Completes, Ticks, Begins, BeginsAttempt, HandsOut, ClosesInput, Stops}
 use Rattle.store_calls.specs.Frames.{Accepts}
-use Rattle.schedule_model.specs.Following.{is_held, held_of}
+use Rattle.schedule_model.specs.Held.{held_of, with_attempt}
 
--- the reply to a call of the store that answers nothing
+-- ---- replies of the store's calls
+
+-- to a call that answers nothing
 abbrev pub RepliesDone : (Result (Unit {0}) Refusal → Type 0) → Reply → Type 0
 RepliesDone Does reply.Done = Does (Ok tt)
 RepliesDone Does (reply.Refused (refusal.Store why)) = Does (Err why)
 RepliesDone Does _ = ⊥
+
+-- to a result
+abbrev pub RepliesPlace : (Result ℕ Refusal → Type 0) → Reply → Type 0
+RepliesPlace Does (reply.Placed place) = Does (Ok place)
+RepliesPlace Does (reply.Refused (refusal.Store why)) = Does (Err why)
+RepliesPlace Does _ = ⊥
+
+-- to a tick
+abbrev pub RepliesCount : (Result ℕ Refusal → Type 0) → Reply → Type 0
+RepliesCount Does (reply.Ticked count) = Does (Ok count)
+RepliesCount Does (reply.Refused (refusal.Store why)) = Does (Err why)
+RepliesCount Does _ = ⊥
 
 -- what the store stands for, and the attempts that are held
 pub record Scheduled (H : Type 0) : Type 0 where
@@ -34,13 +50,19 @@ pub record Scheduled (H : Type 0) : Type 0 where
   pub held : List (HeldAttempt H)
 
 module _ {H : Type 0} where
-  -- the attempt that was begun is held, and was fed its start frame
+  -- ---- an attempt begins
+
+  -- one that speaks the invocation's version was made, was fed its start frame, and is held
   pub record HoldsBegun (options : VMOptions) (id : Text) (handler : H) (begun : BegunAttempt) (old new : List (HeldAttempt H)) : Type 0 where
-    pub attempt : AttemptView H
-    pub fed : machine.Feeds begun.start (fresh begun.version options handler) attempt
+    pub version : Version
+    pub version_is : version_at begun.version ≡ Some version
+    pub made : Attempt H
+    pub is_begun : attempts.IsBegun version options handler (Ok made)
+    pub attempt : Attempt H
+    pub fed : attempts.Feeds begun.start made attempt
     pub held : new ≡ old ++ record { invocation = id; number = begun.number; attempt = attempt } ∷ []
 
-  -- a begin; where memory is refused to the scheduler, the attempt stays begun, and nobody holds it
+  -- where memory is refused to the scheduler, the attempt stays begun, and nobody holds it
   abbrev pub BeginDoes : VMOptions → Text → H → ℕ → Standing → List (HeldAttempt H) → Reply → Standing → List (HeldAttempt H) → Type 0
   BeginDoes options id handler now old held (reply.Begun number) new more =
       (begun : BegunAttempt) × (number ≡ begun.number) × Begins id now begun old new × HoldsBegun options id handler begun held more
@@ -48,45 +70,60 @@ module _ {H : Type 0} where
       (BeginsAttempt id now (Err why) old new × (more ≡ held)) ⊎ ((begun : BegunAttempt) × (why ≡ OutOfMemory) × Begins id now begun old new × (more ≡ held))
   BeginDoes options id handler now old held _ new more = ⊥
 
-  -- the attempt that is held, changed
-  abbrev pub with_attempt : List (HeldAttempt H) → HeldAttempt H → AttemptView H → List (HeldAttempt H)
-  with_attempt held one attempt = with_first (is_held one.invocation one.number) held (record one { attempt = attempt })
+  -- ---- what is done with an attempt that is held
 
-  -- the next bytes go from the store to an attempt, so many at most
-  abbrev pub FeedsOne : ℕ → HeldAttempt H → Standing → Reply → Standing → AttemptView H → Type 0
+  -- the next bytes go from the store to it, so many at most
+  abbrev pub FeedsOne : ℕ → HeldAttempt H → Standing → Reply → Standing → Attempt H → Type 0
   FeedsOne count one old (reply.Fed bytes) new changed =
-      (given : Bytes) × (bytes ≡ length given) × HandsOut one.invocation one.number count (Ok given) old new × machine.Feeds given one.attempt changed
+      (given : Bytes) × (bytes ≡ length given) × HandsOut one.invocation one.number count (Ok given) old new × attempts.Feeds given one.attempt changed
   FeedsOne count one old (reply.Refused (refusal.Store why)) new changed = HandsOut one.invocation one.number count (Err why) old new × (changed ≡ one.attempt)
   FeedsOne count one old _ new changed = ⊥
 
-  -- the attempt makes a turn
-  abbrev pub TurnsOne : (H → Handler) → HeldAttempt H → Standing → Reply → Standing → AttemptView H → Type 0
-  TurnsOne function one old (reply.Turned turn) new changed = machine.Turns function one.attempt turn changed × Stays old new
+  -- where the store closes its input, it is told
+  abbrev pub ClosesOne : HeldAttempt H → Standing → Reply → Standing → Attempt H → Type 0
+  ClosesOne one old reply.Done new changed = ClosesInput one.invocation one.number (Ok tt) old new × attempts.ClosesInput one.attempt changed
+  ClosesOne one old (reply.Refused (refusal.Store why)) new changed = ClosesInput one.invocation one.number (Err why) old new × (changed ≡ one.attempt)
+  ClosesOne one old _ new changed = ⊥
+
+  -- it makes a turn, and the store is not asked
+  abbrev pub TurnsOne : (H → Handler) → HeldAttempt H → Standing → Reply → Standing → Attempt H → Type 0
+  TurnsOne function one old (reply.Turned turn) new changed = Turns function one.attempt turn changed × Stays old new
   TurnsOne function one old _ new changed = ⊥
 
-  -- the next bytes go from an attempt to the store, so many at most, and whole frames are taken; bytes that the store refuses stay first in line
-  abbrev pub MovesOne : ℕ → HeldAttempt H → Standing → Reply → Standing → AttemptView H → Type 0
+  -- so many bytes leave, and what waits then is what waited behind them
+  pub record Advances (count : ℕ) (before after : Attempt H) : Type 0 where
+    pub moves : OnlyMoves before after
+    pub rest : output_of after ≡ drop count (output_of before)
+
+  -- the next bytes go from it to the store, so many at most, and whole frames are taken; bytes that the store refuses stay first in line
+  abbrev pub MovesOne : ℕ → HeldAttempt H → Standing → Reply → Standing → Attempt H → Type 0
   MovesOne count one old (reply.Moved bytes frames why) new changed =
-      (replies : List FrameReply) × (frames ≡ length replies) × (bytes ≡ min count (length one.attempt.output))
-      × Accepts one.invocation one.number (take bytes one.attempt.output) (Ok (replies, why)) old new × machine.Sends bytes one.attempt changed
+      (replies : List FrameReply) × (frames ≡ length replies) × (bytes ≡ min count (length (output_of one.attempt)))
+      × Accepts one.invocation one.number (take bytes (output_of one.attempt)) (Ok (replies, why)) old new × Advances bytes one.attempt changed
   MovesOne count one old (reply.Refused (refusal.Store why)) new changed =
-      Accepts one.invocation one.number (take (min count (length one.attempt.output)) one.attempt.output) (Err why) old new × (changed ≡ one.attempt)
+      Accepts one.invocation one.number (take (min count (length (output_of one.attempt))) (output_of one.attempt)) (Err why) old new × Gathers one.attempt changed
   MovesOne count one old _ new changed = ⊥
 
   -- the attempt that is held is changed in its place; one that is not held is refused before the store is asked
-  abbrev pub IfHeld : (HeldAttempt H → Standing → Reply → Standing → AttemptView H → Type 0) → Option (HeldAttempt H)
+  abbrev pub IfHeld : (HeldAttempt H → Standing → Reply → Standing → Attempt H → Type 0) → Option (HeldAttempt H)
       → Standing → List (HeldAttempt H) → Reply → Standing → List (HeldAttempt H) → Type 0
   IfHeld Does None old held answer new more = (answer ≡ reply.Refused refusal.AttemptNotHeld) × Stays old new × (more ≡ held)
-  IfHeld Does (Some one) old held answer new more = (changed : AttemptView H) × Does one old answer new changed × (more ≡ with_attempt held one changed)
+  IfHeld Does (Some one) old held answer new more = (changed : Attempt H) × Does one old answer new changed × (more ≡ with_attempt held one changed)
+
+  -- ---- events
 
   -- what an event does to what the store stands for and to what is held, and what it answers
   abbrev pub Does : (H → Handler) → VMOptions → Event H → Standing → List (HeldAttempt H) → Reply → Standing → List (HeldAttempt H) → Type 0
   Does function options (event.Invoke one) old held answer new more = RepliesDone (λ result. Invokes one result old new) answer × (more ≡ held)
+  Does function options (event.Result id completion value) old held answer new more =
+      RepliesPlace (λ result. Completes id completion value result old new) answer × (more ≡ held)
+  Does function options (event.Tick now) old held answer new more = RepliesCount (λ result. Ticks now result old new) answer × (more ≡ held)
   Does function options (event.Begin id handler now) old held answer new more = BeginDoes options id handler now old held answer new more
-  Does function options (event.Feed id attempt count) old held answer new more = IfHeld (FeedsOne count) (held_of held id attempt) old held answer new more
-  Does function options (event.Turn id attempt) old held answer new more = IfHeld (TurnsOne function) (held_of held id attempt) old held answer new more
-  Does function options (event.Move id attempt count) old held answer new more = IfHeld (MovesOne count) (held_of held id attempt) old held answer new more
-  Does function options (event.Stop id attempt) old held answer new more = RepliesDone (λ result. Stops id attempt result old new) answer × (more ≡ held)
+  Does function options (event.Feed id number count) old held answer new more = IfHeld (FeedsOne count) (held_of held id number) old held answer new more
+  Does function options (event.Close id number) old held answer new more = IfHeld ClosesOne (held_of held id number) old held answer new more
+  Does function options (event.Turn id number) old held answer new more = IfHeld (TurnsOne function) (held_of held id number) old held answer new more
+  Does function options (event.Move id number count) old held answer new more = IfHeld (MovesOne count) (held_of held id number) old held answer new more
+  Does function options (event.Stop id number) old held answer new more = RepliesDone (λ result. Stops id number result old new) answer × (more ≡ held)
 
   -- one event
   abbrev pub Applies : (H → Handler) → VMOptions → Event H → Reply → Scheduled H → Scheduled H → Type 0
@@ -104,9 +141,3 @@ module _ {H : Type 0} where
   abbrev pub Brings : (H → Handler) → Text → Handler → Event H → Type 0
   Brings function id next (event.Begin invocation handler now) = invocation ≡ id → function handler ≡ next
   Brings function id next _ = Unit {0}
-
-  -- the numbers of an event are within their types
-  abbrev pub FitsEvent : Event H → Type 0
-  FitsEvent (event.Invoke one) = one.seed < 2 ^ 64
-  FitsEvent (event.Begin invocation handler now) = now < 2 ^ 64
-  FitsEvent _ = Unit {0}

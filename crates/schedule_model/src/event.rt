@@ -3,14 +3,22 @@ ghost use Rattle.std.specs.Prelude.{◌≡◌};
 ghost use Rattle.schedule_model.specs.Names.{name_of};
 
 use bytes::ByteStr;
-use fresh_attempt::Turn;
-use journal_model::NewInvocation;
+use journal_model::{NewInvocation, NotificationResult};
+use vm_attempt::Turn;
 
 /// What may happen next.
 #[derive(Debug, Drop)]
 pub enum Event<H> {
     /// An invocation is made.
     Invoke(NewInvocation),
+    /// A request's completion has this result.
+    Result {
+        invocation: ByteStr,
+        completion: u32,
+        value: NotificationResult,
+    },
+    /// It is this moment, in milliseconds: the sleeps that are due are over.
+    Tick(u64),
     /// An attempt is begun, at a moment in milliseconds.
     Begin {
         invocation: ByteStr,
@@ -22,6 +30,11 @@ pub enum Event<H> {
         invocation: ByteStr,
         attempt: u32,
         count: usize,
+    },
+    /// No more of its input is handed to an attempt.
+    Close {
+        invocation: ByteStr,
+        attempt: u32,
     },
     /// An attempt makes one turn.
     Turn {
@@ -63,10 +76,14 @@ impl Refusal {
 }
 
 /// What an event came to.
-#[derive(Clone, Copy, Debug, PartialEq, Eq)]
+#[derive(Debug, Drop)]
 pub enum Reply {
-    /// An invocation was made, or an attempt stopped.
+    /// An invocation was made, an input closed, or an attempt stopped.
     Done,
+    /// A result took this place of the journal.
+    Placed(u32),
+    /// So many sleeps are over.
+    Ticked(u64),
     /// An attempt of this number was begun.
     Begun(u32),
     /// So many bytes were handed out.

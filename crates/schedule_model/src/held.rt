@@ -1,6 +1,6 @@
 //! The attempts that a scheduler holds.
 use bytes::ByteStr;
-use fresh_attempt::Attempt;
+use vm_attempt::Attempt;
 
 /// An attempt that the scheduler began, by its invocation and its number.
 #[derive(Drop)]

@@ -1,10 +1,14 @@
-//! What the events of a schedule answer and leave over a store that stands for accepted events, and what they keep.
+//! What the events of a schedule answer and leave, over a store that stands for accepted events and the attempts that are held.
 #![tactic(auto)]
 
+mod attempts;
 mod event;
 mod held;
 mod laws;
+mod places;
 
+pub use attempts::HeldAttempts;
 pub use event::{Event, Refusal, Reply};
 pub use held::HeldAttempt;
-pub use laws::{attempts_are_held, schedules_follow_runs, schedules_grow};
+pub use laws::{attempts_are_held, schedules_grow};
+pub use vm_attempt::{Attempt, Turn};

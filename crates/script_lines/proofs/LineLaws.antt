@@ -1,11 +1,10 @@
 -- A line is read just where the bytes are its spelling.
-use Rattle.std.proofs.Common.{◌≡◌, ℕ, ◌^◌, ◌<◌, ◌≤◌, true, false, cond, eqb, inl, inr, List, [], ◌∷◌, Option, Some, None, refl, sym, ap, subst, ◌∙◌, arith, ◌≢◌}
-use Rattle.std.specs.Prelude.{codes, decimal, bytes_eq, nat_lt}
+use Rattle.std.proofs.Common.{◌≡◌, ℕ, ◌^◌, ◌<◌, ◌≤◌, true, false, eqb, inl, inr, List, [], ◌∷◌, ◌++◌, Option, Some, None, refl, sym, ap, subst, ◌∙◌, arith, ◌≢◌}
+use Rattle.std.specs.Prelude.{codes, decimal, nat_lt}
 use Rattle.std.specs.List.{AllByRecursion, list_all, join_with_byte, slice_split}
 use Rattle.std.specs.Str.Parse.{AllDigits}
 use Rattle.std.proofs.lemmas.Bool.{ne_eqb, eqb-false, and_parts, ltb-true}
 use Rattle.std.proofs.lemmas.Option.{none-some, same_Some}
-use Rattle.std.proofs.lemmas.Slice.Eq.{bytes_eq-Decides}
 use Rattle.std.proofs.lemmas.Fmt.{decimal_is_IsNumeral}
 use Rattle.std.proofs.lemmas.Str.Parse.{digit_from_value}
 use Rattle.std.proofs.lemmas.List.Elements.{All-from_recursion, recursion_from_All}
@@ -13,41 +12,29 @@ use Rattle.std.proofs.lemmas.List.Splits.{slice_split_at, slice_split_none, join
 use Rattle.script_lines.specs.declared.word.StateMode.{StateMode}
 use Rattle.script_lines.specs.declared.word.StateMode.TheVariants.{Whole, Hidden}
 use Rattle.script_lines.specs.declared.word.HandlerName.{HandlerName}
-use Rattle.script_lines.specs.declared.word.HandlerName.TheVariants.{Nap}
+use Rattle.script_lines.specs.declared.word.HandlerName.TheVariants.{Nap, Nap99, Race, Both, Ask, Pair}
 use Rattle.script_lines.specs.declared.word.Command.{Command}
-use Rattle.script_lines.specs.declared.word.Command.TheVariants.{Invoke as InvokeCommand, Begin as BeginCommand, Feed as FeedCommand, Turn as TurnCommand, Move as MoveCommand, Stop as StopCommand, Show as ShowCommand}
+use Rattle.script_lines.specs.declared.word.Command.TheVariants.{Invoke as InvokeCommand, Result as ResultCommand, Tick as TickCommand, Begin as BeginCommand, Feed as FeedCommand, Close as CloseCommand, Turn as TurnCommand, Move as MoveCommand, Stop as StopCommand, Show as ShowCommand}
+use Rattle.script_lines.specs.declared.value.LineValue.{LineValue}
+use Rattle.script_lines.specs.declared.value.LineValue.TheVariants.{Void, Value, Failure, InvocationId}
 use Rattle.script_lines.specs.declared.line.Line.{Line}
-use Rattle.script_lines.specs.declared.line.Line.TheVariants.{Invoke, Begin, Feed, Turn, Move, Stop, Show}
-use Rattle.script_lines.specs.Word.{text_word, IsText, IsWordByte, state_word, handler_word}
+use Rattle.script_lines.specs.declared.line.Line.TheVariants.{Invoke, Result as ResultLine, Tick, Begin, Feed, Close, Turn, Move, Stop, Show}
+use Rattle.script_lines.specs.Word.{text_word, IsText, IsWordByte, state_word, handler_word, value_word, IsValue}
 use Rattle.script_lines.specs.Line.{words_of, spelled, IsLine}
-use Rattle.script_lines.specs.Reading.{then_read, number_below, text_of, invoke_of, begin_of, feed_of, turn_of, move_of, stop_of, show_of, of_one, of_two, of_three, of_six, command_of, arguments_of, line_of}
-use Rattle.script_lines.proofs.WordLaws.{IsReading, number_reading, text_reading, state_reading, handler_reading, chosen}
+use Rattle.script_lines.specs.Reading.{then_read, text_of, invoke_of, result_of, tick_of, begin_of, feed_of, close_of, turn_of, move_of, stop_of, show_of, of_one, of_two, of_three, of_six, command_of, arguments_of, line_of}
+use Rattle.script_lines.proofs.WordLaws.{number_32, number_64, text_reading, state_reading, handler_reading, read_step, chosen, tested}
+use Rattle.script_lines.proofs.ValueLaws.{value_reading}
 
 -- the words are those of the line
 record Spells (words : List (List ℕ)) (line : Line) : Type 0 where
   is_line : IsLine line
   same : words ≡ words_of line
 
--- the value of a step that did not fail
-step : {A B : Type 0} (o : Option A) (f : A → Option B) (y : B) → then_read o f ≡ Some y → (x : A) × (o ≡ Some x) × (f x ≡ Some y)
-unfolding then_read
-step None f y e = absurd cc
-step (Some x) f y e = (x, refl, e)
-
-read_step : {A B : Type 0} {o : Option A} {f : A → Option B} {y : B} → then_read o f ≡ Some y → (x : A) × (o ≡ Some x) × (f x ≡ Some y)
-read_step {o = o} {f = f} {y = y} e = step o f y e
-
 next : {A : Type 0} {x y : A} {xs ys : List A} → x ≡ y → xs ≡ ys → x ∷ xs ≡ y ∷ ys
 next e f = cc
 
 made : (words : List (List ℕ)) (line result : Line) → Some line ≡ Some result → Spells words line → Spells words result
 made words line result e h = subst (λ (l : Line). Spells words l) (same_Some line result e) h
-
-number_32 : IsReading (number_below (2 ^ 32)) (λ number. decimal number) (λ number. number < 2 ^ 32)
-number_32 = number_reading (2 ^ 32) (omega arith)
-
-number_64 : IsReading (number_below (2 ^ 64)) (λ number. decimal number) (λ number. number < 2 ^ 64)
-number_64 = number_reading (2 ^ 64) (omega arith)
 
 -- ---- what is read is spelled so
 
@@ -62,6 +49,22 @@ invoke_takes id object version state seed input line e =
     let rt = number_64.takes seed r.0 r.1 in
     let pt = text_reading.takes input p.0 p.1 in
     made _ (Invoke i.0 o.0 v.0 s.0 r.0 p.0) line p.2 (record { is_line = (it.0, ot.0, vt.0, rt.0, pt.0); same = next refl (next it.1 (next ot.1 (next vt.1 (next st.1 (next rt.1 (next pt.1 refl)))))) })
+
+result_takes : (id completion value : List ℕ) (line : Line) → result_of id completion value ≡ Some line → Spells (codes "result" ∷ id ∷ completion ∷ value ∷ []) line
+unfolding result_of
+result_takes id completion value line e =
+    let c = read_step e in let i = read_step c.2 in let v = read_step i.2 in
+    let ct = number_32.takes completion c.0 c.1 in
+    let it = text_reading.takes id i.0 i.1 in
+    let vt = value_reading.takes value v.0 v.1 in
+    made _ (ResultLine i.0 c.0 v.0) line v.2 (record { is_line = (it.0, ct.0, vt.0); same = next refl (next it.1 (next ct.1 (next vt.1 refl))) })
+
+tick_takes : (now : List ℕ) (line : Line) → tick_of now ≡ Some line → Spells (codes "tick" ∷ now ∷ []) line
+unfolding tick_of
+tick_takes now line e =
+    let n = read_step e in
+    let nt = number_64.takes now n.0 n.1 in
+    made _ (Tick n.0) line n.2 (record { is_line = nt.0; same = next refl (next nt.1 refl) })
 
 begin_takes : (id handler now : List ℕ) (line : Line) → begin_of id handler now ≡ Some line → Spells (codes "begin" ∷ id ∷ handler ∷ now ∷ []) line
 unfolding begin_of
@@ -80,6 +83,14 @@ feed_takes id attempt count line e =
     let at = number_32.takes attempt a.0 a.1 in
     let ct = number_32.takes count c.0 c.1 in
     made _ (Feed i.0 a.0 c.0) line i.2 (record { is_line = (it.0, at.0, ct.0); same = next refl (next it.1 (next at.1 (next ct.1 refl))) })
+
+close_takes : (id attempt : List ℕ) (line : Line) → close_of id attempt ≡ Some line → Spells (codes "close" ∷ id ∷ attempt ∷ []) line
+unfolding close_of
+close_takes id attempt line e =
+    let a = read_step e in let i = read_step a.2 in
+    let it = text_reading.takes id i.0 i.1 in
+    let at = number_32.takes attempt a.0 a.1 in
+    made _ (Close i.0 a.0) line i.2 (record { is_line = (it.0, at.0); same = next refl (next it.1 (next at.1 refl)) })
 
 turn_takes : (id attempt count : List ℕ) (line : Line) → turn_of id attempt count ≡ Some line → Spells (codes "turn" ∷ id ∷ attempt ∷ count ∷ []) line
 unfolding turn_of
@@ -155,26 +166,22 @@ six_words read (a ∷ b ∷ c ∷ d ∷ e ∷ f ∷ g ∷ more) line h = absurd 
 
 abbrev command_word : Command → List ℕ
 command_word InvokeCommand = codes "invoke"
+command_word ResultCommand = codes "result"
+command_word TickCommand = codes "tick"
 command_word BeginCommand = codes "begin"
 command_word FeedCommand = codes "feed"
+command_word CloseCommand = codes "close"
 command_word TurnCommand = codes "turn"
 command_word MoveCommand = codes "move"
 command_word StopCommand = codes "stop"
 command_word ShowCommand = codes "show"
 
--- a command that was tested for, and those behind it
-tested : (word : List ℕ) (name : Command) (rest : Option Command) (command : Command) → (rest ≡ Some command → word ≡ command_word command) → cond (bytes_eq word (command_word name)) (Some name) rest ≡ Some command → word ≡ command_word command
-tested word name rest command behind e =
-    elim (chosen (bytes_eq word (command_word name)) (Some name) rest (Some command) e) [
-      | inl h ↦ (bytes_eq-Decides word (command_word name)).0 h.0 ∙ ap command_word (same_Some name command h.1)
-      | inr h ↦ behind h.1
-    ]
-
 command_takes : (word : List ℕ) (command : Command) → command_of word ≡ Some command → word ≡ command_word command
 unfolding command_of
 command_takes word command =
-    tested word InvokeCommand _ command (tested word BeginCommand _ command (tested word FeedCommand _ command (tested word TurnCommand _ command
-    (tested word MoveCommand _ command (tested word StopCommand _ command (tested word ShowCommand _ command (λ e. absurd (none-some command e))))))))
+    let test = tested command_word word in
+    test InvokeCommand _ command (test ResultCommand _ command (test TickCommand _ command (test BeginCommand _ command (test FeedCommand _ command
+    (test CloseCommand _ command (test TurnCommand _ command (test MoveCommand _ command (test StopCommand _ command (test ShowCommand _ command (λ e. absurd (none-some command e)))))))))))
 
 retold : (name : List ℕ) (words others : List (List ℕ)) (line : Line) → words ≡ others → Spells (name ∷ others) line → Spells (name ∷ words) line
 retold name words others line e h = record { is_line = h.is_line; same = ap (λ (ws : List (List ℕ)). name ∷ ws) e ∙ h.same }
@@ -182,8 +189,11 @@ retold name words others line e h = record { is_line = h.is_line; same = ap (λ 
 arguments_take : (command : Command) (words : List (List ℕ)) (line : Line) → arguments_of command words ≡ Some line → Spells (command_word command ∷ words) line
 unfolding arguments_of
 arguments_take InvokeCommand words line e = let w = six_words invoke_of words line e in retold _ words _ line w.6 (invoke_takes w.0 w.1 w.2 w.3 w.4 w.5 line w.7)
+arguments_take ResultCommand words line e = let w = three_words result_of words line e in retold _ words _ line w.3 (result_takes w.0 w.1 w.2 line w.4)
+arguments_take TickCommand words line e = let w = one_words tick_of words line e in retold _ words _ line w.1 (tick_takes w.0 line w.2)
 arguments_take BeginCommand words line e = let w = three_words begin_of words line e in retold _ words _ line w.3 (begin_takes w.0 w.1 w.2 line w.4)
 arguments_take FeedCommand words line e = let w = three_words feed_of words line e in retold _ words _ line w.3 (feed_takes w.0 w.1 w.2 line w.4)
+arguments_take CloseCommand words line e = let w = two_words close_of words line e in retold _ words _ line w.2 (close_takes w.0 w.1 line w.3)
 arguments_take TurnCommand words line e = let w = three_words turn_of words line e in retold _ words _ line w.3 (turn_takes w.0 w.1 w.2 line w.4)
 arguments_take MoveCommand words line e = let w = three_words move_of words line e in retold _ words _ line w.3 (move_takes w.0 w.1 w.2 line w.4)
 arguments_take StopCommand words line e = let w = two_words stop_of words line e in retold _ words _ line w.2 (stop_takes w.0 w.1 line w.3)
@@ -200,11 +210,14 @@ line_takes (word ∷ words) line e =
 -- ---- what is spelled so is read
 
 line_again : (line : Line) → IsLine line → line_of (words_of line) ≡ Some line
-unfolding line_of then_read command_of arguments_of of_one of_two of_three of_six invoke_of begin_of feed_of turn_of move_of stop_of show_of
+unfolding line_of then_read command_of arguments_of of_one of_two of_three of_six invoke_of result_of tick_of begin_of feed_of close_of turn_of move_of stop_of show_of
 line_again (Invoke id object version state seed input) h =
     rw (text_reading.again id h.0, text_reading.again object h.1, number_32.again version h.2, state_reading.again state tt, number_64.again seed h.3, text_reading.again input h.4) refl
+line_again (ResultLine id completion value) h = rw (text_reading.again id h.0, number_32.again completion h.1, value_reading.again value h.2) refl
+line_again (Tick now) h = rw (number_64.again now h) refl
 line_again (Begin id handler now) h = rw (text_reading.again id h.0, handler_reading.again handler tt, number_64.again now h.1) refl
 line_again (Feed id attempt count) h = rw (text_reading.again id h.0, number_32.again attempt h.1, number_32.again count h.2) refl
+line_again (Close id attempt) h = rw (text_reading.again id h.0, number_32.again attempt h.1) refl
 line_again (Turn id attempt count) h =
     let some : eqb count 0 ≡ false = ne_eqb count 0 (λ e. let least = h.2 in omega arith) in
     rw (text_reading.again id h.0, number_32.again attempt h.1, number_32.again count h.3, some) refl
@@ -248,6 +261,23 @@ state-no_space Hidden = letters (codes "none") refl
 
 handler-no_space : (handler : HandlerName) → NoSpace (handler_word handler)
 handler-no_space Nap = letters (codes "nap") refl
+handler-no_space Nap99 = letters (codes "nap99") refl
+handler-no_space Race = letters (codes "race") refl
+handler-no_space Both = letters (codes "both") refl
+handler-no_space Ask = letters (codes "ask") refl
+handler-no_space Pair = letters (codes "pair") refl
+
+joined-no_space : (front back : List ℕ) → NoSpace front → NoSpace back → NoSpace (front ++ back)
+joined-no_space [] back f b = b
+joined-no_space (byte ∷ front) back f b = (f.0, joined-no_space front back f.1 b)
+
+value-no_space : (value : LineValue) → IsValue value → NoSpace (value_word value)
+value-no_space Void h = letters (codes "void") refl
+value-no_space (Value bytes) h = (refl, (refl, printable-no_space bytes (recursion_from_All IsWordByte bytes h)))
+value-no_space (Failure code message) h =
+    let below = h.0 in
+    (refl, (refl, joined-no_space (decimal code) (58 ∷ message) (decimal-no_space code (omega arith)) (refl, printable-no_space message (recursion_from_All IsWordByte message h.1))))
+value-no_space (InvocationId id) h = (refl, (refl, (refl, printable-no_space id (recursion_from_All IsWordByte id h))))
 
 counted-no_space : (command id : List ℕ) (attempt count : ℕ) → NoSpace command → IsText id → attempt < 2 ^ 32 → count < 2 ^ 32 → AllByRecursion NoSpace (command ∷ text_word id ∷ decimal attempt ∷ decimal count ∷ [])
 counted-no_space command id attempt count h text a c = (h, (text-no_space id text, (decimal-no_space attempt (omega arith), (decimal-no_space count (omega arith), tt))))
@@ -256,10 +286,15 @@ words-no_space : (line : Line) → IsLine line → AllByRecursion NoSpace (words
 words-no_space (Invoke id object version state seed input) h =
     let v = h.2 in let s = h.3 in
     (letters (codes "invoke") refl, (text-no_space id h.0, (text-no_space object h.1, (decimal-no_space version (omega arith), (state-no_space state, (decimal-no_space seed (omega arith), (text-no_space input h.4, tt)))))))
+words-no_space (ResultLine id completion value) h =
+    let c = h.1 in
+    (letters (codes "result") refl, (text-no_space id h.0, (decimal-no_space completion (omega arith), (value-no_space value h.2, tt))))
+words-no_space (Tick now) h = (letters (codes "tick") refl, (decimal-no_space now h, tt))
 words-no_space (Begin id handler now) h =
     let n = h.1 in
     (letters (codes "begin") refl, (text-no_space id h.0, (handler-no_space handler, (decimal-no_space now (omega arith), tt))))
 words-no_space (Feed id attempt count) h = counted-no_space (codes "feed") id attempt count (letters (codes "feed") refl) h.0 h.1 h.2
+words-no_space (Close id attempt) h = let a = h.1 in (letters (codes "close") refl, (text-no_space id h.0, (decimal-no_space attempt (omega arith), tt)))
 words-no_space (Turn id attempt count) h = counted-no_space (codes "turn") id attempt count (letters (codes "turn") refl) h.0 h.1 h.3
 words-no_space (Move id attempt count) h = counted-no_space (codes "move") id attempt count (letters (codes "move") refl) h.0 h.1 h.2
 words-no_space (Stop id attempt) h = let a = h.1 in (letters (codes "stop") refl, (text-no_space id h.0, (decimal-no_space attempt (omega arith), tt)))
@@ -272,8 +307,11 @@ split_again word (other ∷ words) h =
 
 words_again : (line : Line) → IsLine line → slice_split (λ byte. eqb byte 32) (spelled line) ≡ words_of line
 words_again (Invoke id object version state seed input) h = split_again _ _ (words-no_space (Invoke id object version state seed input) h)
+words_again (ResultLine id completion value) h = split_again _ _ (words-no_space (ResultLine id completion value) h)
+words_again (Tick now) h = split_again _ _ (words-no_space (Tick now) h)
 words_again (Begin id handler now) h = split_again _ _ (words-no_space (Begin id handler now) h)
 words_again (Feed id attempt count) h = split_again _ _ (words-no_space (Feed id attempt count) h)
+words_again (Close id attempt) h = split_again _ _ (words-no_space (Close id attempt) h)
 words_again (Turn id attempt count) h = split_again _ _ (words-no_space (Turn id attempt count) h)
 words_again (Move id attempt count) h = split_again _ _ (words-no_space (Move id attempt count) h)
 words_again (Stop id attempt) h = split_again _ _ (words-no_space (Stop id attempt) h)

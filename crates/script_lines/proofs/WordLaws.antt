@@ -4,7 +4,7 @@ use Rattle.std.specs.Prelude.{◌&&◌, codes, decimal, bytes_eq, MatchResult, I
 use Rattle.std.specs.List.{AllByRecursion, list_all}
 use Rattle.std.specs.Str.Parse.{digits_value, ParsesUnsigned}
 use Rattle.std.proofs.lemmas.Bool.{ltb-true, lt-ltb, and_parts, and_from, false≢true, leb-true, le-leb}
-use Rattle.std.proofs.lemmas.Option.{cond_some, same_Some}
+use Rattle.std.proofs.lemmas.Option.{cond_some, none-some, same_Some}
 use Rattle.std.proofs.lemmas.Slice.Eq.{bytes_eq-Decides}
 use Rattle.std.proofs.lemmas.Fmt.{decimal_is_IsNumeral, parse-decimal, IsAscii-decimal}
 use Rattle.std.proofs.lemmas.Str.{IsUtf8-from_ascii}
@@ -14,9 +14,9 @@ use Rattle.std.proofs.lemmas.List.Elements.{All-from_recursion, recursion_from_A
 use Rattle.script_lines.specs.declared.word.StateMode.{StateMode}
 use Rattle.script_lines.specs.declared.word.StateMode.TheVariants.{Whole, Hidden}
 use Rattle.script_lines.specs.declared.word.HandlerName.{HandlerName}
-use Rattle.script_lines.specs.declared.word.HandlerName.TheVariants.{Nap}
+use Rattle.script_lines.specs.declared.word.HandlerName.TheVariants.{Nap, Nap99, Race, Both, Ask, Pair}
 use Rattle.script_lines.specs.Word.{text_word, IsWordByte, IsText, state_word, handler_word}
-use Rattle.script_lines.specs.Reading.{is_word_byte, number_below, text_of, state_of, handler_of}
+use Rattle.script_lines.specs.Reading.{then_read, is_word_byte, number_below, printable_of, text_of, state_of, handler_of}
 
 -- reading is the other way round from spelling
 pub record IsReading {A : Type 0} (read : List ℕ → Option A) (spelled : A → List ℕ) (IsValue : A → Type 0) : Type 0 where
@@ -31,6 +31,15 @@ none_from (Some value) never = absurd (never value refl)
 -- nothing is read where the word is no spelling
 pub not_read : {A : Type 0} {read : List ℕ → Option A} {spelled : A → List ℕ} {IsValue : A → Type 0} → IsReading read spelled IsValue → (word : List ℕ) → ((value : A) → IsValue value → word ≢ spelled value) → read word ≡ None
 not_read {read = read} law word never = none_from (read word) (λ value e. let t = law.takes word value e in never value t.0 t.1)
+
+-- the value of a step that did not fail
+step : {A B : Type 0} (o : Option A) (f : A → Option B) (y : B) → then_read o f ≡ Some y → (x : A) × (o ≡ Some x) × (f x ≡ Some y)
+unfolding then_read
+step None f y e = absurd cc
+step (Some x) f y e = (x, refl, e)
+
+pub read_step : {A B : Type 0} {o : Option A} {f : A → Option B} {y : B} → then_read o f ≡ Some y → (x : A) × (o ≡ Some x) × (f x ≡ Some y)
+read_step {o = o} {f = f} {y = y} e = step o f y e
 
 -- ---- numbers
 
@@ -51,6 +60,15 @@ number_again limit number wide below =
 
 pub number_reading : (limit : ℕ) → limit ≤ 2 ^ 64 → IsReading (number_below limit) (λ number. decimal number) (λ number. number < limit)
 number_reading limit wide = record { takes = number_takes limit; again = λ number below. number_again limit number wide below }
+
+pub number_16 : IsReading (number_below (2 ^ 16)) (λ number. decimal number) (λ number. number < 2 ^ 16)
+number_16 = number_reading (2 ^ 16) (omega arith)
+
+pub number_32 : IsReading (number_below (2 ^ 32)) (λ number. decimal number) (λ number. number < 2 ^ 32)
+number_32 = number_reading (2 ^ 32) (omega arith)
+
+pub number_64 : IsReading (number_below (2 ^ 64)) (λ number. decimal number) (λ number. number < 2 ^ 64)
+number_64 = number_reading (2 ^ 64) (omega arith)
 
 -- a `Result` whose value is, or isn't, taken by `ok`
 ok_of : {A E : Type 0} (r : Result A E) (x : A) → result_ok r ≡ Some x → r ≡ Ok x
@@ -126,24 +144,37 @@ text_word-some : (text : List ℕ) → 0 < length text → text_word text ≡ te
 text_word-some [] long = absurd (omega arith)
 text_word-some (byte ∷ bytes) long = refl
 
+pub printable_takes : (bytes text : List ℕ) → printable_of bytes ≡ Some text → AllByRecursion IsWordByte text × (bytes ≡ text)
+unfolding printable_of
+printable_takes bytes text e =
+    let found = cond_some (list_all is_word_byte bytes) bytes text e in
+    (subst (λ (t : List ℕ). AllByRecursion IsWordByte t) found.1 (printable_from bytes found.0), found.1)
+
+pub printable_again : (text : List ℕ) → AllByRecursion IsWordByte text → printable_of text ≡ Some text
+unfolding printable_of
+printable_again text h = rw (printable_to text h) refl
+
 text_takes : (word text : List ℕ) → text_of word ≡ Some text → IsText text × (word ≡ text_word text)
 unfolding text_of
 text_takes word text e =
-    elim (chosen (bytes_eq word (codes "-")) (Some []) (cond (ltb 0 (length word) && list_all is_word_byte word) (Some word) None) (Some text) e) [
+    elim (chosen (bytes_eq word (codes "-")) (Some []) (cond (ltb 0 (length word)) (printable_of word) None) (Some text) e) [
       | inl dash ↦
           let P : List ℕ → Type 0 = λ t. IsText t × (word ≡ text_word t) in
           subst P (same_Some [] text dash.1) (record { bytes = All-from_recursion IsWordByte [] tt; no_dash = λ h. cc }, (bytes_eq-Decides word (codes "-")).0 dash.0)
       | inr other ↦
-          let P : List ℕ → Type 0 = λ t. IsText t × (word ≡ text_word t) in
-          let found = cond_some (ltb 0 (length word) && list_all is_word_byte word) word text other.1 in
-          let tests = and_parts (ltb 0 (length word)) (list_all is_word_byte word) found.0 in
-          subst P found.1 (
-            record {
-              bytes = All-from_recursion IsWordByte word (printable_from word tests.1);
-              no_dash = λ h. false≢true (sym other.0 ∙ (bytes_eq-Decides word (codes "-")).1 h);
-            },
-            sym (text_word-some word (ltb-true _ _ tests.0)),
-          )
+          elim (chosen (ltb 0 (length word)) (printable_of word) None (Some text) other.1) [
+            | inl some ↦
+                let P : List ℕ → Type 0 = λ t. IsText t × (word ≡ text_word t) in
+                let found = printable_takes word text some.1 in
+                subst P found.1 (
+                  record {
+                    bytes = All-from_recursion IsWordByte word (subst (λ (t : List ℕ). AllByRecursion IsWordByte t) (sym found.1) found.0);
+                    no_dash = λ h. false≢true (sym other.0 ∙ (bytes_eq-Decides word (codes "-")).1 h);
+                  },
+                  sym (text_word-some word (ltb-true _ _ some.0)),
+                )
+            | inr none ↦ absurd (none-some text none.1)
+          ]
     ]
 
 text_again : (text : List ℕ) → IsText text → text_of (text_word text) ≡ Some text
@@ -152,8 +183,7 @@ text_again [] h = refl
 text_again (byte ∷ bytes) h =
     let other : bytes_eq (byte ∷ bytes) (codes "-") ≡ false = not_true _ (λ e. h.no_dash ((bytes_eq-Decides (byte ∷ bytes) (codes "-")).0 e)) in
     let long : ltb 0 (length (byte ∷ bytes)) ≡ true = lt-ltb _ _ (omega arith) in
-    let printable : list_all is_word_byte (byte ∷ bytes) ≡ true = printable_to (byte ∷ bytes) (recursion_from_All IsWordByte (byte ∷ bytes) h.bytes) in
-    rw (other, long, printable) refl
+    rw (other, long) (printable_again (byte ∷ bytes) (recursion_from_All IsWordByte (byte ∷ bytes) h.bytes))
 
 pub text_reading : IsReading text_of text_word IsText
 text_reading = record { takes = text_takes; again = text_again }
@@ -187,15 +217,28 @@ state_again Hidden h = refl
 pub state_reading : IsReading state_of state_word (λ _. Unit {0})
 state_reading = record { takes = state_takes; again = state_again }
 
+-- a name that was tested for, and those behind it
+pub tested : {A : Type 0} (spelled : A → List ℕ) (word : List ℕ) (name : A) (rest : Option A) (value : A) → (rest ≡ Some value → word ≡ spelled value) → cond (bytes_eq word (spelled name)) (Some name) rest ≡ Some value → word ≡ spelled value
+tested spelled word name rest value behind e =
+    elim (chosen (bytes_eq word (spelled name)) (Some name) rest (Some value) e) [
+      | inl h ↦ (bytes_eq-Decides word (spelled name)).0 h.0 ∙ ap spelled (same_Some name value h.1)
+      | inr h ↦ behind h.1
+    ]
+
 handler_takes : (word : List ℕ) (handler : HandlerName) → handler_of word ≡ Some handler → Unit {0} × (word ≡ handler_word handler)
 unfolding handler_of
 handler_takes word handler e =
-    let found = cond_some (bytes_eq word (codes "nap")) Nap handler e in
-    (tt, (bytes_eq-Decides word (codes "nap")).0 found.0 ∙ ap handler_word found.1)
+    let test = tested handler_word word in
+    (tt, test Nap _ handler (test Nap99 _ handler (test Race _ handler (test Both _ handler (test Ask _ handler (test Pair _ handler (λ none. absurd (none-some handler none))))))) e)
 
 handler_again : (handler : HandlerName) → Unit {0} → handler_of (handler_word handler) ≡ Some handler
 unfolding handler_of
 handler_again Nap h = refl
+handler_again Nap99 h = refl
+handler_again Race h = refl
+handler_again Both h = refl
+handler_again Ask h = refl
+handler_again Pair h = refl
 
 pub handler_reading : IsReading handler_of handler_word (λ _. Unit {0})
 handler_reading = record { takes = handler_takes; again = handler_again }

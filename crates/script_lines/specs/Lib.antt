@@ -4,3 +4,4 @@ pub mod Reading
 pub mod Script
 pub mod ScriptLines
 pub mod Text
+pub mod Arrival

@@ -2,15 +2,18 @@
 use Rattle.std.specs.Prelude.{ℕ, ◌<◌, ◌≤◌, ◌^◌, List, [], ◌∷◌, codes, decimal}
 use Rattle.std.specs.List.{join_with_byte}
 use Rattle.script_lines.specs.declared.line.Line.{Line}
-use Rattle.script_lines.specs.declared.line.Line.TheVariants.{Invoke, Begin, Feed, Turn, Move, Stop, Show}
-use Rattle.script_lines.specs.Word.{text_word, IsText, state_word, handler_word}
+use Rattle.script_lines.specs.declared.line.Line.TheVariants.{Invoke, Result, Tick, Begin, Feed, Close, Turn, Move, Stop, Show}
+use Rattle.script_lines.specs.Word.{text_word, IsText, state_word, handler_word, value_word, IsValue}
 
 -- the words of a line: a command, and what it is about; numbers are decimal
 abbrev pub words_of : Line → List (List ℕ)
 words_of (Invoke id object version state seed input) =
     codes "invoke" ∷ text_word id ∷ text_word object ∷ decimal version ∷ state_word state ∷ decimal seed ∷ text_word input ∷ []
+words_of (Result id completion value) = codes "result" ∷ text_word id ∷ decimal completion ∷ value_word value ∷ []
+words_of (Tick now) = codes "tick" ∷ decimal now ∷ []
 words_of (Begin id handler now) = codes "begin" ∷ text_word id ∷ handler_word handler ∷ decimal now ∷ []
 words_of (Feed id attempt count) = codes "feed" ∷ text_word id ∷ decimal attempt ∷ decimal count ∷ []
+words_of (Close id attempt) = codes "close" ∷ text_word id ∷ decimal attempt ∷ []
 words_of (Turn id attempt count) = codes "turn" ∷ text_word id ∷ decimal attempt ∷ decimal count ∷ []
 words_of (Move id attempt count) = codes "move" ∷ text_word id ∷ decimal attempt ∷ decimal count ∷ []
 words_of (Stop id attempt) = codes "stop" ∷ text_word id ∷ decimal attempt ∷ []
@@ -24,8 +27,11 @@ spelled line = join_with_byte 32 (words_of line)
 abbrev pub IsLine : Line → Type 0
 IsLine (Invoke id object version state seed input) =
     IsText id × IsText object × (version < 2 ^ 32) × (seed < 2 ^ 64) × IsText input
+IsLine (Result id completion value) = IsText id × (completion < 2 ^ 32) × IsValue value
+IsLine (Tick now) = now < 2 ^ 64
 IsLine (Begin id handler now) = IsText id × (now < 2 ^ 64)
 IsLine (Feed id attempt count) = IsText id × (attempt < 2 ^ 32) × (count < 2 ^ 32)
+IsLine (Close id attempt) = IsText id × (attempt < 2 ^ 32)
 IsLine (Turn id attempt count) = IsText id × (attempt < 2 ^ 32) × (1 ≤ count) × (count < 2 ^ 32)
 IsLine (Move id attempt count) = IsText id × (attempt < 2 ^ 32) × (count < 2 ^ 32)
 IsLine (Stop id attempt) = IsText id × (attempt < 2 ^ 32)

@@ -1,18 +1,20 @@
 -- Reading a line from its words, as a computation: what the parts of the reader cite. What asks for no memory is read first. That it reads just
 -- the spellings of lines is what the public reader says.
-use Rattle.std.specs.Prelude.{◌≡◌, ℕ, ◌^◌, ◌&&◌, ◌==◌, Bool, List, [], ◌∷◌, length, Option, Some, None, Result, Ok, Err, option_and_then, codes, if◌then◌else◌, bytes_eq, decimal, nat_lt, nat_le}
-use Rattle.std.specs.List.{list_all}
+use Rattle.std.specs.Prelude.{◌≡◌, ℕ, ◌+◌, ◌^◌, ◌&&◌, ◌==◌, Bool, List, take, drop, option_map, [], ◌∷◌, length, Option, Some, None, Result, Ok, Err, option_and_then, codes, if◌then◌else◌, bytes_eq, decimal, nat_lt, nat_le}
+use Rattle.std.specs.List.{list_all, position}
 use Rattle.std.specs.Str.Parse.{digits_value}
 use Rattle.script_lines.specs.declared.word.StateMode.{StateMode}
 use Rattle.script_lines.specs.declared.word.StateMode.TheVariants.{Whole, Hidden}
 use Rattle.script_lines.specs.declared.word.HandlerName.{HandlerName}
-use Rattle.script_lines.specs.declared.word.HandlerName.TheVariants.{Nap}
+use Rattle.script_lines.specs.declared.word.HandlerName.TheVariants.{Nap, Nap99, Race, Both, Ask, Pair}
 use Rattle.script_lines.specs.declared.word.LineError.{LineError}
 use Rattle.script_lines.specs.declared.word.LineError.TheVariants.{NotUnderstood, Memory}
 use Rattle.script_lines.specs.declared.word.Command.{Command}
-use Rattle.script_lines.specs.declared.word.Command.TheVariants.{Invoke as InvokeCommand, Begin as BeginCommand, Feed as FeedCommand, Turn as TurnCommand, Move as MoveCommand, Stop as StopCommand, Show as ShowCommand}
+use Rattle.script_lines.specs.declared.word.Command.TheVariants.{Invoke as InvokeCommand, Result as ResultCommand, Tick as TickCommand, Begin as BeginCommand, Feed as FeedCommand, Close as CloseCommand, Turn as TurnCommand, Move as MoveCommand, Stop as StopCommand, Show as ShowCommand}
+use Rattle.script_lines.specs.declared.value.LineValue.{LineValue}
+use Rattle.script_lines.specs.declared.value.LineValue.TheVariants.{Void, Value, Failure, InvocationId}
 use Rattle.script_lines.specs.declared.line.Line.{Line}
-use Rattle.script_lines.specs.declared.line.Line.TheVariants.{Invoke, Begin, Feed, Turn, Move, Stop, Show}
+use Rattle.script_lines.specs.declared.line.Line.TheVariants.{Invoke, Result as ResultLine, Tick, Begin, Feed, Close, Turn, Move, Stop, Show}
 
 -- the next step of a reading, where there was a value so far
 unfoldable pub then_read : {A B : Type 0} → Option A → (A → Option B) → Option B
@@ -36,16 +38,52 @@ number_below limit word = let number = digits_value 10 word in
 abbrev pub is_word_byte : ℕ → Bool
 is_word_byte byte = nat_le 33 byte && nat_le byte 126
 
+unfoldable pub printable_of : List ℕ → Option (List ℕ)
+printable_of bytes = if list_all is_word_byte bytes then Some bytes else None
+
 unfoldable pub text_of : List ℕ → Option (List ℕ)
 text_of word = if bytes_eq word (codes "-") then Some [] else
-    (if nat_lt 0 (length word) && list_all is_word_byte word then Some word else None)
+    (if nat_lt 0 (length word) then printable_of word else None)
 
 unfoldable pub state_of : List ℕ → Option StateMode
 state_of word = if bytes_eq word (codes "whole") then Some Whole else
     (if bytes_eq word (codes "none") then Some Hidden else None)
 
 unfoldable pub handler_of : List ℕ → Option HandlerName
-handler_of word = if bytes_eq word (codes "nap") then Some Nap else None
+handler_of word =
+    if bytes_eq word (codes "nap") then Some Nap else
+    (if bytes_eq word (codes "nap99") then Some Nap99 else
+    (if bytes_eq word (codes "race") then Some Race else
+    (if bytes_eq word (codes "both") then Some Both else
+    (if bytes_eq word (codes "ask") then Some Ask else
+    (if bytes_eq word (codes "pair") then Some Pair else None)))))
+
+-- what stands before the first colon, and behind it
+unfoldable pub at_colon : List ℕ → Option (List ℕ × List ℕ)
+at_colon bytes = option_map (λ place. (take place bytes, drop (place + 1) bytes)) (position (λ byte. byte == 58) bytes)
+
+unfoldable pub failure_of : List ℕ → Option LineValue
+failure_of bytes = do
+  parts ← at_colon bytes
+  code ← number_below (2 ^ 16) parts.0
+  message ← printable_of parts.1
+  Some (Failure code message)
+
+-- the value of a kind, spelled behind the colon
+unfoldable pub value_in : List ℕ → List ℕ → Option LineValue
+value_in kind text =
+    if bytes_eq kind (codes "v") then (do
+      bytes ← printable_of text
+      Some (Value bytes)) else
+    (if bytes_eq kind (codes "f") then failure_of text else
+    (if bytes_eq kind (codes "id") then (do
+      id ← printable_of text
+      Some (InvocationId id)) else None))
+
+unfoldable pub value_of : List ℕ → Option LineValue
+value_of word = if bytes_eq word (codes "void") then Some Void else (do
+  parts ← at_colon word
+  value_in parts.0 parts.1)
 
 unfoldable pub invoke_of : List ℕ → List ℕ → List ℕ → List ℕ → List ℕ → List ℕ → Option Line
 invoke_of id object version state seed input = do
@@ -56,6 +94,18 @@ invoke_of id object version state seed input = do
   object ← text_of object
   input ← text_of input
   Some (Invoke id object version state seed input)
+
+unfoldable pub result_of : List ℕ → List ℕ → List ℕ → Option Line
+result_of id completion value = do
+  completion ← number_below (2 ^ 32) completion
+  id ← text_of id
+  value ← value_of value
+  Some (ResultLine id completion value)
+
+unfoldable pub tick_of : List ℕ → Option Line
+tick_of now = do
+  now ← number_below (2 ^ 64) now
+  Some (Tick now)
 
 unfoldable pub begin_of : List ℕ → List ℕ → List ℕ → Option Line
 begin_of id handler now = do
@@ -70,6 +120,12 @@ feed_of id attempt count = do
   count ← number_below (2 ^ 32) count
   id ← text_of id
   Some (Feed id attempt count)
+
+unfoldable pub close_of : List ℕ → List ℕ → Option Line
+close_of id attempt = do
+  attempt ← number_below (2 ^ 32) attempt
+  id ← text_of id
+  Some (Close id attempt)
 
 unfoldable pub turn_of : List ℕ → List ℕ → List ℕ → Option Line
 turn_of id attempt count = do
@@ -117,17 +173,23 @@ of_six read words = None
 unfoldable pub command_of : List ℕ → Option Command
 command_of word =
     if bytes_eq word (codes "invoke") then Some InvokeCommand else
+    (if bytes_eq word (codes "result") then Some ResultCommand else
+    (if bytes_eq word (codes "tick") then Some TickCommand else
     (if bytes_eq word (codes "begin") then Some BeginCommand else
     (if bytes_eq word (codes "feed") then Some FeedCommand else
+    (if bytes_eq word (codes "close") then Some CloseCommand else
     (if bytes_eq word (codes "turn") then Some TurnCommand else
     (if bytes_eq word (codes "move") then Some MoveCommand else
     (if bytes_eq word (codes "stop") then Some StopCommand else
-    (if bytes_eq word (codes "show") then Some ShowCommand else None))))))
+    (if bytes_eq word (codes "show") then Some ShowCommand else None)))))))))
 
 unfoldable pub arguments_of : Command → List (List ℕ) → Option Line
 arguments_of InvokeCommand = of_six invoke_of
+arguments_of ResultCommand = of_three result_of
+arguments_of TickCommand = of_one tick_of
 arguments_of BeginCommand = of_three begin_of
 arguments_of FeedCommand = of_three feed_of
+arguments_of CloseCommand = of_two close_of
 arguments_of TurnCommand = of_three turn_of
 arguments_of MoveCommand = of_three move_of
 arguments_of StopCommand = of_two stop_of

@@ -4,9 +4,9 @@ use Rattle.std.specs.List.{flat_map}
 use Rattle.std.specs.Int.{w16, to_be_bytes}
 use Rattle.std.specs.Fmt.{digit_glyph}
 use Rattle.script_lines.specs.declared.text.LastTurn.{LastTurn}
-use Rattle.script_lines.specs.declared.text.LastTurn.TheVariants.{Answered, Waiting, Ended, Failed}
+use Rattle.script_lines.specs.declared.text.LastTurn.TheVariants.{Answered, Waiting, Suspended, Ended, Failed}
 use Rattle.script_lines.specs.declared.text.LineReply.{LineReply}
-use Rattle.script_lines.specs.declared.text.LineReply.TheVariants.{Done, Begun, Fed, Turned, Moved, Refused}
+use Rattle.script_lines.specs.declared.text.LineReply.TheVariants.{Done, Placed, Ticked, Begun, Fed, Turned, Moved, Refused}
 use Rattle.script_lines.specs.declared.text.ShownRequest.{ShownRequest}
 use Rattle.script_lines.specs.declared.text.ShownAnswer.{ShownAnswer}
 use Rattle.script_lines.specs.declared.text.ShownAnswer.TheVariants.{Missing, Value, Failure}
@@ -23,6 +23,7 @@ hex_text (byte ∷ bytes) = flat_map hex_byte (byte ∷ bytes)
 abbrev pub turn_text : LastTurn → List ℕ
 turn_text Answered = codes "answered"
 turn_text Waiting = codes "waiting"
+turn_text Suspended = codes "suspended"
 turn_text Ended = codes "ended"
 turn_text (Failed code) = codes "failed " ++ decimal code
 
@@ -37,6 +38,8 @@ refused_text name = codes "refused " ++ name
 
 abbrev pub reply_text : LineReply → List ℕ
 reply_text Done = codes "ok"
+reply_text (Placed place) = codes "place " ++ decimal place
+reply_text (Ticked sleeps) = codes "done " ++ decimal sleeps
 reply_text (Begun attempt) = codes "attempt " ++ decimal attempt
 reply_text (Fed bytes) = codes "fed " ++ decimal bytes
 reply_text (Turned count last) = codes "turn " ++ decimal count ++ codes " " ++ turn_text last

@@ -1,9 +1,11 @@
 -- What the words of a script's line spell.
-use Rattle.std.specs.Prelude.{◌≡◌, ◌≢◌, ℕ, ◌≤◌, List, [], ◌∷◌, All, Option, Some, None, codes}
+use Rattle.std.specs.Prelude.{◌≡◌, ◌≢◌, ℕ, ◌^◌, ◌<◌, ◌≤◌, List, [], ◌∷◌, ◌++◌, All, Option, Some, None, codes, decimal}
 use Rattle.script_lines.specs.declared.word.StateMode.{StateMode}
 use Rattle.script_lines.specs.declared.word.StateMode.TheVariants.{Whole, Hidden}
 use Rattle.script_lines.specs.declared.word.HandlerName.{HandlerName}
-use Rattle.script_lines.specs.declared.word.HandlerName.TheVariants.{Nap}
+use Rattle.script_lines.specs.declared.word.HandlerName.TheVariants.{Nap, Nap99, Race, Both, Ask, Pair}
+use Rattle.script_lines.specs.declared.value.LineValue.{LineValue}
+use Rattle.script_lines.specs.declared.value.LineValue.TheVariants.{Void, Value, Failure, InvocationId}
 
 -- what a reader answers: the value that the bytes spell, and nothing where they spell none
 abbrev pub Reads : {A : Type 0} → (A → List ℕ) → (A → Type 0) → List ℕ → Option A → Type 0
@@ -30,3 +32,22 @@ state_word Hidden = codes "none"
 
 abbrev pub handler_word : HandlerName → List ℕ
 handler_word Nap = codes "nap"
+handler_word Nap99 = codes "nap99"
+handler_word Race = codes "race"
+handler_word Both = codes "both"
+handler_word Ask = codes "ask"
+handler_word Pair = codes "pair"
+
+-- a value's word; the text behind a colon (58) is as it is, and may be empty
+abbrev pub value_word : LineValue → List ℕ
+value_word Void = codes "void"
+value_word (Value bytes) = codes "v:" ++ bytes
+value_word (Failure code message) = codes "f:" ++ decimal code ++ 58 ∷ message
+value_word (InvocationId id) = codes "id:" ++ id
+
+-- the values that have a word
+abbrev pub IsValue : LineValue → Type 0
+IsValue Void = Unit {0}
+IsValue (Value bytes) = All IsWordByte bytes
+IsValue (Failure code message) = (code < 2 ^ 16) × All IsWordByte message
+IsValue (InvocationId id) = All IsWordByte id

@@ -1,12 +1,13 @@
 //! The lines of a script.
-#![tactic(auto, unfolding(crate::specs::Reading::then_read, crate::specs::Reading::invoke_of, crate::specs::Reading::begin_of, crate::specs::Reading::feed_of, crate::specs::Reading::turn_of, crate::specs::Reading::move_of, crate::specs::Reading::stop_of, crate::specs::Reading::show_of, crate::specs::Reading::of_one, crate::specs::Reading::of_two, crate::specs::Reading::of_three, crate::specs::Reading::of_six))]
+#![tactic(auto, unfolding(crate::specs::Reading::then_read, crate::specs::Reading::invoke_of, crate::specs::Reading::result_of, crate::specs::Reading::tick_of, crate::specs::Reading::begin_of, crate::specs::Reading::feed_of, crate::specs::Reading::close_of, crate::specs::Reading::turn_of, crate::specs::Reading::move_of, crate::specs::Reading::stop_of, crate::specs::Reading::show_of, crate::specs::Reading::of_one, crate::specs::Reading::of_two, crate::specs::Reading::of_three, crate::specs::Reading::of_six))]
 
 ghost use Rattle.std.specs.Prelude.{◌≡◌, ◌==◌, map, IfOk};
 ghost use Rattle.std.specs.List.{slice_split};
 ghost use Rattle.script_lines.specs.Word.{Reads};
 ghost use Rattle.script_lines.specs.Line.{spelled, IsLine};
-ghost use Rattle.script_lines.specs.Reading.{Gives, invoke_of, begin_of, feed_of, turn_of, move_of, stop_of, show_of, of_one, of_two, of_three, of_six, line_of};
+ghost use Rattle.script_lines.specs.Reading.{Gives, invoke_of, result_of, tick_of, begin_of, feed_of, close_of, turn_of, move_of, stop_of, show_of, of_one, of_two, of_three, of_six, line_of};
 
+use crate::value::{LineValue, parse_value};
 use crate::word::{
     Command, HandlerName, LineError, StateMode, parse_command, parse_handler, parse_state,
     parse_text, parse_u32, parse_u64,
@@ -27,6 +28,16 @@ pub enum Line {
         seed: u64,
         input: Bytes,
     },
+    /// Brings what a request was made for, by the number that its completion has.
+    Result {
+        id: ByteStr,
+        completion: u32,
+        value: LineValue,
+    },
+    /// Lets it be this moment, in milliseconds.
+    Tick {
+        now: u64,
+    },
     /// Begins an attempt with a handler, at a moment in milliseconds.
     Begin {
         id: ByteStr,
@@ -38,6 +49,11 @@ pub enum Line {
         id: ByteStr,
         attempt: u32,
         count: u32,
+    },
+    /// Tells the attempt that no more input comes.
+    Close {
+        id: ByteStr,
+        attempt: u32,
     },
     /// Takes up to `count` turns, at least one.
     Turn {
@@ -98,6 +114,32 @@ fn parse_invocation(
     })
 }
 
+fn parse_arrival(alloc: Global, arguments: &[&[u8]]) -> Result<Line, LineError>
+    ensures { Gives result (of_three result_of (map (λ word. word.now) arguments.now)) }
+{
+    let [id, completion, value] = arguments else {
+        return Err(LineError::NotUnderstood);
+    };
+    let completion = parse_u32(completion).ok_or(LineError::NotUnderstood)?;
+    let id = parse_text(alloc, id)?;
+    let value = parse_value(alloc, value)?;
+    Ok(Line::Result {
+        id,
+        completion,
+        value,
+    })
+}
+
+fn parse_tick(arguments: &[&[u8]]) -> Result<Line, LineError>
+    ensures { Gives result (of_one tick_of (map (λ word. word.now) arguments.now)) }
+{
+    let [now] = arguments else {
+        return Err(LineError::NotUnderstood);
+    };
+    let now = parse_u64(now).ok_or(LineError::NotUnderstood)?;
+    Ok(Line::Tick { now })
+}
+
 fn parse_begin(alloc: Global, arguments: &[&[u8]]) -> Result<Line, LineError>
     ensures { Gives result (of_three begin_of (map (λ word. word.now) arguments.now)) }
 {
@@ -120,6 +162,17 @@ fn parse_feed(alloc: Global, arguments: &[&[u8]]) -> Result<Line, LineError>
     let count = parse_u32(count).ok_or(LineError::NotUnderstood)?;
     let id = parse_text(alloc, id)?;
     Ok(Line::Feed { id, attempt, count })
+}
+
+fn parse_close(alloc: Global, arguments: &[&[u8]]) -> Result<Line, LineError>
+    ensures { Gives result (of_two close_of (map (λ word. word.now) arguments.now)) }
+{
+    let [id, attempt] = arguments else {
+        return Err(LineError::NotUnderstood);
+    };
+    let attempt = parse_u32(attempt).ok_or(LineError::NotUnderstood)?;
+    let id = parse_text(alloc, id)?;
+    Ok(Line::Close { id, attempt })
 }
 
 fn parse_turn(alloc: Global, arguments: &[&[u8]]) -> Result<Line, LineError>
@@ -186,8 +239,11 @@ fn parse_words(alloc: Global, words: &[&[u8]]) -> Result<Line, LineError>
     };
     match parse_command(command).ok_or(LineError::NotUnderstood)? {
         Command::Invoke => parse_invoke(alloc, arguments),
+        Command::Result => parse_arrival(alloc, arguments),
+        Command::Tick => parse_tick(arguments),
         Command::Begin => parse_begin(alloc, arguments),
         Command::Feed => parse_feed(alloc, arguments),
+        Command::Close => parse_close(alloc, arguments),
         Command::Turn => parse_turn(alloc, arguments),
         Command::Move => parse_move(alloc, arguments),
         Command::Stop => parse_stop(alloc, arguments),

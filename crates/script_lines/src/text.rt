@@ -48,6 +48,8 @@ pub enum LastTurn {
     Answered,
     /// The attempt waits for input.
     Waiting,
+    /// The attempt is suspended: it has told what it waits for.
+    Suspended,
     /// The handler has ended.
     Ended,
     /// The attempt has failed, with this error code.
@@ -63,6 +65,7 @@ impl fmt::Display for LastTurn {
         match self {
             LastTurn::Answered => write!(f, "answered"),
             LastTurn::Waiting => write!(f, "waiting"),
+            LastTurn::Suspended => write!(f, "suspended"),
             LastTurn::Ended => write!(f, "ended"),
             LastTurn::Failed(code) => write!(f, "failed {code}"),
         }
@@ -72,8 +75,12 @@ impl fmt::Display for LastTurn {
 /// What a line came to, but for `show`. A refusal goes by its printed name, as `S9`.
 #[derive(Clone, Copy)]
 pub enum LineReply {
-    /// An invocation was made, or an attempt stopped.
+    /// An invocation was made, an input closed, or an attempt stopped.
     Done,
+    /// What was brought took this place of the journal.
+    Placed(u32),
+    /// So many sleeps are over.
+    Ticked(u64),
     /// An attempt of this number was begun.
     Begun(u32),
     /// So many bytes were handed out.
@@ -101,6 +108,8 @@ impl fmt::Display for LineReply {
     fn fmt<W: fmt::Write>(&self, f: &mut fmt::Formatter<W>) -> fmt::Result {
         match self {
             LineReply::Done => write!(f, "ok"),
+            LineReply::Placed(place) => write!(f, "place {place}"),
+            LineReply::Ticked(sleeps) => write!(f, "done {sleeps}"),
             LineReply::Begun(attempt) => write!(f, "attempt {attempt}"),
             LineReply::Fed(bytes) => write!(f, "fed {bytes}"),
             LineReply::Turned { count, last } => write!(f, "turn {count} {last}"),

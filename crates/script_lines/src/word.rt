@@ -3,7 +3,7 @@
 ghost use Rattle.std.specs.Prelude.{◌≡◌, ◌^◌};
 ghost use Rattle.std.specs.List.{list_all};
 ghost use Rattle.script_lines.specs.declared.word.LineError.TheVariants.{Memory};
-ghost use Rattle.script_lines.specs.Reading.{Gives, is_word_byte, number_below, text_of, state_of, handler_of, command_of};
+ghost use Rattle.script_lines.specs.Reading.{Gives, is_word_byte, number_below, printable_of, text_of, state_of, handler_of, command_of};
 
 use bytes::{ByteStr, Bytes};
 use itoa::Buffer;
@@ -31,8 +31,11 @@ impl From<AllocError> for LineError {
 #[derive(Clone, Copy)]
 pub enum Command {
     Invoke,
+    Result,
+    Tick,
     Begin,
     Feed,
+    Close,
     Turn,
     Move,
     Stop,
@@ -53,9 +56,28 @@ pub enum StateMode {
 pub enum HandlerName {
     /// Sleeps until 10 and answers `ok`.
     Nap,
+    /// Sleeps until 99 and answers `ok`.
+    Nap99,
+    /// Sleeps until 20 and until 10, and answers which was over first.
+    Race,
+    /// Sleeps until 10 and until 20, waits for both, and answers `ok`.
+    Both,
+    /// Makes a call, and answers its result.
+    Ask,
+    /// Makes two calls, waits for both, and answers `ok`.
+    Pair,
 }
 
-/// The number below 2^32 that a word spells: the one whose printed form the word is.
+/// The number below 2^16 that a word spells: the one whose printed form the word is.
+pub fn parse_u16(word: &[u8]) -> Option<u16>
+    ensures { result ≡ number_below (2 ^ 16) word.now }
+{
+    let number = str::from_utf8(word).ok()?.parse::<u16>().ok()?;
+    let is_spelling = Buffer::new().format(number).as_bytes() == word;
+    is_spelling.then_some(number)
+}
+
+/// The number below 2^32 that a word spells.
 pub fn parse_u32(word: &[u8]) -> Option<u32>
     ensures { result ≡ number_below (2 ^ 32) word.now }
 {
@@ -80,6 +102,18 @@ fn is_printable(bytes: &[u8]) -> bool
     bytes.iter().all(|byte| *byte >= b'!' && *byte <= b'~')
 }
 
+/// The text of these bytes, which may be none.
+#[tactic(auto, unfolding(crate::specs::Reading::printable_of))]
+pub fn parse_printable(alloc: Global, bytes: &[u8]) -> Result<ByteStr, LineError>
+    ensures { Gives result (printable_of bytes.now) }
+{
+    if !is_printable(bytes) {
+        return Err(LineError::NotUnderstood);
+    }
+    let bytes = Bytes::copy_from_slice(alloc, bytes)?;
+    Ok(ByteStr::from_known_utf8(bytes))
+}
+
 /// The text that a word spells.
 #[tactic(auto, unfolding(crate::specs::Reading::text_of))]
 pub fn parse_text(alloc: Global, word: &[u8]) -> Result<ByteStr, LineError>
@@ -88,11 +122,10 @@ pub fn parse_text(alloc: Global, word: &[u8]) -> Result<ByteStr, LineError>
     if word == b"-".as_slice() {
         return Ok(ByteStr::new());
     }
-    if word.is_empty() || !is_printable(word) {
+    if word.is_empty() {
         return Err(LineError::NotUnderstood);
     }
-    let bytes = Bytes::copy_from_slice(alloc, word)?;
-    Ok(ByteStr::from_known_utf8(bytes))
+    parse_printable(alloc, word)
 }
 
 #[tactic(auto, unfolding(crate::specs::Reading::state_of))]
@@ -110,9 +143,20 @@ pub fn parse_state(word: &[u8]) -> Option<StateMode>
 pub fn parse_handler(word: &[u8]) -> Option<HandlerName>
     ensures { result ≡ handler_of word.now }
 {
-    match word {
-        b"nap" => Some(HandlerName::Nap),
-        _ => None,
+    if word == b"nap".as_slice() {
+        Some(HandlerName::Nap)
+    } else if word == b"nap99".as_slice() {
+        Some(HandlerName::Nap99)
+    } else if word == b"race".as_slice() {
+        Some(HandlerName::Race)
+    } else if word == b"both".as_slice() {
+        Some(HandlerName::Both)
+    } else if word == b"ask".as_slice() {
+        Some(HandlerName::Ask)
+    } else if word == b"pair".as_slice() {
+        Some(HandlerName::Pair)
+    } else {
+        None
     }
 }
 
@@ -123,10 +167,16 @@ pub fn parse_command(word: &[u8]) -> Option<Command>
 {
     if word == b"invoke".as_slice() {
         Some(Command::Invoke)
+    } else if word == b"result".as_slice() {
+        Some(Command::Result)
+    } else if word == b"tick".as_slice() {
+        Some(Command::Tick)
     } else if word == b"begin".as_slice() {
         Some(Command::Begin)
     } else if word == b"feed".as_slice() {
         Some(Command::Feed)
+    } else if word == b"close".as_slice() {
+        Some(Command::Close)
     } else if word == b"turn".as_slice() {
         Some(Command::Turn)
     } else if word == b"move".as_slice() {

@@ -68,7 +68,7 @@ no_bytes (one ∷ some) fit none =
     absurd (some_is_none (message (raw_of one), input_bytes (map piece_of some)) (sym (front one fit.0 (input_bytes (map piece_of some))) ∙ ap item_at none ∙ nothing_at))
 
 module _ {H : Type 0} (function : H → Handler) (next : Handler) (version : Version) (options : VMOptions) (starts : StartsAreRead) (start : AttemptStart) (shows : ShowsStart start) (handler : H) (new fed : Attempt H)
-    (is_next : function handler ≡ next) (of_run : IsRunOf start version options) (can : CanBegin start shows) (by : IsFedBy (attempt_begun start)) (unasked : IsUnasked handler new)
+    (is_next : function handler ≡ next) (of_run : IsRunOf start version options) (can : CanBegin start shows) (by : IsFedBy (attempt_begun start)) (unasked : IsUnasked options handler new)
     (is_new : IsNew version options new.vm.state) (does : IsFed start.frame new.vm.state fed.vm.state × (fed ≡ record new { vm = fed.vm })) where
   abbrev messages : List InputMessage
   messages = CarriesInput start.new ∷ start.journal
@@ -114,6 +114,7 @@ module _ {H : Type 0} (function : H → Handler) (next : Handler) (version : Ver
     inl (record {
       handler = ap (λ (a : Attempt H). function a.handler) does.1 ∙ ap function unasked.handler_is ∙ is_next;
       going = ap (λ (a : Attempt H). a.over) does.1 ∙ unasked.over;
+      cancellation = ap (λ (a : Attempt H). a.cancellation) does.1 ∙ unasked.cancellation;
       kind = on.started.kind_is;
       of_run = of_run;
       fed = record { input = by.input; uncancelled = by.uncancelled };

@@ -51,6 +51,7 @@ module _ {H : Type 0} (function : H → Handler) (next : Handler) (version : Ver
       serves = record {
         handler = ap (λ (a : Attempt H). function a.handler) does.1 ∙ s.handler;
         going = ap (λ (a : Attempt H). a.over) does.1 ∙ s.going;
+        cancellation = ap (λ (a : Attempt H). a.cancellation) does.1 ∙ s.cancellation;
         kind = closed_kind;
         of_run = s.of_run;
         fed = s.fed;

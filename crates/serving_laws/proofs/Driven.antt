@@ -1,11 +1,9 @@
 -- Calls see a machine that tracks no child.
 use Rattle.std.proofs.Common.{◌≡◌, ◌∙◌, arith, Bool, List, [], ◌∷◌, Result, refl, sym, ap}
-use Rattle.journal_model.specs.declared.options.ImplicitCancellationOption.{ImplicitCancellationOption}
-use Rattle.journal_model.specs.declared.options.ImplicitCancellationOption.TheVariants.{Disabled, Enabled}
 use Rattle.serving_laws.specs.Machine.{Sees, Active, Written, MachineState, IsDriven}
 use Rattle.serving_laws.specs.Reading.{IsRunOf, start_told, Kind, HasStarted, AnswersInput}
 use Rattle.serving_laws.specs.Serving.{HasNumbers, kind_where}
-use Rattle.serving_laws.specs.Words.{Error, version_number, Version, Input, ends_awaits, Entry, Recorded, Arrived, StartState, Invocation, InputMessage, Machine, machine_at_start, with_arrival, with_entry, with_entries, AttemptStart, ShowsStart, entries_carried, with_messages, without_children, untracked, childless, id_of, VMOptions}
+use Rattle.serving_laws.specs.Words.{Error, version_number, Version, Input, ends_awaits, Entry, Recorded, Arrived, StartState, Invocation, InputMessage, Machine, machine_at_start, with_arrival, with_entry, with_entries, AttemptStart, ShowsStart, entries_carried, with_messages, without_children, untracked, childless, id_of, VMOptions, ImplicitCancellationOption, Disabled, Enabled}
 
 pub seen_untracked : (given : Invocation) (m : Machine) (active : Active) → Sees given active m → Sees (untracked given) active (childless m)
 seen_untracked given m active s =

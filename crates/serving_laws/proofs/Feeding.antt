@@ -79,6 +79,7 @@ module _ {H : Type 0} (function : H → Handler) (next : Handler) (version : Ver
       serves = record {
         handler = ap (λ (a : Attempt H). function a.handler) does.1 ∙ s.handler;
         going = ap (λ (a : Attempt H). a.over) does.1 ∙ s.going;
+        cancellation = ap (λ (a : Attempt H). a.cancellation) does.1 ∙ s.cancellation;
         kind = kind;
         of_run = s.of_run;
         fed = fed_by;
@@ -183,7 +184,7 @@ feeds_keep function next version options stays journals keeps id events live is_
 
 pub events_keep : {H : Type 0} (function : H → Handler) (next : Handler) (version : Version) (options : VMOptions) → StaysServing function next version options
 events_keep function next version options live is_closed a more coming s may =
-    record { handler = s.handler; going = s.going; kind = s.kind; of_run = s.of_run; fed = by; started = s.started; bytes = s.bytes; whole = s.whole; stands = stands s.stands }
+    record { handler = s.handler; going = s.going; cancellation = s.cancellation; kind = s.kind; of_run = s.of_run; fed = by; started = s.started; bytes = s.bytes; whole = s.whole; stands = stands s.stands }
   where
     by : IsFedBy (record live { unread = live.unread ++ more; coming = coming })
     by = let b = fed_more live more may s.fed in record { input = b.input; uncancelled = b.uncancelled }

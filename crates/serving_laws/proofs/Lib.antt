@@ -8,3 +8,4 @@ pub mod Phases
 pub mod Notes
 pub mod Closing
 pub mod Reading
+pub mod Covered

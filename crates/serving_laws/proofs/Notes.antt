@@ -1,17 +1,19 @@
 -- What a machine that fails has written says nothing of requests, and so is of the run.
-use Rattle.std.proofs.Common.{◌≡◌, inl, inr, ◌∙◌, ℕ, false, List, [], ◌∷◌, ◌++◌, append-nil, append_assoc, map, Result, Ok, Err, sym, ap, subst}
+use Rattle.std.proofs.Common.{◌≡◌, inl, inr, ◌∙◌, ℕ, false, List, [], ◌∷◌, ◌++◌, append-nil, append_assoc, map, Option, Result, Ok, Err, sym, ap, subst}
 use Rattle.std.specs.List.{AllByRecursion}
 use Rattle.std.specs.declared.alloc.AllocError.{AllocError}
 use Rattle.journal_model.specs.Headline.{arrivals_handed}
 use Rattle.turn_laws.proofs.Sending.{sends-append}
 use Rattle.turn_laws.proofs.Turning.{writes_send}
 use Rattle.vm_errors.specs.Failure.{told_error, failed_with}
+use Rattle.vm_errors.specs.Phases.{kept_error}
 use Rattle.vm_types.specs.declared.options.JournalMismatchRetryBehavior.{JournalMismatchRetryBehavior}
 use Rattle.sending_laws.specs.Writing.{Sends}
 use Rattle.sending_laws.proofs.Writing.{frames_are_written}
 use Rattle.serving_laws.specs.Attempts.{output_of, Attempt}
 use Rattle.serving_laws.specs.Keeping.{NotesFollow}
-use Rattle.serving_laws.specs.Machine.{Written, TellsCause, Tells, Writes}
+use Rattle.serving_laws.specs.Machine.phases
+use Rattle.serving_laws.specs.Machine.{Written, FailsNow, FailsAs, TellsCause, Tells, Writes, MachineState, HasFailed}
 use Rattle.serving_laws.specs.Sending.{Sent, Fails, sent_stream, AllFit, frame_meant}
 use Rattle.serving_laws.specs.Words.{Error, version_number, Version, is_input_closed, recorded_requests, requests_sent, IsNote, notes}
 
@@ -25,6 +27,13 @@ notes_follow next given id events coming frames f all = record {
 }
 
 -- ---- what a machine tells that fails
+
+-- calls were made of it
+pub fails_now : (cause : Result Error AllocError) (old new : MachineState) → old.phase ≡ phases.Active → (failed : HasFailed cause old new)
+    → FailsNow old.version old.options.journal_mismatch_retry_behavior cause old.active.output failed.answer new.phase new.active.output
+fails_now cause old new active failed =
+    subst (λ (kept : Option Error). FailsAs old.version old.options.journal_mismatch_retry_behavior cause kept old.phase old.active.output failed.answer new.phase new.active.output)
+    (ap kept_error active) failed.fails.fails
 
 -- frames that fit are behind what was written, and say nothing of requests
 pub record TellsNotes (old new : Written) : Type 0 where

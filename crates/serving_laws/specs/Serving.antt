@@ -1,16 +1,14 @@
 -- How an attempt over a machine stands to the live attempt of which the definitions speak.
-use Rattle.std.specs.Prelude.{◌≡◌, ◌⊎◌, ◌≤◌, ◌-◌, ◌^◌, ℕ, Bool, true, false, List, [], ◌++◌, Some, None}
+use Rattle.std.specs.Prelude.{◌≡◌, ◌⊎◌, ◌≤◌, ◌-◌, ◌^◌, ℕ, Bool, true, false, List, [], ◌++◌, Some, None, IsUtf8}
 use Rattle.std.specs.List.{AllByRecursion, list_any}
 use Rattle.attempt_model.specs.Requests.{Commands, requests_by}
-use Rattle.request_laws.specs.Calls.{IsTypedCall}
-use Rattle.handle_laws.specs.Trees.{IsWithin, SlotsFit}
 use Rattle.vm_ephemeral.specs.Reads.{no_reads}
 use Rattle.serving_laws.specs.Attempts.{output_of, Attempt, Finish}
 use Rattle.serving_laws.specs.Machine.phases
 use Rattle.serving_laws.specs.Machine.{IsDriven}
 use Rattle.serving_laws.specs.Reading.{IsInputOf, IsRunOf, Kind, kind_of, start_told, HasStarted}
 use Rattle.serving_laws.specs.Sending.{is_recorded}
-use Rattle.serving_laws.specs.Words.{LEVELS, item_at, Version, Error, Answer, Call, Input, RunOptions, awaited_tree, answers_of, Request, StartState, Handler, run, arrivals_carried, Machine, machine_at_start, ShowsStart, with_messages, LiveAttempt, HasReadJournal, untracked, childless, is_cancellation, VMOptions}
+use Rattle.serving_laws.specs.Words.{LEVELS, item_at, Version, Error, Answer, Call, Input, RunOptions, awaited_tree, answers_of, Request, StartState, Handler, run, arrivals_carried, Machine, machine_at_start, ShowsStart, with_messages, LiveAttempt, HasReadJournal, untracked, childless, is_cancellation, VMOptions, IsWithin, SlotsFit}
 
 -- ---- its handler
 
@@ -24,11 +22,16 @@ abbrev pub AwaitsWithin : RunOptions → Call → Type 0
 AwaitsWithin options (Call.Await tree) = IsWithin (LEVELS - 1) (awaited_tree options.implicit_cancellation tree)
 AwaitsWithin options call = Unit {0}
 
--- each call of it is of its type, is one that the store carries out, and awaits what can be told
-pub record IsCarriedOut (options : RunOptions) (next : Handler) : Type 0 where
-  pub typed : (input : Input) (answers : List Answer) → IsTypedCall (next input answers)
-  pub recorded : (input : Input) (answers : List Answer) → IsOfStore (next input answers)
-  pub within : (input : Input) (answers : List Answer) → AwaitsWithin options (next input answers)
+-- a call that asks for state, or changes it, does so by a key that is text
+abbrev pub HasTextKey : Call → Type 0
+HasTextKey (Call.StateGet key name options) = IsUtf8 key
+HasTextKey (Call.StateSet key value name options) = IsUtf8 key
+HasTextKey (Call.StateClear key name) = IsUtf8 key
+HasTextKey _ = Unit {0}
+
+-- each call of it does: of a handler that makes no such call this is nothing
+abbrev pub IsTextKeyed : Handler → Type 0
+IsTextKeyed next = (input : Input) (answers : List Answer) → HasTextKey (next input answers)
 
 -- ---- its input
 
@@ -73,6 +76,7 @@ module _ {H : Type 0} (function : H → Handler) (next : Handler) (version : Ver
   pub record Serves (live : LiveAttempt) (is_closed : Bool) (a : Attempt H) : Type 0 where
     pub handler : function a.handler ≡ next
     pub going : a.over ≡ None
+    pub cancellation : a.cancellation ≡ options.implicit_cancellation
     pub kind : kind_of a.vm.state ≡ kind_where version options is_closed
     pub of_run : IsRunOf live.start version options
     pub fed : IsFedBy live

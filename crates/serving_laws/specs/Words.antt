@@ -2,22 +2,25 @@
 pub use Rattle.attempt_model.specs.Attempts.{with_entry, with_entries}
 pub use Rattle.attempt_model.specs.Machine.{Machine, machine_at_start, with_arrival, Reply, reply_to, Answered, AwaitsTree, Finished, AwaitsChild, FailedBy, Refused}
 pub use Rattle.children_laws.specs.Childless.{untracked, childless, without_children, is_cancellation, childless_reply}
+pub use Rattle.handle_laws.specs.Trees.{IsWithin, AreWithin, SlotsFit, TreeFits}
 pub use Rattle.input_laws.specs.Message.{InputMessage, CarriesInput, piece_of, arrivals_carried, CarriesRequest, CarriesArrival, CarriesOutcome, requests_carried}
 pub use Rattle.journal_model.specs.Attempt.{input_bytes, input_left, is_input_closed, arrivals_within}
 pub use Rattle.journal_model.specs.Await.{ends_awaits, awaited_tree, child_of}
 pub use Rattle.journal_model.specs.AwaitTree.{AwaitTree}
 pub use Rattle.journal_model.specs.Cause.{IsAccepted, keys_of}
 pub use Rattle.journal_model.specs.Event.{Event, Frame}
-pub use Rattle.journal_model.specs.History.{answers_of, Step, requests_of, completions_of, signals_of}
-pub use Rattle.journal_model.specs.Journal.{Entry, Recorded, Arrived, completion, recorded_requests}
+pub use Rattle.journal_model.specs.History.{answers_of, Step, requests_of, completions_of, signals_of, next_completion}
+pub use Rattle.journal_model.specs.Journal.{Entry, Recorded, Arrived, completion, recorded_requests, starting_state}
 pub use Rattle.journal_model.specs.Notification.{Bytes, Text, Arrival}
 pub use Rattle.journal_model.specs.Request.{Request}
 pub use Rattle.journal_model.specs.Run.{Handler, Invocation, Progress, Ending, GoesOn, Waits, run}
-pub use Rattle.journal_model.specs.State.{StartState}
+pub use Rattle.journal_model.specs.State.{StartState, StateMap, knows_key, knows_all_keys, known_value, known_keys, state_after}
 pub use Rattle.journal_model.specs.declared.call.Answer.{Answer}
 pub use Rattle.journal_model.specs.declared.call.Call.{Call}
 pub use Rattle.journal_model.specs.declared.handler.Input.{Input}
 pub use Rattle.journal_model.specs.declared.notification.NotificationId.{NotificationId}
+pub use Rattle.journal_model.specs.declared.options.ImplicitCancellationOption.TheVariants.{Disabled, Enabled}
+pub use Rattle.journal_model.specs.declared.options.ImplicitCancellationOption.{ImplicitCancellationOption}
 pub use Rattle.journal_model.specs.declared.options.RunOptions.{RunOptions}
 pub use Rattle.machine_laws.specs.Living.{attempt_begun, LiveAttempt, HasReadJournal, handed_bytes, after_reading, IsLiveMachine, after_turn}
 pub use Rattle.position_laws.specs.Beginning.{AttemptStart, ShowsStart}

@@ -9,8 +9,6 @@ mod handlers;
 #[cfg(test)]
 mod live;
 #[cfg(test)]
-mod machine;
-#[cfg(test)]
 mod sequences;
 #[cfg(test)]
 mod values;

@@ -1,12 +1,14 @@
 //! The schedule.
-pub use durable_schedule::{Event, HeldAttempt, NoRoom, Refusal, Reply, Scheduler, run_schedule};
+pub use durable_schedule::{Event, HeldAttempt, Refusal, Reply, Scheduler};
 use invocation_vm::Handler;
+pub use schedule_runs::{NoRoom, run_schedule};
 use sqlite::Alter;
 
 /// What is called of a scheduler.
 pub fn name_schedules<H: Handler + Drop, S: Alter + Drop>() {
     let _ = Scheduler::<H, S>::new;
     let _ = Scheduler::<H, S>::apply;
+    let _ = Scheduler::<H, S>::take_turn;
     let _ = Scheduler::<H, S>::entries;
     let _ = Scheduler::<H, S>::answer;
     let _ = Scheduler::<H, S>::failure;

@@ -11,6 +11,7 @@ pub fn name_writing<S: Alter + Drop>() {
     let _ = Store::<S>::into_connection;
     let _ = Store::<S>::invoke;
     let _ = Store::<S>::result;
+    let _ = Store::<S>::tick;
     let _ = Store::<S>::begin;
     let _ = Store::<S>::step;
     let _ = Store::<S>::accept;

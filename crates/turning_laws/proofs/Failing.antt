@@ -4,13 +4,13 @@ use Rattle.std.specs.List.{AllByRecursion}
 use Rattle.attempt_model.specs.Machine.{FailedBy, Fault, Mismatch, UncompletedInReplay, EndInReplay, KeysNotText, ChildNotId, Refused}
 use Rattle.vm_types.specs.declared.options.JournalReplay.{JournalReplay}
 use Rattle.vm_types.specs.declared.options.JournalReplay.TheVariants.{Enabled, Disabled}
-use Rattle.serving_laws.specs.Serving.{IsCarriedOut, IsOfStore}
+use Rattle.serving_laws.specs.Serving.{IsOfStore}
 use Rattle.serving_laws.proofs.Notes.{TellsNotes, cause_tells}
 use Rattle.serving_laws.specs.Machine.phases
 use Rattle.serving_laws.specs.Machine.{MachineState, Written, Fails, Cause, ByFault, NoNumber, TooLong, NoReplay, NoRuns, NoMemory, FailsWhen}
 use Rattle.serving_laws.specs.Reading.{Kind}
 use Rattle.serving_laws.specs.Sending.{Sent, sent_stream, AllFit, frame_meant}
-use Rattle.serving_laws.specs.Words.{Error, Version, Answer, Call, Event, answers_of, Text, Handler, arrivals_carried, requests_carried, IsNote, LiveAttempt, untracked, childless, run_options, VMOptions}
+use Rattle.serving_laws.specs.Words.{Error, Version, Answer, Call, Event, answers_of, Text, Handler, arrivals_carried, requests_carried, IsNote, LiveAttempt, untracked, childless, VMOptions}
 use Rattle.turning_laws.specs.Turning.{IsOwnCause}
 use Rattle.turning_laws.proofs.Now.{Now, call_of, reply_at}
 use Rattle.turning_laws.proofs.Replies.{failed_of}
@@ -57,10 +57,10 @@ module _ (next : Handler) (version : Version) (options : VMOptions) (id : Text) 
   own NoRuns when = run_recorded when.0 (subst IsOfStore when.1 n.recorded)
   own NoMemory when = tt
 
-  pub fails_so : (carried : IsCarriedOut (run_options options) next) (answers : List Answer) → answers ≡ answers_of n.at.stands.steps → (error : Error) (new : MachineState)
+  pub fails_so : (answers : List Answer) → answers ≡ answers_of n.at.stands.steps → (error : Error) (new : MachineState)
       → Fails (untracked live.start.given) (childless live.machine) (call_of next live n.at) vm error new
       → FailsSo next version live answers vm new
-  fails_so carried answers same error new f =
+  fails_so answers same error new f =
       let of_version = of_output next version options id events live vm n in
       let told : TellsNotes vm.active.output f.fails.before =
       cause_tells vm.version vm.options.journal_mismatch_retry_behavior f.told vm.active.output f.fails.told f.fails.before (opened next version options id events live vm n)

@@ -4,6 +4,7 @@ pub mod Now
 pub mod Sending
 pub mod Stored
 pub mod Failing
+pub mod Refusing
 pub mod Turning
 pub mod Turns
 pub mod Progress

@@ -1,25 +1,24 @@
 -- What is known of a machine of whose attempt the input was read, at a turn.
-use Rattle.std.proofs.Common.{◌≡◌, ◌∙◌, Bool, false, ◌||◌, List, [], ◌∷◌, ◌++◌, map, length, refl, sym, ap}
+use Rattle.std.proofs.Common.{◌≡◌, ◌∙◌, Bool, false, ◌||◌, List, [], ◌∷◌, ◌++◌, map, length, refl, sym, ap, subst}
 use Rattle.std.specs.List.{list_any}
-use Rattle.journal_model.specs.declared.options.ImplicitCancellationOption.{ImplicitCancellationOption}
-use Rattle.journal_model.specs.declared.options.ImplicitCancellationOption.TheVariants.{Disabled, Enabled}
+use Rattle.state_laws.proofs.States.{starts_text}
 use Rattle.input_laws.proofs.Telling.{arrivals_carried-append}
 use Rattle.attempt_calls.proofs.Simulating.{simulates}
 use Rattle.attempt_laws.proofs.Coming.{kinds_by_asking}
 use Rattle.children_laws.proofs.Coming.{next_replies_are_same}
-use Rattle.request_laws.specs.Calls.{IsTypedCall}
 use Rattle.vm_commands.specs.HeaderEquality.{same_header}
 use Rattle.vm_commands.proofs.Comparing.{compares_reflexively}
-use Rattle.serving_laws.specs.Serving.{IsCarriedOut, IsOfStore, AwaitsWithin, HasNumbers, kind_where, HasRead, Serves}
+use Rattle.serving_laws.specs.Serving.{IsTextKeyed, IsOfStore, AwaitsWithin, HasNumbers, kind_where, HasRead, Serves}
 use Rattle.serving_laws.specs.Keeping.{IsLiveAt}
+use Rattle.serving_laws.proofs.Covered.{covered_stored, covered_within}
 use Rattle.serving_laws.proofs.Messages.{unread_fit}
 use Rattle.serving_laws.proofs.Reading.{no_arrival_is_held}
-use Rattle.serving_laws.specs.Attempts.{Attempt}
+use Rattle.serving_laws.specs.Attempts.{Attempt, is_covered}
 use Rattle.serving_laws.specs.Machine.{checks_off, MachineState, IsDriven, TracksNone}
 use Rattle.serving_laws.specs.Reading.{kind_of}
-use Rattle.serving_laws.specs.Words.{version_number, Version, Answer, Call, item_at, arrivals_within, input_left, is_input_closed, child_of, Event, answers_of, Text, Arrival, Request, Handler, Invocation, Progress, piece_of, arrivals_carried, requests_carried, FollowsSo, Machine, Reply, reply_to, IsInRun, LiveAttempt, without_children, untracked, childless, childless_reply, is_cancellation, run_options, VMOptions}
-use Rattle.turning_laws.specs.Words.{Queued, Fits, next_call, RepliesAsRun, StandsWithJournal, JournalsStand, KeepsOn, MachinesKeepOn}
-use Rattle.turning_laws.proofs.Texts.{asks_by_text}
+use Rattle.serving_laws.specs.Words.{version_number, Version, Answer, Call, item_at, arrivals_within, input_left, is_input_closed, child_of, Event, answers_of, Text, Arrival, Request, Handler, Invocation, Progress, piece_of, arrivals_carried, requests_carried, FollowsSo, Machine, Reply, reply_to, IsInRun, LiveAttempt, without_children, untracked, childless, childless_reply, is_cancellation, run_options, VMOptions, ImplicitCancellationOption, Disabled, Enabled, starting_state}
+use Rattle.turning_laws.specs.Words.{Queued, Fits, next_call, RepliesAsRun, StandsWithJournal, JournalsStand, KeepsOn, MachinesKeepOn, HasTextKeys, IsTypedCall}
+use Rattle.turning_laws.proofs.Texts.{shown_text, asks_by_text}
 
 -- what its requests are compared by
 abbrev pub compares : MachineState → Call → Request → Request → Bool
@@ -66,22 +65,37 @@ tracks_none given m call = go given.options.implicit_cancellation
     go (Enabled calls sends) = refl
 
 module _ {H : Type 0} (function : H → Handler) (next : Handler) (version : Version) (options : VMOptions) (stand : JournalsStand) (keep_on : MachinesKeepOn) (id : Text) (events : List Event) (live : LiveAttempt)
-    (before : Attempt H) (queued : options.signal_delivery ≡ Queued) (carried : IsCarriedOut (run_options options) next) (f : FollowsSo next live.start.given id events live.coming)
+    (before : Attempt H) (queued : options.signal_delivery ≡ Queued) (keyed : IsTextKeyed next) (f : FollowsSo next live.start.given id events live.coming)
     (l : IsLiveAt function next version options id events live) (s : Serves function next version options live (is_input_closed events id) before)
     (r : HasRead function next version options live before) where
   stands : StandsWithJournal next (run_options options) live
   stands = stand next (run_options options) options.fallback_random_seed id events live f.accepted l r.journal
 
+  starts : HasTextKeys live.start.given.start.entries
+  starts =
+      subst (λ (given : Invocation). HasTextKeys given.start.entries) (sym l.begun.given_is)
+      (shown_text live.start.new.state (starting_state events id) (starts_text events id f.accepted))
+
   fits : Fits next live.start.given (requests_carried live.read) (arrivals_carried live.read)
-  fits = stands.fits queued (kinds_by_asking next live.start.given (arrivals_carried live.read) (stands.asked (asks_by_text next carried.recorded live.start.given (arrivals_carried live.read))))
+  fits = stands.fits queued (kinds_by_asking next live.start.given (arrivals_carried live.read) (stands.asked (asks_by_text next keyed live.start.given starts (arrivals_carried live.read))))
 
   no_cancellation : list_any is_cancellation (arrivals_carried live.read) ≡ false
   no_cancellation =
       none_in_front (arrivals_carried live.read) (arrivals_carried live.unread)
       (ap (λ (arrivals : List Arrival). list_any is_cancellation arrivals) (sym (arrivals_carried-append live.read live.unread)) ∙ s.fed.uncancelled)
 
-  pub now : Now next version options id events live before.vm.state
-  now = record {
+  called : function before.handler live.start.given.input before.answers ≡ call_of next live stands.at
+  called =
+      ap (λ (handler : Handler). handler live.start.given.input before.answers) s.handler
+      ∙ ap (λ (answers : List Answer). next live.start.given.input answers) (r.answers ∙ ap (λ (p : Progress). answers_of p.steps) stands.at.stands.going)
+
+  covered_call : is_covered before.cancellation (function before.handler live.start.given.input before.answers) ≡ true → is_covered options.implicit_cancellation (call_of next live stands.at) ≡ true
+  covered_call covered =
+      sym (ap (λ (cancellation : ImplicitCancellationOption). is_covered cancellation (function before.handler live.start.given.input before.answers)) s.cancellation
+      ∙ ap (λ (call : Call). is_covered options.implicit_cancellation call) called) ∙ covered
+
+  pub now : IsTypedCall (function before.handler live.start.given.input before.answers) → is_covered before.cancellation (function before.handler live.start.given.input before.answers) ≡ true → Now next version options id events live before.vm.state
+  now typed covered = record {
     at = stands.at;
     keeps = keep_on (compares before.vm.state) next (run_options options) options.fallback_random_seed id events live
         (compares_reflexively (checks_off before.vm.state.options.non_determinism_checks)) f l s.started fits stands.at;
@@ -91,9 +105,9 @@ module _ {H : Type 0} (function : H → Handler) (next : Handler) (version : Ver
     kind = s.kind;
     driven = r.driven;
     numbers = r.numbers;
-    typed = carried.typed live.start.given.input (answers_of stands.at.stands.steps);
-    recorded = carried.recorded live.start.given.input (answers_of stands.at.stands.steps);
-    within = carried.within live.start.given.input (answers_of stands.at.stands.steps);
+    typed = subst IsTypedCall called typed;
+    recorded = covered_stored options.implicit_cancellation (call_of next live stands.at) (covered_call covered);
+    within = covered_within (run_options options) (call_of next live stands.at) (covered_call covered);
     of_options = ap (λ (given : Invocation). given.options) s.of_run.given_is;
     of_version = ap (λ (given : Invocation). given.version) s.of_run.given_is ∙ s.of_run.version_is;
     same = next_replies_are_same (compares before.vm.state) next live.start.given (requests_carried live.read) (arrivals_carried live.read) live.calls live.machine

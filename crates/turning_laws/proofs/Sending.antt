@@ -8,7 +8,6 @@ use Rattle.journal_model.specs.Waiting.{only_leaves}
 use Rattle.request_laws.specs.Fitting.{RequestFits}
 use Rattle.request_laws.proofs.Making.{calls_make_fit}
 use Rattle.handle_laws.specs.Awaiting.{IsLeft}
-use Rattle.handle_laws.specs.Trees.{IsWithin, SlotsFit, TreeFits}
 use Rattle.handle_laws.specs.Machines.{Leaves}
 use Rattle.handle_laws.proofs.Handles.{awaited_trees_fit}
 use Rattle.handle_laws.proofs.Machines.{machines_fit}
@@ -19,7 +18,7 @@ use Rattle.serving_laws.specs.Machine.{MachineState, Fits, Active, Written, with
 use Rattle.serving_laws.specs.Reading.{Kind}
 use Rattle.serving_laws.specs.Sending.{Sent, Asks, sent_stream, AllFit, is_recorded, frame_meant, TurnSends}
 use Rattle.serving_laws.specs.Serving.{AwaitsWithin, HasNumbers}
-use Rattle.serving_laws.specs.Words.{LEVELS, version_number, Version, Answer, Call, is_input_closed, awaited_tree, AwaitTree, Event, Frame, completions_of, signals_of, Text, Request, Handler, Invocation, RunOptions, Machine, Reply, Answered, AwaitsTree, Finished, reply_to, LiveAttempt, untracked, childless, run_options, VMOptions}
+use Rattle.serving_laws.specs.Words.{LEVELS, version_number, Version, Answer, Call, is_input_closed, awaited_tree, AwaitTree, Event, Frame, completions_of, signals_of, Text, Request, Handler, Invocation, RunOptions, Machine, Reply, Answered, AwaitsTree, Finished, reply_to, LiveAttempt, untracked, childless, run_options, VMOptions, IsWithin, SlotsFit, TreeFits}
 use Rattle.turning_laws.proofs.Now.{Now, compares, call_of, reply_at}
 use Rattle.turning_laws.proofs.Replies.{Grown, Stayed, Grows, reply_grows, awaits_of, answered_of, awaiting_of, finished_of}
 use Rattle.turning_laws.specs.Words.{refusal_of, Slots, slot_of, requests_by, SendsReply}

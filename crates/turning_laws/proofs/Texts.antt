@@ -1,15 +1,21 @@
--- A handler whose calls the store carries out changes no state, and so asks for none by a key.
-use Rattle.std.proofs.Common.{◌≡◌, ℕ, zero, suc, Bool, true, false, true≢false, if◌then◌else◌, List, [], ◌∷◌, ◌++◌, Option, Some, None, refl, sym}
+-- A handler whose state calls have keys that are text asks for state, and changes it, by such.
+use Rattle.std.proofs.Common.{◌≡◌, ℕ, zero, suc, Bool, true, false, ◌&&◌, if◌then◌else◌, List, [], ◌∷◌, ◌++◌, Option, Some, None, refl, ap}
+use Rattle.std.proofs.lemmas.Str.{is_utf8-from_IsUtf8}
 use Rattle.std.specs.List.{list_all}
+use Rattle.std.specs.Prelude.{IsUtf8}
 use Rattle.std.specs.Str.{is_utf8}
+use Rattle.journal_model.specs.declared.invocation.StateMode.{StateMode}
 use Rattle.journal_model.specs.declared.value.Value.{Value}
 use Rattle.journal_model.specs.Await.{AwaitOutcome, WaitsFor, WokenAt, CancelledAt, is_cancelled_at, children_place, child_result, tracked_children, cancel_request, cancel_requests, cancellation_outcome, outcome_from, awake_place, awaited_ids, await_outcome}
+use Rattle.journal_model.specs.Headline.{shown_state}
 use Rattle.journal_model.specs.Refusal.{Refusal, refusal_of}
-use Rattle.journal_model.specs.Run.{Kind, Awaits, Ends, Answers, kind_of, requests_to, after_await, carried_out, unless_refused, continued_by}
+use Rattle.journal_model.specs.Run.{Kind, Awaits, Ends, Answers, kind_of, name_or_empty, requests_to, after_await, carried_out, unless_refused, continued_by}
 use Rattle.attempt_laws.proofs.Coming.{all-both}
 use Rattle.machine_laws.specs.Asking.{AsksByText}
-use Rattle.serving_laws.specs.Serving.{IsOfStore}
-use Rattle.serving_laws.specs.Words.{Answer, Call, Input, NotificationId, RunOptions, AwaitTree, keys_of, Step, answers_of, requests_of, Arrival, Request, Handler, Invocation, Progress, Ending, GoesOn, run, StartState}
+use Rattle.machine_laws.proofs.Texts.{text_after, keys_text}
+use Rattle.serving_laws.specs.Serving.{IsTextKeyed, HasTextKey}
+use Rattle.serving_laws.specs.Words.{Bytes, Call, NotificationId, RunOptions, AwaitTree, keys_of, Step, answers_of, requests_of, Arrival, Request, Handler, Invocation, Progress, Ending, GoesOn, run, next_completion, StateMap, knows_key, knows_all_keys, known_value, known_keys, state_after}
+use Rattle.turning_laws.specs.Words.{HasTextKeys}
 
 abbrev has_text : Request → Bool
 has_text request = list_all is_utf8 (keys_of request)
@@ -22,15 +28,28 @@ both_text xs ys one other = all-both (λ request. list_all is_utf8 (keys_of requ
 
 -- ---- a call
 
-abbrev no_state : StartState
-no_state = record { is_whole = false; entries = [] }
+key_text : (key : Bytes) → IsUtf8 key → ((is_utf8 key && true) && true) ≡ true
+key_text key typed = ap (λ (b : Bool). (b && true) && true) (is_utf8-from_IsUtf8 key typed)
 
-call_text : (given : Invocation) (steps : List Step) (call : Call) → IsOfStore call → HaveText (requests_to given steps call)
-call_text given steps (Call.StateGet key name options) h = absurd (true≢false (sym (h no_state [] (None ∷ []) 0).0))
-call_text given steps (Call.StateGetKeys name) h = absurd (true≢false (sym (h no_state [] (None ∷ []) 0).0))
-call_text given steps (Call.StateSet key value name options) h = absurd (true≢false (sym (h no_state [] [] 0).0))
-call_text given steps (Call.StateClear key name) h = absurd (true≢false (sym (h no_state [] [] 0).0))
-call_text given steps _ h = refl
+module _ (given : Invocation) (starts : HasTextKeys given.start.entries) (steps : List Step) where
+  read_text : (key : Bytes) (name : Option (List ℕ)) → IsUtf8 key → (is_known : Bool)
+      → HaveText ((if is_known then Request.GetEagerState key (known_value given.start (requests_of steps) key) (name_or_empty name) else Request.GetLazyState key (next_completion steps) (name_or_empty name)) ∷ [])
+  read_text key name typed true = key_text key typed
+  read_text key name typed false = key_text key typed
+
+  -- the keys that are known are those of the state at its start, and of its own changes
+  keys_read_text : (name : Option (List ℕ)) → HaveText (requests_of steps) → (are_known : Bool)
+      → HaveText ((if are_known then Request.GetEagerStateKeys (known_keys given.start (requests_of steps)) (name_or_empty name) else Request.GetLazyStateKeys (next_completion steps) (name_or_empty name)) ∷ [])
+  keys_read_text name all true =
+      ap (λ (b : Bool). b && true) (keys_text (state_after (requests_of steps) given.start.entries) (text_after (requests_of steps) given.start.entries all starts))
+  keys_read_text name all false = refl
+
+  call_text : (call : Call) → HasTextKey call → HaveText (requests_of steps) → HaveText (requests_to given steps call)
+  call_text (Call.StateGet key name options) typed all = read_text key name typed (knows_key given.start (requests_of steps) key)
+  call_text (Call.StateGetKeys name) typed all = keys_read_text name all (knows_all_keys given.start (requests_of steps))
+  call_text (Call.StateSet key value name options) typed all = key_text key typed
+  call_text (Call.StateClear key name) typed all = key_text key typed
+  call_text _ typed all = refl
 
 -- ---- an await
 
@@ -68,22 +87,27 @@ after_text steps call (CancelledAt place requests) h all = both_text (requests_o
 
 -- ---- a run
 
-module _ (next : Handler) (recorded : (input : Input) (answers : List Answer) → IsOfStore (next input answers)) (given : Invocation) (arrivals : List Arrival) where
-  carried_text : (steps : List Step) (call : Call) (kind : Kind) → IsOfStore call → HaveText (requests_of steps) → HaveText (requests_of (carried_out given steps arrivals call kind).steps)
+-- the state that an invocation is shown has such keys, where that with which it begins has
+pub shown_text : (mode : StateMode) (entries : StateMap) → HasTextKeys entries → HasTextKeys (shown_state mode entries).entries
+shown_text StateMode.Whole entries all = all
+shown_text StateMode.None entries all = tt
+
+module _ (next : Handler) (keyed : IsTextKeyed next) (given : Invocation) (starts : HasTextKeys given.start.entries) (arrivals : List Arrival) where
+  carried_text : (steps : List Step) (call : Call) (kind : Kind) → HasTextKey call → HaveText (requests_of steps) → HaveText (requests_of (carried_out given steps arrivals call kind).steps)
   carried_text steps call (Awaits tree) h all =
       after_text steps call (await_outcome given.options steps arrivals tree)
       (from_text given.options steps arrivals (awaited_ids given.options steps tree) (awake_place given.options steps arrivals (awaited_ids given.options steps tree))) all
   carried_text steps call Ends h all = all
-  carried_text steps call Answers h all = both_text (requests_of steps) (requests_to given steps call) all (call_text given steps call h)
+  carried_text steps call Answers h all = both_text (requests_of steps) (requests_to given steps call) all (call_text given starts steps call h all)
 
-  refused_text : (steps : List Step) (call : Call) (refusal : Option Refusal) → IsOfStore call → HaveText (requests_of steps) → HaveText (requests_of (unless_refused given steps arrivals call refusal).steps)
+  refused_text : (steps : List Step) (call : Call) (refusal : Option Refusal) → HasTextKey call → HaveText (requests_of steps) → HaveText (requests_of (unless_refused given steps arrivals call refusal).steps)
   refused_text steps call (Some refusal) h all = all
   refused_text steps call None h all = carried_text steps call (kind_of call) h all
 
   continued_text : (progress : Progress) (ending : Ending) → HaveText (requests_of progress.steps) → HaveText (requests_of (continued_by next given arrivals progress ending).steps)
   continued_text progress GoesOn all =
       refused_text progress.steps (next given.input (answers_of progress.steps)) (refusal_of given.version (next given.input (answers_of progress.steps)))
-      (recorded given.input (answers_of progress.steps)) all
+      (keyed given.input (answers_of progress.steps)) all
   continued_text progress _ all = all
 
   pub asks_by_text : AsksByText next given arrivals

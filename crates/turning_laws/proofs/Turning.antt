@@ -1,6 +1,6 @@
 -- Each turn of an attempt, by what its machine does.
 use Rattle.std.proofs.Common.{◌≡◌, ◌⊎◌, inl, inr, ◌∙◌, ◌+◌, ℕ, suc, List, [], ◌∷◌, ◌++◌, map, Option, Some, sym, ap, subst}
-use Rattle.serving_laws.specs.Serving.{IsCarriedOut, HasNumbers, HasRead, Serves, finished, machine_failed}
+use Rattle.serving_laws.specs.Serving.{HasNumbers, HasRead, Serves, finished, machine_failed}
 use Rattle.serving_laws.specs.Keeping.{IsLiveAt}
 use Rattle.serving_laws.proofs.Notes.{notes_follow, waits_more}
 use Rattle.serving_laws.specs.Attempts.finishes
@@ -8,7 +8,7 @@ use Rattle.serving_laws.specs.Attempts.{output_of, IsOver as IsOverBy, TakesAnsw
 use Rattle.serving_laws.specs.Machine.{MachineState, Written, out_of_memory, CoreVM, Answers, Waits, Suspends, Ends, Fails, NoMemory, IsDriven}
 use Rattle.serving_laws.specs.Reading.{Kind, kind_of}
 use Rattle.serving_laws.specs.Sending.{sent_stream, frame_meant}
-use Rattle.serving_laws.specs.Words.{item_at, Error, Version, Answer, Input, NotificationId, is_input_closed, AwaitTree, Event, answers_of, Text, Request, Handler, Progress, Waits as WaitsFor, run, arrivals_carried, requests_carried, Machine, Answered, AwaitsTree, LiveAttempt, after_turn, untracked, childless, run_options, VMOptions}
+use Rattle.serving_laws.specs.Words.{item_at, Error, Version, Answer, Input, NotificationId, is_input_closed, AwaitTree, Event, answers_of, Text, Request, Handler, Progress, Waits as WaitsFor, run, arrivals_carried, requests_carried, Machine, Answered, AwaitsTree, LiveAttempt, after_turn, untracked, childless, VMOptions}
 use Rattle.turning_laws.specs.Turning.{ComesTo, turns_answered, GoesOnWith, FailsBy, TurnsBehind, TurnKeeps}
 use Rattle.turning_laws.proofs.Failing.{fails_so}
 use Rattle.turning_laws.proofs.Now.{Now, call_of, reply_at}
@@ -48,7 +48,7 @@ module _ {H : Type 0} (function : H → Handler) (next : Handler) (version : Ver
 
     -- it goes on with this machine
     module _ (calls : ℕ) (whole : Machine) (goes : goes_on live.calls (reply_at next live before.vm.state n.at) ≡ Some (calls, whole)) (others : vm.state ≡ record before.vm.state { active = vm.state.active })
-        (handler : after.handler ≡ before.handler) (over : after.over ≡ before.over) (driven : IsDriven (untracked live.start.given) (childless whole) vm.state) (numbers : HasNumbers whole)
+        (handler : after.handler ≡ before.handler) (over : after.over ≡ before.over) (cancellation : after.cancellation ≡ before.cancellation) (driven : IsDriven (untracked live.start.given) (childless whole) vm.state) (numbers : HasNumbers whole)
         (input : after.input ≡ before.input) (answers : after.answers ≡ answers_of (run next live.start.given (arrivals_carried live.read) calls).steps) where
       goes_on_with : GoesOnWith function next version options id events (after_turn live (map (frame_meant version) sends.coming) calls whole) after
       goes_on_with = record {
@@ -56,6 +56,7 @@ module _ {H : Type 0} (function : H → Handler) (next : Handler) (version : Ver
         serves = record {
           handler = ap function handler ∙ s.handler;
           going = over ∙ s.going;
+          cancellation = cancellation ∙ s.cancellation;
           kind = ap kind_of (state_is ∙ others) ∙ s.kind;
           of_run = s.of_run;
           fed = record { input = s.fed.input; uncancelled = s.fed.uncancelled };
@@ -100,13 +101,13 @@ module _ {H : Type 0} (function : H → Handler) (next : Handler) (version : Ver
               suc live.calls,
               so.whole,
               counted,
-              goes_on_with vm after front state_is so.sends (suc live.calls) so.whole goes so.others (ap (λ (a : Attempt H). a.handler) is) (ap (λ (a : Attempt H). a.over) is) so.driven so.numbers input answers,
+              goes_on_with vm after front state_is so.sends (suc live.calls) so.whole goes so.others (ap (λ (a : Attempt H). a.handler) is) (ap (λ (a : Attempt H). a.over) is) (ap (λ (a : Attempt H). a.cancellation) is) so.driven so.numbers input answers,
             ))
         taken (inr over) =
             let is = over.1 in
             subst (λ (t : Turn). Keeps t after) (sym over.0)
             (keeps_turn vm after (ap (λ (a : Attempt H). a.front ++ a.behind) is) (ap (λ (a : Attempt H). a.vm.state) is) so.sends (Turn.Failed out_of_memory)
-            (no_memory, finished finishes.OutOfMemory (ap (λ (a : Attempt H). a.over) is)))
+            (inl no_memory, finished finishes.OutOfMemory (ap (λ (a : Attempt H). a.over) is)))
 
     -- what the run waits for
     run_waits : (tree : AwaitTree ℕ) (whole : Machine) → reply_at next live before.vm.state n.at ≡ AwaitsTree tree whole → whole.written ≡ live.machine.written
@@ -129,7 +130,7 @@ module _ {H : Type 0} (function : H → Handler) (next : Handler) (version : Ver
           ),
           (
             whole.0,
-            goes_on_with vm after front state_is sends live.calls whole.0 (ap (goes_on live.calls) whole.1) w.others (ap (λ (a : Attempt H). a.handler) is) (ap (λ (a : Attempt H). a.over) is)
+            goes_on_with vm after front state_is sends live.calls whole.0 (ap (goes_on live.calls) whole.1) w.others (ap (λ (a : Attempt H). a.handler) is) (ap (λ (a : Attempt H). a.over) is) (ap (λ (a : Attempt H). a.cancellation) is)
                 (subst (λ (m : Machine). IsDriven (untracked live.start.given) m vm.state) (sym whole.2) w.driven) (waits_number next version options id events live before.vm.state n w.tree w.machine w.replies) input
                 (ap (λ (a : Attempt H). a.answers) is ∙ r.answers),
             input,
@@ -158,16 +159,15 @@ module _ {H : Type 0} (function : H → Handler) (next : Handler) (version : Ver
           finished finishes.Ended (ap (λ (a : Attempt H). a.over) is),
         ))
 
-    pub failed : (error : Error) → Fails (untracked live.start.given) (childless live.machine) (call_of next live n.at) before.vm.state error vm.state → turn ≡ Turn.Failed error → after ≡ record before { vm = vm }
-        → IsCarriedOut (run_options options) next → Keeps turn after
-    failed error f is_turn is carried =
+    pub failed : (error : Error) → Fails (untracked live.start.given) (childless live.machine) (call_of next live n.at) before.vm.state error vm.state → turn ≡ Turn.Failed error → after ≡ record before { vm = vm } → Keeps turn after
+    failed error f is_turn is =
         let state_is : after.vm.state ≡ vm.state = ap (λ (a : Attempt H). a.vm.state) is in
-        let so = fails_so next version options id events live before.vm.state n s.of_run.replays carried before.answers same_answers error vm.state f in
+        let so = fails_so next version options id events live before.vm.state n s.of_run.replays before.answers same_answers error vm.state f in
         subst (λ (t : Turn). Keeps t after) (sym is_turn) (record {
           sent = so.coming;
           fit = so.fit;
           of_store = notes_of_store version so.coming so.notes;
           output = waits_more version so.coming before after (ap (λ (a : Attempt H). a.front ++ a.behind) is) (ap (λ (m : MachineState). m.active.output.bytes) state_is ∙ so.bytes);
           follows = notes_follow next live.start.given id events live.coming (map (frame_meant version) so.coming) n.follows so.notes;
-          behind = (record { cause = so.cause; own = so.own; when = so.when }, machine_failed so.kept (ap (λ (m : MachineState). m.phase) state_is ∙ so.phase));
+          behind = (inl (record { cause = so.cause; own = so.own; when = so.when }), machine_failed so.kept (ap (λ (m : MachineState). m.phase) state_is ∙ so.phase));
         })

@@ -1,20 +1,21 @@
 -- A turn of an attempt, wherever it stands.
 use Rattle.std.proofs.Common.{◌≡◌, ◌⊎◌, inl, inr, ◌∙◌, ◌+◌, ℕ, suc, Bool, true, false, List, [], ◌++◌, append-nil, Option, Some, None, Result, Ok, refl, sym, ap, subst}
-use Rattle.serving_laws.specs.Serving.{IsCarriedOut, HasNumbers, kind_where, HasNotRead, HasRead, Serves, finished, machine_failed}
+use Rattle.serving_laws.specs.Serving.{IsTextKeyed, HasNumbers, kind_where, HasNotRead, HasRead, Serves, finished, machine_failed}
 use Rattle.serving_laws.specs.Keeping.{IsLiveAt}
 use Rattle.serving_laws.proofs.Driven.{begins_driven, numbers_begin}
 use Rattle.serving_laws.proofs.Messages.{read_input}
 use Rattle.serving_laws.proofs.Over.{waits_same}
 use Rattle.serving_laws.proofs.Phases.{stage}
 use Rattle.serving_laws.specs.Attempts.finishes
-use Rattle.serving_laws.specs.Attempts.{output_of, IsOver as IsOverBy, ComesTo as ComesToTurn, CarriesCall, GivesInput, ReadsInput, GoesOn, TurnsWhere, TurnsOn, TurnsUnless, Attempt, Finish, Turn}
+use Rattle.serving_laws.specs.Attempts.{output_of, IsOver as IsOverBy, ComesTo as ComesToTurn, CarriesCall, GivesInput, ReadsInput, GoesOn, TurnsWhere, TurnsOn, TurnsUnless, Attempt, Finish, Turn, is_covered, CarriesWhere, AnswersCall}
 use Rattle.serving_laws.specs.Machine.phases
 use Rattle.serving_laws.specs.Machine.outcomes
 use Rattle.serving_laws.specs.Machine.{MachineState, Written, out_of_memory, Phase, Comes, NoMemory, IsDriven, CallOutcome, IsReady}
 use Rattle.serving_laws.specs.Reading.{AnswersInput, RefusesInput, InputsAreAnswered}
-use Rattle.serving_laws.specs.Words.{item_at, Error, Version, Call, Input, is_input_closed, Event, Frame, answers_of, Text, Handler, run, arrivals_carried, FollowsSo, Machine, machine_at_start, with_messages, LiveAttempt, HasReadJournal, after_turn, untracked, childless, run_options, VMOptions}
+use Rattle.serving_laws.specs.Words.{item_at, Error, Version, Call, Input, is_input_closed, Event, Frame, answers_of, Text, Handler, run, arrivals_carried, FollowsSo, Machine, machine_at_start, with_messages, LiveAttempt, HasReadJournal, after_turn, untracked, childless, VMOptions}
 use Rattle.turning_laws.specs.Turning.{turns_answered, GoesOnWith, FailsBy, TurnsBehind, TurnKeeps, TurnServes}
 use Rattle.turning_laws.proofs.Now.{Now, call_of, tracks_none, now, same_call}
+use Rattle.turning_laws.proofs.Refusing.{refused}
 use Rattle.turning_laws.proofs.Turning.{answered, waiting, suspended, ended as has_ended, failed}
 use Rattle.turning_laws.specs.Words.{Queued, JournalsStand, MachinesKeepOn}
 
@@ -98,6 +99,7 @@ module _ {H : Type 0} (function : H → Handler) (next : Handler) (version : Ver
         serves = record {
           handler = ap (λ (some : Attempt H). function some.handler) gives.1 ∙ s.handler;
           going = ap (λ (some : Attempt H). some.over) gives.1 ∙ s.going;
+          cancellation = ap (λ (some : Attempt H). some.cancellation) gives.1 ∙ s.cancellation;
           kind = a.asked.kind_is;
           of_run = s.of_run;
           fed = s.fed;
@@ -119,7 +121,7 @@ module _ {H : Type 0} (function : H → Handler) (next : Handler) (version : Ver
     read_refused refused =
         let gives = subst (λ (r : Result Input Error). GivesInput r (record before { vm = after.vm }) turn after) refused.answer reads.gives in
         subst Keeps (sym gives.0)
-        (silent (waits_same before after gives.1 (ap (λ (w : Written). w.bytes) refused.output ∙ sym no_bytes)) (Turn.Failed out_of_memory) (lacks_memory, machine_failed out_of_memory refused.phase))
+        (silent (waits_same before after gives.1 (ap (λ (w : Written). w.bytes) refused.output ∙ sym no_bytes)) (Turn.Failed out_of_memory) (inl lacks_memory, machine_failed out_of_memory refused.phase))
 
     input_read : InputsAreAnswered → Keeps turn
     input_read answers =
@@ -144,27 +146,35 @@ module _ {H : Type 0} (function : H → Handler) (next : Handler) (version : Ver
 
   -- ---- its handler is asked
 
-  module _ (stand : JournalsStand) (keep_on : MachinesKeepOn) (queued : options.signal_delivery ≡ Queued) (carried : IsCarriedOut (run_options options) next)
+  module _ (stand : JournalsStand) (keep_on : MachinesKeepOn) (queued : options.signal_delivery ≡ Queued) (keyed : IsTextKeyed next)
       (r : HasRead function next version options live before) where
-    here : Now next version options id events live before.vm.state
-    here = now function next version options stand keep_on id events live before queued carried f l s r
+    abbrev asked : Call
+    asked = function before.handler live.start.given.input before.answers
 
-    by_outcome : (outcome : CallOutcome) → Comes (untracked live.start.given) (childless live.machine) (call_of next live here.at) before.vm.state outcome after.vm.state
+    by_outcome : (here : Now next version options id events live before.vm.state) (outcome : CallOutcome)
+        → Comes (untracked live.start.given) (childless live.machine) (call_of next live here.at) before.vm.state outcome after.vm.state
         → ComesToTurn outcome (record before { vm = after.vm }) turn after → Keeps turn
-    by_outcome (outcomes.Answered answer) comes to = answered function next version options id events live before l s r here after.vm turn after answer comes to
-    by_outcome outcomes.Waiting comes to = waiting function next version options id events live before l s r here after.vm turn after comes to.0 to.1
-    by_outcome outcomes.Suspended comes to = suspended function next version options id events live before l s r here after.vm turn after comes to
-    by_outcome outcomes.Ended comes to = has_ended function next version options id events live before l s r here after.vm turn after comes to
-    by_outcome (outcomes.Failed error) comes to = failed function next version options id events live before l s r here after.vm turn after error comes to.0 to.1 carried
+    by_outcome here (outcomes.Answered answer) comes to = answered function next version options id events live before l s r here after.vm turn after answer comes to
+    by_outcome here outcomes.Waiting comes to = waiting function next version options id events live before l s r here after.vm turn after comes to.0 to.1
+    by_outcome here outcomes.Suspended comes to = suspended function next version options id events live before l s r here after.vm turn after comes to
+    by_outcome here outcomes.Ended comes to = has_ended function next version options id events live before l s r here after.vm turn after comes to
+    by_outcome here (outcomes.Failed error) comes to = failed function next version options id events live before l s r here after.vm turn after error comes to.0 to.1
 
-    carries : CarriesCall (function before.handler live.start.given.input before.answers) before turn after ⊎ IsOverBy finishes.OutOfMemory before turn after → Keeps turn
-    carries (inl c) =
-        by_outcome c.outcome
+    carried : (here : Now next version options id events live before.vm.state) → CarriesCall asked before turn after → Keeps turn
+    carried here c =
+        by_outcome here c.outcome
         (subst (λ (call : Call). Comes (untracked live.start.given) (childless live.machine) call before.vm.state c.outcome after.vm.state)
-        (same_call function next version options stand keep_on id events live before queued carried f l s r here)
-        (c.carries (untracked live.start.given) (childless live.machine) (tracks_none live.start.given (childless live.machine) (function before.handler live.start.given.input before.answers)) r.driven)) c.comes
+        (same_call function next version options stand keep_on id events live before queued keyed f l s r here)
+        (c.carries (untracked live.start.given) (childless live.machine) (tracks_none live.start.given (childless live.machine) asked) r.driven)) c.comes
+
+    by_covered : (covered : Bool) → is_covered before.cancellation asked ≡ covered → CarriesWhere covered asked before turn after → Keeps turn
+    by_covered true is c = carried (now function next version options stand keep_on id events live before queued keyed f l s r c.typed is) c
+    by_covered false is c = refused function next version options id events live before f s r turn after c is
+
+    carries : AnswersCall asked before turn after ⊎ IsOverBy finishes.OutOfMemory before turn after → Keeps turn
+    carries (inl c) = by_covered (is_covered before.cancellation asked) refl c
     carries (inr over) =
-        subst Keeps (sym over.0) (silent (ap output_of over.1) (Turn.Failed out_of_memory) (lacks_memory, finished finishes.OutOfMemory (ap (λ (a : Attempt H). a.over) over.1)))
+        subst Keeps (sym over.0) (silent (ap output_of over.1) (Turn.Failed out_of_memory) (inl lacks_memory, finished finishes.OutOfMemory (ap (λ (a : Attempt H). a.over) over.1)))
 
     has_read : TurnsOn function before turn after → Keeps turn
     has_read turns =
@@ -172,11 +182,11 @@ module _ {H : Type 0} (function : H → Handler) (next : Handler) (version : Ver
         (subst (λ (ready : Result Bool Error). TurnsWhere function ready before turn after) (ready_where before.vm.state.phase turns.ready r.driven.phase turns.is_ready) turns.turns))
 
 pub turn_keeps : {H : Type 0} (function : H → Handler) (next : Handler) (version : Version) (options : VMOptions) → JournalsStand → MachinesKeepOn → InputsAreAnswered → TurnServes function next version options
-turn_keeps function next version options stand keep_on answers id events live before turn after queued carried f l s turns = go s.stands
+turn_keeps function next version options stand keep_on answers id events live before turn after queued keyed f l s turns = go s.stands
   where
     on : TurnsOn function before turn after
     on = turns_new function before.over before turn after refl s.going turns
 
     go : HasNotRead function next version options live (is_input_closed events id) before ⊎ HasRead function next version options live before → TurnKeeps function next version options id events live before turn after
     go (inl n) = not_read function next version options id events live before turn after f l s answers n on
-    go (inr r) = has_read function next version options id events live before turn after f l s stand keep_on queued carried r on
+    go (inr r) = has_read function next version options id events live before turn after f l s stand keep_on queued keyed r on

@@ -2,12 +2,12 @@
 use Rattle.std.specs.Prelude.{◌≡◌, ◌⊎◌, ◌+◌, ℕ, suc, true, false, List, [], ◌∷◌, ◌++◌, map, length, Option, Some, None}
 use Rattle.std.specs.List.{AllByRecursion}
 use Rattle.journal_model.specs.Run.{Handler, Invocation, Ending, Waits, RefusedCall, Ended, run, run_requests}
-use Rattle.serving_laws.specs.Attempts.{output_of, Turns, Attempt, Turn}
-use Rattle.serving_laws.specs.Serving.{IsCarriedOut, Serves, IsOver}
+use Rattle.serving_laws.specs.Attempts.{output_of, Turns, Attempt, Turn, is_covered}
+use Rattle.serving_laws.specs.Serving.{IsTextKeyed, Serves, IsOver}
 use Rattle.serving_laws.specs.Keeping.{IsLiveAt}
 use Rattle.serving_laws.specs.Machine.{Cause, ByFault, NoReplay, NoRuns, FailsWhen}
 use Rattle.serving_laws.specs.Sending.{Sent, sent_stream, AllFit, frame_meant, IsOfStore}
-use Rattle.serving_laws.specs.Words.{Version, Input, NotificationId, AwaitTree, Text, Arrival, Request, Event, is_input_closed, arrivals_carried, requests_carried, FollowsSo, Machine, Refused, LiveAttempt, HasReadJournal, after_turn, untracked, childless, run_options, VMOptions}
+use Rattle.serving_laws.specs.Words.{Version, Input, NotificationId, AwaitTree, Text, Arrival, Request, Event, is_input_closed, arrivals_carried, requests_carried, FollowsSo, Machine, Refused, LiveAttempt, HasReadJournal, after_turn, untracked, childless, VMOptions}
 use Rattle.turning_laws.specs.Words.{Queued}
 
 -- the run over these arrivals comes to this with one more call, with exactly these requests
@@ -39,11 +39,15 @@ module _ {H : Type 0} (function : H → Handler) (next : Handler) (version : Ver
     abbrev pub RunComes : Ending → Type 0
     RunComes ending = ComesTo next live.start.given (arrivals_carried live.read) live.calls (requests_carried live.read ++ live.machine.written) ending
 
-    -- there is a cause for which the call that the handler makes next is not carried out
+    -- there is a cause for which its machine does not carry out the call that the handler makes next
     pub record FailsBy : Type 0 where
       pub cause : Cause
       pub own : IsOwnCause next live.start.given (arrivals_carried live.read) live.calls cause
       pub when : FailsWhen (untracked live.start.given) (childless live.machine) (next live.start.given.input before.answers) before.vm.state cause
+
+    -- that call is none that is carried out: it asks for what no store records so far, or awaits what no frame can tell
+    abbrev pub IsUncovered : Type 0
+    IsUncovered = is_covered options.implicit_cancellation (next live.start.given.input before.answers) ≡ false
 
     -- it waits while its journal was not read, or while the run waits and more of its input can come
     abbrev pub MayWait : Type 0
@@ -58,7 +62,7 @@ module _ {H : Type 0} (function : H → Handler) (next : Handler) (version : Ver
         MayWait × ((machine : Machine) × GoesOnWith (after_turn live (map (frame_meant version) sent) live.calls machine) after × (after.input ≡ before.input))
     TurnsBehind sent Turn.Suspended after = (is_input_closed events id ≡ true) × ((tree : AwaitTree (Option NotificationId)) × RunComes (Waits tree)) × IsOver after
     TurnsBehind sent Turn.Ended after = RunComes Ended × IsOver after
-    TurnsBehind sent (Turn.Failed error) after = FailsBy × IsOver after
+    TurnsBehind sent (Turn.Failed error) after = (FailsBy ⊎ IsUncovered) × IsOver after
 
     -- what a turn has written are frames of the run, which the store reads as what they are meant as
     pub record TurnKeeps (turn : Turn) (after : Attempt H) : Type 0 where
@@ -73,7 +77,7 @@ module _ {H : Type 0} (function : H → Handler) (next : Handler) (version : Ver
 module _ {H : Type 0} (function : H → Handler) (next : Handler) (version : Version) (options : VMOptions) where
   abbrev pub TurnServes : Type 0
   TurnServes = (id : Text) (events : List Event) (live : LiveAttempt) (before : Attempt H) (turn : Turn) (after : Attempt H) → options.signal_delivery ≡ Queued
-      → IsCarriedOut (run_options options) next → FollowsSo next live.start.given id events live.coming → IsLiveAt function next version options id events live
+      → IsTextKeyed next → FollowsSo next live.start.given id events live.coming → IsLiveAt function next version options id events live
       → Serves function next version options live (is_input_closed events id) before → Turns function before turn after
       → TurnKeeps function next version options id events live before turn after
 
@@ -92,7 +96,7 @@ module _ {H : Type 0} (function : H → Handler) (next : Handler) (version : Ver
 
   -- with the whole journal fed and the input closed each turn answers, or the attempt is over
   abbrev pub TurnsAnswer : Type 0
-  TurnsAnswer = (id : Text) (events : List Event) (live : LiveAttempt) (turns : List Turn) (before after : Attempt H) → options.signal_delivery ≡ Queued → IsCarriedOut (run_options options) next
+  TurnsAnswer = (id : Text) (events : List Event) (live : LiveAttempt) (turns : List Turn) (before after : Attempt H) → options.signal_delivery ≡ Queued → IsTextKeyed next
       → FollowsSo next live.start.given id events live.coming → IsLiveAt function next version options id events live → HasReadJournal live → is_input_closed events id ≡ true
       → Serves function next version options live true before → TurnsEach turns before after
       → IsOver after ⊎ AnswersEach id events live before turns after

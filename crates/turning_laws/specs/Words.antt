@@ -6,3 +6,5 @@ pub use Rattle.journal_model.specs.Refusal.{Refusal, refusal_of}
 pub use Rattle.journal_model.specs.declared.options.SignalDelivery.TheVariants.{Queued}
 pub use Rattle.machine_laws.specs.Laws.{StandsWithJournal, JournalsStand, KeepsOn, MachinesKeepOn}
 pub use Rattle.position_laws.specs.Replies.{SendsReply, SendsWaiting, goes_on}
+pub use Rattle.request_laws.specs.Calls.{IsTypedCall}
+pub use Rattle.state_laws.specs.Keys.{HasTextKeys}

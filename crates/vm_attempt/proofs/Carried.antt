@@ -1,6 +1,7 @@
 -- A call that the machine has carried out, and how the attempt goes on then.
 use Rattle.std.proofs.Common.{◌≡◌, inl, inr, ap, sym, subst}
 use Rattle.journal_model.specs.declared.call.Call.{Call}
+use Rattle.request_laws.specs.Calls.{IsTypedCall}
 use Rattle.vm_driving.specs.Machine.{CoreVM}
 use Rattle.vm_driving.specs.Outcomes.outcomes
 use Rattle.vm_driving.specs.Outcomes.{CarriesOut, CallOutcome}
@@ -17,11 +18,12 @@ module _ {H : Type 0} where
   machine_stays outcomes.Ended between turn after h = ap (λ (a : Attempt H). a.vm) h.1
   machine_stays (outcomes.Failed error) between turn after h = ap (λ (a : Attempt H). a.vm) h.1
 
-  pub carried : (call : Call) (before : Attempt H) (vm : CoreVM) (outcome : CallOutcome) (turn : Turn) (after : Attempt H) → CarriesOut call before.vm.state outcome vm.state
+  pub carried : (call : Call) (before : Attempt H) (vm : CoreVM) (outcome : CallOutcome) (turn : Turn) (after : Attempt H) → IsTypedCall call → CarriesOut call before.vm.state outcome vm.state
       → ComesTo outcome (record before { vm = vm }) turn after → CarriesCall call before turn after
-  carried call before vm outcome turn after carries comes =
+  carried call before vm outcome turn after typed carries comes =
       let stays : vm ≡ after.vm = sym (machine_stays outcome (record before { vm = vm }) turn after comes) in
       record {
+        typed = typed;
         outcome = outcome;
         carries = subst (λ (vm : CoreVM). CarriesOut call before.vm.state outcome vm.state) stays carries;
         comes = subst (λ (vm : CoreVM). ComesTo outcome (record before { vm = vm }) turn after) stays comes;

@@ -1,3 +1,5 @@
 pub mod Carried
+mod Lists
+pub mod Nested
 pub mod Pieces
 pub mod Sending

@@ -21,8 +21,9 @@ module _ {H : Type 0} where
   machine_made (Err error) = Err error
 
   -- its handler was asked nothing, and nothing waits to be handed out
-  pub record IsUnasked (handler : H) (a : Attempt H) : Type 0 where
+  pub record IsUnasked (options : VMOptions) (handler : H) (a : Attempt H) : Type 0 where
     pub handler_is : a.handler ≡ handler
+    pub cancellation : a.cancellation ≡ options.implicit_cancellation
     pub input : a.input ≡ None
     pub answers : a.answers ≡ []
     pub over : a.over ≡ None
@@ -32,7 +33,7 @@ module _ {H : Type 0} where
   -- its machine begins as that of a request in this version does, or none is made
   pub record IsBegun (version : Version) (options : VMOptions) (handler : H) (result : Result (Attempt H) Error) : Type 0 where
     pub begins : Begins Infallible (λ error. ⊥) (Some (version_content_type version)) options (state_made (machine_made result))
-    pub unasked : IfOk result (IsUnasked handler)
+    pub unasked : IfOk result (IsUnasked options handler)
 
   -- ---- its input, which its machine takes; an attempt that is over stays as it is
 

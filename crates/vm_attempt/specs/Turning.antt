@@ -1,15 +1,20 @@
 -- What a turn of an attempt comes to.
-use Rattle.std.specs.Prelude.{◌≡◌, ◌⊎◌, Bool, true, false, [], ◌∷◌, ◌++◌, Option, Some, None, Result, Ok, Err}
+use Rattle.std.specs.Prelude.{◌≡◌, ◌⊎◌, Bool, true, false, [], ◌∷◌, ◌++◌, codes, Option, Some, None, Result, Ok, Err}
 use Rattle.journal_model.specs.Run.{Handler}
 use Rattle.journal_model.specs.declared.call.Answer.{Answer}
 use Rattle.journal_model.specs.declared.call.Call.{Call}
 use Rattle.journal_model.specs.declared.handler.Input.{Input}
+use Rattle.protocol_errors.specs.Code.{unsupported_feature}
+use Rattle.protocol_errors.specs.Error.{plain_error}
 use Rattle.protocol_errors.specs.declared.error.Error.{Error}
+use Rattle.request_laws.specs.Calls.{IsTypedCall}
 use Rattle.vm_beginning.specs.Reading.{IsRead}
 use Rattle.vm_errors.specs.Failing.{out_of_memory}
 use Rattle.vm_feeding.specs.Asking.{IsReady}
+use Rattle.vm_feeding.specs.Telling.{IsTold}
 use Rattle.vm_driving.specs.Outcomes.outcomes
 use Rattle.vm_driving.specs.Outcomes.{CarriesOut, CallOutcome}
+use Rattle.vm_attempt.specs.Covered.{is_covered}
 use Rattle.vm_attempt.specs.declared.attempt.Attempt.{Attempt}
 use Rattle.vm_attempt.specs.declared.turn.Finish.{Finish}
 use Rattle.vm_attempt.specs.declared.turn.Finish.TheVariants as finishes
@@ -20,6 +25,10 @@ abbrev pub again : Finish → Turn
 again finishes.Suspended = Turn.Suspended
 again finishes.Ended = Turn.Ended
 again finishes.OutOfMemory = Turn.Failed out_of_memory
+
+-- what an attempt fails with whose handler makes a call that is not carried out
+abbrev pub not_carried_out : Error
+not_carried_out = plain_error unsupported_feature (codes "the call is not carried out")
 
 module _ {H : Type 0} where
   -- the attempt is over, and answers that in each turn
@@ -41,11 +50,26 @@ module _ {H : Type 0} where
   ComesTo outcomes.Ended between turn after = IsOver finishes.Ended between turn after
   ComesTo (outcomes.Failed error) between turn after = (turn ≡ Turn.Failed error) × (after ≡ between)
 
-  -- the machine carries the call out
+  -- the machine carries the call out, which is of its type
   pub record CarriesCall (call : Call) (before : Attempt H) (turn : Turn) (after : Attempt H) : Type 0 where
+    pub typed : IsTypedCall call
     pub outcome : CallOutcome
     pub carries : CarriesOut call before.vm.state outcome after.vm.state
     pub comes : ComesTo outcome (record before { vm = after.vm }) turn after
+
+  -- the machine is told that the call is not carried out, and fails with that; nothing of the call is done
+  pub record RefusesCall (before : Attempt H) (turn : Turn) (after : Attempt H) : Type 0 where
+    pub told : IsTold not_carried_out None before.vm.state after.vm.state
+    pub turn_is : turn ≡ Turn.Failed not_carried_out
+    pub others : after ≡ record before { vm = after.vm }
+
+  abbrev pub CarriesWhere : (covered : Bool) → Call → (before : Attempt H) → Turn → (after : Attempt H) → Type 0
+  CarriesWhere true call before turn after = CarriesCall call before turn after
+  CarriesWhere false call before turn after = RefusesCall before turn after
+
+  -- the call is carried out if it is one that is
+  abbrev pub AnswersCall : Call → (before : Attempt H) → Turn → (after : Attempt H) → Type 0
+  AnswersCall call before turn after = CarriesWhere (is_covered before.cancellation call) call before turn after
 
   -- ---- the input
 
@@ -62,10 +86,10 @@ module _ {H : Type 0} where
   -- ---- a turn
 
   module _ (function : H → Handler) where
-    -- the input is read first, which no call is; then the handler's next call is carried out, if there is memory for it
+    -- the input is read first, which no call is; then the handler's next call is carried out or refused, if there is memory for it
     abbrev pub GoesOn : Option Input → (before : Attempt H) → Turn → (after : Attempt H) → Type 0
     GoesOn None before turn after = ReadsInput before turn after
-    GoesOn (Some input) before turn after = CarriesCall (function before.handler input before.answers) before turn after ⊎ IsOver finishes.OutOfMemory before turn after
+    GoesOn (Some input) before turn after = AnswersCall (function before.handler input before.answers) before turn after ⊎ IsOver finishes.OutOfMemory before turn after
 
     -- calls are made of the machine, or more has to come, or it has failed
     abbrev pub TurnsWhere : Result Bool Error → (before : Attempt H) → Turn → (after : Attempt H) → Type 0

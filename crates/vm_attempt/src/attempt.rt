@@ -2,13 +2,15 @@
 ghost use Rattle.std.specs.Prelude.{OnOk};
 ghost use Rattle.vm_attempt.specs.Attempt.{IsBegun, Feeds, ClosesInput};
 ghost use Rattle.vm_attempt.specs.Output.{Gathers, HasFront, Shows, LetsGo, TakesOutput};
-ghost use Rattle.vm_attempt.specs.Turning.{IsOver, TakesAnswer, ComesTo, CarriesCall, ReadsInput, GoesOn, TurnsOn, Turns};
+ghost use Rattle.vm_attempt.specs.Turning.{IsOver, TakesAnswer, ComesTo, CarriesCall, RefusesCall, AnswersCall, ReadsInput, GoesOn, TurnsOn, Turns};
 
+use crate::covered::is_covered;
 use crate::header::ContentType;
 use crate::output::{advance, first, join};
-use crate::turn::{Finish, Turn, turn_again};
+use crate::turn::{Finish, Turn, not_carried_out, turn_again};
+use crate::typed::call_is_typed;
 use bytes::Bytes;
-use journal_model::{Answer, Call, Handler, Input};
+use journal_model::{Answer, Call, Handler, ImplicitCancellationOption, Input};
 use protocol_errors::Error;
 use protocol_types::Version;
 use sequence::Sequence;
@@ -23,6 +25,8 @@ pub struct Attempt<H> {
     alloc: Global,
     handler: H,
     vm: CoreVM,
+    /// Whether a cancellation ends awaits, as its machine has it.
+    cancellation: ImplicitCancellationOption,
     /// What the handler is given, once it was read.
     input: Option<Input>,
     /// What the handler was answered so far.
@@ -53,6 +57,7 @@ impl<H: Handler> Attempt<H> {
                 alloc,
                 handler,
                 vm,
+                cancellation: options.implicit_cancellation,
                 input: None,
                 answers: Sequence::new(alloc),
                 over: None,
@@ -121,8 +126,28 @@ impl<H: Handler> Attempt<H> {
     fn carry(&mut self, call: Call) -> Turn
         ensures { CarriesCall call self.old result self.new }
     {
+        call_is_typed(&call);
         let outcome = carry_out(&mut self.vm, call);
         self.come_to(outcome)
+    }
+
+    // The attempt fails, since a call is made that is not carried out.
+    fn refuse(&mut self) -> Turn
+        ensures { RefusesCall self.old result self.new }
+    {
+        self.vm.notify_error(not_carried_out(), None);
+        Turn::Failed(not_carried_out())
+    }
+
+    // The handler's call is carried out, if it is one that is.
+    fn answer_call(&mut self, call: Call) -> Turn
+        ensures { AnswersCall call self.old result self.new }
+    {
+        if is_covered(self.cancellation, &call) {
+            return self.carry(call);
+        }
+        drop(call);
+        self.refuse()
     }
 
     // The input is read.
@@ -147,7 +172,7 @@ impl<H: Handler> Attempt<H> {
             Some(input) => self.handler.next(input, self.answers.as_slice()),
         };
         match next {
-            Ok(call) => self.carry(call),
+            Ok(call) => self.answer_call(call),
             Err(_) => self.finish(Finish::OutOfMemory),
         }
     }

@@ -2,9 +2,11 @@
 #![tactic(auto)]
 
 mod attempt;
+mod covered;
 mod header;
 mod output;
 mod turn;
+mod typed;
 
 pub use attempt::Attempt;
 pub use turn::{Finish, Turn};

@@ -1,6 +1,6 @@
 // What turns come to.
 ghost use Rattle.std.specs.Prelude.{◌≡◌};
-ghost use Rattle.vm_attempt.specs.Turning.{again};
+ghost use Rattle.vm_attempt.specs.Turning.{again, not_carried_out};
 ghost use Rattle.vm_errors.specs.Failing as failing;
 
 use bytes::ByteStr;
@@ -35,6 +35,16 @@ fn out_of_memory() -> Error
     ensures { result ≡ failing.out_of_memory }
 {
     Error::new(codes::INTERNAL, ByteStr::from_static("out of memory"))
+}
+
+// The error of an attempt whose handler makes a call that is not carried out.
+pub(crate) fn not_carried_out() -> Error
+    ensures { result ≡ not_carried_out }
+{
+    Error::new(
+        codes::UNSUPPORTED_FEATURE,
+        ByteStr::from_static("the call is not carried out"),
+    )
 }
 
 /// What each turn comes to of an attempt that is over.

@@ -1,11 +1,10 @@
-use Rattle.std.proofs.Common.{List, ℕ, refl, subst}
-use Rattle.fresh_attempt.specs.Attempt.{Feeds}
+use Rattle.std.proofs.Common.{refl}
 use Rattle.durable_schedule.proofs.held.hand_out.Goals as goal
 
 pub returns-in-Ok-clause-does : goal.returns-in-Ok-clause-does
 returns-in-Ok-clause-does g c clean s is =
     let it = c.in-Ok.ensures.does clean s is in
-    (it.0, it.1, (c.in-Ok.bytes, c.len.ensures.value, it.2, subst (λ (b : List ℕ). Feeds b c.args.one.now.attempt c.feed.new.self) c.deref.ensures c.feed.ensures))
+    (it.0, it.1, (c.in-Ok.bytes, c.len-len.ensures.value, it.2, c.feed.ensures))
 
 pub returns-in-Err-clause-does : goal.returns-in-Err-clause-does
 returns-in-Err-clause-does g c clean s is =

@@ -1,62 +1,33 @@
-use Rattle.std.proofs.Common.{◌≢◌, arith, List, [], ℕ, refl, subst, ap, ◌∙◌, length, min, take, Option, Ok}
-use Rattle.sqlite.specs.Held.{state}
-use Rattle.store_refusals.specs.declared.refusal.Refusal.{Refusal}
-use Rattle.store_steps.specs.declared.frame.FrameReply.{FrameReply}
-use Rattle.store_calls.specs.Standing.{Standing}
-use Rattle.store_calls.specs.Calls.{PutsBehind}
-use Rattle.store_calls.specs.Frames.{Accepts, TakesEach}
-use Rattle.journal_store.specs.Accepting.{OutlastsFrames}
-use Rattle.durable_schedule.proofs.Lasting.{rest_lasts}
-use Rattle.durable_schedule.proofs.Moving.{moves_crashed}
+use Rattle.schedule_model.specs.Lends.{held_as}
+use Rattle.schedule_model.proofs.Advancing.{memory_refuses}
+use Rattle.store_calls.proofs.Taking.{same_stays}
+use Rattle.journal_store.proofs.Enduring.{same_endures}
+use Rattle.durable_schedule.specs.Scheduled.{MovesSome}
+use Rattle.durable_schedule.proofs.Moving.{moves_shown, moves_crashed}
 use Rattle.durable_schedule.proofs.held.take_in.Goals as goal
 
 pub returns-in-Ok-clause-does : goal.returns-in-Ok-clause-does
 returns-in-Ok-clause-does g c clean s is =
-    let one = c.args.one.now in
-    let it = c.in-Ok.ensures.does clean s is in
-    let told : List FrameReply × Option Refusal = (c.in-Ok.accepted.replies.items, c.in-Ok.accepted.refusal) in (
-      it.0,
-      it.1,
-      (
-        c.in-Ok.accepted.replies.items,
-        omega (arith, c.len-frames.ensures, c.in-Ok.accepted.replies.ok.0),
-        c.min-bytes.ensures ∙ ap (λ (bytes : List ℕ). min c.args.count (length bytes)) c.output.ensures,
-        subst (λ (bytes : List ℕ). Accepts one.invocation one.number (take c.min-bytes.result bytes) (Ok told) s it.0) c.output-2.ensures it.2,
-        c.advance_output.ensures,
-      ),
-    )
+    let it = c.accept_from.ensures.does clean s is in
+    (it.0, it.1, moves_shown c.args.count c.in-Ok.bytes (held_as c.args.invocation.now c.args.number c.args.attempt.now) c.first_output.new.self c.in-Ok.ensures s it.0 c.accept_from.result c.accept_from.new.attempt it.2)
 
 pub returns-in-Ok-clause-settled : goal.returns-in-Ok-clause-settled
-unfolding returns-in-Ok-clause-does
 returns-in-Ok-clause-settled g c taken clean s is =
-    let one = c.args.one.now in
-    let it = returns-in-Ok-clause-does g c clean s is in
-    let some : c.in-Ok.accepted.replies.items ≢ [] = λ none. taken (it.2.1 ∙ ap (λ (replies : List FrameReply). length replies) none) in
-    let lasts = c.in-Ok.ensures.settled some clean s is in (
+    let it = c.accept_from.ensures.settled taken clean s is in (
       it.0,
       it.1,
-      (
-        it.2,
-        rest_lasts one.invocation one.number _ c.in-Ok.accepted.replies.items c.in-Ok.accepted.refusal s it.0 (state g.S.Store c.accept.new.self.connection)
-            (subst (λ (bytes : List ℕ). (m : Standing) × PutsBehind one.invocation one.number (take c.min-bytes.result bytes) s m
-            × ((k : Standing) × TakesEach one.invocation one.number c.in-Ok.accepted.replies.items m k × OutlastsFrames one.invocation one.number c.in-Ok.accepted.refusal k (state g.S.Store c.accept.new.self.connection)))
-            c.output-2.ensures lasts)
-            it.2.3,
-      ),
+      (moves_shown c.args.count c.in-Ok.bytes (held_as c.args.invocation.now c.args.number c.args.attempt.now) c.first_output.new.self c.in-Ok.ensures s it.0 c.accept_from.result c.accept_from.new.attempt it.2.0, it.2.1),
     )
+
+pub returns-in-Ok-clause-crash : goal.returns-in-Ok-clause-crash
+returns-in-Ok-clause-crash g c =
+    moves_crashed g.S.Store c.args.count c.in-Ok.bytes (held_as c.args.invocation.now c.args.number c.args.attempt.now) c.first_output.new.self c.in-Ok.ensures c.args.store.now c.accept_from.new.store c.accept_from.ensures.crash
+
+pub returns-in-Err-clause-does : goal.returns-in-Err-clause-does
+returns-in-Err-clause-does g c clean s is = (s, is, (memory_refuses c.args.invocation.now c.args.number s s (same_stays s), c.in-Err.ensures))
 
 pub returns-in-Err-clause-settled : goal.returns-in-Err-clause-settled
 returns-in-Err-clause-settled g c taken = absurd taken
 
-pub returns-in-Ok-clause-crash : goal.returns-in-Ok-clause-crash
-returns-in-Ok-clause-crash g c =
-    moves_crashed g.S.Store c.args.count c.args.one.now c.min-bytes.result _ _ c.min-bytes.ensures c.output.ensures c.output-2.ensures c.args.store.now c.accept.new.self c.accept.ensures.crash
-
-pub returns-in-Err-clause-does : goal.returns-in-Err-clause-does
-returns-in-Err-clause-does g c clean s is =
-    let it = c.in-Err.ensures.does clean s is in
-    (it.0, it.1, (it.2, refl))
-
 pub returns-in-Err-clause-crash : goal.returns-in-Err-clause-crash
-returns-in-Err-clause-crash g c =
-    moves_crashed g.S.Store c.args.count c.args.one.now c.min-bytes.result _ _ c.min-bytes.ensures c.output.ensures c.output-2.ensures c.args.store.now c.accept.new.self c.accept.ensures.crash
+returns-in-Err-clause-crash g c = same_endures g.S.Store (MovesSome c.args.count (held_as c.args.invocation.now c.args.number c.args.attempt.now)) c.args.store.now

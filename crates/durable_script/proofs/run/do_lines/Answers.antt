@@ -8,7 +8,7 @@ use Rattle.script_lines.specs.ScriptLines.{lines_left}
 use Rattle.durable_script.specs.Runner.{DoesNext}
 use Rattle.durable_script.specs.Run.{texts_of, DoesAll, DoesFirst}
 use Rattle.durable_script.proofs.Reaching.{reaches_none}
-use Rattle.durable_script.proofs.Doing.{next_line, one_more, asked_more, stops, breaks}
+use Rattle.durable_script.proofs.Doing.{next_line, one_more, stops, breaks}
 use Rattle.durable_script.proofs.run.do_lines.Goals as goal
 
 pub loop-line-init : goal.loop-line-init
@@ -17,7 +17,6 @@ loop-line-init g c = record {
   finite = tt;
   done = [];
   has_done = record { lines_are = search rules; understood = tt; does = reaches_none g.S.Store (DoesFirst []) (DoesAll []) c.args.runner.now.scheduler (λ s. refl) };
-  asked = c.requires;
   written = search rules;
 }
 
@@ -28,7 +27,7 @@ returns-in_err-text g c =
     rw (p.1, p.2)
     (stops g.S.Store (numbered_lines c.args.script.now) c.args.runner.now.scheduler inv.done c.in-Some.line.number c.in-Some.line.bytes.now c.in_err-text.field-0.0 c.loop-line.runner c.do_line.new.self
     (lines_left c.loop-line.line-iterator) (lines_left c.next.new.self) (g.W.Write.contents c.args.writer.now) (g.W.Write.contents c.loop-line.writer)
-    c.in_err-text.ensures.err inv.has_done inv.asked c.in-Some.ensures.steps inv.written)
+    c.in_err-text.ensures.err inv.has_done c.in-Some.ensures.steps inv.written)
 
 pub returns-in_err-write_text : goal.returns-in_err-write_text
 returns-in_err-write_text g c =
@@ -41,7 +40,7 @@ returns-in_err-write_text g c =
     rw (p.1, p.2, failed.0)
     (breaks g.S.Store (numbered_lines c.args.script.now) c.args.runner.now.scheduler inv.done c.in-Some.line.number c.in-Some.line.bytes.now text c.loop-line.runner c.do_line.new.self
     (lines_left c.loop-line.line-iterator) (lines_left c.next.new.self) (g.W.Write.contents c.args.writer.now) between has failed.1
-    c.in_ok-text.ensures.ok inv.has_done inv.asked c.in-Some.ensures.steps inv.written
+    c.in_ok-text.ensures.ok inv.has_done c.in-Some.ensures.steps inv.written
     (subst (λ (bs : List ℕ). failed.1 < length bs) c.as_bytes.ensures.value failed.2)
     (subst (λ (bs : List ℕ). Appends between has (take failed.1 bs)) c.as_bytes.ensures.value failed.3))
 
@@ -61,8 +60,7 @@ loop-line-preserved g c =
       can = tt;
       finite = tt;
       done = next_line g.S.Store lines start inv.done number bytes text old new does ∷ inv.done;
-      has_done = one_more g.S.Store lines start inv.done number bytes text old new (lines_left c.loop-line.line-iterator) (lines_left c.next.new.self) does inv.has_done inv.asked next;
-      asked = asked_more g.S.Store lines start inv.done number bytes text old new does inv.asked;
+      has_done = one_more g.S.Store lines start inv.done number bytes text old new (lines_left c.loop-line.line-iterator) (lines_left c.next.new.self) does inv.has_done next;
       written = Appends-trans (g.W.Write.contents c.args.writer.now) (g.W.Write.contents c.loop-line.writer) (g.W.Write.contents c.write_text.new.writer) (texts_of inv.done) text
           inv.written (subst (λ (bs : List ℕ). Appends (g.W.Write.contents c.loop-line.writer) (g.W.Write.contents c.write_text.new.writer) bs) c.as_bytes.ensures.value c.in_ok-write_text.ensures.ok);
     }

@@ -1,9 +1,9 @@
-use Rattle.std.proofs.Common.{◌≡◌, List}
+use Rattle.std.proofs.Common.{List}
 use Rattle.std.specs.Io.KnownBytes.{Appends}
 use Rattle.script_lines.specs.Script.{numbered_lines}
 use Rattle.script_lines.specs.ScriptLines.{lines_left}
 use Rattle.durable_script.specs.Reaching.{Reaches}
-use Rattle.durable_script.specs.Run.{DoneLine, texts_of, asked_by, DoesAll, DoesFirst, HasDone}
+use Rattle.durable_script.specs.Run.{DoneLine, texts_of, DoesAll, DoesFirst, HasDone}
 use Rattle.durable_script.proofs.run.do_lines.Given as goal
 
 abbrev pub invariant-loop-line : goal.invariant-loop-line
@@ -12,6 +12,5 @@ invariant-loop-line g l = record {
   finite : (goal.iterator-loop-line g).is_finite l.line-iterator;
   done : List DoneLine;
   has_done : HasDone (numbered_lines l.script) (λ done. Reaches g.S.Store (DoesFirst done) (DoesAll done) l.fn.runner.scheduler l.runner.scheduler) done (lines_left l.line-iterator);
-  asked : l.runner.asked ≡ asked_by done;
   written : Appends (g.W.Write.contents l.fn.writer) (g.W.Write.contents l.writer) (texts_of done);
 }

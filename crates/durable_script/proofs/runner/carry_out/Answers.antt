@@ -1,7 +1,9 @@
 use Rattle.std.proofs.Common.{subst}
 use Rattle.std.specs.Prelude.{string_bytes}
 use Rattle.built_in_handlers.specs.declared.built_in.BuiltIn.{BuiltIn}
-use Rattle.schedule_model.specs.declared.event.Event.{Event}
+use Rattle.journal_model.specs.declared.notification.NotificationResult.{NotificationResult}
+use Rattle.durable_schedule.specs.Schedules.event
+use Rattle.durable_schedule.specs.Schedules.{Event}
 use Rattle.script_lines.specs.declared.line.Line.TheVariants as line
 use Rattle.durable_script.specs.Line.{DoesEvent, DoesSomeEvent, DoesLine, DoesSomeLine}
 use Rattle.durable_script.specs.Printed.{Makes}
@@ -14,6 +16,16 @@ returns-in-Invoke g c =
     rw c.in-Invoke.is
     (subst (λ (one : Event BuiltIn). Makes string_bytes c.do_event.result (λ text. Reaches g.S.Store (DoesSomeEvent one) (DoesEvent one text) c.args.scheduler.now c.do_event.new.scheduler)) c.invoke-event.ensures c.do_event.ensures)
 
+pub returns-in-Result : goal.returns-in-Result
+returns-in-Result g c =
+    let it = c.in-Result in
+    rw it.is
+    (subst (λ (value : NotificationResult). let one = event.Result it.id it.completion value in
+    Makes string_bytes c.do_event-in-Result.result (λ text. Reaches g.S.Store (DoesSomeEvent one) (DoesEvent one text) c.args.scheduler.now c.do_event-in-Result.new.scheduler)) c.brought-value.ensures c.do_event-in-Result.ensures)
+
+pub returns-in-Tick : goal.returns-in-Tick
+returns-in-Tick g c = rw c.in-Tick.is c.do_event-in-Tick.ensures
+
 pub returns-in-Begin : goal.returns-in-Begin
 returns-in-Begin g c =
     let did = c.do_event-in-Begin in
@@ -22,6 +34,9 @@ returns-in-Begin g c =
 
 pub returns-in-Feed : goal.returns-in-Feed
 returns-in-Feed g c = rw c.in-Feed.is c.do_event-in-Feed.ensures
+
+pub returns-in-Close : goal.returns-in-Close
+returns-in-Close g c = rw c.in-Close.is c.do_event-in-Close.ensures
 
 pub returns-in-Turn : goal.returns-in-Turn
 returns-in-Turn g c =

@@ -10,9 +10,9 @@ returns g c =
     let reply = c.apply-reply.result in
     let old = c.args.scheduler.now in
     let new = c.apply-reply.new.self in
-    let applied = reaches_applied g.S.Store c.args.event reply old new c.apply-reply.ensures.crash c.apply-reply.ensures.does c.apply-reply.ensures.options in
+    let applied = reaches_applied g.S.Store c.args.event reply old new c.apply-reply.ensures.crash c.apply-reply.ensures.does c.apply-reply.ensures.fits c.apply-reply.ensures.options in
     let text = printed 1 reply ++ 10 ∷ [] in (
       text,
-      subst (λ (t : List ℕ). IfOk c.reply_line.result (λ s. string_bytes s ≡ t ++ 10 ∷ [])) c.line_reply.ensures c.reply_line.ensures,
+      subst (λ (t : List ℕ). IfOk c.reply_line-text.result (λ s. string_bytes s ≡ t ++ 10 ∷ [])) c.line_reply.ensures c.reply_line-text.ensures,
       event_printed g.S.Store old new c.args.event reply applied text refl,
     )

@@ -1,5 +1,5 @@
 use Rattle.std.proofs.Common.{refl, arith}
-use Rattle.schedule_model.specs.declared.event.Event.TheVariants as event
+use Rattle.durable_schedule.specs.Schedules.event
 use Rattle.durable_script.specs.Line.{AnsweredTurns}
 use Rattle.durable_script.specs.Reaching.{Nowhere}
 use Rattle.durable_script.proofs.Reaching.{reaches_none, reaches_turned}
@@ -23,7 +23,7 @@ returns-then-taken-count g c =
     let old = c.loop-taken.scheduler in
     let new = c.take_turn-reply.new.self in
     let reply = c.take_turn-reply.result in
-    let turned = reaches_turned g.S.Store (event.Turn id n) reply old new c.take_turn-reply.ensures.store c.take_turn-reply.ensures.does c.take_turn-reply.ensures.options in
+    let turned = reaches_turned g.S.Store (event.Turn id n) reply old new c.take_turn-reply.ensures.store c.take_turn-reply.ensures.does tt c.take_turn-reply.ensures.options in
     turned_last g.S.Store id n c.args.scheduler.now old new inv.before inv.answered c.args.count c.loop-taken.taken reply turned inv.taken inv.within
     (λ yes. elim c.then-taken-count.branch [
       | then-taken-count-via-then-taken-count w ↦ w.if-taken-count.true
@@ -38,7 +38,7 @@ loop-taken-preserved g c =
     let old = c.loop-taken.scheduler in
     let new = c.take_turn-reply.new.self in
     let reply = c.take_turn-reply.result in
-    let turned = reaches_turned g.S.Store (event.Turn id n) reply old new c.take_turn-reply.ensures.store c.take_turn-reply.ensures.does c.take_turn-reply.ensures.options in
+    let turned = reaches_turned g.S.Store (event.Turn id n) reply old new c.take_turn-reply.ensures.store c.take_turn-reply.ensures.does tt c.take_turn-reply.ensures.options in
     record {
       before = c.loop-taken.taken;
       taken = refl;

@@ -1,5 +1,7 @@
-use Rattle.std.proofs.Common.{refl, subst, sym}
+use Rattle.std.proofs.Common.{◌+◌, length, refl, subst, sym}
 use Rattle.journal_model.specs.Event as model
+use Rattle.journal_model.specs.Journal.{entries_of}
+use Rattle.journal_model.specs.Attempt.{completions_of_tick}
 use Rattle.journal_store.specs.Stored.{Stored}
 use Rattle.schedule_model.specs.declared.event.Event.{Event}
 use Rattle.schedule_model.specs.declared.event.Event.TheVariants as event
@@ -65,33 +67,84 @@ pub returns-in-Invoke-clause-crash : goal.returns-in-Invoke-clause-crash
 returns-in-Invoke-clause-crash g c =
     let old = c.args.self.now in
     let one = event.Invoke c.in-Invoke.new in
-    applied_with g.S.Store g.H.Handler.next_call old.options c.args.event one old.held.items old.store c.invoke.new.self.store c.in-Invoke.is (Adds (model.Event.Invoke c.in-Invoke.new)) (λ s t it. (reply.Done, old.held.items, (it, refl)))
+    applied_with g.S.Store g.H.Handler.next_call old.options c.args.event one old.held old.store c.invoke.new.self.store c.in-Invoke.is (Adds (model.Event.Invoke c.in-Invoke.new)) (λ s t it. (reply.Done, old.held, (it, refl)))
     c.invoke.ensures.crash
 
 pub returns-in-Begin-clause-crash : goal.returns-in-Begin-clause-crash
 returns-in-Begin-clause-crash g c =
     let old = c.args.self.now in
     let one = event.Begin c.in-Begin.invocation c.in-Begin.handler c.in-Begin.now in
-    applied_with g.S.Store g.H.Handler.next_call old.options c.args.event one old.held.items old.store c.begin.new.self.store c.in-Begin.is (BeginsSome c.in-Begin.invocation c.in-Begin.now) (λ s t it. begins_with g.H.Handler.next_call old.options c.in-Begin.invocation c.in-Begin.handler c.in-Begin.now old.held.items s t it)
+    applied_with g.S.Store g.H.Handler.next_call old.options c.args.event one old.held old.store c.begin.new.self.store c.in-Begin.is (BeginsSome c.in-Begin.invocation c.in-Begin.now) (λ s t it. begins_with g.H.Handler.next_call old.options c.in-Begin.invocation c.in-Begin.handler c.in-Begin.now old.held s t it)
     c.begin.ensures.crash
 
 pub returns-in-Feed-clause-crash : goal.returns-in-Feed-clause-crash
 returns-in-Feed-clause-crash g c =
     let old = c.args.self.now in
-    quiet_endures g.S.Store (AppliesWith g.H.Handler.next_call old.options c.args.event old.held.items) old.store c.feed.new.self.store c.feed.ensures.crash
+    quiet_endures g.S.Store (AppliesWith g.H.Handler.next_call old.options c.args.event old.held) old.store c.feed.new.self.store c.feed.ensures.crash
 
 pub returns-in-Turn-clause-crash : goal.returns-in-Turn-clause-crash
 returns-in-Turn-clause-crash g c =
     let old = c.args.self.now in
-    let Relation = AppliesWith g.H.Handler.next_call old.options c.args.event old.held.items in
+    let Relation = AppliesWith g.H.Handler.next_call old.options c.args.event old.held in
     subst (λ (store : Stored g.row.S.Denot). Endures g.S.Store Relation old.store store) (sym c.turn.ensures.store) (same_endures g.S.Store Relation old.store)
 
 pub returns-in-Move-clause-crash : goal.returns-in-Move-clause-crash
 returns-in-Move-clause-crash g c =
     let old = c.args.self.now in
-    subst (λ (one : Event g.row.H.Denot). Endures g.S.Store (AppliesWith g.H.Handler.next_call old.options one old.held.items) old.store c.transfer.new.self.store) (sym c.in-Move.is) c.transfer.ensures.crash
+    subst (λ (one : Event g.row.H.Denot). Endures g.S.Store (AppliesWith g.H.Handler.next_call old.options one old.held) old.store c.transfer.new.self.store) (sym c.in-Move.is) c.transfer.ensures.crash
 
 pub returns-in-Stop-clause-crash : goal.returns-in-Stop-clause-crash
 returns-in-Stop-clause-crash g c =
     let old = c.args.self.now in
-    quiet_endures g.S.Store (AppliesWith g.H.Handler.next_call old.options c.args.event old.held.items) old.store c.stop.new.self.store c.stop.ensures.crash
+    quiet_endures g.S.Store (AppliesWith g.H.Handler.next_call old.options c.args.event old.held) old.store c.stop.new.self.store c.stop.ensures.crash
+
+pub returns-in-Result-clause-does : goal.returns-in-Result-clause-does
+returns-in-Result-clause-does g c =
+    applied g.S.Store g.H.Handler.next_call c.args.self.now c.complete.new.self c.args.event (event.Result c.in-Result.invocation c.in-Result.completion c.in-Result.value) c.complete.result c.in-Result.is
+    (λ clean s is. let it = c.complete.ensures.does clean s is in (it.0, it.1, (it.2, stored g.S.Store c.args.self.now c.complete.new.self c.complete.ensures.kept)))
+
+pub returns-in-Result-clause-settled : goal.returns-in-Result-clause-settled
+returns-in-Result-clause-settled g c =
+    applied_lasting g.S.Store g.H.Handler.next_call c.args.self.now c.complete.new.self c.args.event (event.Result c.in-Result.invocation c.in-Result.completion c.in-Result.value) c.complete.result c.in-Result.is
+    (λ written clean s is.
+    let it = c.complete.ensures.settled written clean s is in
+    (it.0, it.1, ((it.2.0, stored g.S.Store c.args.self.now c.complete.new.self c.complete.ensures.kept), it.2.1)))
+
+pub returns-in-Result-clause-crash : goal.returns-in-Result-clause-crash
+returns-in-Result-clause-crash g c =
+    let old = c.args.self.now in
+    let one = event.Result c.in-Result.invocation c.in-Result.completion c.in-Result.value in
+    applied_with g.S.Store g.H.Handler.next_call old.options c.args.event one old.held old.store c.complete.new.self.store c.in-Result.is
+    (Adds (model.Event.Complete c.in-Result.invocation c.in-Result.completion c.in-Result.value))
+    (λ s t it. (reply.Placed (1 + length (entries_of s.events c.in-Result.invocation)), old.held, ((refl, it), refl))) c.complete.ensures.crash
+
+pub returns-in-Tick-clause-does : goal.returns-in-Tick-clause-does
+returns-in-Tick-clause-does g c =
+    applied g.S.Store g.H.Handler.next_call c.args.self.now c.tick.new.self c.args.event (event.Tick c.in-Tick.now) c.tick.result c.in-Tick.is
+    (λ clean s is. let it = c.tick.ensures.does clean s is in (it.0, it.1, (it.2, stored g.S.Store c.args.self.now c.tick.new.self c.tick.ensures.kept)))
+
+pub returns-in-Tick-clause-settled : goal.returns-in-Tick-clause-settled
+returns-in-Tick-clause-settled g c =
+    applied_lasting g.S.Store g.H.Handler.next_call c.args.self.now c.tick.new.self c.args.event (event.Tick c.in-Tick.now) c.tick.result c.in-Tick.is
+    (λ written clean s is.
+    let it = c.tick.ensures.settled written clean s is in
+    (it.0, it.1, ((it.2.0, stored g.S.Store c.args.self.now c.tick.new.self c.tick.ensures.kept), it.2.1)))
+
+pub returns-in-Tick-clause-crash : goal.returns-in-Tick-clause-crash
+returns-in-Tick-clause-crash g c =
+    let old = c.args.self.now in
+    let one = event.Tick c.in-Tick.now in
+    applied_with g.S.Store g.H.Handler.next_call old.options c.args.event one old.held old.store c.tick.new.self.store c.in-Tick.is (Adds (model.Event.Tick c.in-Tick.now))
+    (λ s t it. (reply.Ticked (completions_of_tick s.events c.in-Tick.now), old.held, ((refl, it), refl))) c.tick.ensures.crash
+
+pub returns-in-Close-clause-does : goal.returns-in-Close-clause-does
+returns-in-Close-clause-does g c =
+    applied g.S.Store g.H.Handler.next_call c.args.self.now c.close.new.self c.args.event (event.Close c.in-Close.invocation c.in-Close.attempt) c.close.result c.in-Close.is c.close.ensures.does
+
+pub returns-in-Close-clause-settled : goal.returns-in-Close-clause-settled
+returns-in-Close-clause-settled g c = unwritten g.S.Store c.args.event (event.Close c.in-Close.invocation c.in-Close.attempt) c.close.result c.in-Close.is (λ written. written)
+
+pub returns-in-Close-clause-crash : goal.returns-in-Close-clause-crash
+returns-in-Close-clause-crash g c =
+    let old = c.args.self.now in
+    quiet_endures g.S.Store (AppliesWith g.H.Handler.next_call old.options c.args.event old.held) old.store c.close.new.self.store c.close.ensures.crash

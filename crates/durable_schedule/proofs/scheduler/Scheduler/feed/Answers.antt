@@ -5,10 +5,10 @@ use Rattle.durable_schedule.proofs.scheduler.Scheduler.feed.Goals as goal
 pub returns-in-None-clause-does : goal.returns-in-None-clause-does
 returns-in-None-clause-does g c =
     let old = c.args.self.now in
-    misses g.S.Store (FeedsOne c.args.count) c.args.invocation.now c.args.number old.held.items _ c.deref.ensures.value c.place_of.result c.place_of.ensures c.in-None.is old.store
+    misses g.S.Store (FeedsOne c.args.count) c.args.invocation.now c.args.number old.held c.get_mut.result c.get_mut.ensures.found c.in-None.is old.store
 
 pub returns-in-Some-clause-does : goal.returns-in-Some-clause-does
 returns-in-Some-clause-does g c =
     let old = c.args.self.now in
-    finds g.S.Store (FeedsOne c.args.count) c.args.invocation.now c.args.number old.held.items _ c.deref.ensures.value c.place_of.result c.place_of.ensures
-    c.in-Some.place c.index_mut.result.now c.in-Some.is c.index_mut.ensures.value old.store c.hand_out.new.store c.hand_out.new.one c.hand_out.result c.hand_out.ensures.kept c.hand_out.ensures.does
+    finds g.S.Store (FeedsOne c.args.count) c.args.invocation.now c.args.number old.held c.get_mut.result c.get_mut.ensures.found
+    c.in-Some.attempt c.in-Some.is old.store c.hand_out.new.store c.hand_out.new.attempt c.hand_out.result c.hand_out.ensures.does

@@ -25,3 +25,9 @@ returns-in-Ok-clause-crash g c = invoke_endures g.S.Store c.args.new c.args.self
 
 pub returns-in-Err-clause-crash : goal.returns-in-Err-clause-crash
 returns-in-Err-clause-crash g c = invoke_endures g.S.Store c.args.new c.args.self.now.store c.invoke.new.self c.invoke.ensures.crash
+
+pub returns-in-Ok-clause-fits : goal.returns-in-Ok-clause-fits
+returns-in-Ok-clause-fits g c = record { id = c.invocation_fits.ensures.id; object = c.invocation_fits.ensures.object; seed = c.invocation_fits.ensures.seed; input = c.invocation_fits.ensures.input }
+
+pub returns-in-Err-clause-fits : goal.returns-in-Err-clause-fits
+returns-in-Err-clause-fits g c = record { id = c.invocation_fits.ensures.id; object = c.invocation_fits.ensures.object; seed = c.invocation_fits.ensures.seed; input = c.invocation_fits.ensures.input }

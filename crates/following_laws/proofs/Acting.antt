@@ -1,0 +1,335 @@
+-- What is done with the live attempt that is held keeps its invocation in the run: it is fed, closed, makes a turn, and its output leaves.
+use Rattle.std.proofs.Common.{◌≡◌, ℕ, ◌<◌, Bool, true, false, ◌&&◌, ◌||◌, if◌then◌else◌, zero-add, List, [], ◌∷◌, ◌++◌, map, take, drop, Option, Some, Ok, refl, sym, ap, subst, ◌∙◌, inl, inr, ◌⊎◌, append_assoc, take-append-drop}
+use Rattle.std.specs.List.{AllByRecursion}
+use Rattle.journal_model.specs.declared.invocation.NewInvocation.{NewInvocation}
+use Rattle.journal_model.specs.Notification.{Bytes, Text}
+use Rattle.journal_model.specs.State.{StateMap}
+use Rattle.journal_model.specs.Event.{Event, Frame}
+use Rattle.journal_model.specs.Journal.{is_of, starting_state}
+use Rattle.journal_model.specs.Attempt.{attempts_begun, live_attempt, is_input_closed, input_left}
+use Rattle.journal_model.specs.Cause.{IsAccepted}
+use Rattle.journal_model.specs.Run.{Handler, Invocation}
+use Rattle.journal_model.specs.Headline.{run_of}
+use Rattle.protocol_types.specs.declared.version.Version.{Version}
+use Rattle.input_laws.proofs.Events.{itself, start_same}
+use Rattle.input_laws.proofs.LiveAttempts.{live_now, closed_now}
+use Rattle.turn_laws.specs.Sending.{FollowsSo}
+use Rattle.turn_laws.specs.Turning.{IsNote}
+use Rattle.turn_laws.proofs.Keeping.{one_event}
+use Rattle.machine_laws.specs.Living.{LiveAttempt, handed_bytes, after_reading, after_turn}
+use Rattle.vm_types.specs.Options.{run_options}
+use Rattle.vm_types.specs.declared.options.VMOptions.{VMOptions}
+use Rattle.turning_laws.specs.Attempts.{Feeds, ClosesInput, output_of, Turns, Attempt, Turn}
+use Rattle.turning_laws.specs.Sending.sent
+use Rattle.turning_laws.specs.Sending.{Sent, Asks, is_recorded, sent_stream, sent_frame, frame_meant, IsOfStore}
+use Rattle.turning_laws.specs.Servings.{Serves, IsOver, machine_failed, StaysClosed, IsLiveAt}
+use Rattle.turning_laws.specs.Turning.{TurnsBehind}
+use Rattle.vm_errors.specs.Failing.{out_of_memory}
+use Rattle.schedule_model.specs.declared.held.HeldAttempt.{HeldAttempt}
+use Rattle.schedule_model.specs.First.{with_first}
+use Rattle.schedule_model.specs.Held.{is_held, held_of}
+use Rattle.schedule_model.specs.Schedule.{Advances}
+use Rattle.following_laws.specs.Following.{IsCovered, given_of, IsServed, Flies, FollowsBegun}
+use Rattle.fitting_laws.proofs.Fits.{may_come}
+use Rattle.following_laws.proofs.Following.{IsFlown, flown}
+use Rattle.following_laws.proofs.Serving.{ServingLaws, may_all}
+
+never : (b : Bool) → (b && false) ≡ false
+never true = refl
+never false = refl
+
+pub meant_append : (version : Version) (coming more : List Sent) → map (frame_meant version) (coming ++ more) ≡ map (frame_meant version) coming ++ map (frame_meant version) more
+meant_append version [] more = refl
+meant_append version (one ∷ coming) more = ap (λ (frames : List Frame). frame_meant version one ∷ frames) (meant_append version coming more)
+
+pub stream_append : (version : Version) (coming more : List Sent) → sent_stream version (coming ++ more) ≡ sent_stream version coming ++ sent_stream version more
+stream_append version [] more = refl
+stream_append version (one ∷ coming) more =
+    ap (λ (bytes : Bytes). sent_frame version one ++ bytes) (stream_append version coming more)
+    ∙ sym (append_assoc (sent_frame version one) (sent_stream version coming) (sent_stream version more))
+
+pub all_append : {A : Type 0} (P : A → Type 0) (xs ys : List A) → AllByRecursion P xs → AllByRecursion P ys → AllByRecursion P (xs ++ ys)
+all_append P [] ys a b = b
+all_append P (x ∷ xs) ys a b = (a.0, all_append P xs ys a.1 b)
+
+-- notes ask for nothing
+pub notes_of_store : (version : Version) (coming : List Sent) → AllByRecursion IsNote (map (frame_meant version) coming) → AllByRecursion IsOfStore coming
+notes_of_store version [] notes = tt
+notes_of_store version (Asks request ∷ coming) notes = (asks_nothing (is_recorded request) notes.0, notes_of_store version coming notes.1)
+  where
+    asks_nothing : (b : Bool) → IsNote (if b then Frame.Command request else Frame.NotAccepted) → b ≡ true
+    asks_nothing true note = refl
+    asks_nothing false note = absurd note
+notes_of_store version (one ∷ coming) notes = (tt, notes_of_store version coming notes.1)
+
+-- bytes behind those on the way
+pub written_behind : (version : Version) (waits before after : Bytes) (coming more : List Sent) → waits ++ before ≡ sent_stream version coming → after ≡ before ++ sent_stream version more
+    → waits ++ after ≡ sent_stream version (coming ++ more)
+written_behind version waits before after coming more e written =
+    ap (λ (bytes : Bytes). waits ++ bytes) written ∙ sym (append_assoc waits before (sent_stream version more)) ∙ ap (λ (bytes : Bytes). bytes ++ sent_stream version more) e
+    ∙ sym (stream_append version coming more)
+
+module _ {H : Type 0} (function : H → Handler) (next : Handler) (options : VMOptions) (id : Text) (laws : ServingLaws function next options) where
+  -- the run of the live attempt is that of the invocation
+  pub served_given : (events : List Event) (new : NewInvocation) (version : Version) (coming : List Sent) (attempt : Attempt H) → (s : IsServed function next options id events new version coming attempt)
+      → s.live.start.given ≡ given_of options id events new
+  served_given events new version coming attempt s =
+      s.lives.begun.given_is ∙ ap (λ (one : NewInvocation). run_of (run_options options) options.fallback_random_seed one (starting_state events id)) s.new_is
+
+  module _ (events : List Event) (output : Option Bytes) (held : List (HeldAttempt H)) (new : NewInvocation) (n : ℕ) (one : HeldAttempt H) (waits : Bytes)
+      (live : live_attempt events id ≡ Some n) (output_is : output ≡ Some waits) (there : held_of held id n ≡ Some one) (f : FollowsBegun function next options id events output held new) where
+    -- it flies
+    pub flight : Flies function next options id events new f.version f.coming waits one.attempt
+    flight = f.flies n waits one live output_is there
+
+    abbrev changed_to : Attempt H → List (HeldAttempt H)
+    changed_to attempt = with_first (is_held id n) held (record one { attempt = attempt })
+
+    -- ---- it is fed
+
+    module _ (count : ℕ) (given : Bytes) (changed : Attempt H) (accepted : IsAccepted (Event.HandOut id n count ∷ events)) (given_is : given ≡ take count (input_left events id))
+        (feeds : Feeds given one.attempt changed) where
+      abbrev handing : Event
+      handing = Event.HandOut id n count
+
+      live_then : live_attempt (handing ∷ events) id ≡ Some n
+      live_then = live_now handing events id refl (never (is_of id handing)) ∙ live
+
+      closed_then : is_input_closed (handing ∷ events) id ≡ is_input_closed events id
+      closed_then = closed_now handing events id refl ∙ ap (λ (b : Bool). b || is_input_closed events id) (never (is_of id handing))
+
+      given_then : given_of options id events new ≡ given_of options id (handing ∷ events) new
+      given_then = ap (λ (start : StateMap). run_of (run_options options) options.fallback_random_seed new start) (sym (start_same handing events id refl))
+
+      fed_served : (s : IsServed function next options id events new f.version f.coming one.attempt)
+          → (output_of changed ≡ output_of one.attempt) × (IsOver changed ⊎ IsServed function next options id (handing ∷ events) new f.version f.coming changed)
+      fed_served s =
+          let lives : IsLiveAt function next f.version options id (handing ∷ events) (handed_bytes s.live given) =
+          subst (λ (bytes : Bytes). IsLiveAt function next f.version options id (handing ∷ events) (handed_bytes s.live bytes)) (sym given_is)
+          ((laws.stays next (run_options options) options.fallback_random_seed id events s.live accepted.1 s.lives).is_handed n count) in
+          let (wrote, went) = laws.feeds f.version id (handing ∷ events) s.live (is_input_closed events id) given one.attempt changed accepted lives s.serves feeds in (
+            wrote,
+            elim went [
+              | inl r ↦ inr (record {
+                live = after_reading (handed_bytes s.live given) r.some r.still r.kept;
+                new_is = s.new_is;
+                coming_are = s.coming_are;
+                lives = r.lives;
+                serves = subst (λ (b : Bool). Serves function next f.version options (after_reading (handed_bytes s.live given) r.some r.still r.kept) b changed) (sym closed_then) r.serves;
+              })
+              | inr lacks ↦ inl (machine_failed out_of_memory lacks)
+            ],
+          )
+
+      fed_flight : Flies function next options id (handing ∷ events) new f.version f.coming waits changed
+      fed_flight = elim flight.stands [
+        | inl over ↦
+            let (over', wrote) = (laws.over one.attempt over).fed given changed feeds in
+            record { version_is = flight.version_is; bytes = ap (λ (bytes : Bytes). waits ++ bytes) wrote ∙ flight.bytes; stands = inl over' }
+        | inr s ↦
+            let (wrote, stands) = fed_served s in
+            record { version_is = flight.version_is; bytes = ap (λ (bytes : Bytes). waits ++ bytes) wrote ∙ flight.bytes; stands = stands }
+      ]
+
+      pub fed : FollowsBegun function next options id (handing ∷ events) output (changed_to changed) new
+      fed =
+          flown function next options id (handing ∷ events) held new output waits n one (record one { attempt = changed }) (tt, f.typed)
+          (λ m above. f.numbered m (subst (λ (k : ℕ). k < m) (zero-add (attempts_begun events id)) above)) live_then there refl refl (record {
+            version = f.version;
+            coming = f.coming;
+            fit = f.fit;
+            of_store = f.of_store;
+            follows = subst (λ (run : Invocation). FollowsSo next run id (handing ∷ events) (map (frame_meant f.version) f.coming)) given_then
+                (one_event next (given_of options id events new) id handing events (map (frame_meant f.version) f.coming) (map (frame_meant f.version) f.coming) accepted.0 refl f.follows);
+            output_is = output_is;
+            flies = fed_flight;
+          })
+
+    -- ---- its input is closed
+
+    module _ (changed : Attempt H) (accepted : IsAccepted (Event.CloseInput id n ∷ events)) (closes : ClosesInput one.attempt changed) where
+      abbrev closing : Event
+      closing = Event.CloseInput id n
+
+      live_still : live_attempt (closing ∷ events) id ≡ Some n
+      live_still = live_now closing events id refl (never (is_of id closing)) ∙ live
+
+      closed_now_too : is_input_closed (closing ∷ events) id ≡ true
+      closed_now_too = closed_now closing events id refl ∙ ap (λ (b : Bool). (b && true) || is_input_closed events id) (itself id)
+
+      given_still : given_of options id events new ≡ given_of options id (closing ∷ events) new
+      given_still = ap (λ (start : StateMap). run_of (run_options options) options.fallback_random_seed new start) (sym (start_same closing events id refl))
+
+      follows_still : FollowsSo next (given_of options id (closing ∷ events) new) id (closing ∷ events) (map (frame_meant f.version) f.coming)
+      follows_still =
+          subst (λ (run : Invocation). FollowsSo next run id (closing ∷ events) (map (frame_meant f.version) f.coming)) given_still
+          (one_event next (given_of options id events new) id closing events (map (frame_meant f.version) f.coming) (map (frame_meant f.version) f.coming) accepted.0 refl f.follows)
+
+      flown_closed : IsFlown function next options id (closing ∷ events) held new output waits (record one { attempt = changed })
+          → FollowsBegun function next options id (closing ∷ events) output (changed_to changed) new
+      flown_closed it =
+          flown function next options id (closing ∷ events) held new output waits n one (record one { attempt = changed }) (tt, f.typed)
+          (λ m above. f.numbered m (subst (λ (k : ℕ). k < m) (zero-add (attempts_begun events id)) above)) live_still there refl refl it
+
+      -- nothing was written
+      quiet : output_of changed ≡ output_of one.attempt → IsOver changed ⊎ IsServed function next options id (closing ∷ events) new f.version f.coming changed
+          → IsFlown function next options id (closing ∷ events) held new output waits (record one { attempt = changed })
+      quiet wrote stands = record {
+        version = f.version;
+        coming = f.coming;
+        fit = f.fit;
+        of_store = f.of_store;
+        follows = follows_still;
+        output_is = output_is;
+        flies = record { version_is = flight.version_is; bytes = ap (λ (bytes : Bytes). waits ++ bytes) wrote ∙ flight.bytes; stands = stands };
+      }
+
+      close_served : (s : IsServed function next options id events new f.version f.coming one.attempt) → StaysClosed function next f.version options s.live one.attempt changed
+          → IsServed function next options id (closing ∷ events) new f.version f.coming changed
+      close_served s c =
+          let some = (laws.stays next (run_options options) options.fallback_random_seed id events s.live accepted.1 s.lives).brings closing s.live.coming refl refl refl refl in
+          let after : LiveAttempt = record s.live { unread = s.live.unread ++ some.0; coming = s.live.coming } in
+          record {
+            live = after;
+            new_is = s.new_is;
+            coming_are = s.coming_are;
+            lives = some.2;
+            serves = subst (λ (b : Bool). Serves function next f.version options after b changed) (sym closed_now_too)
+                (laws.events f.version s.live true changed some.0 s.live.coming c.serves
+                (may_all some.0 (may_come next (run_options options) options.fallback_random_seed id closing events after s.live.unread some.0 refl accepted (tt, f.typed) some.2 some.1)));
+          }
+
+      closed_served : (s : IsServed function next options id events new f.version f.coming one.attempt) → IsFlown function next options id (closing ∷ events) held new output waits (record one { attempt = changed })
+      closed_served s = elim (laws.closes f.version id events s.live (is_input_closed events id) one.attempt changed s.lives s.serves closes) [
+        | inl c ↦ quiet c.nothing (inr (close_served s c))
+        | inr early ↦ record {
+          version = f.version;
+          coming = f.coming ++ early.sent;
+          fit = all_append (sent.SentFits f.version) f.coming early.sent f.fit early.fit;
+          of_store = all_append IsOfStore f.coming early.sent f.of_store (notes_of_store f.version early.sent early.notes);
+          follows = subst (λ (frames : List Frame). FollowsSo next (given_of options id (closing ∷ events) new) id (closing ∷ events) frames) (sym (meant_append f.version f.coming early.sent))
+              (laws.notes next (given_of options id (closing ∷ events) new) id (closing ∷ events) (map (frame_meant f.version) f.coming) (map (frame_meant f.version) early.sent) follows_still early.notes);
+          output_is = output_is;
+          flies = record {
+            version_is = flight.version_is;
+            bytes = written_behind f.version waits (output_of one.attempt) (output_of changed) f.coming early.sent flight.bytes early.output;
+            stands = inl (machine_failed early.error early.failed);
+          };
+        }
+      ]
+
+      pub closed : FollowsBegun function next options id (closing ∷ events) output (changed_to changed) new
+      closed = flown_closed (elim flight.stands [
+        | inl over ↦ let (over', wrote) = (laws.over one.attempt over).closed changed closes in quiet wrote (inl over')
+        | inr s ↦ closed_served s
+      ])
+
+    -- ---- it makes a turn
+
+    module _ (turn : Turn) (changed : Attempt H) (accepted : IsAccepted events) (covered : IsCovered options next) (turns : Turns function one.attempt turn changed) where
+      flown_turned : IsFlown function next options id events held new output waits (record one { attempt = changed }) → FollowsBegun function next options id events output (changed_to changed) new
+      flown_turned it = flown function next options id events held new output waits n one (record one { attempt = changed }) f.typed f.numbered live there refl refl it
+
+      -- it serves on, or is over
+      served_behind : (s : IsServed function next options id events new f.version f.coming one.attempt) (sends : List Sent) (t : Turn)
+          → TurnsBehind function next f.version options id events s.live one.attempt sends t changed
+          → IsOver changed ⊎ IsServed function next options id events new f.version (f.coming ++ sends) changed
+      served_behind s sends Turn.Answered b = inr (record {
+        live = after_turn s.live (map (frame_meant f.version) sends) b.0 b.1;
+        new_is = s.new_is;
+        coming_are = ap (λ (frames : List Frame). frames ++ map (frame_meant f.version) sends) s.coming_are ∙ sym (meant_append f.version f.coming sends);
+        lives = b.3.lives;
+        serves = b.3.serves;
+      })
+      served_behind s sends Turn.Waiting b = inr (record {
+        live = after_turn s.live (map (frame_meant f.version) sends) s.live.calls b.1.0;
+        new_is = s.new_is;
+        coming_are = ap (λ (frames : List Frame). frames ++ map (frame_meant f.version) sends) s.coming_are ∙ sym (meant_append f.version f.coming sends);
+        lives = b.1.1.lives;
+        serves = b.1.1.serves;
+      })
+      served_behind s sends Turn.Suspended b = inl b.2
+      served_behind s sends Turn.Ended b = inl b.1
+      served_behind s sends (Turn.Failed error) b = inl b.1
+
+      turned_served : (s : IsServed function next options id events new f.version f.coming one.attempt) → IsFlown function next options id events held new output waits (record one { attempt = changed })
+      turned_served s =
+          let given_is = served_given events new f.version f.coming one.attempt s in
+          let before : FollowsSo next s.live.start.given id events s.live.coming =
+          subst (λ (run : Invocation). FollowsSo next run id events s.live.coming) (sym given_is)
+          (subst (λ (frames : List Frame). FollowsSo next (given_of options id events new) id events frames) (sym s.coming_are) f.follows) in
+          let k = laws.turns f.version id events s.live one.attempt turn changed covered.queued covered.keyed before s.lives s.serves turns in
+          record {
+            version = f.version;
+            coming = f.coming ++ k.sent;
+            fit = all_append (sent.SentFits f.version) f.coming k.sent f.fit k.fit;
+            of_store = all_append IsOfStore f.coming k.sent f.of_store k.of_store;
+            follows = subst (λ (frames : List Frame). FollowsSo next (given_of options id events new) id events frames) (sym (meant_append f.version f.coming k.sent))
+                (subst (λ (frames : List Frame). FollowsSo next (given_of options id events new) id events (frames ++ map (frame_meant f.version) k.sent)) s.coming_are
+                (subst (λ (run : Invocation). FollowsSo next run id events (s.live.coming ++ map (frame_meant f.version) k.sent)) given_is k.follows));
+            output_is = output_is;
+            flies = record {
+              version_is = flight.version_is;
+              bytes = written_behind f.version waits (output_of one.attempt) (output_of changed) f.coming k.sent flight.bytes k.output;
+              stands = served_behind s k.sent turn k.behind;
+            };
+          }
+
+      pub turned : FollowsBegun function next options id events output (changed_to changed) new
+      turned = flown_turned (elim flight.stands [
+        | inl over ↦
+            let same : changed ≡ one.attempt = ((laws.over one.attempt over).turned turn changed turns).1 in
+            record {
+              version = f.version;
+              coming = f.coming;
+              fit = f.fit;
+              of_store = f.of_store;
+              follows = f.follows;
+              output_is = output_is;
+              flies = subst (λ (a : Attempt H). Flies function next options id events new f.version f.coming waits a) (sym same) flight;
+            }
+        | inr s ↦ turned_served s
+      ])
+
+  -- ---- its first bytes leave, and wait at the store
+
+  pub record IsBehind (bytes : Bytes) (before after : Option Bytes) : Type 0 where
+    pub waited : Bytes
+    pub waited_is : before ≡ Some waited
+    pub now_is : after ≡ Some (waited ++ bytes)
+
+  module _ (events : List Event) (before after : Option Bytes) (held : List (HeldAttempt H)) (new : NewInvocation) (n : ℕ) (one : HeldAttempt H) (count : ℕ) (changed : Attempt H)
+      (live : live_attempt events id ≡ Some n) (there : held_of held id n ≡ Some one) (advances : Advances count one.attempt changed)
+      (behind : IsBehind (take count (output_of one.attempt)) before after) (f : FollowsBegun function next options id events before held new) where
+    abbrev leaving : Flies function next options id events new f.version f.coming behind.waited one.attempt
+    leaving = f.flies n behind.waited one live behind.waited_is there
+
+    moved_bytes : (behind.waited ++ take count (output_of one.attempt)) ++ output_of changed ≡ sent_stream f.version f.coming
+    moved_bytes =
+        ap (λ (bytes : Bytes). (behind.waited ++ take count (output_of one.attempt)) ++ bytes) advances.rest
+        ∙ append_assoc behind.waited (take count (output_of one.attempt)) (drop count (output_of one.attempt))
+        ∙ ap (λ (bytes : Bytes). behind.waited ++ bytes) (take-append-drop count (output_of one.attempt)) ∙ leaving.bytes
+
+    moved_stands : IsOver one.attempt ⊎ IsServed function next options id events new f.version f.coming one.attempt
+        → IsOver changed ⊎ IsServed function next options id events new f.version f.coming changed
+    moved_stands (inl over) = inl ((laws.over one.attempt over).taken count (Ok (take count (output_of one.attempt))) changed (record { moves = advances.moves; front = refl; rest = advances.rest }))
+    moved_stands (inr s) = inr (record {
+      live = s.live;
+      new_is = s.new_is;
+      coming_are = s.coming_are;
+      lives = s.lives;
+      serves = (laws.takes f.version s.live (is_input_closed events id) one.attempt changed s.serves).taken count (Ok (take count (output_of one.attempt)))
+          (record { moves = advances.moves; front = refl; rest = advances.rest });
+    })
+
+    pub advanced : FollowsBegun function next options id events after (with_first (is_held id n) held (record one { attempt = changed })) new
+    advanced =
+        flown function next options id events held new after (behind.waited ++ take count (output_of one.attempt)) n one (record one { attempt = changed }) f.typed f.numbered live there refl refl (record {
+          version = f.version;
+          coming = f.coming;
+          fit = f.fit;
+          of_store = f.of_store;
+          follows = f.follows;
+          output_is = behind.now_is;
+          flies = record { version_is = leaving.version_is; bytes = moved_bytes; stands = moved_stands leaving.stands };
+        })

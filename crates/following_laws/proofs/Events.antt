@@ -1,0 +1,129 @@
+-- One more accepted event that begins nothing of an invocation, hands it nothing and closes nothing of it keeps it in its run.
+use Rattle.std.proofs.Common.{◌≡◌, ℕ, ◌<◌, Bool, true, false, ◌&&◌, ◌||◌, zero-add, List, [], ◌∷◌, ◌++◌, map, Option, Some, None, refl, sym, ap, subst, ◌∙◌, inl, inr}
+use Rattle.std.specs.List.{AllByRecursion}
+use Rattle.journal_model.specs.declared.invocation.NewInvocation.{NewInvocation}
+use Rattle.journal_model.specs.Notification.{Bytes, Text}
+use Rattle.journal_model.specs.State.{StateMap}
+use Rattle.journal_model.specs.Event.{Event, Frame}
+use Rattle.journal_model.specs.Journal.{is_of, begins, invocation_begun}
+use Rattle.journal_model.specs.Attempt.{begins_attempt, attempts_begun, ends_live, live_attempt, closes_input, is_input_closed, bytes_asked}
+use Rattle.journal_model.specs.Cause.{causes_of, IsAccepted}
+use Rattle.journal_model.specs.Run.{Handler, Invocation}
+use Rattle.journal_model.specs.Headline.{run_of}
+use Rattle.protocol_types.specs.declared.version.Version.{Version}
+use Rattle.input_laws.proofs.Events.{begun_same, start_same}
+use Rattle.input_laws.proofs.LiveAttempts.{live_now, none_live, closed_now}
+use Rattle.turn_laws.specs.Sending.{FollowsSo, PassesOn}
+use Rattle.turn_laws.proofs.Keeping.{one_event}
+use Rattle.vm_types.specs.Options.{run_options}
+use Rattle.vm_types.specs.declared.options.VMOptions.{VMOptions}
+use Rattle.turning_laws.specs.Attempts.{output_of, Attempt}
+use Rattle.turning_laws.specs.Sending.sent
+use Rattle.turning_laws.specs.Sending.{Sent, sent_stream, frame_meant, IsOfStore}
+use Rattle.turning_laws.specs.Servings.{Serves}
+use Rattle.schedule_model.specs.declared.held.HeldAttempt.{HeldAttempt}
+use Rattle.schedule_model.specs.Held.{held_of}
+use Rattle.schedule_model.proofs.Holding.{some_none}
+use Rattle.fitting_laws.specs.Fitting.{AcceptedFits, AllFit}
+use Rattle.following_laws.specs.Following.{given_of, IsServed, Flies, FollowsBegun, FollowsWhere, FollowsIn}
+use Rattle.fitting_laws.proofs.Fits.{may_come}
+use Rattle.following_laws.proofs.Serving.{ServingLaws, may_all}
+
+-- an event that begins neither the invocation nor an attempt of it, hands it nothing and closes nothing of it
+pub record IsPlain (id : Text) (event : Event) : Type 0 where
+  pub old : begins id event ≡ false
+  pub going : begins_attempt id event ≡ false
+  pub asks : bytes_asked id event ≡ None
+  pub closes : (is_of id event && closes_input event) ≡ false
+
+module _ {H : Type 0} (function : H → Handler) (next : Handler) (options : VMOptions) (id : Text) (event : Event) (events : List Event) (plain : IsPlain id event)
+    (causes : causes_of events event ≡ []) (accepted : IsAccepted events) (fits : AcceptedFits id event) (laws : ServingLaws function next options) where
+  closed_same : is_input_closed (event ∷ events) id ≡ is_input_closed events id
+  closed_same = closed_now event events id plain.going ∙ ap (λ (b : Bool). b || is_input_closed events id) plain.closes
+
+  -- the run is the same
+  pub given_same : (new : NewInvocation) → given_of options id events new ≡ given_of options id (event ∷ events) new
+  given_same new = ap (λ (start : StateMap). run_of (run_options options) options.fallback_random_seed new start) (sym (start_same event events id plain.old))
+
+  -- the live attempt serves on
+  pub served_on : (new : NewInvocation) (version : Version) (coming left : List Sent) (attempt : Attempt H) → AllFit id events → PassesOn id event (map (frame_meant version) coming) (map (frame_meant version) left)
+      → IsServed function next options id events new version coming attempt → IsServed function next options id (event ∷ events) new version left attempt
+  served_on new version coming left attempt typed passes s =
+      let some = (laws.stays next (run_options options) options.fallback_random_seed id events s.live accepted s.lives).brings event (map (frame_meant version) left) plain.old plain.going plain.asks
+      (subst (λ (frames : List Frame). PassesOn id event frames (map (frame_meant version) left)) (sym s.coming_are) passes) in
+      record {
+        live = record s.live { unread = s.live.unread ++ some.0; coming = map (frame_meant version) left };
+        new_is = s.new_is;
+        coming_are = refl;
+        lives = some.2;
+        serves = subst (λ (b : Bool). Serves function next version options (record s.live { unread = s.live.unread ++ some.0; coming = map (frame_meant version) left }) b attempt) (sym closed_same)
+            (laws.events version s.live (is_input_closed events id) attempt some.0 (map (frame_meant version) left) s.serves
+            (may_all some.0 (may_come next (run_options options) options.fallback_random_seed id event events (record s.live { unread = s.live.unread ++ some.0; coming = map (frame_meant version) left }) s.live.unread some.0 refl (causes, accepted) (fits, typed) some.2 some.1)));
+      }
+
+  attempts_same : attempts_begun (event ∷ events) id ≡ attempts_begun events id
+  attempts_same = rw plain.going (zero-add (attempts_begun events id))
+
+  -- what is on its way, behind the event
+  pub record GoesOn (version : Version) (coming : List Sent) (before after : Option Bytes) : Type 0 where
+    pub left : List Sent
+    pub fit : sent.AllFit version left
+    pub of_store : AllByRecursion IsOfStore left
+    pub passes : PassesOn id event (map (frame_meant version) coming) (map (frame_meant version) left)
+    pub waits : (now : Bytes) → after ≡ Some now
+        → (waited : Bytes) × (before ≡ Some waited) × ((more : Bytes) → waited ++ more ≡ sent_stream version coming → now ++ more ≡ sent_stream version left)
+
+  pub begun_on : (before after : Option Bytes) (held : List (HeldAttempt H)) (new : NewInvocation) (f : FollowsBegun function next options id events before held new)
+      → GoesOn f.version f.coming before after → FollowsBegun function next options id (event ∷ events) after held new
+  begun_on before after held new f g = record {
+    version = f.version;
+    coming = g.left;
+    typed = (fits, f.typed);
+    fit = g.fit;
+    of_store = g.of_store;
+    follows = subst (λ (given : Invocation). FollowsSo next given id (event ∷ events) (map (frame_meant f.version) g.left)) (given_same new)
+        (one_event next (given_of options id events new) id event events (map (frame_meant f.version) f.coming) (map (frame_meant f.version) g.left) causes g.passes f.follows);
+    numbered = λ n above. f.numbered n (subst (λ (k : ℕ). k < n) attempts_same above);
+    flies = λ n now one live is found. by_end (is_of id event && ends_live event) refl n now one live is found;
+  }
+    where
+      by_end : (b : Bool) → (is_of id event && ends_live event) ≡ b → (n : ℕ) (now : Bytes) (one : HeldAttempt H) → live_attempt (event ∷ events) id ≡ Some n → after ≡ Some now → held_of held id n ≡ Some one
+          → Flies function next options id (event ∷ events) new f.version g.left now one.attempt
+      by_end true e n now one live is found = some_none (sym live ∙ none_live event events id plain.going e)
+      by_end false e n now one live is found =
+          let w = g.waits now is in
+          let F = f.flies n w.0 one (sym (live_now event events id plain.going e) ∙ live) w.1 found in
+          record {
+            version_is = F.version_is;
+            bytes = w.2 (output_of one.attempt) F.bytes;
+            stands = elim F.stands [
+              | inl over ↦ inl over
+              | inr s ↦ inr (served_on new f.version f.coming g.left one.attempt f.typed g.passes s)
+            ];
+          }
+
+  -- the same of any invocation, where the frames on their way stay
+  pub on_their_way : (before after : Option Bytes) (held : List (HeldAttempt H)) (new : NewInvocation) (f : FollowsBegun function next options id events before held new)
+      → ((frames : List Frame) → PassesOn id event frames frames) → ((now : Bytes) → after ≡ Some now → before ≡ Some now) → GoesOn f.version f.coming before after
+  on_their_way before after held new f passes same = record {
+    left = f.coming;
+    fit = f.fit;
+    of_store = f.of_store;
+    passes = passes (map (frame_meant f.version) f.coming);
+    waits = λ now is. (now, same now is, λ more e. e);
+  }
+
+  -- the same where the invocation was not begun
+  pub where_with : (before after : Option Bytes) (held : List (HeldAttempt H))
+      → ((new : NewInvocation) (f : FollowsBegun function next options id events before held new) → GoesOn f.version f.coming before after)
+      → FollowsIn function next options id events before held → FollowsIn function next options id (event ∷ events) after held
+  where_with before after held goes f =
+      subst (λ (o : Option NewInvocation). FollowsWhere function next options id (event ∷ events) after held o) (sym (begun_same event events id plain.old)) (by_begun (invocation_begun events id) f)
+    where
+      by_begun : (o : Option NewInvocation) → FollowsWhere function next options id events before held o → FollowsWhere function next options id (event ∷ events) after held o
+      by_begun None f = f
+      by_begun (Some new) f = begun_on before after held new f (goes new f)
+
+  pub where_on : (before after : Option Bytes) (held : List (HeldAttempt H)) → ((frames : List Frame) → PassesOn id event frames frames) → ((now : Bytes) → after ≡ Some now → before ≡ Some now)
+      → FollowsIn function next options id events before held → FollowsIn function next options id (event ∷ events) after held
+  where_on before after held passes same f = where_with before after held (λ new f. on_their_way before after held new f passes same) f

@@ -1,0 +1,10 @@
+pub mod Serving
+pub mod Following
+pub mod Events
+pub mod Others
+pub mod Acting
+pub mod Taking
+pub mod Beginning
+pub mod Schedules
+pub mod Fittings
+pub mod Sending

@@ -1,0 +1,90 @@
+-- An invocation in its run: what is recorded of it, what is on its way from its live attempt, and where that attempt stands.
+use Rattle.std.specs.Prelude.{◌≡◌, ◌⊎◌, ℕ, ◌<◌, List, ◌++◌, map, Option, Some, None}
+use Rattle.std.specs.List.{AllByRecursion}
+use Rattle.journal_model.specs.declared.invocation.NewInvocation.{NewInvocation}
+use Rattle.journal_model.specs.declared.options.SignalDelivery.TheVariants.{Queued}
+use Rattle.journal_model.specs.Notification.{Bytes, Text}
+use Rattle.journal_model.specs.Event.{Event}
+use Rattle.journal_model.specs.Journal.{invocation_begun, starting_state}
+use Rattle.journal_model.specs.Attempt.{attempts_begun, live_attempt, is_input_closed}
+use Rattle.journal_model.specs.Run.{Handler, Invocation}
+use Rattle.journal_model.specs.Headline.{run_of}
+use Rattle.protocol_types.specs.Version.{version_number}
+use Rattle.protocol_types.specs.declared.version.Version.{Version}
+use Rattle.headline_laws.specs.Held.{Holds}
+use Rattle.turn_laws.specs.Sending.{FollowsSo}
+use Rattle.machine_laws.specs.Living.{LiveAttempt}
+use Rattle.vm_types.specs.Options.{run_options}
+use Rattle.vm_types.specs.declared.options.VMOptions.{VMOptions}
+use Rattle.vm_types.specs.declared.options.JournalReplay.TheVariants.{Enabled}
+use Rattle.turning_laws.specs.Attempts.{output_of, Attempt}
+use Rattle.turning_laws.specs.Sending.sent
+use Rattle.turning_laws.specs.Sending.{Sent, sent_stream, frame_meant, IsOfStore}
+use Rattle.turning_laws.specs.Servings.{IsTextKeyed, IsOver, Serves, IsLiveAt}
+use Rattle.store_calls.specs.Standing.{Standing}
+use Rattle.schedule_model.specs.declared.held.HeldAttempt.{HeldAttempt}
+use Rattle.schedule_model.specs.Held.{held_of}
+use Rattle.fitting_laws.specs.Fitting.{AllFit}
+
+-- what is asked of the options and of a handler: the journal is replayed, signals wait in line, and the keys of its state calls are text.
+-- A call that is not carried out fails its attempt.
+pub record IsCovered (options : VMOptions) (next : Handler) : Type 0 where
+  pub replays : options.journal_replay ≡ Enabled
+  pub queued : options.signal_delivery ≡ Queued
+  pub keyed : IsTextKeyed next
+
+-- what the run of an invocation begins with
+abbrev pub given_of : VMOptions → Text → List Event → NewInvocation → Invocation
+given_of options id events new = run_of (run_options options) options.fallback_random_seed new (starting_state events id)
+
+-- ---- what a store is handed in with, and left with
+
+-- all events of the invocation are such as calls bring, and what is recorded of it is of the run of this function
+pub record IsInRun (next : Handler) (options : VMOptions) (id : Text) (events : List Event) (new : NewInvocation) : Type 0 where
+  pub fit : AllFit id events
+  pub holds : Holds next (given_of options id events new) id events
+
+-- if it was begun
+abbrev pub HoldsOf : Handler → VMOptions → Text → List Event → Type 0
+HoldsOf next options id events = (new : NewInvocation) → invocation_begun events id ≡ Some new → IsInRun next options id events new
+
+-- ---- between the events of a schedule
+
+module _ {H : Type 0} (function : H → Handler) (next : Handler) (options : VMOptions) (id : Text) where
+  -- the attempt is the live one, whose frames on their way these are
+  pub record IsServed (events : List Event) (new : NewInvocation) (version : Version) (coming : List Sent) (attempt : Attempt H) : Type 0 where
+    pub live : LiveAttempt
+    pub new_is : live.start.new ≡ new
+    pub coming_are : live.coming ≡ map (frame_meant version) coming
+    pub lives : IsLiveAt function next version options id events live
+    pub serves : Serves function next version options live (is_input_closed events id) attempt
+
+  -- what the store has of its output, and what it has not handed out, are the bytes of the frames on their way; it is the live one, or over
+  pub record Flies (events : List Event) (new : NewInvocation) (version : Version) (coming : List Sent) (output : Bytes) (attempt : Attempt H) : Type 0 where
+    pub version_is : new.version ≡ version_number version
+    pub bytes : output ++ output_of attempt ≡ sent_stream version coming
+    pub stands : IsOver attempt ⊎ IsServed events new version coming attempt
+
+  -- an invocation that was begun: what is recorded of it and what is on its way is of the run, attempts beyond those that were begun are not
+  -- held, and the live one flies, if it is held
+  pub record FollowsBegun (events : List Event) (output : Option Bytes) (held : List (HeldAttempt H)) (new : NewInvocation) : Type 0 where
+    pub version : Version
+    pub coming : List Sent
+    pub typed : AllFit id events
+    pub fit : sent.AllFit version coming
+    pub of_store : AllByRecursion IsOfStore coming
+    pub follows : FollowsSo next (given_of options id events new) id events (map (frame_meant version) coming)
+    pub numbered : (number : ℕ) → attempts_begun events id < number → held_of held id number ≡ None
+    pub flies : (number : ℕ) (waits : Bytes) (one : HeldAttempt H) → live_attempt events id ≡ Some number → output ≡ Some waits → held_of held id number ≡ Some one
+        → Flies events new version coming waits one.attempt
+
+  -- of an invocation that was not begun no attempt is held
+  abbrev pub FollowsWhere : List Event → Option Bytes → List (HeldAttempt H) → Option NewInvocation → Type 0
+  FollowsWhere events output held None = (number : ℕ) → held_of held id number ≡ None
+  FollowsWhere events output held (Some new) = FollowsBegun events output held new
+
+  abbrev pub FollowsIn : List Event → Option Bytes → List (HeldAttempt H) → Type 0
+  FollowsIn events output held = FollowsWhere events output held (invocation_begun events id)
+
+  abbrev pub Follows : Standing → List (HeldAttempt H) → Type 0
+  Follows s held = FollowsIn s.events (s.outputs id) held

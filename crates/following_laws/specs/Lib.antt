@@ -1,0 +1,4 @@
+pub mod Following
+pub mod Attempts
+pub mod Schedules
+pub mod Sending

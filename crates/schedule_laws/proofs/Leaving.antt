@@ -1,0 +1,72 @@
+-- What schedules leave, and what that gives.
+use Rattle.std.proofs.Common.{◌≡◌, ℕ, false, List, [], ◌∷◌, Some, refl, sym, ap, subst, inl, inr}
+use Rattle.std.specs.List.{AllByRecursion}
+use Rattle.journal_model.specs.Notification.{Text}
+use Rattle.journal_model.specs.Run.{Handler}
+use Rattle.headline_laws.proofs.Holding.{headline, holds_wakes}
+use Rattle.vm_types.specs.Options.{run_options}
+use Rattle.vm_types.specs.declared.options.VMOptions.{VMOptions}
+use Rattle.store_calls.specs.Standing.{Standing}
+use Rattle.store_refusals.specs.declared.refusal.Refusal.{Refusal}
+use Rattle.store_refusals.specs.declared.refusal.Refusal.TheVariants.{OutOfMemory}
+use Rattle.store_steps.specs.Taken.{lies_in_frame}
+use Rattle.store_calls.specs.Frames.{Rests}
+use Rattle.following_laws.specs.Following.{IsCovered, HoldsOf, given_of, Follows}
+use Rattle.schedule_laws.specs.Laws.{KeptByEach, HoldsHeadline, HoldsNeverLate, HoldsWakesExactly}
+use Rattle.following_laws.proofs.Beginning.{holds_follows, follows_holds}
+use Rattle.following_laws.proofs.Schedules.{held_with}
+use Rattle.schedule_laws.proofs.Moving.{moved, none_refused}
+use Rattle.following_laws.proofs.Serving.{ServingLaws}
+use Rattle.following_laws.proofs.Taking.{took_each}
+use Rattle.following_laws.specs.Attempts.{Attempt}
+use Rattle.following_laws.specs.Schedules.reply
+use Rattle.following_laws.specs.Schedules.{Event, Reply, HeldAttempt, held_of, with_attempt, MovesOne, Scheduled, Brings, AppliesAll, FitsEvent}
+
+module _ {H : Type 0} (function : H → Handler) (next : Handler) (options : VMOptions) (id : Text) (each : KeptByEach function) (covered : IsCovered options next) where
+  -- a list of events keeps an invocation in its run
+  pub keeps_all : (events : List (Event H)) (replies : List Reply) (old new : Scheduled H) → AppliesAll function options events replies old new → AllByRecursion FitsEvent events
+      → AllByRecursion (Brings function id next) events → Follows function next options id old.standing old.held → Follows function next options id new.standing new.held
+  keeps_all [] [] old new same fit brings f = subst (λ (s : Scheduled H). Follows function next options id s.standing s.held) (sym same) f
+  keeps_all (one ∷ events) (answer ∷ replies) old new applies fit brings f =
+      keeps_all events replies applies.0 new applies.2 fit.1 brings.1
+      (each next options id one answer old.standing applies.0.standing old.held applies.0.held covered fit.0 brings.0 applies.1 f)
+  keeps_all [] (answer ∷ replies) old new applies fit brings f = absurd applies
+  keeps_all (one ∷ events) [] old new applies fit brings f = absurd applies
+
+  pub leaves : (events : List (Event H)) (replies : List Reply) (old new : Scheduled H) → old.held ≡ [] → AppliesAll function options events replies old new → AllByRecursion FitsEvent events
+      → AllByRecursion (Brings function id next) events → HoldsOf next options id old.standing.events → HoldsOf next options id new.standing.events
+  leaves events replies old new none applies fit brings holds =
+      follows_holds function next options id new.standing new.held
+      (keeps_all events replies old new applies fit brings
+      (subst (λ (held : List (HeldAttempt H)). Follows function next options id old.standing held) (sym none) (holds_follows function next options id old.standing holds)))
+
+-- no frame is refused for what it is
+no_room : (why : Refusal) → why ≡ OutOfMemory → lies_in_frame why ≡ false
+no_room why is = ap lies_in_frame is
+
+pub frames_taken : {H : Type 0} (function : H → Handler) (next : Handler) (options : VMOptions) (laws : ServingLaws function next options) (old new : Standing) (held : List (HeldAttempt H))
+    (count bytes frames : ℕ) (why : Refusal) (one : HeldAttempt H) (changed : Attempt H) → held_of held one.invocation one.number ≡ Some one
+    → MovesOne count one old (reply.Moved bytes frames (Some why)) new changed → Follows function next options one.invocation old held → lies_in_frame why ≡ false
+frames_taken {H} function next options laws old new held count bytes frames why one changed there d f = by_rest d.3.2.rests
+  where
+    now : HeldAttempt H
+    now = record one { attempt = changed }
+
+    here : held_of (with_attempt held one changed) one.invocation one.number ≡ Some now
+    here = held_with one.invocation one.number held one now there refl refl
+
+    by_rest : Rests one.invocation one.number (Some why) d.3.2.between new → lies_in_frame why ≡ false
+    by_rest (inl room) = no_room why room.memory
+    by_rest (inr r) =
+        none_refused function next options one.invocation one.number now why d.3.2.between new (with_attempt held one changed) here r
+        (took_each function next options one.invocation laws one.invocation one.number now d.0 d.3.0 d.3.2.between (with_attempt held one changed) here d.3.2.taken
+        (moved function next options one.invocation laws one bytes changed old d.3.0 held there d.3.1 d.4 f))
+
+pub holds_headline : HoldsHeadline
+holds_headline next options id events accepted holds = headline next (run_options options) options.fallback_random_seed events id accepted (λ new is. (holds new is).holds)
+
+pub holds_never_late : HoldsNeverLate
+holds_never_late next options id events new is holds = (holds_wakes next (given_of options id events new) id events (holds new is).holds).0
+
+pub holds_wakes_exactly : HoldsWakesExactly
+holds_wakes_exactly next options id events new is holds = (holds_wakes next (given_of options id events new) id events (holds new is).holds).1

@@ -1,0 +1,4 @@
+pub mod Moving
+pub mod Keeping
+pub mod Leaving
+pub mod Schedules

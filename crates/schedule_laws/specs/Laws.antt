@@ -1,0 +1,67 @@
+-- What schedules keep, and what they leave.
+use Rattle.std.specs.Prelude.{◌≡◌, ℕ, false, List, [], Some}
+use Rattle.std.specs.List.{AllByRecursion}
+use Rattle.journal_model.specs.declared.invocation.NewInvocation.{NewInvocation}
+use Rattle.journal_model.specs.Notification.{Text}
+use Rattle.journal_model.specs.Event as model
+use Rattle.journal_model.specs.Journal.{invocation_begun}
+use Rattle.journal_model.specs.Cause.{IsAccepted}
+use Rattle.journal_model.specs.Run.{Handler}
+use Rattle.journal_model.specs.Headline.{Headline, NeverLate, WakesExactly}
+use Rattle.vm_types.specs.Options.{run_options}
+use Rattle.vm_types.specs.declared.options.VMOptions.{VMOptions}
+use Rattle.store_calls.specs.Standing.{Standing}
+use Rattle.store_refusals.specs.declared.refusal.Refusal.{Refusal}
+use Rattle.store_steps.specs.Taken.{lies_in_frame}
+use Rattle.following_laws.specs.Attempts.{Attempt}
+use Rattle.following_laws.specs.Following.{IsCovered, HoldsOf, given_of, Follows}
+use Rattle.following_laws.specs.Schedules.reply
+use Rattle.following_laws.specs.Schedules.{Event, Reply, HeldAttempt, held_of, MovesOne, Does, Scheduled, AppliesAll, Brings, FitsEvent}
+
+module _ {H : Type 0} (function : H → Handler) where
+  -- ---- event by event
+
+  -- where nothing is held, an invocation is in its run whose records are, and so is one that was not begun
+  abbrev pub HoldsFollows : Type 0
+  HoldsFollows = (next : Handler) (options : VMOptions) (id : Text) (s : Standing) → HoldsOf next options id s.events → Follows function next options id s []
+
+  -- what an event does keeps an invocation in its run, if begins of it bring the run's function
+  abbrev pub KeptByEach : Type 0
+  KeptByEach = (next : Handler) (options : VMOptions) (id : Text) (one : Event H) (answer : Reply) (old new : Standing) (held more : List (HeldAttempt H)) → IsCovered options next
+      → FitsEvent one → Brings function id next one → Does function options one old held answer new more → Follows function next options id old held
+      → Follows function next options id new more
+
+  -- the records of an invocation in its run are
+  abbrev pub FollowsHolds : Type 0
+  FollowsHolds = (next : Handler) (options : VMOptions) (id : Text) (s : Standing) (held : List (HeldAttempt H)) → Follows function next options id s held → HoldsOf next options id s.events
+
+  -- no frame of an invocation in its run is refused for a cause that lies in it
+  abbrev pub NoneRefused : Type 0
+  NoneRefused = (next : Handler) (options : VMOptions) (old new : Standing) (held : List (HeldAttempt H)) (count bytes frames : ℕ) (why : Refusal) (one : HeldAttempt H) (changed : Attempt H)
+      → IsCovered options next → held_of held one.invocation one.number ≡ Some one → MovesOne count one old (reply.Moved bytes frames (Some why)) new changed
+      → Follows function next options one.invocation old held → lies_in_frame why ≡ false
+
+  -- ---- what a schedule leaves
+
+  -- of each invocation whose begins all bring one function, what is needed to go on
+  abbrev pub LeavesHolds : Type 0
+  LeavesHolds = (options : VMOptions) (events : List (Event H)) (replies : List Reply) (old new : Scheduled H) → old.held ≡ [] → AppliesAll function options events replies old new
+      → AllByRecursion FitsEvent events → (next : Handler) (id : Text) → IsCovered options next → AllByRecursion (Brings function id next) events
+      → HoldsOf next options id old.standing.events → HoldsOf next options id new.standing.events
+
+-- ---- what that gives
+
+-- the headline
+abbrev pub HoldsHeadline : Type 0
+HoldsHeadline = (next : Handler) (options : VMOptions) (id : Text) (events : List model.Event) → IsAccepted events → HoldsOf next options id events
+    → Headline next (run_options options) options.fallback_random_seed events id
+
+-- waking is never late
+abbrev pub HoldsNeverLate : Type 0
+HoldsNeverLate = (next : Handler) (options : VMOptions) (id : Text) (events : List model.Event) (new : NewInvocation) → invocation_begun events id ≡ Some new → HoldsOf next options id events
+    → NeverLate next (given_of options id events new) events id
+
+-- and exact
+abbrev pub HoldsWakesExactly : Type 0
+HoldsWakesExactly = (next : Handler) (options : VMOptions) (id : Text) (events : List model.Event) (new : NewInvocation) → invocation_begun events id ≡ Some new → HoldsOf next options id events
+    → WakesExactly next (given_of options id events new) events id

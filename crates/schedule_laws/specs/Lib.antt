@@ -1,0 +1,4 @@
+pub mod Laws
+pub mod Words
+pub mod Schedules
+pub mod Attempts

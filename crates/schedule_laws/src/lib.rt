@@ -1,0 +1,47 @@
+//! What schedules keep of each invocation, and what they leave: its records are those of the one uninterrupted run of its handler. Laws
+//! over the events of a schedule, the attempts that are held and what is on its way between them. The functions do nothing: their
+//! contracts are the laws.
+#![tactic(auto)]
+
+ghost use Rattle.schedule_laws.specs.Laws.{FollowsHolds, HoldsFollows, HoldsHeadline, HoldsNeverLate, HoldsWakesExactly, KeptByEach, LeavesHolds, NoneRefused};
+
+use following_laws::{
+    attempts_begin, closes_keep, events_keep, feeds_keep, notes_follow, overs_stay, takes_keep,
+    turns_keep,
+};
+use journal_model::Handler;
+use machine_laws::{machines_begin, machines_stay_live};
+
+/// Each event keeps an invocation in its run, whatever is stopped, overtaken or refused, and no frame of it is refused for a cause that
+/// lies in the frame.
+pub fn schedules_keep<H: Handler>()
+    ensures begins { HoldsFollows H.next_call }
+    ensures each { KeptByEach H.next_call }
+    ensures holds { FollowsHolds H.next_call }
+    ensures frames { NoneRefused H.next_call }
+{
+    machines_begin();
+    machines_stay_live();
+    attempts_begin::<H>();
+    events_keep::<H>();
+    feeds_keep::<H>();
+    closes_keep::<H>();
+    takes_keep::<H>();
+    turns_keep::<H>();
+    overs_stay::<H>();
+    notes_follow();
+}
+
+/// So a schedule leaves, of each invocation whose begins all bring one function, what the next one needs.
+pub fn schedules_leave<H: Handler>()
+    ensures { LeavesHolds H.next_call }
+{
+    schedules_keep::<H>();
+}
+
+/// That is the headline, and that waking is never late and, from version 7 on, exact.
+pub fn records_of_runs()
+    ensures headline { HoldsHeadline }
+    ensures never_late { HoldsNeverLate }
+    ensures wakes_exactly { HoldsWakesExactly }
+{}

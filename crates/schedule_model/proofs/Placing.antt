@@ -1,0 +1,77 @@
+-- The place of the first attempt of an invocation and number: with one more behind the others, and with another attempt in its place.
+use Rattle.std.proofs.Common.{◌≡◌, ℕ, suc, ◌+◌, ◌≤◌, cond, Bool, true, false, not, eqb, ltb, List, [], ◌∷◌, ◌++◌, length, length-append, Option, Some, None, get_or, refl, sym, ap, ap₂, subst, ◌∙◌, arith}
+use Rattle.std.proofs.lemmas.Grind.{common_steps}
+use Rattle.std.proofs.lemmas.List.Folds.{position_or_len_push}
+use Rattle.std.specs.List.{position, position_or_len}
+use Rattle.std.specs.Prelude.{if◌then◌else◌, slice_set}
+use Rattle.vm_attempt.specs.declared.attempt.Attempt.{Attempt}
+use Rattle.schedule_model.specs.declared.held.HeldAttempt.{HeldAttempt}
+use Rattle.schedule_model.specs.First.{with_first, IsFirstAt}
+use Rattle.schedule_model.specs.Held.{is_held, held_of, with_attempt}
+use Rattle.schedule_model.proofs.Firsts.{first_found, first_missing, first_at, with_first_at}
+use Rattle.schedule_model.proofs.Holding.{held_is}
+use Rattle.schedule_model.specs.declared.places.AttemptPlaces.{AttemptPlaces}
+use Rattle.schedule_model.specs.Places.{first_of, place_in, Notes}
+use Rattle.schedule_model.specs.Indexed.{IsIndexed}
+use Rattle.schedule_model.specs.Lends.{held_as}
+
+-- the place, from where it would be and how many there are
+abbrev at_place : ℕ → ℕ → Option ℕ
+at_place found len = cond (ltb found len) (Some found) None
+
+one_more : (passes : Bool) (found len : ℕ) → found ≤ len
+    → at_place (cond (eqb found len) (len + cond passes 0 1) found) (len + 1) ≡ (if passes then first_of (at_place found len) len else at_place found len)
+one_more true found len le = grind (arith, common_steps)
+one_more false found len le = grind (arith, common_steps)
+
+module _ {A : Type 0} (test : A → Bool) where
+  within : (xs : List A) → position_or_len test xs ≤ length xs
+  within [] = omega arith
+  within (x ∷ xs) = by_test (test x) (position_or_len test xs) (length xs) (within xs)
+    where
+      by_test : (b : Bool) (found len : ℕ) → found ≤ len → cond (not b) (1 + found) 0 ≤ suc len
+      by_test true found len le = omega arith
+      by_test false found len le = omega (arith, le)
+
+  pub position_push : (xs : List A) (x : A) → position test (xs ++ x ∷ []) ≡ (if test x then first_of (position test xs) (length xs) else position test xs)
+  position_push xs x =
+      ap₂ at_place (position_or_len_push test xs x) (length-append xs (x ∷ [])) ∙ one_more (test x) (position_or_len test xs) (length xs) (within xs)
+
+module _ {H : Type 0} where
+  -- one more is noted where it stands
+  pub indexed_push : (old new : AttemptPlaces) (before held after : List (HeldAttempt H)) (one : HeldAttempt H) (place : ℕ) → IsIndexed old before → held ≡ before → place ≡ length held
+      → Notes one.invocation one.number place old new → after ≡ held ++ one ∷ [] → IsIndexed new after
+  indexed_push old new before held after one place indexed same at notes pushed id n =
+      notes id n
+      ∙ ap₂ (λ (o : Option ℕ) (k : ℕ). if is_held id n one then first_of o k else o) (indexed id n ∙ ap (position (is_held id n)) (sym same)) at
+      ∙ sym (position_push (is_held id n) held one)
+      ∙ ap (position (is_held id n)) (sym pushed)
+
+  -- nothing was noted
+  pub indexed_still : (old new : AttemptPlaces) (before after : List (HeldAttempt H)) → IsIndexed old before → ((id : List ℕ) (n : ℕ) → place_in new id n ≡ place_in old id n)
+      → after ≡ before → IsIndexed new after
+  indexed_still old new before after indexed still same id n = still id n ∙ indexed id n ∙ ap (position (is_held id n)) (sym same)
+
+  -- none is found
+  pub found_none : (id : List ℕ) (n : ℕ) (held : List (HeldAttempt H)) → position (is_held id n) held ≡ None → None ≡ held_of held id n
+  found_none id n held none = sym (first_missing (is_held id n) held none)
+
+  module _ (id : List ℕ) (n : ℕ) (held : List (HeldAttempt H)) (place : ℕ) (one : HeldAttempt H) (at : position (is_held id n) held ≡ Some place) (read : one ≡ get_or held place one) where
+    is_first : IsFirstAt (is_held id n) held place one
+    is_first =
+        let f = first_found (is_held id n) held place at in
+        let same : one ≡ f.0 = read ∙ f.1.at one in
+        subst (λ (x : HeldAttempt H). IsFirstAt (is_held id n) held place x) (sym same) f.1
+
+    named : (attempt : Attempt H) → record one { attempt = attempt } ≡ held_as id n attempt
+    named attempt =
+        let is = held_is id n one is_first.passes in
+        ap₂ (λ (i : List ℕ) (m : ℕ). held_as i m attempt) is.0 is.1
+
+    -- the first one is found
+    pub found_first : Some (held_as id n one.attempt) ≡ held_of held id n
+    found_first = ap (λ (x : HeldAttempt H). Some x) (sym (named one.attempt)) ∙ sym (first_at (is_held id n) held place one is_first)
+
+    -- and written
+    pub written : (attempt : Attempt H) → slice_set held place (record one { attempt = attempt }) ≡ with_attempt held (held_as id n attempt) attempt
+    written attempt = with_first_at (is_held id n) held place one (record one { attempt = attempt }) is_first ∙ ap (with_first (is_held id n) held) (named attempt)

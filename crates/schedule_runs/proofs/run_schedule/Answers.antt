@@ -1,0 +1,161 @@
+use Rattle.std.proofs.Common.{◌≡◌, refl, List, [], ◌∷◌, ◌++◌, sym, subst, ◌∙◌, map-id, arith, length-append}
+use Rattle.std.proofs.lemmas.Iterator.Consumers.{YieldsList-end}
+use Rattle.std.proofs.lemmas.Iterator.Adapters.{YieldsList-from_vec}
+use Rattle.sqlite.specs.Held.{state}
+use Rattle.sqlite.specs.State.{HasCleanDisk}
+use Rattle.journal_model.specs.Event.{Event as Accepted}
+use Rattle.journal_store.specs.Stored.{Stored}
+use Rattle.vm_types.specs.declared.options.VMOptions.{VMOptions}
+use Rattle.schedule_laws.proofs.Schedules.{schedules_grow}
+use Rattle.schedule_laws.specs.Schedules.{Event, Reply, Applies, AppliesAll, FitsEvent}
+use Rattle.journal_store.specs.Stands.{IsStanding, Endures}
+use Rattle.durable_schedule.specs.Scheduled.{AppliesWith}
+use Rattle.schedule_runs.specs.Runs.{Extends, AppliesFirst, RunsLeave, HoldsAfter, HeadlineAfter, NeverLateAfter, WakesExactlyAfter, at_first}
+use Rattle.journal_store.proofs.Leading.{stood}
+use Rattle.journal_store.proofs.Enduring.{same_endures}
+use Rattle.schedule_runs.proofs.Running.{runs_leave, runs_kept, one_endures, each_more}
+use Rattle.schedule_runs.proofs.run_schedule.Goals as goal
+
+pub loop-event-preserved : goal.loop-event-preserved
+loop-event-preserved g c =
+    let inv = c.loop-event.invariant in
+    let old = c.loop-event.scheduler in
+    let new = c.apply.new.self in
+    let yielded = c.loop-event.yielded in
+    let one = c.in-Some.event in
+    record {
+      applies = λ clean s is.
+          let early : HasCleanDisk (state g.S.Store old.store.connection) = omega (arith, c.apply.ensures.crash.clean, clean) in
+          let before = inv.applies early s is in
+          let after = c.apply.ensures.does clean before.0 before.1 in
+          let does = subst (λ (o : VMOptions). Applies g.H.Handler.next_call o one c.apply.result before.0 after.0) inv.options after.2 in (
+            after.0,
+            after.1,
+            subst (λ (rs : List Reply). AppliesAll g.H.Handler.next_call c.args.options (yielded ++ one ∷ []) rs (at_first s) after.0) (sym c.put.ensures.items)
+                (schedules_grow g.H.Handler.next_call c.args.options yielded c.loop-event.replies.items (at_first s) before.0 after.0 one c.apply.result before.2 does),
+          );
+      fits = each_more FitsEvent yielded one inv.fits c.apply.ensures.fits;
+      crash = one_endures g.H.Handler.next_call c.args.options g.S.Store yielded c.loop-event.replies.items one c.args.store old new inv.applies inv.crash
+          (subst (λ (o : VMOptions). Endures g.S.Store (AppliesWith g.H.Handler.next_call o one old.held) old.store new.store) inv.options c.apply.ensures.crash);
+      options = c.apply.ensures.options ∙ inv.options;
+      count = omega (arith, c.put.ensures.len, inv.count, length-append yielded (one ∷ []));
+      room = omega (arith, inv.room, c.put.ensures.capacity);
+    }
+
+pub loop-event-init : goal.loop-event-init
+loop-event-init g c =
+    let first = c.new-scheduler.result in
+    let same : c.args.store ≡ first.store = sym c.new-scheduler.ensures.store in
+    record {
+      applies = λ clean s is. (
+        at_first s,
+        record { standing = subst (λ (store : Stored g.row.S.Denot). IsStanding g.S.Store s store) same is; held = sym c.new-scheduler.ensures.held },
+        subst (λ (rs : List Reply). AppliesAll g.H.Handler.next_call c.args.options [] rs (at_first s) (at_first s)) (sym c.in-Ok.ensures.items) refl,
+      );
+      fits = tt;
+      crash = subst (λ (store : Stored g.row.S.Denot). Endures g.S.Store (AppliesFirst g.H.Handler.next_call c.args.options []) c.args.store store) same
+          (same_endures g.S.Store (AppliesFirst g.H.Handler.next_call c.args.options []) c.args.store);
+      options = c.new-scheduler.ensures.options;
+      count = c.in-Ok.ensures.len;
+      room = omega (arith, c.in-Ok.ensures.capacity, c.len.ensures, c.args.events.ok.0);
+    }
+
+pub returns-clause-applies : goal.returns-clause-applies
+returns-clause-applies g c clean s is =
+    let h = c.into_iter-event-iterator.ensures.into_iter_gives in
+    let e = YieldsList-end (YieldsList-from_vec {s = c.into_iter-event-iterator.result} c.args.events.items h.0 (h.1 ∙ c.args.events.ok.0)) c.loop-event.yielded c.loop-event.event-iterator c.loop-event.yielded_by c.next.result c.next.new.self c.in-None.is c.next.ensures.steps in
+    let all : c.loop-event.yielded ≡ c.args.events.items = sym (map-id c.loop-event.yielded) ∙ e.0 in
+    let it = c.loop-event.invariant.applies clean s is in (
+      it.0,
+      it.1,
+      subst (λ (es : List (Event g.row.H.Denot)). AppliesAll g.H.Handler.next_call c.args.options es c.loop-event.replies.items (at_first s) it.0) all it.2,
+    )
+
+pub returns-clause-holds : goal.returns-clause-holds
+returns-clause-holds g c clean before stands =
+    let h = c.into_iter-event-iterator.ensures.into_iter_gives in
+    let e = YieldsList-end (YieldsList-from_vec {s = c.into_iter-event-iterator.result} c.args.events.items h.0 (h.1 ∙ c.args.events.ok.0)) c.loop-event.yielded c.loop-event.event-iterator c.loop-event.yielded_by c.next.result c.next.new.self c.in-None.is c.next.ensures.steps in
+    let all : c.loop-event.yielded ≡ c.args.events.items = sym (map-id c.loop-event.yielded) ∙ e.0 in
+    let from = stood g.S.Store before c.args.store stands in
+    let it = c.loop-event.invariant.applies clean from.0 from.1.standing in
+    let function = g.H.Handler.next_call in
+    let leaves = runs_leave function c.args.options c.schedules_leave.ensures (HoldsAfter c.args.options) (λ next id after accepted holds. holds)
+    c.loop-event.yielded c.loop-event.replies.items from.0 it.0 c.loop-event.invariant.fits it.2 in (
+      it.0.standing.events,
+      it.1.standing.stands,
+      subst (λ (es : List Accepted). RunsLeave function c.args.options c.args.events.items (HoldsAfter c.args.options) es it.0.standing.events) from.1.same
+          (subst (λ (es : List (Event g.row.H.Denot)). RunsLeave function c.args.options es (HoldsAfter c.args.options) from.0.events it.0.standing.events) all leaves),
+    )
+
+pub returns-clause-headline : goal.returns-clause-headline
+returns-clause-headline g c clean before stands =
+    let h = c.into_iter-event-iterator.ensures.into_iter_gives in
+    let e = YieldsList-end (YieldsList-from_vec {s = c.into_iter-event-iterator.result} c.args.events.items h.0 (h.1 ∙ c.args.events.ok.0)) c.loop-event.yielded c.loop-event.event-iterator c.loop-event.yielded_by c.next.result c.next.new.self c.in-None.is c.next.ensures.steps in
+    let all : c.loop-event.yielded ≡ c.args.events.items = sym (map-id c.loop-event.yielded) ∙ e.0 in
+    let from = stood g.S.Store before c.args.store stands in
+    let it = c.loop-event.invariant.applies clean from.0 from.1.standing in
+    let function = g.H.Handler.next_call in
+    let leaves = runs_leave function c.args.options c.schedules_leave.ensures (HeadlineAfter c.args.options) (λ next id after accepted holds. c.records_of_runs.ensures.headline next c.args.options id after accepted holds)
+    c.loop-event.yielded c.loop-event.replies.items from.0 it.0 c.loop-event.invariant.fits it.2 in (
+      it.0.standing.events,
+      it.1.standing.stands,
+      subst (λ (es : List Accepted). RunsLeave function c.args.options c.args.events.items (HeadlineAfter c.args.options) es it.0.standing.events) from.1.same
+          (subst (λ (es : List (Event g.row.H.Denot)). RunsLeave function c.args.options es (HeadlineAfter c.args.options) from.0.events it.0.standing.events) all leaves),
+    )
+
+pub returns-clause-never_late : goal.returns-clause-never_late
+returns-clause-never_late g c clean before stands =
+    let h = c.into_iter-event-iterator.ensures.into_iter_gives in
+    let e = YieldsList-end (YieldsList-from_vec {s = c.into_iter-event-iterator.result} c.args.events.items h.0 (h.1 ∙ c.args.events.ok.0)) c.loop-event.yielded c.loop-event.event-iterator c.loop-event.yielded_by c.next.result c.next.new.self c.in-None.is c.next.ensures.steps in
+    let all : c.loop-event.yielded ≡ c.args.events.items = sym (map-id c.loop-event.yielded) ∙ e.0 in
+    let from = stood g.S.Store before c.args.store stands in
+    let it = c.loop-event.invariant.applies clean from.0 from.1.standing in
+    let function = g.H.Handler.next_call in
+    let leaves = runs_leave function c.args.options c.schedules_leave.ensures (NeverLateAfter c.args.options) (λ next id after accepted holds new is. c.records_of_runs.ensures.never_late next c.args.options id after new is holds)
+    c.loop-event.yielded c.loop-event.replies.items from.0 it.0 c.loop-event.invariant.fits it.2 in (
+      it.0.standing.events,
+      it.1.standing.stands,
+      subst (λ (es : List Accepted). RunsLeave function c.args.options c.args.events.items (NeverLateAfter c.args.options) es it.0.standing.events) from.1.same
+          (subst (λ (es : List (Event g.row.H.Denot)). RunsLeave function c.args.options es (NeverLateAfter c.args.options) from.0.events it.0.standing.events) all leaves),
+    )
+
+pub returns-clause-wakes_exactly : goal.returns-clause-wakes_exactly
+returns-clause-wakes_exactly g c clean before stands =
+    let h = c.into_iter-event-iterator.ensures.into_iter_gives in
+    let e = YieldsList-end (YieldsList-from_vec {s = c.into_iter-event-iterator.result} c.args.events.items h.0 (h.1 ∙ c.args.events.ok.0)) c.loop-event.yielded c.loop-event.event-iterator c.loop-event.yielded_by c.next.result c.next.new.self c.in-None.is c.next.ensures.steps in
+    let all : c.loop-event.yielded ≡ c.args.events.items = sym (map-id c.loop-event.yielded) ∙ e.0 in
+    let from = stood g.S.Store before c.args.store stands in
+    let it = c.loop-event.invariant.applies clean from.0 from.1.standing in
+    let function = g.H.Handler.next_call in
+    let leaves = runs_leave function c.args.options c.schedules_leave.ensures (WakesExactlyAfter c.args.options) (λ next id after accepted holds new is. c.records_of_runs.ensures.wakes_exactly next c.args.options id after new is holds)
+    c.loop-event.yielded c.loop-event.replies.items from.0 it.0 c.loop-event.invariant.fits it.2 in (
+      it.0.standing.events,
+      it.1.standing.stands,
+      subst (λ (es : List Accepted). RunsLeave function c.args.options c.args.events.items (WakesExactlyAfter c.args.options) es it.0.standing.events) from.1.same
+          (subst (λ (es : List (Event g.row.H.Denot)). RunsLeave function c.args.options es (WakesExactlyAfter c.args.options) from.0.events it.0.standing.events) all leaves),
+    )
+
+pub returns-clause-crash : goal.returns-clause-crash
+returns-clause-crash g c =
+    let h = c.into_iter-event-iterator.ensures.into_iter_gives in
+    let e = YieldsList-end (YieldsList-from_vec {s = c.into_iter-event-iterator.result} c.args.events.items h.0 (h.1 ∙ c.args.events.ok.0)) c.loop-event.yielded c.loop-event.event-iterator c.loop-event.yielded_by c.next.result c.next.new.self c.in-None.is c.next.ensures.steps in
+    let all : c.loop-event.yielded ≡ c.args.events.items = sym (map-id c.loop-event.yielded) ∙ e.0 in
+    subst (λ (es : List (Event g.row.H.Denot)). Endures g.S.Store (AppliesFirst g.H.Handler.next_call c.args.options es) c.args.store c.loop-event.scheduler.store) all c.loop-event.invariant.crash
+
+pub returns-clause-crash_holds : goal.returns-clause-crash_holds
+returns-clause-crash_holds g c =
+    let h = c.into_iter-event-iterator.ensures.into_iter_gives in
+    let e = YieldsList-end (YieldsList-from_vec {s = c.into_iter-event-iterator.result} c.args.events.items h.0 (h.1 ∙ c.args.events.ok.0)) c.loop-event.yielded c.loop-event.event-iterator c.loop-event.yielded_by c.next.result c.next.new.self c.in-None.is c.next.ensures.steps in
+    let all : c.loop-event.yielded ≡ c.args.events.items = sym (map-id c.loop-event.yielded) ∙ e.0 in
+    let function = g.H.Handler.next_call in
+    subst (λ (es : List (Event g.row.H.Denot)). Extends g.S.Store (RunsLeave function c.args.options es (HoldsAfter c.args.options)) c.args.store c.loop-event.scheduler.store) all
+    (runs_kept function c.args.options c.schedules_leave.ensures (HoldsAfter c.args.options) (λ next id after accepted holds. holds) g.S.Store c.loop-event.yielded c.loop-event.invariant.fits c.args.store c.loop-event.scheduler.store c.loop-event.invariant.crash)
+
+pub returns-clause-crash_headline : goal.returns-clause-crash_headline
+returns-clause-crash_headline g c =
+    let h = c.into_iter-event-iterator.ensures.into_iter_gives in
+    let e = YieldsList-end (YieldsList-from_vec {s = c.into_iter-event-iterator.result} c.args.events.items h.0 (h.1 ∙ c.args.events.ok.0)) c.loop-event.yielded c.loop-event.event-iterator c.loop-event.yielded_by c.next.result c.next.new.self c.in-None.is c.next.ensures.steps in
+    let all : c.loop-event.yielded ≡ c.args.events.items = sym (map-id c.loop-event.yielded) ∙ e.0 in
+    let function = g.H.Handler.next_call in
+    subst (λ (es : List (Event g.row.H.Denot)). Extends g.S.Store (RunsLeave function c.args.options es (HeadlineAfter c.args.options)) c.args.store c.loop-event.scheduler.store) all
+    (runs_kept function c.args.options c.schedules_leave.ensures (HeadlineAfter c.args.options) (λ next id after accepted holds. c.records_of_runs.ensures.headline next c.args.options id after accepted holds) g.S.Store c.loop-event.yielded c.loop-event.invariant.fits c.args.store c.loop-event.scheduler.store c.loop-event.invariant.crash)

@@ -1,0 +1,76 @@
+-- What a schedule answers and leaves.
+use Rattle.std.specs.Prelude.{◌≡◌, List, [], ◌++◌, Some}
+use Rattle.std.specs.List.{AllByRecursion}
+use Rattle.sqlite_trees.specs.declared.store.Store.{Ghosts}
+use Rattle.sqlite_trees.specs.Tree.{Trees}
+use Rattle.sqlite.specs.Held.{state}
+use Rattle.sqlite.specs.State.{Survives}
+use Rattle.journal_model.specs.Notification.{Text}
+use Rattle.journal_model.specs.declared.invocation.NewInvocation.{NewInvocation}
+use Rattle.journal_model.specs.Event.{Event}
+use Rattle.journal_model.specs.Cause.{IsAccepted}
+use Rattle.journal_model.specs.Journal.{invocation_begun}
+use Rattle.journal_model.specs.Headline.{Headline, NeverLate, WakesExactly}
+use Rattle.journal_model.specs.Run.{Handler}
+use Rattle.vm_types.specs.Options.{run_options}
+use Rattle.vm_types.specs.declared.options.VMOptions.{VMOptions}
+use Rattle.journal_store.specs.Stored.{Stored}
+use Rattle.journal_store.specs.Stands.{Stands, KeepsAll}
+use Rattle.store_calls.specs.Standing.{Standing}
+use Rattle.schedule_laws.specs.Schedules.scheduled
+use Rattle.schedule_laws.specs.Schedules.{Reply, HeldAttempt, Scheduled, AppliesAll, Brings}
+use Rattle.schedule_laws.specs.Words.{IsCovered, HoldsOf, given_of}
+
+-- ---- its events, one after another
+
+-- no attempts are held yet
+abbrev pub at_first : {H : Type 0} → Standing → Scheduled H
+at_first s = record { standing = s; held = [] }
+
+module _ {H : Type 0} (function : H → Handler) (options : VMOptions) where
+  -- the first of these events are applied one after another, with some answers
+  pub record AppliesFirst (events : List (scheduled.Event H)) (s t : Standing) : Type 0 where
+    pub first : List (scheduled.Event H)
+    pub rest : List (scheduled.Event H)
+    pub beginning : events ≡ first ++ rest
+    pub answers : List Reply
+    pub held : List (HeldAttempt H)
+    pub applies : AppliesAll function options first answers (at_first s) (record { standing = t; held = held })
+
+-- ---- what a crash leaves
+
+-- the tables keep these events and further ones in front of them, all of which were accepted, in this relation to those from before
+pub record KeepsMore (Relation : List Event → List Event → Type 0) (events : List Event) (trees : Trees) : Type 0 where
+  pub more : List Event
+  pub accepted : IsAccepted (more ++ events)
+  pub related : Relation events (more ++ events)
+  pub kept : KeepsAll (more ++ events) trees
+
+-- What a crash leaves after some calls: what it could leave before them, or such tables, whatever events the store stood for.
+abbrev pub Extends : {S : Type 0} → Ghosts S → (List Event → List Event → Type 0) → Stored S → Stored S → Type 0
+Extends g Relation old new =
+    Survives (state g old.connection) (state g new.connection)
+    (λ trees. (events : List Event) → Stands events (state g old.connection) old.live.attempts → KeepsMore Relation events trees)
+
+-- ---- what a schedule leaves
+
+-- Of each invocation whose begins in it all bring one function, if what is recorded of it before is of the run of that function: this
+-- holds of what is recorded behind it.
+abbrev pub RunsLeave : {H : Type 0} → (H → Handler) → VMOptions → List (scheduled.Event H) → (Handler → Text → List Event → Type 0) → (before after : List Event) → Type 0
+RunsLeave function options events Left before after =
+    (id : Text) (next : Handler) → IsCovered options next → AllByRecursion (Brings function id next) events → HoldsOf next options id before → Left next id after
+
+-- that it is of the run too, with which the next schedule can begin
+abbrev pub HoldsAfter : VMOptions → Handler → Text → List Event → Type 0
+HoldsAfter options next id after = HoldsOf next options id after
+
+-- the headline
+abbrev pub HeadlineAfter : VMOptions → Handler → Text → List Event → Type 0
+HeadlineAfter options next id after = Headline next (run_options options) options.fallback_random_seed after id
+
+-- waking is never late, and exact
+abbrev pub NeverLateAfter : VMOptions → Handler → Text → List Event → Type 0
+NeverLateAfter options next id after = (new : NewInvocation) → invocation_begun after id ≡ Some new → NeverLate next (given_of options id after new) after id
+
+abbrev pub WakesExactlyAfter : VMOptions → Handler → Text → List Event → Type 0
+WakesExactlyAfter options next id after = (new : NewInvocation) → invocation_begun after id ≡ Some new → WakesExactly next (given_of options id after new) after id

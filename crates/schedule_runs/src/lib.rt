@@ -1,0 +1,82 @@
+//! A whole schedule over a store: what it answers and leaves, whatever its events and the cuts of the bytes are.
+#![tactic(auto)]
+
+ghost use Rattle.std.specs.Prelude.{◌≡◌, ◌<◌, ◌≤◌, ◌+◌, List, [], ◌∷◌, ◌++◌, IfOk, IfErr, vec_len, vec_capacity};
+ghost use Rattle.sqlite.specs.Held.{state};
+ghost use Rattle.sqlite.specs.State.{HasCleanDisk};
+ghost use Rattle.journal_model.specs.Event.{Event as Accepted};
+ghost use Rattle.store_calls.specs.Standing.{Standing};
+ghost use Rattle.journal_store.specs.Stands.{Endures, IsStanding, Stands};
+ghost use Rattle.schedule_laws.specs.Schedules.{AppliesAll, Scheduled};
+ghost use Rattle.durable_schedule.specs.Scheduled.{IsScheduled};
+ghost use Rattle.schedule_runs.specs.Runs.{AppliesFirst, Extends, HeadlineAfter, HoldsAfter, NeverLateAfter, RunsLeave, WakesExactlyAfter, at_first};
+
+use durable_schedule::{Event, Reply, Scheduler};
+use journal_model::Handler;
+use journal_store::Store;
+use schedule_laws::{records_of_runs, schedules_leave};
+use sqlite::Alter;
+use std::alloc::Global;
+use vm_types::VMOptions;
+
+/// Puts a reply behind the others, for which there is room.
+fn put(replies: &mut Vec<Reply>, reply: Reply)
+    requires { vec_len replies.old < vec_capacity replies.old }
+    ensures items { replies.new.items ≡ replies.old.items ++ reply ∷ [] }
+    ensures len { vec_len replies.new ≡ vec_len replies.old + 1 }
+    ensures capacity { vec_capacity replies.old ≤ vec_capacity replies.new }
+{
+    let _ = replies.push(reply);
+}
+
+/// Memory was refused for the replies, and nothing was applied.
+#[derive(Drop)]
+pub struct NoRoom<S: Alter> {
+    /// As it was handed in.
+    pub store: Store<S>,
+}
+
+/// Applies events in order, and answers the scheduler and the replies. Room for all replies is made first: where memory is
+/// refused for that (S20), nothing is applied and the store comes back.
+pub fn run_schedule<H: Handler + Drop, S: Alter + Drop>(
+    alloc: Global,
+    store: Store<S>,
+    options: VMOptions,
+    events: Vec<Event<H>>,
+) -> Result<(Scheduler<H, S>, Vec<Reply>), NoRoom<S>>
+    // Of each invocation whose begins all bring one function, and of whose run all is that was recorded before, so is all that is now:
+    // with this the next schedule begins, also over a store that is opened again.
+    ensures holds { IfOk result (λ done. HasCleanDisk (state S.Store done.0.store.connection) → (before : List Accepted) → Stands before (state S.Store store.connection) store.live.attempts →
+        (after : List Accepted) × Stands after (state S.Store done.0.store.connection) done.0.store.live.attempts × RunsLeave H.next_call options events.items (HoldsAfter options) before after) }
+    // So its recorded requests are a beginning of those of the one uninterrupted run, all of them where an attempt was suspended or has
+    // ended, and its answer is that of the run.
+    ensures headline { IfOk result (λ done. HasCleanDisk (state S.Store done.0.store.connection) → (before : List Accepted) → Stands before (state S.Store store.connection) store.live.attempts →
+        (after : List Accepted) × Stands after (state S.Store done.0.store.connection) done.0.store.live.attempts × RunsLeave H.next_call options events.items (HeadlineAfter options) before after) }
+    // Waking is never late.
+    ensures never_late { IfOk result (λ done. HasCleanDisk (state S.Store done.0.store.connection) → (before : List Accepted) → Stands before (state S.Store store.connection) store.live.attempts →
+        (after : List Accepted) × Stands after (state S.Store done.0.store.connection) done.0.store.live.attempts × RunsLeave H.next_call options events.items (NeverLateAfter options) before after) }
+    // From version 7 on it is exact.
+    ensures wakes_exactly { IfOk result (λ done. HasCleanDisk (state S.Store done.0.store.connection) → (before : List Accepted) → Stands before (state S.Store store.connection) store.live.attempts →
+        (after : List Accepted) × Stands after (state S.Store done.0.store.connection) done.0.store.live.attempts × RunsLeave H.next_call options events.items (WakesExactlyAfter options) before after) }
+    // What each event answers and leaves.
+    ensures applies { IfOk result (λ done. HasCleanDisk (state S.Store done.0.store.connection) → (s : Standing) → IsStanding S.Store s store →
+        (new : Scheduled H) × IsScheduled S.Store new done.0 × AppliesAll H.next_call options events.items done.1.items (at_first s) new) }
+    ensures options { IfOk result (λ done. done.0.options ≡ options) }
+    // What a crash anywhere in it leaves is what it could leave before, or what the first of the events leave.
+    ensures crash { IfOk result (λ done. Endures S.Store (AppliesFirst H.next_call options events.items) store done.0.store) }
+    // So all of that holds of what a crash leaves too.
+    ensures crash_holds { IfOk result (λ done. Extends S.Store (RunsLeave H.next_call options events.items (HoldsAfter options)) store done.0.store) }
+    ensures crash_headline { IfOk result (λ done. Extends S.Store (RunsLeave H.next_call options events.items (HeadlineAfter options)) store done.0.store) }
+    ensures err { IfErr result (λ refused. refused.store ≡ store) }
+{
+    let Ok(mut replies) = Vec::with_capacity(alloc, events.len()) else {
+        return Err(NoRoom { store });
+    };
+    schedules_leave::<H>();
+    records_of_runs();
+    let mut scheduler = Scheduler::new(alloc, store, options);
+    for event in events {
+        put(&mut replies, scheduler.apply(event));
+    }
+    Ok((scheduler, replies))
+}

@@ -1,0 +1,82 @@
+//! The word of a value that is brought: `void`, `v:TEXT`, `f:CODE:TEXT` or `id:TEXT`. Behind a colon a text may be empty.
+
+ghost use Rattle.std.specs.Prelude.{◌≡◌, ◌==◌, ◌<◌, None, Some, IfSome, MatchOption, length};
+ghost use Rattle.std.specs.List.{position};
+ghost use Rattle.script_lines.specs.Reading.{Gives, at_colon, failure_of, value_of, value_in};
+
+use crate::word::{LineError, parse_printable, parse_u16};
+use bytes::{ByteStr, Bytes};
+use std::alloc::Global;
+
+/// What is brought for a request.
+#[derive(Drop)]
+pub enum LineValue {
+    /// That it has come is all.
+    Void,
+    Value(Bytes),
+    Failure { code: u16, message: ByteStr },
+    /// The id of the invocation that a call has begun.
+    InvocationId(ByteStr),
+}
+
+/// The place of the first colon.
+fn place_of_colon(bytes: &[u8]) -> Option<usize>
+    ensures place { result ≡ position (λ byte. byte == 58) bytes.now }
+    ensures within { IfSome result (λ place. place < length bytes.now) }
+{
+    bytes.iter().position(|byte| *byte == b':')
+}
+
+/// What stands before the first colon, and behind it.
+fn split_at_colon(bytes: &[u8]) -> Option<(&[u8], &[u8])>
+    ensures { MatchOption result (at_colon bytes.now ≡ None) (λ parts. at_colon bytes.now ≡ Some (parts.0.now, parts.1.now)) }
+{
+    let Some(place) = place_of_colon(bytes) else {
+        return None;
+    };
+    Some((&bytes[..place], &bytes[place + 1..]))
+}
+
+#[tactic(auto, unfolding(crate::specs::Reading::failure_of, crate::specs::Reading::then_read))]
+fn parse_failure(alloc: Global, bytes: &[u8]) -> Result<LineValue, LineError>
+    ensures { Gives result (failure_of bytes.now) }
+{
+    let Some((code, message)) = split_at_colon(bytes) else {
+        return Err(LineError::NotUnderstood);
+    };
+    let code = parse_u16(code).ok_or(LineError::NotUnderstood)?;
+    let message = parse_printable(alloc, message)?;
+    Ok(LineValue::Failure { code, message })
+}
+
+/// The value of a kind, spelled behind the colon.
+#[tactic(auto, unfolding(crate::specs::Reading::value_in, crate::specs::Reading::then_read))]
+fn parse_kind(alloc: Global, kind: &[u8], text: &[u8]) -> Result<LineValue, LineError>
+    ensures { Gives result (value_in kind.now text.now) }
+{
+    if kind == b"v".as_slice() {
+        let text = parse_printable(alloc, text)?;
+        Ok(LineValue::Value(text.into_bytes()))
+    } else if kind == b"f".as_slice() {
+        parse_failure(alloc, text)
+    } else if kind == b"id".as_slice() {
+        let id = parse_printable(alloc, text)?;
+        Ok(LineValue::InvocationId(id))
+    } else {
+        Err(LineError::NotUnderstood)
+    }
+}
+
+/// The value that a word spells.
+#[tactic(auto, unfolding(crate::specs::Reading::value_of, crate::specs::Reading::then_read))]
+pub fn parse_value(alloc: Global, word: &[u8]) -> Result<LineValue, LineError>
+    ensures { Gives result (value_of word.now) }
+{
+    if word == b"void".as_slice() {
+        return Ok(LineValue::Void);
+    }
+    let Some((kind, text)) = split_at_colon(word) else {
+        return Err(LineError::NotUnderstood);
+    };
+    parse_kind(alloc, kind, text)
+}

@@ -1,0 +1,45 @@
+-- A call that is none that is carried out: the machine fails for it, and nothing of the call is done.
+use Rattle.std.proofs.Common.{◌≡◌, ◌∙◌, inr, false, List, ◌++◌, map, sym, ap, subst}
+use Rattle.std.specs.List.{AllByRecursion}
+use Rattle.serving_laws.specs.Serving.{HasRead, Serves, machine_failed}
+use Rattle.serving_laws.proofs.Notes.{fails_now, TellsNotes, cause_tells, notes_follow, waits_more}
+use Rattle.serving_laws.specs.Attempts.{is_covered, RefusesCall, Attempt, Turn}
+use Rattle.serving_laws.specs.Machine.{MachineState, Written, FailsNow}
+use Rattle.serving_laws.specs.Reading.{Kind}
+use Rattle.serving_laws.specs.Sending.{sent_stream, AllFit, frame_meant}
+use Rattle.serving_laws.specs.Words.{Version, ImplicitCancellationOption, is_input_closed, Event, Text, Handler, FollowsSo, IsNote, LiveAttempt, VMOptions}
+use Rattle.turning_laws.specs.Turning.{TurnKeeps}
+use Rattle.turning_laws.proofs.Stored.{notes_of_store}
+
+module _ {H : Type 0} (function : H → Handler) (next : Handler) (version : Version) (options : VMOptions) (id : Text) (events : List Event) (live : LiveAttempt) (before : Attempt H)
+    (f : FollowsSo next live.start.given id events live.coming) (s : Serves function next version options live (is_input_closed events id) before)
+    (r : HasRead function next version options live before) (turn : Turn) (after : Attempt H) (refuses : RefusesCall before turn after) where
+  abbrev vm : MachineState
+  vm = before.vm.state
+
+  of_output : vm.active.output.version ≡ version
+  of_output = r.driven.written ∙ ap (λ (k : Kind). k.version) s.kind
+
+  fails : FailsNow vm.version vm.options.journal_mismatch_retry_behavior refuses.told.cause vm.active.output refuses.told.fails.answer after.vm.state.phase after.vm.state.active.output
+  fails = fails_now refuses.told.cause vm after.vm.state r.driven.phase refuses.told.fails
+
+  told : TellsNotes vm.active.output fails.before
+  told = cause_tells vm.version vm.options.journal_mismatch_retry_behavior refuses.told.cause vm.active.output fails.told fails.before r.driven.sees.opened fails.tells
+
+  notes : AllByRecursion IsNote (map (frame_meant version) told.coming)
+  notes = subst (λ (v : Version). AllByRecursion IsNote (map (frame_meant v) told.coming)) of_output told.notes
+
+  pub refused : is_covered before.cancellation (function before.handler live.start.given.input before.answers) ≡ false → TurnKeeps function next version options id events live before turn after
+  refused uncovered = subst (λ (t : Turn). TurnKeeps function next version options id events live before t after) (sym refuses.turn_is) (record {
+    sent = told.coming;
+    fit = subst (λ (v : Version). AllFit v told.coming) of_output told.fit;
+    of_store = notes_of_store version told.coming notes;
+    output = waits_more version told.coming before after (ap (λ (a : Attempt H). a.front ++ a.behind) refuses.others)
+        (ap (λ (o : Written). o.bytes) fails.output ∙ told.written.bytes ∙ ap (λ (v : Version). vm.active.output.bytes ++ sent_stream v told.coming) of_output);
+    follows = notes_follow next live.start.given id events live.coming (map (frame_meant version) told.coming) f notes;
+    behind = (
+      inr (sym (ap (λ (cancellation : ImplicitCancellationOption). is_covered cancellation (function before.handler live.start.given.input before.answers)) s.cancellation
+          ∙ ap (λ (handler : Handler). is_covered options.implicit_cancellation (handler live.start.given.input before.answers)) s.handler) ∙ uncovered),
+      machine_failed fails.told fails.phase_is,
+    );
+  })

@@ -1,0 +1,66 @@
+-- Which calls of a handler are carried out.
+use Rattle.std.specs.Prelude.{◌≡◌, ◌-◌, ℕ, zero, suc, Bool, true, false, ◌&&◌, map}
+use Rattle.protocol_wire.specs.declared.record.TheConstants.{LEVELS}
+use Rattle.journal_model.specs.Await.{awaited_tree}
+use Rattle.journal_model.specs.AwaitTree.{AwaitTree, Single, Combined, AwaitTrees, no_trees, and_trees, Combinator}
+use Rattle.journal_model.specs.Future.{node, tree_of}
+use Rattle.journal_model.specs.declared.call.Call.{Call}
+use Rattle.journal_model.specs.declared.options.ImplicitCancellationOption.{ImplicitCancellationOption}
+use Rattle.journal_model.specs.declared.options.ImplicitCancellationOption.TheVariants.{Disabled, Enabled}
+use Rattle.vm_attempt.specs.declared.covered.Opened.{Opened}
+use Rattle.vm_attempt.specs.declared.covered.Opened.TheVariants.{Leaf, Node}
+
+-- ---- what it asks for
+
+-- what a store records so far, or nothing
+abbrev pub asks_of_store : Call → Bool
+asks_of_store (Call.Sleep name wake_up now) = true
+asks_of_store (Call.Call target parameter name options) = true
+asks_of_store (Call.Output value options) = true
+asks_of_store Call.Awakeable = true
+asks_of_store (Call.Signal name) = true
+asks_of_store (Call.IsCompleted handle) = true
+asks_of_store (Call.Take handle) = true
+asks_of_store (Call.Await tree) = true
+asks_of_store Call.End = true
+asks_of_store _ = false
+
+-- ---- what it awaits
+
+-- nodes stand in no more than so many levels
+abbrev mutual
+  pub is_nested_within : (levels : ℕ) → AwaitTree ℕ → Bool
+  is_nested_within levels (Single handle) = true
+  is_nested_within zero (Combined combinator children) = false
+  is_nested_within (suc levels) (Combined combinator children) = are_nested_within levels children
+
+  pub are_nested_within : (levels : ℕ) → AwaitTrees ℕ → Bool
+  are_nested_within levels no_trees = true
+  are_nested_within levels (and_trees tree trees) = is_nested_within levels tree && are_nested_within levels trees
+
+-- a frame can tell what is awaited, with the cancellation where that ends the await too
+abbrev pub can_be_told : ImplicitCancellationOption → AwaitTree ℕ → Bool
+can_be_told cancellation tree = is_nested_within (LEVELS - 1) (awaited_tree cancellation tree)
+
+-- so many levels are left to the tree itself: beside a cancellation it stands one level deeper
+abbrev pub levels_left : ImplicitCancellationOption → ℕ
+levels_left Disabled = LEVELS - 1
+levels_left (Enabled calls sends) = LEVELS - 2
+
+-- ---- a call that is carried out
+
+-- it asks for no other, and a frame can tell what it awaits
+abbrev pub is_covered : ImplicitCancellationOption → Call → Bool
+is_covered cancellation (Call.Await tree) = can_be_told cancellation tree
+is_covered cancellation call = asks_of_store call
+
+-- ---- a future, opened at its root
+
+abbrev pub is_single : AwaitTree ℕ → Bool
+is_single (Single handle) = true
+is_single _ = false
+
+-- one handle, or a node over these children
+abbrev pub IsOpened : AwaitTree ℕ → Opened → Type 0
+IsOpened tree Leaf = is_single tree ≡ true
+IsOpened tree (Node children) = (combinator : Combinator) × (tree ≡ node combinator (map tree_of children.now))

@@ -1,0 +1,171 @@
+// What a call is by its types: functions that look at each text and number in it, and change nothing.
+ghost use Rattle.std.specs.Prelude.{◌<◌, ◌^◌, IsUtf8, IfSome};
+ghost use Rattle.std.specs.List.{AllByRecursion};
+ghost use Rattle.request_laws.specs.Calls.{IsTypedPair, IsTypedFailure, IsTypedValue, IsTypedHeader, IsTypedTarget, IsTypedAttach, IsTypedCall};
+
+use bytes::ByteStr;
+use journal_model::{AttachInvocationTarget, Call, Header, NonEmptyValue, Target, TerminalFailure};
+
+fn text_is_typed(text: &ByteStr)
+    ensures { IsUtf8 text.now }
+{
+    let _ = text.as_bytes();
+}
+
+fn text_or_none_is_typed(text: &Option<ByteStr>)
+    ensures { IfSome text.now IsUtf8 }
+{
+    if let Some(text) = text {
+        text_is_typed(text);
+    }
+}
+
+fn code_is_typed(code: u16)
+    ensures { code < 2 ^ 16 }
+{
+    let _ = code;
+}
+
+fn pair_is_typed(pair: &(ByteStr, ByteStr))
+    ensures { IsTypedPair pair.now }
+{
+    text_is_typed(&pair.0);
+    text_is_typed(&pair.1);
+}
+
+fn pairs_are_typed(pairs: &[(ByteStr, ByteStr)])
+    ensures { AllByRecursion IsTypedPair pairs.now }
+{
+    for pair in pairs {
+        pair_is_typed(pair);
+    }
+}
+
+fn failure_is_typed(failure: &TerminalFailure)
+    ensures { IsTypedFailure failure.now }
+{
+    code_is_typed(failure.code);
+    text_is_typed(&failure.message);
+    pairs_are_typed(failure.metadata.as_slice());
+}
+
+fn value_is_typed(value: &NonEmptyValue)
+    ensures { IsTypedValue value.now }
+{
+    match value {
+        NonEmptyValue::Success(_) => (),
+        NonEmptyValue::Failure(failure) => failure_is_typed(failure),
+    }
+}
+
+fn header_is_typed(header: &Header)
+    ensures { IsTypedHeader header.now }
+{
+    text_is_typed(&header.key);
+    text_is_typed(&header.value);
+}
+
+fn headers_are_typed(headers: &[Header])
+    ensures { AllByRecursion IsTypedHeader headers.now }
+{
+    for header in headers {
+        header_is_typed(header);
+    }
+}
+
+fn target_is_typed(target: &Target)
+    ensures { IsTypedTarget target.now }
+{
+    text_is_typed(&target.service);
+    text_is_typed(&target.handler);
+    text_or_none_is_typed(&target.key);
+    text_or_none_is_typed(&target.idempotency_key);
+    text_or_none_is_typed(&target.scope);
+    text_or_none_is_typed(&target.limit_key);
+    headers_are_typed(target.headers.as_slice());
+}
+
+fn attach_is_typed(target: &AttachInvocationTarget)
+    ensures { IsTypedAttach target.now }
+{
+    match target {
+        AttachInvocationTarget::InvocationId(id) => text_is_typed(id),
+        AttachInvocationTarget::WorkflowId { name, key, scope } => {
+            text_is_typed(name);
+            text_is_typed(key);
+            text_or_none_is_typed(scope);
+        }
+        AttachInvocationTarget::IdempotencyId {
+            service_name,
+            handler_name,
+            idempotency_key,
+            service_key,
+            scope,
+        } => {
+            text_is_typed(service_name);
+            text_is_typed(handler_name);
+            text_is_typed(idempotency_key);
+            text_or_none_is_typed(service_key);
+            text_or_none_is_typed(scope);
+        }
+    }
+}
+
+fn keyed_is_typed(key: &ByteStr, name: &Option<ByteStr>)
+    ensures key { IsUtf8 key.now }
+    ensures name { IfSome name.now IsUtf8 }
+{
+    text_is_typed(key);
+    text_or_none_is_typed(name);
+}
+
+fn named_target_is_typed(target: &Target, name: &Option<ByteStr>)
+    ensures target { IsTypedTarget target.now }
+    ensures name { IfSome name.now IsUtf8 }
+{
+    target_is_typed(target);
+    text_or_none_is_typed(name);
+}
+
+fn keyed_value_is_typed(key: &ByteStr, value: &NonEmptyValue)
+    ensures key { IsUtf8 key.now }
+    ensures value { IsTypedValue value.now }
+{
+    text_is_typed(key);
+    value_is_typed(value);
+}
+
+/// A call is of its type: a type says so of each text and number in it, and here it is said of all of them together.
+pub(crate) fn call_is_typed(call: &Call)
+    ensures { IsTypedCall call.now }
+{
+    match call {
+        Call::StateGet { key, name, .. }
+        | Call::StateSet { key, name, .. }
+        | Call::StateClear { key, name } => keyed_is_typed(key, name),
+        Call::StateGetKeys { name } | Call::StateClearAll { name } => text_or_none_is_typed(name),
+        Call::Call { target, name, .. } | Call::Send { target, name, .. } => {
+            named_target_is_typed(target, name)
+        }
+        Call::CompleteAwakeable { id, value, .. } => keyed_value_is_typed(id, value),
+        Call::CompletePromise { key, value, .. } => keyed_value_is_typed(key, value),
+        Call::CompleteSignal {
+            target_id,
+            name,
+            value,
+        } => {
+            text_is_typed(target_id);
+            keyed_value_is_typed(name, value);
+        }
+        Call::Sleep { name, .. } | Call::Signal { name } | Call::Run { name } => text_is_typed(name),
+        Call::GetPromise { key } | Call::PeekPromise { key } => text_is_typed(key),
+        Call::Cancel { target_id } => text_is_typed(target_id),
+        Call::Attach(target) | Call::GetOutput(target) => attach_is_typed(target),
+        Call::Output { value, .. } => value_is_typed(value),
+        Call::Awakeable
+        | Call::IsCompleted(_)
+        | Call::Take(_)
+        | Call::Await(_)
+        | Call::End => (),
+    }
+}
