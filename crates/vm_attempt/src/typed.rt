@@ -157,15 +157,12 @@ pub(crate) fn call_is_typed(call: &Call)
             text_is_typed(target_id);
             keyed_value_is_typed(name, value);
         }
-        Call::Sleep { name, .. } | Call::Signal { name } | Call::Run { name } => text_is_typed(name),
+        Call::Sleep { name, .. } => text_is_typed(name),
+        Call::Signal { name } | Call::Run { name } => text_is_typed(name),
         Call::GetPromise { key } | Call::PeekPromise { key } => text_is_typed(key),
         Call::Cancel { target_id } => text_is_typed(target_id),
         Call::Attach(target) | Call::GetOutput(target) => attach_is_typed(target),
         Call::Output { value, .. } => value_is_typed(value),
-        Call::Awakeable
-        | Call::IsCompleted(_)
-        | Call::Take(_)
-        | Call::Await(_)
-        | Call::End => (),
+        Call::Awakeable | Call::IsCompleted(_) | Call::Take(_) | Call::Await(_) | Call::End => (),
     }
 }
