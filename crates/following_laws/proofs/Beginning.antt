@@ -1,5 +1,5 @@
 -- An invocation that is made, and an attempt that is begun, are in the run from then on.
-use Rattle.std.proofs.Common.{◌≡◌, ◌≢◌, ℕ, suc, ◌+◌, ◌<◌, ◌^◌, ◌==◌, Bool, true, false, true≢false, if◌then◌else◌, arith, List, [], ◌∷◌, ◌++◌, map, append-nil, Option, Some, None, is_some, bytes_eq, refl, sym, ap, subst, ◌∙◌, ◌⊎◌, inl, inr, find}
+use Rattle.std.proofs.Common.{◌≡◌, ℕ, suc, ◌+◌, ◌<◌, ◌^◌, ◌==◌, Bool, true, false, true≢false, if◌then◌else◌, arith, List, [], ◌∷◌, ◌++◌, map, append-nil, Option, Some, None, is_some, bytes_eq, refl, sym, ap, subst, ◌∙◌, ◌⊎◌, inl, inr, find}
 use Rattle.std.proofs.lemmas.Bool.Decides.{Decides-eqb}
 use Rattle.std.proofs.lemmas.Slice.Eq.{bytes_eq-Decides}
 use Rattle.journal_model.specs.declared.invocation.NewInvocation.{NewInvocation}

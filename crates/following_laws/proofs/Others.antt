@@ -1,5 +1,5 @@
 -- An event that is none of an invocation's keeps it in its run; so does what is done with an attempt of another one.
-use Rattle.std.proofs.Common.{◌≡◌, ◌≢◌, Bool, true, false, true≢false, ◌&&◌, List, ◌∷◌, Option, refl, sym, ap, subst, ◌∙◌}
+use Rattle.std.proofs.Common.{◌≡◌, Bool, false, true≢false, ◌&&◌, List, ◌∷◌, Option, refl, sym, ap, subst, ◌∙◌}
 use Rattle.journal_model.specs.Notification.{Bytes, Text}
 use Rattle.journal_model.specs.Event.{Event, Frame}
 use Rattle.journal_model.specs.Journal.{is_of, begins}

@@ -1,5 +1,5 @@
 -- What is known of a machine of whose attempt the input was read, at a turn.
-use Rattle.std.proofs.Common.{◌≡◌, ◌∙◌, Bool, false, ◌||◌, List, [], ◌∷◌, ◌++◌, map, length, refl, sym, ap, subst}
+use Rattle.std.proofs.Common.{◌≡◌, ◌∙◌, Bool, true, false, ◌||◌, List, [], ◌∷◌, ◌++◌, map, length, refl, sym, ap, subst}
 use Rattle.std.specs.List.{list_any}
 use Rattle.state_laws.proofs.States.{starts_text}
 use Rattle.input_laws.proofs.Telling.{arrivals_carried-append}

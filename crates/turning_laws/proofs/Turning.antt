@@ -1,5 +1,5 @@
 -- Each turn of an attempt, by what its machine does.
-use Rattle.std.proofs.Common.{◌≡◌, ◌⊎◌, inl, inr, ◌∙◌, ◌+◌, ℕ, suc, List, [], ◌∷◌, ◌++◌, map, Option, Some, sym, ap, subst}
+use Rattle.std.proofs.Common.{◌≡◌, ◌⊎◌, inl, inr, ◌∙◌, ℕ, suc, List, [], ◌∷◌, ◌++◌, map, Option, Some, sym, ap, subst}
 use Rattle.serving_laws.specs.Serving.{HasNumbers, HasRead, Serves, finished, machine_failed}
 use Rattle.serving_laws.specs.Keeping.{IsLiveAt}
 use Rattle.serving_laws.proofs.Notes.{notes_follow, waits_more}
@@ -8,7 +8,7 @@ use Rattle.serving_laws.specs.Attempts.{output_of, IsOver as IsOverBy, TakesAnsw
 use Rattle.serving_laws.specs.Machine.{MachineState, Written, out_of_memory, CoreVM, Answers, Waits, Suspends, Ends, Fails, NoMemory, IsDriven}
 use Rattle.serving_laws.specs.Reading.{Kind, kind_of}
 use Rattle.serving_laws.specs.Sending.{sent_stream, frame_meant}
-use Rattle.serving_laws.specs.Words.{item_at, Error, Version, Answer, Input, NotificationId, is_input_closed, AwaitTree, Event, answers_of, Text, Request, Handler, Progress, Waits as WaitsFor, run, arrivals_carried, requests_carried, Machine, Answered, AwaitsTree, LiveAttempt, after_turn, untracked, childless, VMOptions}
+use Rattle.serving_laws.specs.Words.{item_at, Error, Version, Answer, Input, NotificationId, is_input_closed, AwaitTree, Event, answers_of, Text, Request, Handler, Progress, Waits as WaitsFor, run, arrivals_carried, requests_carried, Machine, AwaitsTree, LiveAttempt, after_turn, untracked, childless, VMOptions}
 use Rattle.turning_laws.specs.Turning.{ComesTo, turns_answered, GoesOnWith, FailsBy, TurnsBehind, TurnKeeps}
 use Rattle.turning_laws.proofs.Failing.{fails_so}
 use Rattle.turning_laws.proofs.Now.{Now, call_of, reply_at}
