@@ -1,5 +1,5 @@
 -- The place of the first attempt of an invocation and number: with one more behind the others, and with another attempt in its place.
-use Rattle.std.proofs.Common.{◌≡◌, ℕ, suc, ◌+◌, ◌≤◌, cond, Bool, true, false, not, eqb, ltb, List, [], ◌∷◌, ◌++◌, length, length-append, Option, Some, None, get_or, refl, sym, ap, ap₂, subst, ◌∙◌, arith}
+use Rattle.std.proofs.Common.{◌≡◌, ℕ, suc, ◌+◌, ◌≤◌, cond, Bool, true, false, true≢false, not, eqb, ltb, List, [], ◌∷◌, ◌++◌, length, length-append, Option, Some, None, Result, Ok, Err, OnOk, is_err, get_or, sym, ap, ap₂, subst, ◌∙◌, arith}
 use Rattle.std.proofs.lemmas.Grind.{common_steps}
 use Rattle.std.proofs.lemmas.List.Folds.{position_or_len_push}
 use Rattle.std.specs.List.{position, position_or_len}
@@ -14,6 +14,11 @@ use Rattle.schedule_model.specs.declared.places.AttemptPlaces.{AttemptPlaces}
 use Rattle.schedule_model.specs.Places.{first_of, place_in, Notes}
 use Rattle.schedule_model.specs.Indexed.{IsIndexed}
 use Rattle.schedule_model.specs.Lends.{held_as}
+
+-- what holds where a call did not fail
+pub ok_there : {A E P : Type 0} (result : Result A E) → is_err result ≡ false → OnOk result P → P
+ok_there (Ok answer) went it = it
+ok_there (Err why) went it = absurd (true≢false went)
 
 -- the place, from where it would be and how many there are
 abbrev at_place : ℕ → ℕ → Option ℕ
@@ -52,21 +57,28 @@ module _ {H : Type 0} where
       → after ≡ before → IsIndexed new after
   indexed_still old new before after indexed still same id n = still id n ∙ indexed id n ∙ ap (position (is_held id n)) (sym same)
 
-  -- none is found
-  pub found_none : (id : List ℕ) (n : ℕ) (held : List (HeldAttempt H)) → position (is_held id n) held ≡ None → None ≡ held_of held id n
-  found_none id n held none = sym (first_missing (is_held id n) held none)
+  -- what was looked up is where the first one is
+  is_place : (places : AttemptPlaces) (held : List (HeldAttempt H)) (id : List ℕ) (n : ℕ) (told answer : Option ℕ) → IsIndexed places held → told ≡ place_in places id n → told ≡ answer
+      → position (is_held id n) held ≡ answer
+  is_place places held id n told answer indexed looked is = sym (indexed id n) ∙ sym looked ∙ is
 
-  module _ (id : List ℕ) (n : ℕ) (held : List (HeldAttempt H)) (place : ℕ) (one : HeldAttempt H) (at : position (is_held id n) held ≡ Some place) (read : one ≡ get_or held place one) where
+  -- none is found
+  pub found_none : (places : AttemptPlaces) (held : List (HeldAttempt H)) (id : List ℕ) (n : ℕ) (told : Option ℕ) → IsIndexed places held → told ≡ place_in places id n → told ≡ None
+      → None ≡ held_of held id n
+  found_none places held id n told indexed looked none = sym (first_missing (is_held id n) held (is_place places held id n told None indexed looked none))
+
+  module _ (places : AttemptPlaces) (held : List (HeldAttempt H)) (id : List ℕ) (n : ℕ) (told : Option ℕ) (indexed : IsIndexed places held) (looked : told ≡ place_in places id n)
+      (place : ℕ) (is : told ≡ Some place) (one : HeldAttempt H) (read : one ≡ get_or held place one) where
     is_first : IsFirstAt (is_held id n) held place one
     is_first =
-        let f = first_found (is_held id n) held place at in
+        let f = first_found (is_held id n) held place (is_place places held id n told (Some place) indexed looked is) in
         let same : one ≡ f.0 = read ∙ f.1.at one in
         subst (λ (x : HeldAttempt H). IsFirstAt (is_held id n) held place x) (sym same) f.1
 
     named : (attempt : Attempt H) → record one { attempt = attempt } ≡ held_as id n attempt
     named attempt =
-        let is = held_is id n one is_first.passes in
-        ap₂ (λ (i : List ℕ) (m : ℕ). held_as i m attempt) is.0 is.1
+        let parts = held_is id n one is_first.passes in
+        ap₂ (λ (i : List ℕ) (m : ℕ). held_as i m attempt) parts.0 parts.1
 
     -- the first one is found
     pub found_first : Some (held_as id n one.attempt) ≡ held_of held id n

@@ -1,5 +1,5 @@
-use Rattle.std.proofs.Common.{arith}
-use Rattle.schedule_model.proofs.Placing.{indexed_push, indexed_still}
+use Rattle.std.proofs.Common.{arith, refl, sym, ◌∙◌}
+use Rattle.schedule_model.proofs.Placing.{indexed_push, indexed_still, ok_there}
 use Rattle.schedule_model.proofs.attempts.HeldAttempts.push.Goals as goal
 
 pub invariant_of-self-in-Ok : goal.invariant_of-self-in-Ok
@@ -10,3 +10,12 @@ invariant_of-self-in-Ok g c =
 pub invariant_of-self-in-Err : goal.invariant_of-self-in-Err
 invariant_of-self-in-Err g c =
     indexed_still c.self.inside.places c.note.new.self c.self.inside.attempts.items c.reserve.new.self.items c.self.invariant c.in-Err.ensures.err c.reserve.ensures.items
+
+pub invariant_of-self : goal.invariant_of-self
+invariant_of-self g c =
+    indexed_still c.self.inside.places c.self.inside.places c.self.inside.attempts.items c.reserve.new.self.items c.self.invariant (λ id n. refl) c.reserve.ensures.items
+
+pub put-requires : goal.put-requires
+put-requires g c =
+    let room = ok_there c.reserve.result (sym c.is_err.ensures.value ∙ c.if-is_err.false) c.reserve.ensures.ok in
+    omega (arith, room)
