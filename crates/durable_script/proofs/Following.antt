@@ -6,14 +6,13 @@ use Rattle.built_in_handlers.specs.BuiltIn.{function_of}
 use Rattle.journal_model.specs.Notification.{Text}
 use Rattle.journal_model.specs.Run.{Handler}
 use Rattle.vm_types.specs.Options.{default_options}
-use Rattle.schedule_laws.specs.Schedules.{FitsEvent}
-use Rattle.schedule_laws.specs.Laws.{LeavesHolds}
-use Rattle.schedule_laws.proofs.Schedules.{schedules_grow}
 use Rattle.schedule_runs.proofs.Growing.{Grows, all_grow}
 use Rattle.schedule_runs.proofs.Running.{each_more}
-use Rattle.durable_schedule.specs.Attempts.{Answered}
-use Rattle.durable_schedule.specs.Schedules.event
-use Rattle.durable_schedule.specs.Schedules.{Event, Reply, Turned, Scheduled, AppliesAll, Brings}
+use Rattle.schedule_runs.proofs.Schedules.{schedules_grow}
+use Rattle.schedule_runs.specs.Attempts.{Answered}
+use Rattle.schedule_runs.specs.Passed.{LeavesHolds}
+use Rattle.schedule_runs.specs.Schedules.event
+use Rattle.schedule_runs.specs.Schedules.{FitsEvent, Event, Reply, Turned, Scheduled, AppliesAll, Brings}
 use Rattle.script_lines.specs.declared.line.Line.{Line}
 use Rattle.script_lines.specs.declared.line.Line.TheVariants.{Invoke, Result, Tick, Begin, Feed, Close, Turn, Move, Stop, Show}
 use Rattle.durable_script.specs.Line.{brought, new_invocation, AppliesOne, AnsweredTurns, DoesLine, BringsFunction}

@@ -14,9 +14,8 @@ use Rattle.built_in_handlers.specs.BuiltIn.{function_of}
 use Rattle.vm_types.specs.Options.{default_options}
 use Rattle.journal_store.specs.Stored.{Stored}
 use Rattle.journal_store.specs.Stands.{Stands, IsStanding, KeepsAll}
-use Rattle.durable_schedule.specs.declared.scheduler.Scheduler.{Scheduler}
-use Rattle.schedule_laws.specs.Words.{HoldsOf}
-use Rattle.schedule_laws.specs.Laws as laws
+use Rattle.schedule_runs.specs.Passed.laws
+use Rattle.schedule_runs.specs.Passed.{HoldsOf, Scheduler}
 use Rattle.schedule_runs.specs.Runs.{KeepsMore, Extends, HeadlineAfter, HoldsAfter, NeverLateAfter, WakesExactlyAfter, at_first}
 use Rattle.journal_store.proofs.Leading.{stood}
 use Rattle.durable_script.specs.Reaching.{IsAt, KeepsCut, Reaches}

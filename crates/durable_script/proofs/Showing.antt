@@ -14,7 +14,7 @@ use Rattle.journal_model.specs.Cause.{those_that_hold}
 use Rattle.store_reads.specs.declared.recorded.RecordedEntry.{RecordedEntry}
 use Rattle.store_reads.specs.Told.{entries_told}
 use Rattle.store_reads.specs.Answered.{answer_told}
-use Rattle.durable_schedule.specs.declared.scheduler.Scheduler.{Scheduler}
+use Rattle.schedule_runs.specs.Passed.{Scheduler}
 use Rattle.script_lines.specs.Text.{refused_text}
 use Rattle.script_entries.specs.declared.entry.ShownEntry.{ShownEntry}
 use Rattle.script_entries.specs.Entries.{AreShown, SomeUnread}

@@ -3,11 +3,11 @@ use Rattle.std.proofs.Common.{◌≡◌, ℕ, suc, ◌+◌, ◌≤◌, true, ref
 use Rattle.sqlite_trees.specs.declared.store.Store.{Ghosts}
 use Rattle.built_in_handlers.specs.declared.built_in.BuiltIn.{BuiltIn}
 use Rattle.journal_model.specs.Notification.{Text}
-use Rattle.durable_schedule.specs.Attempts.turn
-use Rattle.durable_schedule.specs.Schedules.event
-use Rattle.durable_schedule.specs.Schedules.reply
-use Rattle.durable_schedule.specs.Schedules.{Reply}
-use Rattle.durable_schedule.specs.declared.scheduler.Scheduler.{Scheduler}
+use Rattle.schedule_runs.specs.Attempts.turn
+use Rattle.schedule_runs.specs.Passed.{Scheduler}
+use Rattle.schedule_runs.specs.Schedules.event
+use Rattle.schedule_runs.specs.Schedules.reply
+use Rattle.schedule_runs.specs.Schedules.{Reply}
 use Rattle.durable_script.specs.Line.{was_answered, AppliesOne, AnsweredTurns, TookTurns}
 use Rattle.durable_script.specs.Reaching.{Reaches, Nowhere}
 use Rattle.durable_script.proofs.Reaching.{reaches_then}

@@ -9,11 +9,10 @@ use Rattle.journal_model.specs.declared.notification.NotificationResult.{Notific
 use Rattle.journal_model.specs.declared.notification.NotificationResult.TheVariants as result
 use Rattle.journal_model.specs.declared.invocation.StateMode as model
 use Rattle.journal_model.specs.declared.invocation.StateMode.TheVariants as mode
-use Rattle.durable_schedule.specs.Attempts.{Answered}
-use Rattle.durable_schedule.specs.Schedules.event
-use Rattle.durable_schedule.specs.Schedules.{Event, Reply, Turned, Scheduled, Applies}
 use Rattle.vm_types.specs.Options.{default_options}
-use Rattle.schedule_laws.specs.Schedules.{FitsEvent}
+use Rattle.schedule_runs.specs.Attempts.{Answered}
+use Rattle.schedule_runs.specs.Schedules.event
+use Rattle.schedule_runs.specs.Schedules.{FitsEvent, Event, Reply, Turned, Scheduled, Applies}
 use Rattle.script_lines.specs.declared.line.Line.{Line}
 use Rattle.script_lines.specs.declared.line.Line.TheVariants.{Invoke, Result, Tick, Begin, Feed, Close, Turn, Move, Stop, Show}
 use Rattle.script_lines.specs.declared.value.LineValue.{LineValue}

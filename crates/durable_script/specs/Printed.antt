@@ -1,9 +1,9 @@
 -- What a line prints for the reply that it got, without its line feed.
 use Rattle.std.specs.Prelude.{◌≡◌, ℕ, List, Some, None, Result, IfOk}
-use Rattle.durable_schedule.specs.Attempts.turn
-use Rattle.durable_schedule.specs.Attempts.{Turn}
-use Rattle.durable_schedule.specs.Schedules.reply
-use Rattle.durable_schedule.specs.Schedules.{Reply, name_of}
+use Rattle.schedule_runs.specs.Attempts.turn
+use Rattle.schedule_runs.specs.Attempts.{Turn}
+use Rattle.schedule_runs.specs.Schedules.reply
+use Rattle.schedule_runs.specs.Schedules.{Reply, name_of}
 use Rattle.store_refusals.specs.Names as store
 use Rattle.script_lines.specs.declared.text.LastTurn.{LastTurn}
 use Rattle.script_lines.specs.declared.text.LastTurn.TheVariants as last

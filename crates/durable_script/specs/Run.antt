@@ -13,9 +13,9 @@ use Rattle.vm_types.specs.declared.options.VMOptions.{VMOptions}
 use Rattle.journal_store.specs.Stored.{Stored}
 use Rattle.journal_store.specs.Stands.{Stands, IsStanding}
 use Rattle.store_calls.specs.Standing.{Standing}
-use Rattle.schedule_laws.specs.Words.{IsCovered, HoldsOf}
+use Rattle.schedule_runs.specs.Passed.{IsCovered, HoldsOf}
 use Rattle.schedule_runs.specs.Runs.{Extends, HeadlineAfter, HoldsAfter, NeverLateAfter, WakesExactlyAfter, at_first}
-use Rattle.durable_schedule.specs.Schedules.{Scheduled}
+use Rattle.schedule_runs.specs.Schedules.{Scheduled}
 use Rattle.built_in_handlers.specs.BuiltIn.{function_of}
 use Rattle.built_in_handlers.specs.Handlers.{nap, nap99, race, both, ask, pair}
 use Rattle.script_lines.specs.declared.word.HandlerName.{HandlerName}

@@ -2,7 +2,7 @@
 ghost use Rattle.durable_script.specs.Run.{HandlersAreNamed, LinesFollow};
 
 use built_in_handlers::BuiltIn;
-use schedule_laws::schedules_leave;
+use schedule_runs::schedules_leave;
 
 /// Behind each line of a script, what is recorded of an invocation is of the one uninterrupted run of the handler that its lines name,
 /// if what was recorded before is.

@@ -9,6 +9,6 @@ mod run;
 mod runner;
 mod show;
 
-pub use durable_schedule::{Event, Reply, Scheduler};
 pub use fault::ScriptFault;
 pub use run::{ScriptEnd, run_script};
+pub use schedule_runs::{Event, Reply, Scheduler, run_schedule};

@@ -10,7 +10,7 @@ use crate::output::write_text;
 use crate::runner::Runner;
 use built_in_handlers::BuiltIn;
 use journal_store::Store;
-use schedule_laws::{records_of_runs, schedules_leave};
+use schedule_runs::{records_of_runs, schedules_leave};
 use script_lines::reading::read_script;
 use script_lines::script::ScriptLines;
 use sqlite::Alter;

@@ -8,8 +8,8 @@ ghost use Rattle.durable_script.specs.Shown.{answer_line, shown_text, HasEntries
 use crate::reply::reply_line;
 use built_in_handlers::BuiltIn;
 use bytes::ByteStr;
-use durable_schedule::Scheduler;
 use journal_model::NonEmptyValue;
+use schedule_runs::Scheduler;
 use script_entries::{ShownEntry, read_entries};
 use script_lines::text::{LineReply, ShownAnswer, ShownOpenness};
 use sqlite::Alter;

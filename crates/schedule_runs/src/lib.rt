@@ -11,10 +11,10 @@ ghost use Rattle.schedule_laws.specs.Schedules.{AppliesAll, Scheduled};
 ghost use Rattle.durable_schedule.specs.Scheduled.{IsScheduled};
 ghost use Rattle.schedule_runs.specs.Runs.{AppliesFirst, Extends, HeadlineAfter, HoldsAfter, NeverLateAfter, RunsLeave, WakesExactlyAfter, at_first};
 
-use durable_schedule::{Event, Reply, Scheduler};
+pub use durable_schedule::{Event, HeldAttempt, Refusal, Reply, Scheduler, Turn};
 use journal_model::Handler;
 use journal_store::Store;
-use schedule_laws::{records_of_runs, schedules_leave};
+pub use schedule_laws::{records_of_runs, schedules_leave};
 use sqlite::Alter;
 use std::alloc::Global;
 use vm_types::VMOptions;

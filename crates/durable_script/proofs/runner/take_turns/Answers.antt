@@ -1,5 +1,5 @@
 use Rattle.std.proofs.Common.{refl, arith}
-use Rattle.durable_schedule.specs.Schedules.event
+use Rattle.schedule_runs.specs.Schedules.event
 use Rattle.durable_script.specs.Line.{AnsweredTurns}
 use Rattle.durable_script.specs.Reaching.{Nowhere}
 use Rattle.durable_script.proofs.Reaching.{reaches_none, reaches_turned}
