@@ -1,0 +1,23 @@
+# A table of what bench_schedule printed (the file that the variable `ours` names) and what schedule_times printed.
+
+function put(name, time) {
+    if (FILENAME != ours) {
+        their_time[name] = time
+        return
+    }
+    names[++rows] = name
+    our_time[name] = time
+}
+
+$1 == "memory" || $1 == "file" { put($2 ", " $3 " of them, " ($1 == "file" ? "on a file" : "in memory"), $5) }
+
+$1 == "journal" { for (i = 3; i < NF; i += 2) put($i ", journal of " $2, $(i + 1)) }
+
+END {
+    format = "%-36s %12s %14s %8s\n"
+    printf format, "microseconds an event", "here", "stock SQLite", "times"
+    for (i = 1; i <= rows; i++) {
+        name = names[i]
+        printf format, name, our_time[name], their_time[name], their_time[name] > 0 ? sprintf("%.1f", our_time[name] / their_time[name]) : ""
+    }
+}

@@ -1,0 +1,84 @@
+/* The statements of a schedule, in the same transactions, over the stock SQLite library:
+ *
+ *     schedule_times COUNT [FILE]
+ *
+ * Brings COUNT invocations of the handler race from invoke to end, and COUNT of ask, whose first attempt is stopped where it waits and
+ * whose second goes on, and prints the microseconds of an event: in memory, of the processor, and in a new file of that name, by the
+ * clock. Then an invocation whose journal grows to 10,000 entries, resumed at each tenth of them. To hand bytes out, to make a turn and
+ * to stop an attempt are events without a statement. */
+#include "store_statements.h"
+
+/* How many events each invocation has: each is made, begun twice, fed three times, stopped once, its output is moved three times, and
+ * one event brings what it waits for; the turns of race are twelve, those of ask ten. */
+enum { RACE_EVENTS = 23, ASK_EVENTS = 21 };
+
+static void do_race(uint64_t which) {
+    struct progress p;
+    invoke(&p, which);
+    begin(&p);
+    step_sleep(&p);
+    step_sleep(&p);
+    step_awaiting_on(&p);
+    begin(&p);
+    step_awaiting_on(&p);
+    tick(&p);
+    step_output(&p);
+    step_end(&p);
+}
+
+static void do_ask(uint64_t which) {
+    struct progress p;
+    invoke(&p, which);
+    begin(&p);
+    step_call(&p);
+    step_awaiting_on(&p);
+    begin(&p);
+    step_awaiting_on(&p);
+    result(&p, 2);
+    step_output(&p);
+    step_end(&p);
+}
+
+static void time_all(const char *place, const char *name, clockid_t clock, void (*one)(uint64_t), uint64_t first, uint64_t count, int events) {
+    double start = read_clock(clock);
+    for (uint64_t i = 0; i < count; i++) one(first + i);
+    printf("%s %s %llu event %.2f\n", place, name, (unsigned long long)count, (read_clock(clock) - start) / ((double)events * (double)count));
+}
+
+static void time_handlers(const char *place, const char *path, clockid_t clock, uint64_t count) {
+    open_database(path);
+    time_all(place, "race", clock, do_race, 0, count, RACE_EVENTS);
+    time_all(place, "ask", clock, do_ask, count, count, ASK_EVENTS);
+    close_database();
+}
+
+/* How many entries the journal has in the end, and at how many of them it is resumed. */
+enum { ENTRIES = 10000, TENTH = ENTRIES / 10 };
+
+/* An entry is a turn and a move; to resume is to stop an attempt, to begin one, to feed it, and a turn for each entry. */
+static void time_journal(void) {
+    open_database(":memory:");
+    struct progress p;
+    invoke(&p, 0);
+    begin(&p);
+    while (p.entries < ENTRIES) {
+        uint32_t first = p.entries;
+        double start = now();
+        while (p.entries % TENTH != 0 || p.entries == first) step_sleep(&p);
+        double grown = now();
+        begin(&p);
+        double resumed = now();
+        double grow = (grown - start) / (2.0 * (p.entries - first)), resume = (resumed - grown) / (p.entries + 3.0);
+        printf("journal %u grow %.2f resume %.2f\n", p.entries, grow, resume);
+    }
+    close_database();
+}
+
+int main(int count, char **words) {
+    if (count < 2) return 0;
+    uint64_t invocations = strtoull(words[1], NULL, 10);
+    time_handlers("memory", ":memory:", CLOCK_PROCESS_CPUTIME_ID, invocations);
+    if (count > 2) time_handlers("file", words[2], CLOCK_MONOTONIC, invocations);
+    time_journal();
+    return seen == 1 ? 2 : 0;
+}
