@@ -1,5 +1,5 @@
 -- Calls on an attempt that is held, or is not.
-use Rattle.std.proofs.Common.{◌≡◌, refl, sym, ap, subst, ◌∙◌, ℕ, List, Option, Some, None}
+use Rattle.std.proofs.Common.{◌≡◌, refl, subst, ℕ, List, Option, Some, None}
 use Rattle.std.specs.Borrow.{MutBor}
 use Rattle.std.specs.Option.{option_copied_mut, option_map}
 use Rattle.sqlite_trees.specs.declared.store.Store.{Ghosts}

@@ -1,15 +1,16 @@
 -- What a scheduler's calls do to what it stands for.
-use Rattle.std.proofs.Common.{◌≡◌, refl, sym, ap, subst, ◌∙◌, ℕ, List, inr}
+use Rattle.std.proofs.Common.{◌≡◌, refl, sym, ap, subst, ◌∙◌, ℕ, List, ◌∷◌, inr}
 use Rattle.sqlite_trees.specs.declared.store.Store.{Ghosts}
 use Rattle.sqlite.specs.Held.{state}
 use Rattle.sqlite.specs.State.{HasCleanDisk}
 use Rattle.journal_model.specs.Notification.{Text}
+use Rattle.journal_model.specs.Event as model
 use Rattle.journal_model.specs.Run.{Handler}
 use Rattle.vm_types.specs.declared.options.VMOptions.{VMOptions}
 use Rattle.store_live.specs.Attempts.{Attempts}
 use Rattle.store_refusals.specs.declared.refusal.Refusal.TheVariants.{OutOfMemory}
 use Rattle.journal_store.specs.Stored.{Stored}
-use Rattle.journal_store.specs.Stands.{Stands as StandsFor, Leads, Endures, output_of}
+use Rattle.journal_store.specs.Stands.{Stands as StandsFor, Leads, Endures, Outlasts, output_of}
 use Rattle.schedule_model.specs.declared.event.Event.{Event}
 use Rattle.schedule_model.specs.declared.event.Event.TheVariants as event
 use Rattle.schedule_model.specs.declared.event.Reply.{Reply}
@@ -21,6 +22,11 @@ use Rattle.schedule_model.specs.Schedule.{Scheduled, Does, Applies}
 use Rattle.durable_schedule.specs.declared.scheduler.Scheduler.{Scheduler}
 use Rattle.durable_schedule.specs.Scheduled.{IsScheduled, IsWritten, OutlastsEvent, AppliesWith}
 use Rattle.journal_store.proofs.Enduring.{BeginsSome, endures_so}
+
+-- what lasts of a store behind one more event is what it stands for
+pub lasts_behind : {S : Type 0} (g : Ghosts S) (event : model.Event) (s t : Standing) (store : Stored S) → t.events ≡ event ∷ s.events → Outlasts (event ∷ s.events) (state g store.connection)
+    → Outlasts t.events (state g store.connection)
+lasts_behind g event s t store same lasts = subst (λ (events : List model.Event). Outlasts events (state g store.connection)) (sym same) lasts
 
 module _ {H S : Type 0} (g : Ghosts S) where
   -- what is done to a store and to what is held is done to a scheduler
@@ -72,11 +78,11 @@ module _ {H S : Type 0} (g : Ghosts S) where
   unwritten asked one answer same none written = absurd (none (subst (λ (event : Event H). IsWritten event answer) same written))
 
   -- a read leaves what it stands for
-  pub read_still : (s : Scheduled H) (old new : Scheduler H S) → IsScheduled g s old → StandsFor s.standing.events (state g new.store.connection) new.store.live.attempts
-      → new.store.live ≡ old.store.live → new.held ≡ old.held → IsScheduled g s new
-  read_still s old new is stands live held = record {
+  pub read_still : (s : Scheduled H) (old : Scheduler H S) (store : Stored S) → IsScheduled g s old → StandsFor s.standing.events (state g store.connection) store.live.attempts
+      → store.live ≡ old.store.live → IsScheduled g s (record old { store = store })
+  read_still s old store is stands live = record {
     standing = record { stands = stands; outputs = λ id. is.standing.outputs id ∙ ap (λ (l : Attempts). output_of l.attempts id) (sym live) };
-    held = is.held ∙ sym held;
+    held = is.held;
   }
 
 module _ {H : Type 0} (function : H → Handler) (options : VMOptions) where

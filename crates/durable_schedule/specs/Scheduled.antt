@@ -4,7 +4,6 @@ use Rattle.sqlite_trees.specs.declared.store.Store.{Ghosts}
 use Rattle.sqlite.specs.Held.{state}
 use Rattle.sqlite.specs.State.{State}
 use Rattle.journal_model.specs.Notification.{Bytes, Text}
-use Rattle.journal_model.specs.Event.{Event}
 use Rattle.journal_model.specs.Run.{Handler}
 use Rattle.vm_types.specs.declared.options.VMOptions.{VMOptions}
 use Rattle.protocol_types.specs.declared.version.Version.{Version}

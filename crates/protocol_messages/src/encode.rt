@@ -51,7 +51,7 @@ pub fn encode_record<R: Record>(
     };
     let header = MessageHeader::new_with_requested_ack(ty, !is_before_7(version), length);
     let mut out = Vec::with_capacity(alloc, HEADER_LEN + length as usize)?;
-    out.extend_from_slice(&u64::from(header).to_be_bytes())?;
+    out.extend_from_slice(&header.to_bytes())?;
     one.spell(alloc, &mut out)?;
     match Bytes::from_vec(out) {
         Ok(frame) => Ok(frame),

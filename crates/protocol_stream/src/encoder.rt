@@ -43,9 +43,9 @@ pub fn write_message(
     let Ok(length) = u32::try_from(payload.len()) else {
         return Err(EncodingError::PayloadTooLong);
     };
-    let header = u64::from(MessageHeader::new(ty, length));
+    let header = MessageHeader::new(ty, length);
     out.reserve(HEADER_LEN + payload.len())?;
-    out.extend_reserved(&header.to_be_bytes());
+    out.extend_reserved(&header.to_bytes());
     out.extend_reserved(payload);
     Ok(())
 }

@@ -1,5 +1,6 @@
 // The eight bytes before each payload.
 ghost use Rattle.std.specs.Prelude.{◌≡◌, ◌<◌, ◌^◌, false};
+ghost use Rattle.std.specs.Int.{to_be_bytes, w64};
 ghost use Rattle.protocol_stream.specs.Header.{message_type, message_length, requested_ack, header_of, header_in, word_of};
 
 use crate::{MessageType, UnknownMessageType};
@@ -70,6 +71,13 @@ impl MessageHeader {
         ensures { result ≡ requested_ack self.now }
     {
         self.requested_ack
+    }
+
+    /// The eight bytes that stand before the payload.
+    pub fn to_bytes(&self) -> [u8; 8]
+        ensures { result ≡ to_be_bytes w64 (word_of self.now) }
+    {
+        u64::from(*self).to_be_bytes()
     }
 }
 

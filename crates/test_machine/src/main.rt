@@ -1,6 +1,6 @@
 //! Rows of a machine: each file that a word of the call names has a call a line, its name and its operands; printed is the row
-//! and, behind ` = `, the answer. `new` begins another machine, and `shown` prints it with `{:?}`. A row that is not understood is
-//! printed with a `?`.
+//! and, behind ` = `, the answer. `new` begins another machine, `shown` prints it with `{:?}`, and `tree` prints one of trees so. A row
+//! that is not understood is printed with a `?`.
 #![tactic(auto)]
 
 mod answers;
@@ -68,6 +68,7 @@ impl<V: VM + fmt::Debug + Drop> Answers for Machine<V> {
             ["new", operands @ ..] => begin(alloc, &mut self.vm, operands),
             ["resolve", operands @ ..] => tables::answer::<V>(alloc, operands),
             ["copies", operands @ ..] => results::answer(alloc, operands),
+            ["tree", operands @ ..] => answers::debug(alloc, awaits::tree(alloc, operands, 0)?),
             ["shown"] => answers::shown(alloc, self.vm.as_ref()?),
             [call, operands @ ..] => answer_of(alloc, self.vm.as_mut()?, *call, operands),
             [] => None,

@@ -3,11 +3,22 @@ ghost use Rattle.std.specs.Prelude.{◌≡◌};
 
 use bytes::ByteStr;
 use journal_model::NotificationHandle;
+use std::fmt;
+use std::fmt::{Debug, Display, Formatter, Write};
 
 /// What an ephemeral read is named by. Within an attempt they count from 1; nothing of them is recorded.
-#[derive(Debug, Clone, Copy, PartialEq, Eq, PartialOrd, Ord, Hash)]
+#[derive(Clone, Copy, PartialEq, Eq, PartialOrd, Ord, Hash)]
 pub struct EphemeralCompletionId {
     pub number: u32,
+}
+
+/// As the tuple that it is in the crate that is ported: `EphemeralCompletionId(1)`.
+impl Debug for EphemeralCompletionId {
+    fn fmt<W: Write>(&self, f: &mut Formatter<W>) -> fmt::Result {
+        f.write_str("EphemeralCompletionId(")?;
+        Display::fmt(&self.number, f)?;
+        f.write_str(")")
+    }
 }
 
 impl From<u32> for EphemeralCompletionId {

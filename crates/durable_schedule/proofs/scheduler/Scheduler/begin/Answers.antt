@@ -1,15 +1,14 @@
-use Rattle.std.proofs.Common.{List, refl, sym, subst, ◌∙◌, inl, inr}
-use Rattle.sqlite.specs.Held.{state}
+use Rattle.std.proofs.Common.{refl, sym, ◌∙◌, inl, inr}
 use Rattle.journal_model.specs.Event as model
-use Rattle.journal_store.specs.Stands.{Outlasts}
 use Rattle.journal_store.proofs.Enduring.{begin_endures}
 use Rattle.schedule_model.proofs.Speaking.{never_begun}
+use Rattle.durable_schedule.proofs.Scheduling.{lasts_behind}
 use Rattle.durable_schedule.proofs.scheduler.Scheduler.begin.Goals as goal
 
 pub returns-in-Err-clause-does : goal.returns-in-Err-clause-does
 returns-in-Err-clause-does g c clean s is =
     let it = c.in-Err.ensures.does clean s is in
-    (it.0, it.1, inl (it.2, refl))
+    (it.0, it.1, inl (it.2, refl {a = c.args.self.now.held}))
 
 pub returns-in-Err-clause-crash : goal.returns-in-Err-clause-crash
 returns-in-Err-clause-crash g c = begin_endures g.S.Store c.args.invocation c.args.now c.args.self.now.store c.begin.new.self c.begin.ensures.crash
@@ -25,7 +24,7 @@ returns-in_default-clause-crash g c = begin_endures g.S.Store c.args.invocation 
 pub returns-in_default-make-clause-does : goal.returns-in_default-make-clause-does
 returns-in_default-make-clause-does g c clean s is =
     let it = c.in-Ok.ensures.does clean s is in
-    (it.0, it.1, inr (c.in-Ok.begun, refl, it.2, refl))
+    (it.0, it.1, inr (c.in-Ok.begun, refl, it.2, refl {a = c.args.self.now.held}))
 
 pub returns-in_default-make-clause-crash : goal.returns-in_default-make-clause-crash
 returns-in_default-make-clause-crash g c = begin_endures g.S.Store c.args.invocation c.args.now c.args.self.now.store c.begin.new.self c.begin.ensures.crash
@@ -57,7 +56,7 @@ unfolding returns-in-Ok-push-clause-does
 returns-in-Ok-push-clause-settled g c written clean s is =
     let it = returns-in-Ok-push-clause-does g c clean s is in
     let lasts = c.in-Ok.ensures.settled clean s.events is.stands in
-    (it.0, it.1, (it.2, subst (λ (events : List model.Event). Outlasts events (state g.S.Store c.begin.new.self.connection)) (sym it.2.2.leaves.events) lasts))
+    (it.0, it.1, (it.2, lasts_behind g.S.Store (model.Event.Begin c.args.invocation c.args.now) s it.0 c.begin.new.self it.2.2.leaves.events lasts))
 
 pub returns-in-Ok-push-clause-crash : goal.returns-in-Ok-push-clause-crash
 returns-in-Ok-push-clause-crash g c = begin_endures g.S.Store c.args.invocation c.args.now c.args.self.now.store c.begin.new.self c.begin.ensures.crash

@@ -1,8 +1,6 @@
-use Rattle.std.proofs.Common.{List, sym, subst}
-use Rattle.sqlite.specs.Held.{state}
 use Rattle.journal_model.specs.Event as model
-use Rattle.journal_store.specs.Stands.{Outlasts}
 use Rattle.durable_schedule.proofs.Landing.{complete_endures}
+use Rattle.durable_schedule.proofs.Scheduling.{lasts_behind}
 use Rattle.durable_schedule.proofs.scheduler.Scheduler.complete.Goals as goal
 
 pub returns-in-Ok-clause-does : goal.returns-in-Ok-clause-does
@@ -15,7 +13,7 @@ pub returns-in-Ok-clause-settled : goal.returns-in-Ok-clause-settled
 returns-in-Ok-clause-settled g c written clean s is =
     let it = c.in-Ok.ensures.does clean s is in
     let lasts = c.in-Ok.ensures.settled clean s.events is.stands in
-    (it.0, it.1, (it.2, subst (λ (events : List model.Event). Outlasts events (state g.S.Store c.result.new.self.connection)) (sym it.2.1.events) lasts))
+    (it.0, it.1, (it.2, lasts_behind g.S.Store (model.Event.Complete c.args.invocation.now c.args.completion c.args.value) s it.0 c.result.new.self it.2.1.events lasts))
 
 pub returns-in-Err-clause-settled : goal.returns-in-Err-clause-settled
 returns-in-Err-clause-settled g c written = absurd written
