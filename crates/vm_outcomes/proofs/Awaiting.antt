@@ -16,6 +16,7 @@ use Rattle.protocol_stream.specs.declared.encoder.EncodingError.{EncodingError}
 use Rattle.protocol_stream.specs.declared.encoder.EncodingError.TheVariants as unsent
 use Rattle.protocol_types.specs.declared.version.Version.{Version}
 use Rattle.vm_calls.specs.declared.active.Active.{Active}
+use Rattle.vm_causes.specs.Causes.{Tells}
 use Rattle.vm_context.specs.Output.{Written}
 use Rattle.vm_ephemeral.specs.Reads.{EphemeralReads, no_reads}
 use Rattle.vm_errors.specs.declared.phase.Phase.{Phase}
@@ -43,7 +44,7 @@ use Rattle.vm_outcomes.specs.Driven.{IsDriven, reply_of}
 use Rattle.vm_outcomes.specs.Outcomes.{awaited_as}
 use Rattle.vm_outcomes.specs.declared.outcome.CallOutcome.{CallOutcome}
 use Rattle.vm_outcomes.proofs.Answering.{driven_on, answered_quietly, none_taken, only_active}
-use Rattle.vm_outcomes.proofs.Failing.{plain_code, memory_cause, fails_of, failed}
+use Rattle.vm_outcomes.proofs.Failing.{plain_code, told_plain, memory_cause, fails_of, failed}
 use Rattle.vm_outcomes.proofs.Optioned.{ending_as, sees_ending, awaits_for}
 use Rattle.vm_outcomes.proofs.Steps.{steps_of}
 use Rattle.vm_outcomes.proofs.Telling.{tells_seen, untold, failed_as}
@@ -52,6 +53,10 @@ uncompleted_code : (invocation : Bytes) (ids : AwaitTree NotificationId) (told :
 uncompleted_code invocation ids (Ok error) uncompleted = ap (λ (e : Error). e.code.0) uncompleted.tells.plain
 uncompleted_code invocation ids (Err refused) uncompleted = tt
 
+uncompleted_told : (invocation : Bytes) (ids : AwaitTree NotificationId) (told : Result Error AllocError) → IfOk told (TellsUncompleted invocation ids) → IfOk told (λ error. Tells journal_mismatch None error)
+uncompleted_told invocation ids (Ok error) uncompleted = uncompleted.tells
+uncompleted_told invocation ids (Err refused) uncompleted = tt
+
 memory_code : (told : Result Error AllocError) → IfOk told (λ error. ⊥) → IfOk told (λ error. error.code.0 ≡ internal)
 memory_code (Ok error) none = absurd none
 memory_code (Err refused) none = tt
@@ -59,7 +64,7 @@ memory_code (Err refused) none = tt
 module _ (given : Invocation) (m : Machine) (tree : AwaitTree ℕ) (old : MachineState) (driven : IsDriven given m old) where
   -- the machine fails
   fails_awaiting : (n : ℕ) (told : Result Error AllocError) (active : Active) (answer : Error) (new : MachineState) → (n == suspended) ≡ false → IfOk told (λ error. error.code.0 ≡ n)
-      → HasCause given m (Call.Await tree) old told → active.output ≡ old.active.output → MachineFails told (record old { active = active }) answer new
+      → HasCause given m (Call.Await tree) old active told → active.output ≡ old.active.output → MachineFails told (record old { active = active }) answer new
       → Comes given m (Call.Await tree) old (awaited_as (Err answer)) new
   fails_awaiting n told active answer new other is has_cause unwritten fails =
       subst (λ (o : CallOutcome). Comes given m (Call.Await tree) old o new)
@@ -69,7 +74,7 @@ module _ (given : Invocation) (m : Machine) (tree : AwaitTree ℕ) (old : Machin
   lacks_memory : (active : Active) (answer : Error) (new : MachineState) → active.output ≡ old.active.output → LacksMemory (record old { active = active }) answer new
       → Comes given m (Call.Await tree) old (awaited_as (Err answer)) new
   lacks_memory active answer new unwritten lacks =
-      fails_awaiting internal lacks.cause active answer new refl (memory_code lacks.cause lacks.causes) (memory_cause given m (Call.Await tree) old lacks.cause lacks.causes) unwritten lacks.fails
+      fails_awaiting internal lacks.cause active answer new refl (memory_code lacks.cause lacks.causes) (memory_cause given m (Call.Await tree) old active lacks.cause lacks.causes) unwritten lacks.fails
 
   module _ (resolved : Active) (unwritten : resolved.output ≡ old.active.output) (left : AwaitTree ℕ) (becomes : Becomes given m (reply_of old given m (Call.Await tree)) (AwaitsTree left) resolved) where
     -- a frame that tells it could not be written
@@ -79,7 +84,7 @@ module _ (given : Invocation) (m : Machine) (tree : AwaitTree ℕ) (old : Machin
         fails_awaiting internal fails.cause resolved answer new refl (plain_code internal None fails.cause fails.causes) (record {
           cause = TooLong;
           when = (refl, inr (record { tree = left; machine = becomes.machine; replies = becomes.replies; resolved = resolved; sees = becomes.sees; long = long refl }));
-          tells = plain_code internal None fails.cause fails.causes;
+          tells = told_plain resolved.journal internal None fails.cause fails.causes;
         }) unwritten fails.fails
     fails_unwritten unsent.OutOfMemory answer new long fails = lacks_memory resolved answer new unwritten fails
 
@@ -170,7 +175,7 @@ module _ (given : Invocation) (m : Machine) (tree : AwaitTree ℕ) (old : Machin
   goes_on_as (Err error) resolved (Ok response) new unwritten awaits goes_on = absurd goes_on
   goes_on_as (Err (unawaited.UncompletedInReplay left)) resolved (Err answer) new unwritten awaits goes_on =
       let code = uncompleted_code (started_id old.start) (over_ids resolved (tree_of left)) goes_on.cause goes_on.causes in
-      fails_awaiting journal_mismatch goes_on.cause resolved answer new refl code (record { cause = ByFault UncompletedInReplay; when = awaits; tells = code }) unwritten goes_on.fails
+      fails_awaiting journal_mismatch goes_on.cause resolved answer new refl code (record { cause = ByFault UncompletedInReplay; when = awaits; tells = uncompleted_told (started_id old.start) (over_ids resolved (tree_of left)) goes_on.cause goes_on.causes }) unwritten goes_on.fails
   goes_on_as (Err unawaited.OutOfMemory) resolved (Err answer) new unwritten awaits goes_on = lacks_memory resolved answer new unwritten goes_on
 
   await_made : (result : Result AwaitResponse Error) (new : MachineState) → IsAwaited tree old result new → Comes given m (Call.Await tree) old (awaited_as result) new

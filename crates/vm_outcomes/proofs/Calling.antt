@@ -24,20 +24,18 @@ use Rattle.vm_calls.specs.declared.call_error.NumberError.TheVariants as numbers
 use Rattle.vm_calls.specs.declared.put_error.PutError.TheVariants.{Replay, Encoding}
 use Rattle.vm_causes.specs.Causes.{CallCauses}
 use Rattle.vm_commands.specs.declared.replay_error.ReplayError.TheVariants as unmatched
-use Rattle.vm_context.specs.Journal.{JournalCounts}
-use Rattle.vm_refusals.specs.Refusals.{refusal_meant}
 use Rattle.vm_refusals.specs.declared.refusal_error.RefusalError.{RefusalError}
-use Rattle.vm_machine.specs.Admitting.{IsElsewhere}
+use Rattle.vm_machine.specs.Admitting.{IsElsewhere, IsRefused}
 use Rattle.vm_machine.specs.Calls.{checks_off, IsOf, IsRefusalOf, IsMade, Calls}
 use Rattle.vm_machine.specs.Settling.{Settles}
 use Rattle.vm_machine.specs.declared.machine_state.MachineState.{MachineState}
-use Rattle.vm_outcomes.specs.Carrying.{Answers, Comes, CarriesOut}
-use Rattle.vm_outcomes.specs.Causes.{NoNumber, TooLong, LacksNumber, HasCause}
+use Rattle.vm_outcomes.specs.Carrying.{Answers, Fails, Comes, CarriesOut}
+use Rattle.vm_outcomes.specs.Causes.{NoNumber, TooLong, LacksNumber, moment_event, HasCause}
 use Rattle.vm_outcomes.specs.Driven.{IsDriven, TracksNone}
 use Rattle.vm_outcomes.specs.Outcomes.{answered_as}
 use Rattle.vm_outcomes.specs.declared.outcome.CallOutcome.{CallOutcome}
 use Rattle.vm_outcomes.proofs.Answering.{no_signal, answered}
-use Rattle.vm_outcomes.proofs.Failing.{no_memory, last_code, decoding_fault, mismatches, failed, refused_call}
+use Rattle.vm_outcomes.proofs.Failing.{no_memory, told_last, decoding_fault, mismatches, failed, refused_call}
 use Rattle.vm_outcomes.proofs.Steps.{steps_of}
 
 -- so many completions lack in what is kept exactly where they lack in the abstract machine
@@ -63,34 +61,33 @@ refusal_none : (given : Invocation) (call : Call) (event : List ℕ) (refusal : 
 refusal_none given call event None old is_of refuses none = ap (λ (n : ℕ). refusal_of n call) is_of ∙ refuses
 refusal_none given call event (Some error) old is_of refuses none = cc
 
-refusal_some : (given : Invocation) (call : Call) (event : List ℕ) (refusal : Option RefusalError) (error : RefusalError) (old : MachineState) → IsOf given old → IsRefusalOf old.version call event refusal
-    → refusal ≡ Some error → refusal_of given.version call ≡ Some (refusal_meant error.refusal)
-refusal_some given call event refusal error old is_of refuses some =
-    ap (λ (n : ℕ). refusal_of n call) is_of ∙ (subst (λ (r : Option RefusalError). IsRefusalOf old.version call event r) some refuses).0
+refusal_some : (call : Call) (event : List ℕ) (refusal : Option RefusalError) (error : RefusalError) (old : MachineState) → IsRefusalOf old.version call event refusal → refusal ≡ Some error
+    → IsRefusalOf old.version call event (Some error)
+refusal_some call event refusal error old refuses some = subst (λ (r : Option RefusalError). IsRefusalOf old.version call event r) some refuses
 
 module _ (given : Invocation) (m : Machine) (call : Call) (old : MachineState) (driven : IsDriven given m old) where
   module _ (unrefused : refusal_of given.version call ≡ None) (same : length (ids_of m.completions m.signals call) ≡ completions_of call) where
-    call_cause : {M : Type 0} (difference : M → M → List ℕ) (journal : JournalCounts) (error : CallError M) (told : Result Error AllocError)
-        → FailsAs (checks_off old.options.non_determinism_checks) given m call old.active error → CallCauses difference journal error told → HasCause given m call old told
-    call_cause difference journal (Number numbers.IdsExhausted) told fails causes = record {
+    call_cause : {M : Type 0} (difference : M → M → List ℕ) (active : Active) (error : CallError M) (told : Result Error AllocError)
+        → FailsAs (checks_off old.options.non_determinism_checks) given m call old.active error → CallCauses difference active.journal error told → HasCause given m call old active told
+    call_cause difference active (Number numbers.IdsExhausted) told fails causes = record {
       cause = NoNumber;
       when = (unrefused, lacks_completions given m call old.active driven.sees same fails);
-      tells = last_code journal internal None told causes;
+      tells = told_last active.journal internal None told causes;
     }
-    call_cause difference journal (Number numbers.OutOfMemory) told fails causes = no_memory given m call old told causes
-    call_cause difference journal (Put (Replay (unmatched.Unavailable error))) told fails causes = absurd fails.0
-    call_cause difference journal (Put (Replay (unmatched.Decoding error))) told fails causes =
-        mismatches given m call old (decoding_code error) told fails.0 (decoding_fault error) (last_code journal _ _ told causes)
-    call_cause difference journal (Put (Replay (unmatched.Mismatch error))) told fails causes =
-        mismatches given m call old journal_mismatch told fails.0 (inl refl) (last_code journal _ _ told causes)
-    call_cause difference journal (Put (Replay unmatched.OutOfMemory)) told fails causes = no_memory given m call old told causes
-    call_cause difference journal (Put (Encoding unsent.PayloadTooLong)) told fails causes = record {
+    call_cause difference active (Number numbers.OutOfMemory) told fails causes = no_memory given m call old active told causes
+    call_cause difference active (Put (Replay (unmatched.Unavailable error))) told fails causes = absurd fails.0
+    call_cause difference active (Put (Replay (unmatched.Decoding error))) told fails causes =
+        mismatches given m call old active (decoding_code error) _ told fails.0 (decoding_fault error) causes
+    call_cause difference active (Put (Replay (unmatched.Mismatch error))) told fails causes =
+        mismatches given m call old active journal_mismatch _ told fails.0 (inl refl) causes
+    call_cause difference active (Put (Replay unmatched.OutOfMemory)) told fails causes = no_memory given m call old active told causes
+    call_cause difference active (Put (Encoding unsent.PayloadTooLong)) told fails causes = record {
       cause = TooLong;
       when = (unrefused, inl fails.0);
-      tells = last_code journal internal _ told causes;
+      tells = told_last active.journal internal None told causes;
     }
-    call_cause difference journal (Put (Encoding unsent.OutOfMemory)) told fails causes = no_memory given m call old told causes
-    call_cause difference journal OutOfMemory told fails causes = no_memory given m call old told causes
+    call_cause difference active (Put (Encoding unsent.OutOfMemory)) told fails causes = no_memory given m call old active told causes
+    call_cause difference active OutOfMemory told fails causes = no_memory given m call old active told causes
 
     call_settles : {M Taken : Type 0} (difference : M → M → List ℕ) (answer : Taken → Answer) (made : Result Taken (CallError M)) (active : Active) (result : Result Taken Error) (new : MachineState)
         → Makes (checks_off old.options.non_determinism_checks) given m call answer old.active made active → Settles difference made (record old { active = active }) result new
@@ -101,7 +98,7 @@ module _ (given : Invocation) (m : Machine) (call : Call) (old : MachineState) (
     call_settles difference answer (Ok taken) active (Err told) new makes settles = absurd settles
     call_settles difference answer (Err error) active (Ok got) new makes settles = absurd settles
     call_settles difference answer (Err error) active (Err told) new makes settles =
-        failed given m call old driven.phase settles.cause active told new (call_cause difference active.journal error settles.cause makes.0 settles.causes) makes.1 settles.fails
+        failed given m call old driven.phase settles.cause active told new (call_cause difference active error settles.cause makes.0 settles.causes) makes.1 settles.fails
 
     call_made : {M Taken : Type 0} (difference : M → M → List ℕ) (answer : Taken → Answer) (ty : MessageType) (name : Text) (result : Result Taken Error) (new : MachineState)
         → TracksNone given m call → IsMade difference call answer ty name old result new → Comes given m call old (answered_as answer result) new
@@ -109,31 +106,36 @@ module _ (given : Invocation) (m : Machine) (call : Call) (old : MachineState) (
         call_settles difference answer made.made made.between.active result new (made.makes given m driven.version none driven.sees)
         (subst (λ (vm : MachineState). Settles difference made.made vm result new) made.others made.settles)
 
+  call_refused : (event : List ℕ) (error : RefusalError) (answer : Error) (new : MachineState) → event ≡ moment_event call → IsRefusalOf old.version call event (Some error) → IsRefused error old answer new
+      → Fails given m call old answer new
+  call_refused event error answer new names refuses refused =
+      refused_call given m call old driven.phase error answer new (ap (λ (n : ℕ). refusal_of n call) driven.version ∙ refuses.0) refuses.1 (refuses.2 ∙ names) refused
+
   call_comes : {M Taken : Type 0} (difference : M → M → List ℕ) (answer : Taken → Answer) (event : List ℕ) (ty : MessageType) (name : Text) (result : Result Taken Error) (new : MachineState)
-      → length (ids_of m.completions m.signals call) ≡ completions_of call → TracksNone given m call → Calls difference call answer event ty name old result new
+      → event ≡ moment_event call → length (ids_of m.completions m.signals call) ≡ completions_of call → TracksNone given m call → Calls difference call answer event ty name old result new
       → Comes given m call old (answered_as answer result) new
-  call_comes {Taken = Taken} difference answer event ty name result new same none calls =
+  call_comes {Taken = Taken} difference answer event ty name result new names same none calls =
       steps_of (IsMade difference call answer ty name) (IsElsewhere ty name) calls.refusal old driven.phase (λ (r : Result Taken Error) (vm : MachineState). Comes given m call old (answered_as answer r) vm)
       (λ r vm free made. call_made (refusal_none given call event calls.refusal old driven.version calls.refuses free) same difference answer ty name r vm none made)
-      (λ error told vm some refused. refused_call given m call old driven.phase error told vm (refusal_some given call event calls.refusal error old driven.version calls.refuses some) refused)
+      (λ error told vm some refused. call_refused event error told vm names (refusal_some call event calls.refusal error old calls.refuses some) refused)
       result new calls.steps
 
 -- a call of one command is carried out
 pub carried : {M Taken : Type 0} {difference : M → M → List ℕ} {event : List ℕ} {ty : MessageType} {name : Text} (call : Call) (answer : Taken → Answer) (old : MachineState) (result : Result Taken Error)
-    (new : MachineState) (outcome : CallOutcome) → outcome ≡ answered_as answer result → ((n signal : ℕ) → length (ids_of n signal call) ≡ completions_of call)
+    (new : MachineState) (outcome : CallOutcome) → outcome ≡ answered_as answer result → ((n signal : ℕ) → length (ids_of n signal call) ≡ completions_of call) → event ≡ moment_event call
     → Calls difference call answer event ty name old result new → CarriesOut call old outcome new
-carried {difference = difference} {event = event} {ty = ty} {name = name} call answer old result new outcome is same calls = λ given m none driven.
+carried {difference = difference} {event = event} {ty = ty} {name = name} call answer old result new outcome is same names calls = λ given m none driven.
     subst (λ (o : CallOutcome). Comes given m call old o new) (sym is)
-    (call_comes given m call old driven difference answer event ty name result new (same m.completions m.signals) none calls)
+    (call_comes given m call old driven difference answer event ty name result new names (same m.completions m.signals) none calls)
 
 -- one that is answered without a value
 pub done_carried : {M : Type 0} {difference : M → M → List ℕ} {event : List ℕ} {ty : MessageType} {name : Text} (call : Call) (old : MachineState) (result : Result (Unit {0}) Error) (new : MachineState)
-    (outcome : CallOutcome) → outcome ≡ answered_as (λ done. Answer.Done) result → ((n signal : ℕ) → length (ids_of n signal call) ≡ completions_of call)
+    (outcome : CallOutcome) → outcome ≡ answered_as (λ done. Answer.Done) result → ((n signal : ℕ) → length (ids_of n signal call) ≡ completions_of call) → event ≡ moment_event call
     → Calls difference call (λ done. Answer.Done) event ty name old result new → CarriesOut call old outcome new
-done_carried call old result new outcome is same calls = carried call (λ done. Answer.Done) old result new outcome is same calls
+done_carried call old result new outcome is same names calls = carried call (λ done. Answer.Done) old result new outcome is same names calls
 
 -- one that is answered by a handle
 pub handle_carried : {M : Type 0} {difference : M → M → List ℕ} {event : List ℕ} {ty : MessageType} {name : Text} (call : Call) (old : MachineState) (result : Result ℕ Error) (new : MachineState)
-    (outcome : CallOutcome) → outcome ≡ answered_as (λ handle. Answer.Handle handle) result → ((n signal : ℕ) → length (ids_of n signal call) ≡ completions_of call)
+    (outcome : CallOutcome) → outcome ≡ answered_as (λ handle. Answer.Handle handle) result → ((n signal : ℕ) → length (ids_of n signal call) ≡ completions_of call) → event ≡ moment_event call
     → Calls difference call (λ handle. Answer.Handle handle) event ty name old result new → CarriesOut call old outcome new
-handle_carried call old result new outcome is same calls = carried call (λ handle. Answer.Handle handle) old result new outcome is same calls
+handle_carried call old result new outcome is same names calls = carried call (λ handle. Answer.Handle handle) old result new outcome is same names calls

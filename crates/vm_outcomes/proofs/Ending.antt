@@ -1,12 +1,10 @@
 -- The end is carried out.
 use Rattle.std.proofs.Common.{◌≡◌, inl, inr, ◌∷◌, ℕ, Bool, true, false, List, [], codes, Option, Result, Ok, Err, IfOk, refl, sym, ap, subst, ◌∙◌}
 use Rattle.std.proofs.lemmas.Bool.{cases_Bool}
-use Rattle.std.specs.declared.alloc.AllocError.{AllocError}
 use Rattle.journal_model.specs.Run.{Invocation}
 use Rattle.journal_model.specs.declared.call.Call.{Call}
 use Rattle.attempt_model.specs.Machine.{Machine, EndInReplay, Finished, FailedBy, reply_to_end}
 use Rattle.attempt_model.specs.Requests.{Commands}
-use Rattle.protocol_errors.specs.Code.{protocol_violation}
 use Rattle.protocol_errors.specs.declared.error.Error.{Error}
 use Rattle.protocol_stream.specs.declared.encoder.EncodingError.{EncodingError}
 use Rattle.protocol_stream.specs.declared.encoder.EncodingError.TheVariants as unsent
@@ -37,12 +35,8 @@ ends_before : (m : Machine) (left : Commands) → has_left left ≡ true → rep
 ends_before m [] some = cc
 ends_before m (command ∷ left) some = refl
 
-violates : (told : Result Error AllocError) (error : Error) → error.code.0 ≡ protocol_violation → IfOk told (λ e. e ≡ error) → IfOk told (λ e. e.code.0 ≡ protocol_violation)
-violates (Ok e) error is same = ap (λ (x : Error). x.code.0) same ∙ is
-violates (Err refused) error is same = tt
-
-unexpected_code : (phase : Phase) (is_replaying : Bool) (event : List ℕ) → phase ≡ phases.Active → (unexpected_error phase is_replaying event).code.0 ≡ protocol_violation
-unexpected_code phase is_replaying event is = ap (λ (p : Phase). (unexpected_error p is_replaying event).code.0) is
+unexpected_at : (phase : Phase) (is_replaying : Bool) (event : List ℕ) → phase ≡ phases.Active → is_replaying ≡ true → unexpected_error phase is_replaying event ≡ unexpected_error phases.Active true event
+unexpected_at phase is_replaying event is replays = ap (λ (p : Phase). unexpected_error p is_replaying event) is ∙ ap (λ (b : Bool). unexpected_error phases.Active b event) replays
 
 module _ (given : Invocation) (m : Machine) (old : MachineState) (driven : IsDriven given m old) where
   unwritten : (error : EncodingError) (output : Written) → Writes messages.End [] old.active.output (Err error) output → output ≡ old.active.output
@@ -61,13 +55,13 @@ module _ (given : Invocation) (m : Machine) (old : MachineState) (driven : IsDri
   ends (Ok done) output (Err answer) new behind writes closes = absurd closes
   ends (Err error) output (Ok ended) new behind writes closes = absurd closes
   ends (Err error) output (Err answer) new behind writes closes =
-      failed given m Call.End old driven.phase closes.cause (record old.active { output = output }) answer new (memory_cause given m Call.End old closes.cause closes.causes) (unwritten error output writes) closes.fails
+      failed given m Call.End old driven.phase closes.cause (record old.active { output = output }) answer new (memory_cause given m Call.End old (record old.active { output = output }) closes.cause closes.causes) (unwritten error output writes) closes.fails
 
   fails_before : (answer : Error) (new : MachineState) → old.active.is_replaying ≡ true → IsUnexpected (codes "end invocation") old answer new → Comes given m Call.End old (ended_as (Err answer)) new
   fails_before answer new replays unexpected = failed given m Call.End old driven.phase unexpected.cause old.active answer new (record {
     cause = ByFault EndInReplay;
     when = ends_before m m.left (sym driven.sees.replaying ∙ replays);
-    tells = violates unexpected.cause (unexpected_error old.phase old.active.is_replaying (codes "end invocation")) (unexpected_code old.phase old.active.is_replaying (codes "end invocation") driven.phase) unexpected.causes;
+    tells = subst (λ (e : Error). IfOk unexpected.cause (λ told. told ≡ e)) (unexpected_at old.phase old.active.is_replaying (codes "end invocation") driven.phase replays) unexpected.causes;
   }) refl unexpected.fails
 
   elsewhere : (result : Result (Unit {0}) Error) (new : MachineState) → old.active.is_replaying ≡ true → EndsAt Elsewhere old result new → Comes given m Call.End old (ended_as result) new

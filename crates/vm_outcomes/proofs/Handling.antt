@@ -12,6 +12,7 @@ use Rattle.journal_model.specs.declared.value.Value.{Value}
 use Rattle.attempt_model.specs.Machine.{Machine, KeysNotText}
 use Rattle.attempt_model.specs.Results.{Slots}
 use Rattle.protocol_errors.specs.Code.{internal}
+use Rattle.protocol_errors.specs.Error.{plain_error}
 use Rattle.protocol_errors.specs.declared.error.Error.{Error}
 use Rattle.protocol_messages.specs.declared.taken.TakeError.{TakeError}
 use Rattle.protocol_messages.specs.declared.taken.TakeError.TheVariants as untaken
@@ -76,9 +77,9 @@ module _ (given : Invocation) (m : Machine) (call : Call) (old : MachineState) (
   handle_settles answer Lacks lacks left (Err lack) active (Ok got) new makes answers = absurd answers
   handle_settles answer Lacks lacks left (Err numbers.IdsExhausted) active (Err told) new makes answers =
       failed given m call old driven.phase answers.cause active told new
-      (record { cause = NoNumber; when = (unrefused, lacks makes.0); tells = unless_plain internal None answers.cause answers.causes }) makes.1 answers.fails
+      (record { cause = NoNumber; when = (unrefused, lacks makes.0); tells = unless_plain active.journal internal None answers.cause answers.causes }) makes.1 answers.fails
   handle_settles answer Lacks lacks left (Err numbers.OutOfMemory) active (Err told) new makes answers =
-      failed given m call old driven.phase answers.cause active told new (no_memory given m call old answers.cause answers.causes) makes answers.fails
+      failed given m call old driven.phase answers.cause active told new (no_memory given m call old active answers.cause answers.causes) makes answers.fails
 
 signal_comes : (given : Invocation) (m : Machine) (name : Text) (old : MachineState) (driven : IsDriven given m old) (result : Result ℕ Error) (new : MachineState)
     → Steps (IsCalled (MakesSignal name) NumberCauses) (IsUnexpected (codes "named awakeable")) None old result new
@@ -125,9 +126,9 @@ awakeable_carried old result new steps = λ given m none driven. awakeable_comes
 -- ---- takes
 
 module _ (given : Invocation) (m : Machine) (handle : ℕ) (old : MachineState) (driven : IsDriven given m old) where
-  no_take : (told : Result Error AllocError) → TakeCauses untaken.OutOfMemory told → HasCause given m (Call.Take handle) old told
-  no_take (Ok error) causes = absurd causes
-  no_take (Err refused) causes = record { cause = NoMemory; when = tt; tells = tt }
+  no_take : (active : Active) (told : Result Error AllocError) → TakeCauses untaken.OutOfMemory told → HasCause given m (Call.Take handle) old active told
+  no_take active (Ok error) causes = absurd causes
+  no_take active (Err refused) causes = record { cause = NoMemory; when = tt; tells = tt }
 
   take_settles : (made : Result (Option Value) TakeError) (active : Active) (result : Result (Option Value) Error) (new : MachineState) → TakesFirst handle old.active made active
       → AnswersBy TakeCauses made (record old { active = active }) result new → Comes given m (Call.Take handle) old (answered_as (λ taken. Answer.Taken taken) result) new
@@ -141,10 +142,10 @@ module _ (given : Invocation) (m : Machine) (handle : ℕ) (old : MachineState) 
       failed given m (Call.Take handle) old driven.phase answers.cause active told new (record {
         cause = ByFault KeysNotText;
         when = does.taken given m (checks_off old.options.non_determinism_checks) driven.sees;
-        tells = subst (λ (r : Result Error AllocError). IfOk r (λ error. error.code.0 ≡ internal)) (sym answers.causes) refl;
+        tells = subst (λ (r : Result Error AllocError). IfOk r (λ error. error ≡ plain_error internal (codes "Cannot convert an eager state key into UTF-8 String"))) (sym answers.causes) refl;
       }) (ap (λ (a : Active). a.output) does.others) answers.fails
   take_settles (Err untaken.OutOfMemory) active (Err told) new does answers =
-      failed given m (Call.Take handle) old driven.phase answers.cause active told new (no_take answers.cause answers.causes) (ap (λ (a : Active). a.output) does.others) answers.fails
+      failed given m (Call.Take handle) old driven.phase answers.cause active told new (no_take active answers.cause answers.causes) (ap (λ (a : Active). a.output) does.others) answers.fails
 
   take_comes : (result : Result (Option Value) Error) (new : MachineState) → Steps (IsCalled (TakesFirst handle) TakeCauses) (IsUnexpected (codes "TakeNotification")) None old result new
       → Comes given m (Call.Take handle) old (answered_as (λ taken. Answer.Taken taken) result) new

@@ -18,7 +18,6 @@ use Rattle.vm_calls.specs.declared.active.Active.{Active}
 use Rattle.vm_calls.specs.declared.call_error.NumberError.TheVariants as numbers
 use Rattle.vm_commands.specs.declared.replay_error.ReplayError.TheVariants as unmatched
 use Rattle.vm_commands.specs.declared.state_read.StateReadError.TheVariants as errors
-use Rattle.vm_context.specs.Journal.{JournalCounts}
 use Rattle.vm_reading.specs.Causes.{ReadCauses}
 use Rattle.vm_reading.specs.Reading.{ReadKind, IsRead, MissesNext, SettlesRead, StepsOfRead}
 use Rattle.vm_state_reads.specs.Reading.{ReadFailsAs, Reads}
@@ -33,35 +32,35 @@ use Rattle.vm_outcomes.specs.Outcomes.{answered_as}
 use Rattle.vm_outcomes.specs.declared.outcome.CallOutcome.{CallOutcome}
 use Rattle.vm_outcomes.proofs.Answering.{no_signal, answered}
 use Rattle.vm_outcomes.proofs.Calling.{lacks_completions}
-use Rattle.vm_outcomes.proofs.Failing.{no_memory, last_code, decoding_fault, mismatches, failed}
+use Rattle.vm_outcomes.proofs.Failing.{no_memory, told_last, decoding_fault, mismatches, failed}
 use Rattle.vm_outcomes.proofs.Steps.{steps_of}
 
 module _ (given : Invocation) (m : Machine) (call : Call) (old : MachineState) (driven : IsDriven given m old) (unrefused : refusal_of given.version call ≡ None)
     (same : length (ids_of m.completions m.signals call) ≡ completions_of call) where
   module _ {L E : Type 0} (lazy_difference : L → L → List ℕ) (eager_difference : E → E → List ℕ) (empty : FixedError) (violates : fixed_code empty ≡ protocol_violation) where
-    read_cause : (journal : JournalCounts) (error : ReadError L E) (told : Result Error AllocError) → ReadFailsAs (checks_off old.options.non_determinism_checks) given m call old.active error
-        → ReadCauses lazy_difference eager_difference empty journal error told → HasCause given m call old told
-    read_cause journal (Number numbers.IdsExhausted) told fails causes = record {
+    read_cause : (active : Active) (error : ReadError L E) (told : Result Error AllocError) → ReadFailsAs (checks_off old.options.non_determinism_checks) given m call old.active error
+        → ReadCauses lazy_difference eager_difference empty active.journal error told → HasCause given m call old active told
+    read_cause active (Number numbers.IdsExhausted) told fails causes = record {
       cause = NoNumber;
       when = (unrefused, lacks_completions given m call old.active driven.sees same fails);
-      tells = last_code journal internal None told causes;
+      tells = told_last active.journal internal None told causes;
     }
-    read_cause journal (Number numbers.OutOfMemory) told fails causes = no_memory given m call old told causes
-    read_cause journal (Replay (errors.OtherType error)) told fails causes = mismatches given m call old journal_mismatch told fails.0 (inl refl) (last_code journal _ _ told causes)
-    read_cause journal (Replay errors.Empty) told fails causes = mismatches given m call old (fixed_code empty) told fails.0 (inr (inl violates)) (last_code journal _ _ told causes)
-    read_cause journal (Replay (errors.Lazy (unmatched.Unavailable error))) told fails causes = absurd fails.0
-    read_cause journal (Replay (errors.Lazy (unmatched.Decoding error))) told fails causes =
-        mismatches given m call old (decoding_code error) told fails.0 (decoding_fault error) (last_code journal _ _ told causes)
-    read_cause journal (Replay (errors.Lazy (unmatched.Mismatch error))) told fails causes = mismatches given m call old journal_mismatch told fails.0 (inl refl) (last_code journal _ _ told causes)
-    read_cause journal (Replay (errors.Lazy unmatched.OutOfMemory)) told fails causes = no_memory given m call old told causes
-    read_cause journal (Replay (errors.Eager (unmatched.Unavailable error))) told fails causes = absurd fails.0
-    read_cause journal (Replay (errors.Eager (unmatched.Decoding error))) told fails causes =
-        mismatches given m call old (decoding_code error) told fails.0 (decoding_fault error) (last_code journal _ _ told causes)
-    read_cause journal (Replay (errors.Eager (unmatched.Mismatch error))) told fails causes = mismatches given m call old journal_mismatch told fails.0 (inl refl) (last_code journal _ _ told causes)
-    read_cause journal (Replay (errors.Eager unmatched.OutOfMemory)) told fails causes = no_memory given m call old told causes
-    read_cause journal (Encoding unsent.PayloadTooLong) told fails causes = record { cause = TooLong; when = (unrefused, inl fails.0); tells = last_code journal internal _ told causes }
-    read_cause journal (Encoding unsent.OutOfMemory) told fails causes = no_memory given m call old told causes
-    read_cause journal OutOfMemory told fails causes = no_memory given m call old told causes
+    read_cause active (Number numbers.OutOfMemory) told fails causes = no_memory given m call old active told causes
+    read_cause active (Replay (errors.OtherType error)) told fails causes = mismatches given m call old active journal_mismatch _ told fails.0 (inl refl) causes
+    read_cause active (Replay errors.Empty) told fails causes = mismatches given m call old active (fixed_code empty) _ told fails.0 (inr (inl violates)) causes
+    read_cause active (Replay (errors.Lazy (unmatched.Unavailable error))) told fails causes = absurd fails.0
+    read_cause active (Replay (errors.Lazy (unmatched.Decoding error))) told fails causes =
+        mismatches given m call old active (decoding_code error) _ told fails.0 (decoding_fault error) causes
+    read_cause active (Replay (errors.Lazy (unmatched.Mismatch error))) told fails causes = mismatches given m call old active journal_mismatch _ told fails.0 (inl refl) causes
+    read_cause active (Replay (errors.Lazy unmatched.OutOfMemory)) told fails causes = no_memory given m call old active told causes
+    read_cause active (Replay (errors.Eager (unmatched.Unavailable error))) told fails causes = absurd fails.0
+    read_cause active (Replay (errors.Eager (unmatched.Decoding error))) told fails causes =
+        mismatches given m call old active (decoding_code error) _ told fails.0 (decoding_fault error) causes
+    read_cause active (Replay (errors.Eager (unmatched.Mismatch error))) told fails causes = mismatches given m call old active journal_mismatch _ told fails.0 (inl refl) causes
+    read_cause active (Replay (errors.Eager unmatched.OutOfMemory)) told fails causes = no_memory given m call old active told causes
+    read_cause active (Encoding unsent.PayloadTooLong) told fails causes = record { cause = TooLong; when = (unrefused, inl fails.0); tells = told_last active.journal internal None told causes }
+    read_cause active (Encoding unsent.OutOfMemory) told fails causes = no_memory given m call old active told causes
+    read_cause active OutOfMemory told fails causes = no_memory given m call old active told causes
 
     pub read_settles : (made : Result ℕ (ReadError L E)) (active : Active) (result : Result ℕ Error) (new : MachineState)
         → Reads (checks_off old.options.non_determinism_checks) given m call old.active made active → SettlesRead lazy_difference eager_difference empty made (record old { active = active }) result new
@@ -72,7 +71,7 @@ module _ (given : Invocation) (m : Machine) (call : Call) (old : MachineState) (
     read_settles (Ok handle) active (Err told) new reads settles = absurd settles
     read_settles (Err error) active (Ok got) new reads settles = absurd settles
     read_settles (Err error) active (Err told) new reads settles =
-        failed given m call old driven.phase settles.cause active told new (read_cause active.journal error settles.cause reads.0 settles.causes) reads.1 settles.fails
+        failed given m call old driven.phase settles.cause active told new (read_cause active error settles.cause reads.0 settles.causes) reads.1 settles.fails
 
   module _ {L E : Type 0} (kind : ReadKind L E) (known : Active → Bool) (name : Text) (violates : fixed_code kind.empty ≡ protocol_violation) where
     read_made : (result : Result ℕ Error) (new : MachineState) → IsRead kind call known name old result new → Comes given m call old (answered_as (λ handle. Answer.Handle handle) result) new

@@ -1,12 +1,10 @@
 -- A run is not carried out; and a machine that has failed stays so.
-use Rattle.std.proofs.Common.{◌≡◌, ℕ, Bool, true, List, None, Result, Ok, Err, IfOk, refl, sym, subst}
+use Rattle.std.proofs.Common.{◌≡◌, Bool, true, None, Result, Ok, Err, IfOk, refl, sym, subst}
 use Rattle.std.specs.declared.alloc.AllocError.{AllocError}
 use Rattle.journal_model.specs.Notification.{Text}
 use Rattle.journal_model.specs.Run.{Invocation}
 use Rattle.journal_model.specs.declared.call.Call.{Call}
 use Rattle.attempt_model.specs.Machine.{Machine}
-use Rattle.protocol_errors.specs.Code.{unsupported_feature}
-use Rattle.protocol_errors.specs.Error.{plain_error}
 use Rattle.protocol_errors.specs.declared.error.Error.{Error}
 use Rattle.protocol_types.specs.declared.version.Version.{Version}
 use Rattle.vm_context.specs.Journal.{JournalCounts}
@@ -20,7 +18,7 @@ use Rattle.vm_feeding.specs.Telling.{HostCauses, IsTold}
 use Rattle.vm_types.specs.declared.options.JournalMismatchRetryBehavior.{JournalMismatchRetryBehavior}
 use Rattle.vm_machine.specs.declared.machine_state.MachineState.{MachineState}
 use Rattle.vm_outcomes.specs.Carrying.{Fails, CarriesOut, StaysFailed}
-use Rattle.vm_outcomes.specs.Causes.{NoRuns}
+use Rattle.vm_outcomes.specs.Causes.{NoRuns, no_runs_error}
 use Rattle.vm_outcomes.specs.Driven.{IsDriven}
 use Rattle.vm_outcomes.specs.declared.outcome.CallOutcome.{CallOutcome}
 use Rattle.vm_outcomes.specs.declared.outcome.CallOutcome.TheVariants.{Failed}
@@ -28,18 +26,18 @@ use Rattle.vm_outcomes.proofs.Failing.{failed}
 
 -- ---- runs
 
-host_cause : (version : Version) (journal : JournalCounts) (text : List ℕ) (error : Error) (cause : Result Error AllocError) → error ≡ plain_error unsupported_feature text
-    → HostCauses version journal error None cause → IfOk cause (λ e. e.code.0 ≡ unsupported_feature)
-host_cause version journal text error cause is causes =
-    let same : cause ≡ Ok (plain_error unsupported_feature text) = subst (λ (e : Error). HostCauses version journal e None cause) is causes in
-    subst (λ (c : Result Error AllocError). IfOk c (λ e. e.code.0 ≡ unsupported_feature)) (sym same) refl
+host_cause : (version : Version) (journal : JournalCounts) (error : Error) (cause : Result Error AllocError) → error ≡ no_runs_error → HostCauses version journal error None cause
+    → IfOk cause (λ e. e ≡ no_runs_error)
+host_cause version journal error cause is causes =
+    let same : cause ≡ Ok no_runs_error = subst (λ (e : Error). HostCauses version journal e None cause) is causes in
+    subst (λ (c : Result Error AllocError). IfOk c (λ e. e ≡ no_runs_error)) (sym same) refl
 
-run_comes : (given : Invocation) (m : Machine) (name : Text) (text : List ℕ) (old : MachineState) (driven : IsDriven given m old) (error : Error) (new : MachineState) (answer : Error)
-    → error ≡ plain_error unsupported_feature text → IsTold error None old new → IsReady new.phase (Err answer) → Fails given m (Call.Run name) old answer new
-run_comes given m name text old driven error new answer is told ready =
+run_comes : (given : Invocation) (m : Machine) (name : Text) (old : MachineState) (driven : IsDriven given m old) (error : Error) (new : MachineState) (answer : Error)
+    → error ≡ no_runs_error → IsTold error None old new → IsReady new.phase (Err answer) → Fails given m (Call.Run name) old answer new
+run_comes given m name old driven error new answer is told ready =
     let comes : Fails given m (Call.Run name) old told.fails.answer new =
     failed given m (Call.Run name) old driven.phase told.cause old.active told.fails.answer new
-    (record { cause = NoRuns; when = (name, refl); tells = host_cause old.version old.active.journal text error told.cause is told.causes }) refl told.fails.fails in
+    (record { cause = NoRuns; when = (name, refl); tells = host_cause old.version old.active.journal error told.cause is told.causes }) refl told.fails.fails in
     record {
       told = comes.told;
       has_cause = comes.has_cause;
@@ -55,9 +53,9 @@ run_comes given m name text old driven error new answer is told ready =
     }
 
 -- a run is not carried out
-pub run_carried : (name : Text) (text : List ℕ) (old : MachineState) (error : Error) (new : MachineState) (answer : Error) → error ≡ plain_error unsupported_feature text → IsTold error None old new
+pub run_carried : (name : Text) (old : MachineState) (error : Error) (new : MachineState) (answer : Error) → error ≡ no_runs_error → IsTold error None old new
     → IsReady new.phase (Err answer) → CarriesOut (Call.Run name) old (Failed answer) new
-run_carried name text old error new answer is told ready = λ given m none driven. run_comes given m name text old driven error new answer is told ready
+run_carried name old error new answer is told ready = λ given m none driven. run_comes given m name old driven error new answer is told ready
 
 fails_ready : (version : Version) (asked : JournalMismatchRetryBehavior) (cause : Result Error AllocError) (old : Phase) (before : Written) (answer : Error) (new : Phase) (after : Written) (ready : Bool)
     → FailsBy version asked cause old before answer new after → IsReady new (Ok ready) → ⊥

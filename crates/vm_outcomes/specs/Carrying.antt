@@ -78,7 +78,7 @@ module _ (given : Invocation) (m : Machine) (call : Call) (old : MachineState) w
   -- The machine fails, by a cause that there is: the one frame of an error is written, or none, and nothing behind it.
   pub record Fails (answer : Error) (new : MachineState) : Type 0 where
     pub told : Result Error AllocError
-    pub has_cause : HasCause given m call old told
+    pub has_cause : HasCause given m call old new.active told
     pub fails : FailsNow old.version old.options.journal_mismatch_retry_behavior told old.active.output answer new.phase new.active.output
     pub others : new ≡ record old { phase = new.phase; active = new.active }
 

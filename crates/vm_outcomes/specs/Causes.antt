@@ -1,5 +1,5 @@
 -- Why a handler's call is not carried out, and what the machine fails with then.
-use Rattle.std.specs.Prelude.{◌≡◌, ◌≤◌, ◌<◌, ◌+◌, ◌^◌, ◌⊎◌, ℕ, Bool, true, false, [], length, None, Result, IfOk}
+use Rattle.std.specs.Prelude.{◌≡◌, ◌≤◌, ◌<◌, ◌+◌, ◌^◌, ◌⊎◌, ℕ, Bool, true, false, List, [], length, codes, Option, Some, None, Result, IfOk}
 use Rattle.std.specs.declared.alloc.AllocError.{AllocError}
 use Rattle.journal_model.specs.AwaitTree.{AwaitTree}
 use Rattle.journal_model.specs.History.{completions_of, signals_of, ids_of}
@@ -11,12 +11,17 @@ use Rattle.journal_model.specs.declared.call.Call.{Call}
 use Rattle.journal_model.specs.declared.notification.NotificationId.{NotificationId}
 use Rattle.attempt_model.specs.Machine.{Machine, AwaitsTree, FailedBy, Fault, Mismatch, UncompletedInReplay, EndInReplay, KeysNotText, ChildNotId, Refused, next_slot}
 use Rattle.protocol_errors.specs.Code.{internal, journal_mismatch, protocol_violation, unsupported_feature}
+use Rattle.protocol_errors.specs.Error.{plain_error}
 use Rattle.protocol_errors.specs.declared.error.Error.{Error}
 use Rattle.protocol_types.specs.declared.version.Version.{Version}
 use Rattle.vm_calls.specs.Active.{Sees}
 use Rattle.vm_calls.specs.Making.{IsLong}
 use Rattle.vm_calls.specs.declared.active.Active.{Active}
-use Rattle.vm_refusals.specs.Refusals.{refusal_meant, refusal_code}
+use Rattle.vm_causes.specs.Causes.{Tells, TellsLast}
+use Rattle.vm_context.specs.Journal.{JournalCounts}
+use Rattle.vm_errors.specs.Phases.{unexpected_error}
+use Rattle.vm_errors.specs.declared.phase.Phase.TheVariants as phases
+use Rattle.vm_refusals.specs.Refusals.{refusal_meant, refusal_code, text_of_refusal}
 use Rattle.vm_refusals.specs.declared.refusal.CallRefusal.{CallRefusal}
 use Rattle.vm_types.specs.declared.options.JournalReplay.TheVariants.{Disabled}
 use Rattle.vm_waiting.specs.Suspending.{over_ids, suspension_payload_in}
@@ -72,27 +77,50 @@ module _ (given : Invocation) (m : Machine) (call : Call) (vm : MachineState) wh
   FailsWhen NoRuns = (name : Text) × (call ≡ Call.Run name)
   FailsWhen NoMemory = Unit {0}
 
--- the code of the error that tells of a fault; of a recorded command that cannot be read it says who is to blame
-abbrev pub FaultCode : Fault → ℕ → Type 0
-FaultCode Mismatch code = (code ≡ journal_mismatch) ⊎ ((code ≡ protocol_violation) ⊎ (code ≡ internal))
-FaultCode UncompletedInReplay code = code ≡ journal_mismatch
-FaultCode EndInReplay code = code ≡ protocol_violation
-FaultCode KeysNotText code = code ≡ internal
--- no child is tracked
-FaultCode ChildNotId code = ⊥
-FaultCode (Refused refusal) code = (told : CallRefusal) × ((refusal_meant told ≡ refusal) × (code ≡ refusal_code told))
+-- ---- errors
 
-abbrev pub CauseCode : Cause → ℕ → Type 0
-CauseCode (ByFault fault) code = FaultCode fault code
-CauseCode NoNumber code = code ≡ internal
-CauseCode TooLong code = code ≡ internal
-CauseCode NoReplay code = code ≡ unsupported_feature
-CauseCode NoRuns code = code ≡ unsupported_feature
--- no error is made where memory is refused
-CauseCode NoMemory code = ⊥
+-- what the moment of a call is called in an error
+abbrev pub moment_event : Call → List ℕ
+moment_event (Call.Sleep name wake_up now) = codes "sleep duration"
+moment_event (Call.Send target input execution_time name options) = codes "send delay"
+moment_event _ = []
 
--- a cause that there is, with the error that it is told by, or that memory was refused for one
-pub record HasCause (given : Invocation) (m : Machine) (call : Call) (vm : MachineState) (told : Result Error AllocError) : Type 0 where
+-- the error of a run that is asked for
+abbrev pub no_runs_error : Error
+no_runs_error = plain_error unsupported_feature (codes "runs are not carried out")
+
+-- an error about no command, or about the one that was asked for last
+abbrev pub TellsEither : JournalCounts → ℕ → Option (List ℕ) → Error → Type 0
+TellsEither journal code text told = Tells code text told ⊎ TellsLast journal code text told
+
+-- of a recorded command that cannot be read the code says who is to blame
+abbrev pub IsMismatchCode : ℕ → Type 0
+IsMismatchCode code = (code ≡ journal_mismatch) ⊎ ((code ≡ protocol_violation) ⊎ (code ≡ internal))
+
+-- What a call is told as that is not carried out, where this version is spoken, and where these commands were asked for in the end: the
+-- code, the command that it is about, if one is, and the text, where the cause alone says which that is.
+module _ (version : Version) (journal : JournalCounts) (call : Call) where
+  abbrev pub TellsFault : Fault → Error → Type 0
+  TellsFault Mismatch told = (code : ℕ) × (IsMismatchCode code × TellsLast journal code None told)
+  TellsFault UncompletedInReplay told = Tells journal_mismatch None told
+  TellsFault EndInReplay told = told ≡ unexpected_error phases.Active true (codes "end invocation")
+  TellsFault KeysNotText told = told ≡ plain_error internal (codes "Cannot convert an eager state key into UTF-8 String")
+  -- no child is tracked
+  TellsFault ChildNotId told = ⊥
+  TellsFault (Refused refusal) told =
+      (refused : CallRefusal) × ((refusal_meant refused ≡ refusal) × Tells (refusal_code refused) (Some (text_of_refusal refused version (moment_event call))) told)
+
+  abbrev pub TellsCause : Cause → Error → Type 0
+  TellsCause (ByFault fault) told = TellsFault fault told
+  TellsCause NoNumber told = TellsEither journal internal None told
+  TellsCause TooLong told = TellsEither journal internal None told
+  TellsCause NoReplay told = told ≡ plain_error unsupported_feature (codes "awakeables need journal replay")
+  TellsCause NoRuns told = told ≡ no_runs_error
+  -- no error is made where memory is refused
+  TellsCause NoMemory told = ⊥
+
+-- a cause that there is, with the error that it is told by, or that memory was refused for one; `after` is kept for calls then
+pub record HasCause (given : Invocation) (m : Machine) (call : Call) (vm : MachineState) (after : Active) (told : Result Error AllocError) : Type 0 where
   pub cause : Cause
   pub when : FailsWhen given m call vm cause
-  pub tells : IfOk told (λ error. CauseCode cause error.code.0)
+  pub tells : IfOk told (λ error. TellsCause vm.version after.journal call cause error)

@@ -1,4 +1,3 @@
-use Rattle.std.proofs.Common.{codes}
 use Rattle.vm_outcomes.proofs.Running.{run_carried, told_unready}
 use Rattle.vm_driving.proofs.runs.run.Goals as goal
 
@@ -7,5 +6,5 @@ unreachable-requires c = told_unready c.no_runs.result c.args.vm.now.state c.not
 
 pub returns : goal.returns
 returns c =
-    run_carried c.args.name (codes "runs are not carried out") c.args.vm.now.state c.no_runs.result c.notify_error.new.self.state c.in-Err.error
+    run_carried c.args.name c.args.vm.now.state c.no_runs.result c.notify_error.new.self.state c.in-Err.error
     c.no_runs.ensures c.notify_error.ensures c.in-Err.ensures
