@@ -1,6 +1,6 @@
 // A handler's call is carried out.
 ghost use Rattle.vm_errors.specs.Phases.{kept_error};
-ghost use Rattle.vm_outcomes.specs.Carrying.{CarriesOut, StaysFailed};
+ghost use Rattle.vm_outcomes.specs.Carrying.{CarriesOut, StaysFailed, StaysClosed};
 
 use crate::{awaits, handles, invocations, outside, promises, runs, state};
 use journal_model::Call;
@@ -67,10 +67,11 @@ fn carry_out_by_kind(vm: &mut CoreVM, call: Call) -> CallOutcome
 
 /// Carries a handler's call out.
 ///
-/// Where the machine has failed before, that is what it comes to again.
+/// Where the machine has failed before, that is what it comes to again; and where it is closed, that it is.
 pub fn carry_out(vm: &mut CoreVM, call: Call) -> CallOutcome
     ensures driven { CarriesOut call vm.old.state result vm.new.state }
     ensures failed { StaysFailed (kept_error vm.old.state.phase) vm.old.state result vm.new.state }
+    ensures closed { StaysClosed vm.old.state.phase vm.old.state result vm.new.state }
 {
     match vm.is_ready_to_execute() {
         Ok(_) => carry_out_by_kind(vm, call),

@@ -1,4 +1,4 @@
--- A run is not carried out; and a machine that has failed stays so.
+-- A run is not carried out; and a machine that has failed, and one that is closed, stays so.
 use Rattle.std.proofs.Common.{◌≡◌, Bool, true, None, Result, Ok, Err, IfOk, refl, sym, subst}
 use Rattle.std.specs.declared.alloc.AllocError.{AllocError}
 use Rattle.journal_model.specs.Notification.{Text}
@@ -17,7 +17,7 @@ use Rattle.vm_feeding.specs.Asking.{IsReady}
 use Rattle.vm_feeding.specs.Telling.{HostCauses, IsTold}
 use Rattle.vm_types.specs.declared.options.JournalMismatchRetryBehavior.{JournalMismatchRetryBehavior}
 use Rattle.vm_machine.specs.declared.machine_state.MachineState.{MachineState}
-use Rattle.vm_outcomes.specs.Carrying.{Fails, CarriesOut, StaysFailed}
+use Rattle.vm_outcomes.specs.Carrying.{Fails, CarriesOut, StaysFailed, StaysClosed}
 use Rattle.vm_outcomes.specs.Causes.{NoRuns, no_runs_error}
 use Rattle.vm_outcomes.specs.Driven.{IsDriven}
 use Rattle.vm_outcomes.specs.declared.outcome.CallOutcome.{CallOutcome}
@@ -85,6 +85,24 @@ unready_stays (phases.WaitingReplayEntries left) answer old is = tt
 unready_stays phases.Active answer old is = tt
 unready_stays phases.Closed answer old is = tt
 unready_stays (phases.Failed kept) answer old is = (is, refl)
+
+-- ---- machines that are closed
+
+pub ready_open : (phase : Phase) (ready : Bool) (old : MachineState) (outcome : CallOutcome) (new : MachineState) → IsReady phase (Ok ready) → StaysClosed phase old outcome new
+ready_open phases.WaitingStart ready old outcome new is = tt
+ready_open (phases.WaitingReplayEntries left) ready old outcome new is = tt
+ready_open phases.Active ready old outcome new is = tt
+ready_open phases.Closed ready old outcome new is = absurd is
+ready_open (phases.Failed kept) ready old outcome new is = tt
+
+pub unready_closed : (phase : Phase) (answer : Error) (old : MachineState) → IsReady phase (Err answer) → StaysClosed phase old (Failed answer) old
+unready_closed phases.WaitingStart answer old is = tt
+unready_closed (phases.WaitingReplayEntries left) answer old is = tt
+unready_closed phases.Active answer old is = tt
+unready_closed phases.Closed answer old is = (is, refl)
+unready_closed (phases.Failed kept) answer old is = tt
+
+-- ---- machines that are driven
 
 active_ready : {A : Type 0} (answer : Error) → ◌≡◌ {A = Result Bool Error} (Err answer) (Ok true) → A
 active_ready answer wrong = cc

@@ -1,5 +1,5 @@
 -- What a handler's call comes to, in the words of the abstract machine of its invocation.
-use Rattle.std.specs.Prelude.{◌≡◌, ℕ, true, false, List, [], ◌++◌, Option, Some, None, Result, Ok}
+use Rattle.std.specs.Prelude.{◌≡◌, ℕ, true, false, List, [], ◌++◌, codes, Option, Some, None, Result, Ok}
 use Rattle.std.specs.List.{AllByRecursion}
 use Rattle.std.specs.declared.alloc.AllocError.{AllocError}
 use Rattle.journal_model.specs.AwaitTree.{AwaitTree}
@@ -15,6 +15,8 @@ use Rattle.vm_calls.specs.Active.{Sees, Fits, writes_frames}
 use Rattle.vm_calls.specs.declared.active.Active.{Active}
 use Rattle.vm_context.specs.Output.{with_frame}
 use Rattle.vm_errors.specs.Failing.{FailsNow, IsCopy}
+use Rattle.vm_errors.specs.Phases.{closed_error}
+use Rattle.vm_errors.specs.declared.phase.Phase.{Phase}
 use Rattle.vm_errors.specs.declared.phase.Phase.TheVariants as phases
 use Rattle.vm_waiting.specs.Suspending.{tells_awaiting, TellsIf, TellsAsRun, IsSuspended}
 use Rattle.vm_machine.specs.declared.machine_state.MachineState.{MachineState}
@@ -98,3 +100,9 @@ abbrev pub StaysFailed : (kept : Option Error) → (old : MachineState) → Call
 StaysFailed None old outcome new = Unit {0}
 StaysFailed (Some kept) old (outcomes.Failed answer) new = IsCopy kept answer × (new ≡ old)
 StaysFailed (Some kept) old _ new = ⊥
+
+-- One that has ended or was suspended answers that it is closed, whichever call it is, and stays as it is.
+abbrev pub StaysClosed : Phase → (old : MachineState) → CallOutcome → (new : MachineState) → Type 0
+StaysClosed phases.Closed old (outcomes.Failed answer) new = IsCopy (closed_error (codes "IsReadyToExecute")) answer × (new ≡ old)
+StaysClosed phases.Closed old _ new = ⊥
+StaysClosed _ old outcome new = Unit {0}
