@@ -39,12 +39,12 @@ use Rattle.vm_waiting.specs.declared.awaiting.Awaited.TheVariants.{AnyCompleted,
 use Rattle.vm_waiting.specs.declared.awaiting.AwaitError.{AwaitError}
 use Rattle.vm_waiting.specs.declared.awaiting.AwaitError.TheVariants as unawaited
 use Rattle.vm_outcomes.specs.Carrying.{Answers, Waits, Suspends as IsSuspended, Comes, CarriesOut}
-use Rattle.vm_outcomes.specs.Causes.{ByFault, TooLong, waiting_payload, HasCause}
+use Rattle.vm_outcomes.specs.Causes.{ByFault, TooLong, IsLookedAt, waiting_payload, HasCause}
 use Rattle.vm_outcomes.specs.Driven.{IsDriven, reply_of}
 use Rattle.vm_outcomes.specs.Outcomes.{awaited_as}
 use Rattle.vm_outcomes.specs.declared.outcome.CallOutcome.{CallOutcome}
 use Rattle.vm_outcomes.proofs.Answering.{driven_on, answered_quietly, none_taken, only_active}
-use Rattle.vm_outcomes.proofs.Failing.{plain_code, told_plain, memory_cause, fails_of, failed}
+use Rattle.vm_outcomes.proofs.Failing.{plain_code, told_plain, looked_at, looked_asked, memory_cause, fails_of, failed}
 use Rattle.vm_outcomes.proofs.Optioned.{ending_as, sees_ending, awaits_for}
 use Rattle.vm_outcomes.proofs.Steps.{steps_of}
 use Rattle.vm_outcomes.proofs.Telling.{tells_seen, untold, failed_as}
@@ -71,12 +71,12 @@ module _ (given : Invocation) (m : Machine) (tree : AwaitTree ℕ) (old : Machin
       (sym (failed_as old.version old.options.journal_mismatch_retry_behavior told active.output answer new.phase new.active.output n other is (fails_of told (record old { active = active }) answer new driven.phase fails)))
       (failed given m (Call.Await tree) old driven.phase told active answer new has_cause unwritten fails)
 
-  lacks_memory : (active : Active) (answer : Error) (new : MachineState) → active.output ≡ old.active.output → LacksMemory (record old { active = active }) answer new
+  lacks_memory : (active : Active) (answer : Error) (new : MachineState) → IsLookedAt old.active active → active.output ≡ old.active.output → LacksMemory (record old { active = active }) answer new
       → Comes given m (Call.Await tree) old (awaited_as (Err answer)) new
-  lacks_memory active answer new unwritten lacks =
-      fails_awaiting internal lacks.cause active answer new refl (memory_code lacks.cause lacks.causes) (memory_cause given m (Call.Await tree) old active lacks.cause lacks.causes) unwritten lacks.fails
+  lacks_memory active answer new looked unwritten lacks =
+      fails_awaiting internal lacks.cause active answer new refl (memory_code lacks.cause lacks.causes) (memory_cause given m (Call.Await tree) old active (looked_asked old.active active looked) lacks.cause lacks.causes) unwritten lacks.fails
 
-  module _ (resolved : Active) (unwritten : resolved.output ≡ old.active.output) (left : AwaitTree ℕ) (becomes : Becomes given m (reply_of old given m (Call.Await tree)) (AwaitsTree left) resolved) where
+  module _ (resolved : Active) (looked : IsLookedAt old.active resolved) (unwritten : resolved.output ≡ old.active.output) (left : AwaitTree ℕ) (becomes : Becomes given m (reply_of old given m (Call.Await tree)) (AwaitsTree left) resolved) where
     -- a frame that tells it could not be written
     fails_unwritten : (error : EncodingError) (answer : Error) (new : MachineState) → (error ≡ unsent.PayloadTooLong → 2 ^ 32 ≤ length (waiting_payload old.is_input_closed old.version (over_ids resolved left)))
         → FailsUnwritten error (record old { active = resolved }) answer new → Comes given m (Call.Await tree) old (awaited_as (Err answer)) new
@@ -85,8 +85,9 @@ module _ (given : Invocation) (m : Machine) (tree : AwaitTree ℕ) (old : Machin
           cause = TooLong;
           when = (refl, inr (record { tree = left; machine = becomes.machine; replies = becomes.replies; resolved = resolved; sees = becomes.sees; long = long refl }));
           tells = told_plain resolved.journal internal None fails.cause fails.causes;
+          leaves = looked_asked old.active resolved looked;
         }) unwritten fails.fails
-    fails_unwritten unsent.OutOfMemory answer new long fails = lacks_memory resolved answer new unwritten fails
+    fails_unwritten unsent.OutOfMemory answer new long fails = lacks_memory resolved answer new looked unwritten fails
 
     long_told : (error : EncodingError) (told : Bool) (active : Active) → TellsIf told left resolved (Err error) active → error ≡ unsent.PayloadTooLong
         → 2 ^ 32 ≤ length (awaiting_on_payload (over_ids resolved left) false)
@@ -146,7 +147,7 @@ module _ (given : Invocation) (m : Machine) (tree : AwaitTree ℕ) (old : Machin
         (subst (λ (v : Version). 2 ^ 32 ≤ length (suspension_payload_in v (over_ids resolved left))) (ap (λ (w : Written). w.version) unwritten ∙ driven.written) suspended.0))
         (subst (λ (a : Active). FailsUnwritten unsent.PayloadTooLong (record old { active = a }) answer new) suspended.1 closes)
     suspends is_closed (Err unsent.OutOfMemory) active answer new suspended run closes =
-        lacks_memory resolved answer new unwritten (subst (λ (a : Active). LacksMemory (record old { active = a }) answer new) suspended closes)
+        lacks_memory resolved answer new looked unwritten (subst (λ (a : Active). LacksMemory (record old { active = a }) answer new) suspended closes)
 
     sleeps_as : (sleep : Sleep) (result : Result AwaitResponse Error) (new : MachineState) → SleepIs sleep (record old { active = resolved }) → SleepsAs sleep left (record old { active = resolved }) result new
         → Comes given m (Call.Await tree) old (awaited_as result) new
@@ -158,30 +159,30 @@ module _ (given : Invocation) (m : Machine) (tree : AwaitTree ℕ) (old : Machin
     sleeps_as sleeps.Suspends (Err answer) new is goes_on = suspends is.0 goes_on.written goes_on.active answer new goes_on.suspends goes_on.run goes_on.closes
 
   -- it goes on from what it has come to
-  goes_on_as : (awaited : Result Awaited AwaitError) (resolved : Active) (result : Result AwaitResponse Error) (new : MachineState) → resolved.output ≡ old.active.output
+  goes_on_as : (awaited : Result Awaited AwaitError) (resolved : Active) (result : Result AwaitResponse Error) (new : MachineState) → IsLookedAt old.active resolved → resolved.output ≡ old.active.output
       → Awaits (checks_off old.options.non_determinism_checks) given m tree awaited resolved → GoesOnAs awaited (record old { active = resolved }) result new
       → Comes given m (Call.Await tree) old (awaited_as result) new
-  goes_on_as (Ok AnyCompleted) resolved (Ok response) new unwritten awaits goes_on =
+  goes_on_as (Ok AnyCompleted) resolved (Ok response) new looked unwritten awaits goes_on =
       subst (λ (r : AwaitResponse). Comes given m (Call.Await tree) old (awaited_as (Ok r)) new) (sym goes_on.0)
       (subst (λ (vm : MachineState). Answers given m (Call.Await tree) old Answer.Woken vm) (sym goes_on.1)
       (answered_quietly given m (Call.Await tree) old driven (none_taken m (Call.Await tree) refl refl) Answer.Woken resolved awaits unwritten))
-  goes_on_as (Ok AnyCompleted) resolved (Err answer) new unwritten awaits goes_on = absurd goes_on
-  goes_on_as (Ok Cancelled) resolved (Ok response) new unwritten awaits goes_on =
+  goes_on_as (Ok AnyCompleted) resolved (Err answer) new looked unwritten awaits goes_on = absurd goes_on
+  goes_on_as (Ok Cancelled) resolved (Ok response) new looked unwritten awaits goes_on =
       subst (λ (r : AwaitResponse). Comes given m (Call.Await tree) old (awaited_as (Ok r)) new) (sym goes_on.0)
       (subst (λ (vm : MachineState). Answers given m (Call.Await tree) old Answer.Cancelled vm) (sym goes_on.1)
       (answered_quietly given m (Call.Await tree) old driven (none_taken m (Call.Await tree) refl refl) Answer.Cancelled resolved awaits unwritten))
-  goes_on_as (Ok Cancelled) resolved (Err answer) new unwritten awaits goes_on = absurd goes_on
-  goes_on_as (Ok (Asleep left)) resolved result new unwritten awaits goes_on = sleeps_as resolved unwritten (tree_of left) awaits goes_on.sleep result new goes_on.is goes_on.goes_on
-  goes_on_as (Err error) resolved (Ok response) new unwritten awaits goes_on = absurd goes_on
-  goes_on_as (Err (unawaited.UncompletedInReplay left)) resolved (Err answer) new unwritten awaits goes_on =
+  goes_on_as (Ok Cancelled) resolved (Err answer) new looked unwritten awaits goes_on = absurd goes_on
+  goes_on_as (Ok (Asleep left)) resolved result new looked unwritten awaits goes_on = sleeps_as resolved looked unwritten (tree_of left) awaits goes_on.sleep result new goes_on.is goes_on.goes_on
+  goes_on_as (Err error) resolved (Ok response) new looked unwritten awaits goes_on = absurd goes_on
+  goes_on_as (Err (unawaited.UncompletedInReplay left)) resolved (Err answer) new looked unwritten awaits goes_on =
       let code = uncompleted_code (started_id old.start) (over_ids resolved (tree_of left)) goes_on.cause goes_on.causes in
-      fails_awaiting journal_mismatch goes_on.cause resolved answer new refl code (record { cause = ByFault UncompletedInReplay; when = awaits; tells = uncompleted_told (started_id old.start) (over_ids resolved (tree_of left)) goes_on.cause goes_on.causes }) unwritten goes_on.fails
-  goes_on_as (Err unawaited.OutOfMemory) resolved (Err answer) new unwritten awaits goes_on = lacks_memory resolved answer new unwritten goes_on
+      fails_awaiting journal_mismatch goes_on.cause resolved answer new refl code (record { cause = ByFault UncompletedInReplay; when = awaits; tells = uncompleted_told (started_id old.start) (over_ids resolved (tree_of left)) goes_on.cause goes_on.causes; leaves = looked }) unwritten goes_on.fails
+  goes_on_as (Err unawaited.OutOfMemory) resolved (Err answer) new looked unwritten awaits goes_on = lacks_memory resolved answer new looked unwritten goes_on
 
   await_made : (result : Result AwaitResponse Error) (new : MachineState) → IsAwaited tree old result new → Comes given m (Call.Await tree) old (awaited_as result) new
   await_made result new made =
       let others = only_active old made.between (record old.active { results = made.between.active.results }) made.others in
-      goes_on_as made.awaited made.between.active result new (ap (λ (vm : MachineState). vm.active.output) made.others)
+      goes_on_as made.awaited made.between.active result new (looked_at old.active made.between.active (ap (λ (vm : MachineState). vm.active) made.others)) (ap (λ (vm : MachineState). vm.active.output) made.others)
       (awaits_for (checks_off old.options.non_determinism_checks) given old.options.implicit_cancellation m tree made.awaited made.between.active driven.cancellation
       (made.awaits (ending_as old.options.implicit_cancellation given) m (checks_off old.options.non_determinism_checks) refl (sees_ending old.options.implicit_cancellation given old.active m driven.sees)))
       (subst (λ (vm : MachineState). GoesOnAs made.awaited vm result new) others made.goes_on)

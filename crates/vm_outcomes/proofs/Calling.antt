@@ -30,7 +30,7 @@ use Rattle.vm_machine.specs.Calls.{checks_off, IsOf, IsRefusalOf, IsMade, Calls}
 use Rattle.vm_machine.specs.Settling.{Settles}
 use Rattle.vm_machine.specs.declared.machine_state.MachineState.{MachineState}
 use Rattle.vm_outcomes.specs.Carrying.{Answers, Fails, Comes, CarriesOut}
-use Rattle.vm_outcomes.specs.Causes.{NoNumber, TooLong, LacksNumber, moment_event, HasCause}
+use Rattle.vm_outcomes.specs.Causes.{NoNumber, TooLong, LacksNumber, IsAsked, moment_event, HasCause}
 use Rattle.vm_outcomes.specs.Driven.{IsDriven, TracksNone}
 use Rattle.vm_outcomes.specs.Outcomes.{answered_as}
 use Rattle.vm_outcomes.specs.declared.outcome.CallOutcome.{CallOutcome}
@@ -67,43 +67,45 @@ refusal_some call event refusal error old refuses some = subst (λ (r : Option R
 
 module _ (given : Invocation) (m : Machine) (call : Call) (old : MachineState) (driven : IsDriven given m old) where
   module _ (unrefused : refusal_of given.version call ≡ None) (same : length (ids_of m.completions m.signals call) ≡ completions_of call) where
-    call_cause : {M : Type 0} (difference : M → M → List ℕ) (active : Active) (error : CallError M) (told : Result Error AllocError)
+    call_cause : {M : Type 0} (difference : M → M → List ℕ) (active : Active) (asked : IsAsked old.active.journal active.journal) (error : CallError M) (told : Result Error AllocError)
         → FailsAs (checks_off old.options.non_determinism_checks) given m call old.active error → CallCauses difference active.journal error told → HasCause given m call old active told
-    call_cause difference active (Number numbers.IdsExhausted) told fails causes = record {
+    call_cause difference active asked (Number numbers.IdsExhausted) told fails causes = record {
       cause = NoNumber;
       when = (unrefused, lacks_completions given m call old.active driven.sees same fails);
       tells = told_last active.journal internal None told causes;
+      leaves = asked;
     }
-    call_cause difference active (Number numbers.OutOfMemory) told fails causes = no_memory given m call old active told causes
-    call_cause difference active (Put (Replay (unmatched.Unavailable error))) told fails causes = absurd fails.0
-    call_cause difference active (Put (Replay (unmatched.Decoding error))) told fails causes =
-        mismatches given m call old active (decoding_code error) _ told fails.0 (decoding_fault error) causes
-    call_cause difference active (Put (Replay (unmatched.Mismatch error))) told fails causes =
-        mismatches given m call old active journal_mismatch _ told fails.0 (inl refl) causes
-    call_cause difference active (Put (Replay unmatched.OutOfMemory)) told fails causes = no_memory given m call old active told causes
-    call_cause difference active (Put (Encoding unsent.PayloadTooLong)) told fails causes = record {
+    call_cause difference active asked (Number numbers.OutOfMemory) told fails causes = no_memory given m call old active asked told causes
+    call_cause difference active asked (Put (Replay (unmatched.Unavailable error))) told fails causes = absurd fails.0
+    call_cause difference active asked (Put (Replay (unmatched.Decoding error))) told fails causes =
+        mismatches given m call old active asked (decoding_code error) _ told fails.0 (decoding_fault error) causes
+    call_cause difference active asked (Put (Replay (unmatched.Mismatch error))) told fails causes =
+        mismatches given m call old active asked journal_mismatch _ told fails.0 (inl refl) causes
+    call_cause difference active asked (Put (Replay unmatched.OutOfMemory)) told fails causes = no_memory given m call old active asked told causes
+    call_cause difference active asked (Put (Encoding unsent.PayloadTooLong)) told fails causes = record {
       cause = TooLong;
       when = (unrefused, inl fails.0);
       tells = told_last active.journal internal None told causes;
+      leaves = asked;
     }
-    call_cause difference active (Put (Encoding unsent.OutOfMemory)) told fails causes = no_memory given m call old active told causes
-    call_cause difference active OutOfMemory told fails causes = no_memory given m call old active told causes
+    call_cause difference active asked (Put (Encoding unsent.OutOfMemory)) told fails causes = no_memory given m call old active asked told causes
+    call_cause difference active asked OutOfMemory told fails causes = no_memory given m call old active asked told causes
 
-    call_settles : {M Taken : Type 0} (difference : M → M → List ℕ) (answer : Taken → Answer) (made : Result Taken (CallError M)) (active : Active) (result : Result Taken Error) (new : MachineState)
+    call_settles : {M Taken : Type 0} (difference : M → M → List ℕ) (answer : Taken → Answer) (made : Result Taken (CallError M)) (active : Active) (asked : IsAsked old.active.journal active.journal) (result : Result Taken Error) (new : MachineState)
         → Makes (checks_off old.options.non_determinism_checks) given m call answer old.active made active → Settles difference made (record old { active = active }) result new
         → Comes given m call old (answered_as answer result) new
-    call_settles {Taken = Taken} difference answer (Ok taken) active (Ok got) new makes settles =
+    call_settles {Taken = Taken} difference answer (Ok taken) active asked (Ok got) new makes settles =
         subst (λ (t : Taken). Answers given m call old (answer t) new) (sym settles.0)
         (subst (λ (vm : MachineState). Answers given m call old (answer taken) vm) (sym settles.1) (answered given m call old driven (inl (no_signal m.completions m.signals call same)) (answer taken) active makes))
-    call_settles difference answer (Ok taken) active (Err told) new makes settles = absurd settles
-    call_settles difference answer (Err error) active (Ok got) new makes settles = absurd settles
-    call_settles difference answer (Err error) active (Err told) new makes settles =
-        failed given m call old driven.phase settles.cause active told new (call_cause difference active error settles.cause makes.0 settles.causes) makes.1 settles.fails
+    call_settles difference answer (Ok taken) active asked (Err told) new makes settles = absurd settles
+    call_settles difference answer (Err error) active asked (Ok got) new makes settles = absurd settles
+    call_settles difference answer (Err error) active asked (Err told) new makes settles =
+        failed given m call old driven.phase settles.cause active told new (call_cause difference active asked error settles.cause makes.0 settles.causes) makes.1 settles.fails
 
     call_made : {M Taken : Type 0} (difference : M → M → List ℕ) (answer : Taken → Answer) (ty : MessageType) (name : Text) (result : Result Taken Error) (new : MachineState)
         → TracksNone given m call → IsMade difference call answer ty name old result new → Comes given m call old (answered_as answer result) new
     call_made difference answer ty name result new none made =
-        call_settles difference answer made.made made.between.active result new (made.makes given m driven.version none driven.sees)
+        call_settles difference answer made.made made.between.active (inr (ty, (name, made.told))) result new (made.makes given m driven.version none driven.sees)
         (subst (λ (vm : MachineState). Settles difference made.made vm result new) made.others made.settles)
 
   call_refused : (event : List ℕ) (error : RefusalError) (answer : Error) (new : MachineState) → event ≡ moment_event call → IsRefusalOf old.version call event (Some error) → IsRefused error old answer new

@@ -55,13 +55,14 @@ module _ (given : Invocation) (m : Machine) (old : MachineState) (driven : IsDri
   ends (Ok done) output (Err answer) new behind writes closes = absurd closes
   ends (Err error) output (Ok ended) new behind writes closes = absurd closes
   ends (Err error) output (Err answer) new behind writes closes =
-      failed given m Call.End old driven.phase closes.cause (record old.active { output = output }) answer new (memory_cause given m Call.End old (record old.active { output = output }) closes.cause closes.causes) (unwritten error output writes) closes.fails
+      failed given m Call.End old driven.phase closes.cause (record old.active { output = output }) answer new (memory_cause given m Call.End old (record old.active { output = output }) (inl (record { commands = refl; last_type = refl; last_name = refl })) closes.cause closes.causes) (unwritten error output writes) closes.fails
 
   fails_before : (answer : Error) (new : MachineState) → old.active.is_replaying ≡ true → IsUnexpected (codes "end invocation") old answer new → Comes given m Call.End old (ended_as (Err answer)) new
   fails_before answer new replays unexpected = failed given m Call.End old driven.phase unexpected.cause old.active answer new (record {
     cause = ByFault EndInReplay;
     when = ends_before m m.left (sym driven.sees.replaying ∙ replays);
     tells = subst (λ (e : Error). IfOk unexpected.cause (λ told. told ≡ e)) (unexpected_at old.phase old.active.is_replaying (codes "end invocation") driven.phase replays) unexpected.causes;
+    leaves = refl;
   }) refl unexpected.fails
 
   elsewhere : (result : Result (Unit {0}) Error) (new : MachineState) → old.active.is_replaying ≡ true → EndsAt Elsewhere old result new → Comes given m Call.End old (ended_as result) new

@@ -4,7 +4,7 @@ use Rattle.std.specs.declared.alloc.AllocError.{AllocError}
 use Rattle.journal_model.specs.Refusal.{Refusal, refusal_of}
 use Rattle.journal_model.specs.Run.{Invocation}
 use Rattle.journal_model.specs.declared.call.Call.{Call}
-use Rattle.attempt_model.specs.Machine.{Machine, FailedBy, Mismatch, Refused, reply_unless_refused}
+use Rattle.attempt_model.specs.Machine.{Machine, FailedBy, Mismatch, UncompletedInReplay, EndInReplay, KeysNotText, ChildNotId, Refused, reply_unless_refused}
 use Rattle.protocol_errors.specs.Error.{decoding_code}
 use Rattle.protocol_errors.specs.declared.error.Error.{Error}
 use Rattle.protocol_stream.specs.declared.decoder.DecodingError.{DecodingError}
@@ -25,7 +25,7 @@ use Rattle.vm_machine.specs.Calls.{checks_off}
 use Rattle.vm_machine.specs.Failing.{MachineFails}
 use Rattle.vm_machine.specs.declared.machine_state.MachineState.{MachineState}
 use Rattle.vm_outcomes.specs.Carrying.{Fails}
-use Rattle.vm_outcomes.specs.Causes.{ByFault, NoMemory, IsMismatchCode, TellsEither, TellsFault, TellsCause, moment_event, HasCause}
+use Rattle.vm_outcomes.specs.Causes.{Cause, ByFault, NoNumber, TooLong, NoReplay, NoRuns, NoMemory, IsAsked, IsAsBefore, IsLookedAt, Leaves, IsMismatchCode, TellsEither, FaultTells, CauseTells, moment_event, HasCause}
 use Rattle.vm_outcomes.specs.Driven.{reply_of}
 
 -- ---- what is told
@@ -55,24 +55,62 @@ decoding_fault (undecoded.DecodeMessage ty fault) = inr (inl refl)
 decoding_fault (undecoded.MissingField field) = inr (inl refl)
 
 mismatch_told : (version : Version) (journal : JournalCounts) (call : Call) (code : ℕ) (text : Option (List ℕ)) (told : Result Error AllocError) → IsMismatchCode code
-    → Unless false (TellsLast journal code text) told → IfOk told (λ error. TellsFault version journal call Mismatch error)
+    → Unless false (TellsLast journal code text) told → IfOk told (λ error. FaultTells version journal call Mismatch error)
 mismatch_told version journal call code text (Ok error) is tells = (code, (is, record { about = tells.about; message = tt }))
 mismatch_told version journal call code text (Err refused) is tells = tt
 
+-- ---- what is left
+
+-- only what has come was looked at
+pub looked_at : (old new : Active) → new ≡ record old { results = new.results } → IsLookedAt old new
+looked_at old new others = others ∙ sym (ap (λ (a : Active). record old { results = new.results; output = a.output }) others)
+
+-- then no command was asked for
+pub looked_asked : (old new : Active) → IsLookedAt old new → IsAsked old.journal new.journal
+looked_asked old new looked = inl (record {
+  commands = ap (λ (a : Active). a.journal.commands) looked;
+  last_type = ap (λ (a : Active). a.journal.last_type) looked;
+  last_name = ap (λ (a : Active). a.journal.last_name) looked;
+})
+
+-- what is written then changes none of that
+before_on : (old between new : Active) → new ≡ record between { output = new.output } → IsAsBefore old between → IsAsBefore old new
+before_on old between new others before = others ∙ ap (λ (a : Active). record a { output = new.output }) before
+
+looked_on : (old between new : Active) → new ≡ record between { output = new.output } → IsLookedAt old between → IsLookedAt old new
+looked_on old between new others looked =
+    others ∙ ap (λ (a : Active). record a { output = new.output }) looked ∙ sym (ap (λ (a : Active). record old { results = a.results; output = new.output }) others)
+
+asked_on : (old between new : Active) → new ≡ record between { output = new.output } → IsAsked old.journal between.journal → IsAsked old.journal new.journal
+asked_on old between new others asked = subst (λ (journal : JournalCounts). IsAsked old.journal journal) (sym (ap (λ (a : Active). a.journal) others)) asked
+
+leaves_on : (cause : Cause) (old between new : Active) → new ≡ record between { output = new.output } → Leaves cause old between → Leaves cause old new
+leaves_on (ByFault Mismatch) old between new others leaves = asked_on old between new others leaves
+leaves_on (ByFault UncompletedInReplay) old between new others leaves = looked_on old between new others leaves
+leaves_on (ByFault EndInReplay) old between new others leaves = before_on old between new others leaves
+leaves_on (ByFault KeysNotText) old between new others leaves = looked_on old between new others leaves
+leaves_on (ByFault ChildNotId) old between new others leaves = absurd leaves
+leaves_on (ByFault (Refused refusal)) old between new others leaves = before_on old between new others leaves
+leaves_on NoNumber old between new others leaves = asked_on old between new others leaves
+leaves_on TooLong old between new others leaves = asked_on old between new others leaves
+leaves_on NoReplay old between new others leaves = before_on old between new others leaves
+leaves_on NoRuns old between new others leaves = before_on old between new others leaves
+leaves_on NoMemory old between new others leaves = asked_on old between new others leaves
+
 -- ---- causes
 
-module _ (given : Invocation) (m : Machine) (call : Call) (vm : MachineState) (after : Active) where
+module _ (given : Invocation) (m : Machine) (call : Call) (vm : MachineState) (after : Active) (asked : IsAsked vm.active.journal after.journal) where
   pub no_memory : (told : Result Error AllocError) → Unless true (λ error. ⊥) told → HasCause given m call vm after told
   no_memory (Ok error) none = absurd none
-  no_memory (Err refused) none = record { cause = NoMemory; when = tt; tells = tt }
+  no_memory (Err refused) none = record { cause = NoMemory; when = tt; tells = tt; leaves = asked }
 
   pub memory_cause : (told : Result Error AllocError) → IfOk told (λ error. ⊥) → HasCause given m call vm after told
   memory_cause (Ok error) none = absurd none
-  memory_cause (Err refused) none = record { cause = NoMemory; when = tt; tells = tt }
+  memory_cause (Err refused) none = record { cause = NoMemory; when = tt; tells = tt; leaves = asked }
 
   pub mismatches : (code : ℕ) (text : Option (List ℕ)) (told : Result Error AllocError) → reply_of vm given m call ≡ FailedBy Mismatch → IsMismatchCode code → Unless false (TellsLast after.journal code text) told
       → HasCause given m call vm after told
-  mismatches code text told replies is tells = record { cause = ByFault Mismatch; when = replies; tells = mismatch_told vm.version after.journal call code text told is tells }
+  mismatches code text told replies is tells = record { cause = ByFault Mismatch; when = replies; tells = mismatch_told vm.version after.journal call code text told is tells; leaves = asked }
 
 -- ---- the machine fails
 
@@ -82,7 +120,7 @@ fails_of told old answer new is fails =
     subst (λ (kept : Option Error). FailsAs old.version old.options.journal_mismatch_retry_behavior told kept old.phase old.active.output answer new.phase new.active.output) (ap kept_error is) fails.fails
 
 refusal_tells : (version : Version) (journal : JournalCounts) (call : Call) (error : RefusalError) (told : Result Error AllocError) → error.version ≡ version → error.event.now ≡ moment_event call
-    → IfOk told (Tells (refusal_code error.refusal) (Some (refusal_text error))) → IfOk told (λ e. TellsFault version journal call (Refused (refusal_meant error.refusal)) e)
+    → IfOk told (Tells (refusal_code error.refusal) (Some (refusal_text error))) → IfOk told (λ e. FaultTells version journal call (Refused (refusal_meant error.refusal)) e)
 refusal_tells version journal call error (Ok e) speaks names tells = (
   error.refusal,
   (
@@ -99,7 +137,8 @@ module _ (given : Invocation) (m : Machine) (call : Call) (old : MachineState) (
   written_on told active new others has = record {
     cause = has.cause;
     when = has.when;
-    tells = subst (λ (journal : JournalCounts). IfOk told (λ error. TellsCause old.version journal call has.cause error)) (sym (ap (λ (a : Active). a.journal) others)) has.tells;
+    tells = subst (λ (journal : JournalCounts). IfOk told (λ error. CauseTells old.version journal call has.cause error)) (sym (ap (λ (a : Active). a.journal) others)) has.tells;
+    leaves = leaves_on has.cause old.active active new others has.leaves;
   }
 
   pub failed : (told : Result Error AllocError) (active : Active) (answer : Error) (new : MachineState) → HasCause given m call old active told → active.output ≡ old.active.output
@@ -118,4 +157,5 @@ module _ (given : Invocation) (m : Machine) (call : Call) (old : MachineState) (
     cause = ByFault (Refused (refusal_meant error.refusal));
     when = ap (λ (r : Option Refusal). reply_unless_refused (same_header (checks_off old.options.non_determinism_checks) call) given m call r) refuses;
     tells = refusal_tells old.version old.active.journal call error is_refused.cause speaks names is_refused.causes;
+    leaves = refl;
   }) refl is_refused.fails

@@ -33,13 +33,13 @@ use Rattle.vm_machine.specs.Calls.{checks_off}
 use Rattle.vm_machine.specs.Steps.{IsUnexpected, Steps}
 use Rattle.vm_machine.specs.declared.machine_state.MachineState.{MachineState}
 use Rattle.vm_outcomes.specs.Carrying.{Answers, Comes, CarriesOut}
-use Rattle.vm_outcomes.specs.Causes.{ByFault, NoNumber, NoReplay, NoMemory, LacksNumber, HasCause}
+use Rattle.vm_outcomes.specs.Causes.{ByFault, NoNumber, NoReplay, NoMemory, LacksNumber, IsAsked, IsLookedAt, HasCause}
 use Rattle.vm_outcomes.specs.Driven.{IsDriven}
 use Rattle.vm_outcomes.specs.Outcomes.{answered_as}
 use Rattle.vm_outcomes.specs.declared.outcome.CallOutcome.{CallOutcome}
 use Rattle.vm_outcomes.specs.declared.outcome.CallOutcome.TheVariants.{Answered}
 use Rattle.vm_outcomes.proofs.Answering.{answered, answered_quietly, none_taken, nothing_written}
-use Rattle.vm_outcomes.proofs.Failing.{no_memory, unless_plain, failed}
+use Rattle.vm_outcomes.proofs.Failing.{no_memory, unless_plain, looked_at, looked_asked, failed}
 use Rattle.vm_outcomes.proofs.Steps.{steps_of}
 
 -- ---- numbers
@@ -67,19 +67,19 @@ signal_left given m active sees has = by_test (leb_tells (m.signals + 1) (2 ^ 32
 
 module _ (given : Invocation) (m : Machine) (call : Call) (old : MachineState) (driven : IsDriven given m old) (unrefused : refusal_of given.version call ≡ None) where
   handle_settles : {Taken : Type 0} (answer : Taken → Answer) (Lacks : Active → Type 0) (lacks : Lacks old.active → LacksNumber m call)
-      (left : (Lacks old.active → ⊥) → (signals_of call ≡ 0) ⊎ (m.signals + signals_of call ≤ 2 ^ 32)) (made : Result Taken NumberError) (active : Active)
+      (left : (Lacks old.active → ⊥) → (signals_of call ≡ 0) ⊎ (m.signals + signals_of call ≤ 2 ^ 32)) (made : Result Taken NumberError) (active : Active) (asked : IsAsked old.active.journal active.journal)
       (result : Result Taken Error) (new : MachineState) → MakesHandle (checks_off old.options.non_determinism_checks) given m call answer Lacks old.active made active
       → AnswersBy NumberCauses made (record old { active = active }) result new → Comes given m call old (answered_as answer result) new
-  handle_settles {Taken = Taken} answer Lacks lacks left (Ok taken) active (Ok got) new makes answers =
+  handle_settles {Taken = Taken} answer Lacks lacks left (Ok taken) active asked (Ok got) new makes answers =
       subst (λ (t : Taken). Answers given m call old (answer t) new) (sym answers.0)
       (subst (λ (vm : MachineState). Answers given m call old (answer taken) vm) (sym answers.1) (answered given m call old driven (left makes.2) (answer taken) active makes.0))
-  handle_settles answer Lacks lacks left (Ok taken) active (Err told) new makes answers = absurd answers
-  handle_settles answer Lacks lacks left (Err lack) active (Ok got) new makes answers = absurd answers
-  handle_settles answer Lacks lacks left (Err numbers.IdsExhausted) active (Err told) new makes answers =
+  handle_settles answer Lacks lacks left (Ok taken) active asked (Err told) new makes answers = absurd answers
+  handle_settles answer Lacks lacks left (Err lack) active asked (Ok got) new makes answers = absurd answers
+  handle_settles answer Lacks lacks left (Err numbers.IdsExhausted) active asked (Err told) new makes answers =
       failed given m call old driven.phase answers.cause active told new
-      (record { cause = NoNumber; when = (unrefused, lacks makes.0); tells = unless_plain active.journal internal None answers.cause answers.causes }) makes.1 answers.fails
-  handle_settles answer Lacks lacks left (Err numbers.OutOfMemory) active (Err told) new makes answers =
-      failed given m call old driven.phase answers.cause active told new (no_memory given m call old active answers.cause answers.causes) makes answers.fails
+      (record { cause = NoNumber; when = (unrefused, lacks makes.0); tells = unless_plain active.journal internal None answers.cause answers.causes; leaves = asked }) makes.1 answers.fails
+  handle_settles answer Lacks lacks left (Err numbers.OutOfMemory) active asked (Err told) new makes answers =
+      failed given m call old driven.phase answers.cause active told new (no_memory given m call old active asked answers.cause answers.causes) makes answers.fails
 
 signal_comes : (given : Invocation) (m : Machine) (name : Text) (old : MachineState) (driven : IsDriven given m old) (result : Result ℕ Error) (new : MachineState)
     → Steps (IsCalled (MakesSignal name) NumberCauses) (IsUnexpected (codes "named awakeable")) None old result new
@@ -88,7 +88,7 @@ signal_comes given m name old driven result new steps =
     steps_of (IsCalled (MakesSignal name) NumberCauses) (IsUnexpected (codes "named awakeable")) None old driven.phase
     (λ (r : Result ℕ Error) (vm : MachineState). Comes given m (Call.Signal name) old (answered_as (λ handle. Answer.Handle handle) r) vm)
     (λ r vm free called. handle_settles given m (Call.Signal name) old driven refl (λ handle. Answer.Handle handle) LacksHandle (λ lacks. inr (inr (lacks_handle given m old.active driven.sees lacks))) (λ has. inl refl)
-    called.made called.active r vm (called.does.0 (checks_off old.options.non_determinism_checks) given m driven.sees) called.answers)
+    called.made called.active (inl called.does.1) r vm (called.does.0 (checks_off old.options.non_determinism_checks) given m driven.sees) called.answers)
     (λ error told vm some refused. cc) result new steps
 
 -- a signal's handle is made
@@ -106,10 +106,10 @@ awakeable_made : (given : Invocation) (m : Machine) (old : MachineState) (driven
     → old.options.journal_replay ≡ replay → IsAwakeableWhere replay old result new → Comes given m Call.Awakeable old (answered_as awakeable_answer result) new
 awakeable_made given m old driven Enabled result new is called =
     handle_settles given m Call.Awakeable old driven refl awakeable_answer LacksSignal (λ lacks. lacks_signal given m old.active driven.sees lacks) (λ has. inr (signal_left given m old.active driven.sees has))
-    called.made called.active result new (called.does.0 (checks_off old.options.non_determinism_checks) given m driven.id driven.sees) called.answers
+    called.made called.active (inl called.does.1) result new (called.does.0 (checks_off old.options.non_determinism_checks) given m driven.id driven.sees) called.answers
 awakeable_made given m old driven Disabled (Ok made) new is fails = absurd fails
 awakeable_made given m old driven Disabled (Err answer) new is fails =
-    failed given m Call.Awakeable old driven.phase _ old.active answer new (record { cause = NoReplay; when = (refl, is); tells = refl }) refl fails
+    failed given m Call.Awakeable old driven.phase _ old.active answer new (record { cause = NoReplay; when = (refl, is); tells = refl; leaves = refl }) refl fails
 
 awakeable_comes : (given : Invocation) (m : Machine) (old : MachineState) (driven : IsDriven given m old) (result : Result AwakeableHandle Error) (new : MachineState)
     → Steps IsAwakeable IsNoAwakeable None old result new → Comes given m Call.Awakeable old (answered_as awakeable_answer result) new
@@ -126,9 +126,9 @@ awakeable_carried old result new steps = λ given m none driven. awakeable_comes
 -- ---- takes
 
 module _ (given : Invocation) (m : Machine) (handle : ℕ) (old : MachineState) (driven : IsDriven given m old) where
-  no_take : (active : Active) (told : Result Error AllocError) → TakeCauses untaken.OutOfMemory told → HasCause given m (Call.Take handle) old active told
-  no_take active (Ok error) causes = absurd causes
-  no_take active (Err refused) causes = record { cause = NoMemory; when = tt; tells = tt }
+  no_take : (active : Active) (looked : IsLookedAt old.active active) (told : Result Error AllocError) → TakeCauses untaken.OutOfMemory told → HasCause given m (Call.Take handle) old active told
+  no_take active looked (Ok error) causes = absurd causes
+  no_take active looked (Err refused) causes = record { cause = NoMemory; when = tt; tells = tt; leaves = looked_asked old.active active looked }
 
   take_settles : (made : Result (Option Value) TakeError) (active : Active) (result : Result (Option Value) Error) (new : MachineState) → TakesFirst handle old.active made active
       → AnswersBy TakeCauses made (record old { active = active }) result new → Comes given m (Call.Take handle) old (answered_as (λ taken. Answer.Taken taken) result) new
@@ -143,9 +143,10 @@ module _ (given : Invocation) (m : Machine) (handle : ℕ) (old : MachineState) 
         cause = ByFault KeysNotText;
         when = does.taken given m (checks_off old.options.non_determinism_checks) driven.sees;
         tells = subst (λ (r : Result Error AllocError). IfOk r (λ error. error ≡ plain_error internal (codes "Cannot convert an eager state key into UTF-8 String"))) (sym answers.causes) refl;
+        leaves = looked_at old.active active does.others;
       }) (ap (λ (a : Active). a.output) does.others) answers.fails
   take_settles (Err untaken.OutOfMemory) active (Err told) new does answers =
-      failed given m (Call.Take handle) old driven.phase answers.cause active told new (no_take active answers.cause answers.causes) (ap (λ (a : Active). a.output) does.others) answers.fails
+      failed given m (Call.Take handle) old driven.phase answers.cause active told new (no_take active (looked_at old.active active does.others) answers.cause answers.causes) (ap (λ (a : Active). a.output) does.others) answers.fails
 
   take_comes : (result : Result (Option Value) Error) (new : MachineState) → Steps (IsCalled (TakesFirst handle) TakeCauses) (IsUnexpected (codes "TakeNotification")) None old result new
       → Comes given m (Call.Take handle) old (answered_as (λ taken. Answer.Taken taken) result) new

@@ -37,7 +37,7 @@ run_comes : (given : Invocation) (m : Machine) (name : Text) (old : MachineState
 run_comes given m name old driven error new answer is told ready =
     let comes : Fails given m (Call.Run name) old told.fails.answer new =
     failed given m (Call.Run name) old driven.phase told.cause old.active told.fails.answer new
-    (record { cause = NoRuns; when = (name, refl); tells = host_cause old.version old.active.journal error told.cause is told.causes }) refl told.fails.fails in
+    (record { cause = NoRuns; when = (name, refl); tells = host_cause old.version old.active.journal error told.cause is told.causes; leaves = refl }) refl told.fails.fails in
     record {
       told = comes.told;
       has_cause = comes.has_cause;

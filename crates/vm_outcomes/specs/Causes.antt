@@ -13,8 +13,9 @@ use Rattle.attempt_model.specs.Machine.{Machine, AwaitsTree, FailedBy, Fault, Mi
 use Rattle.protocol_errors.specs.Code.{internal, journal_mismatch, protocol_violation, unsupported_feature}
 use Rattle.protocol_errors.specs.Error.{plain_error}
 use Rattle.protocol_errors.specs.declared.error.Error.{Error}
+use Rattle.protocol_types.specs.declared.message_type.MessageType.{MessageType}
 use Rattle.protocol_types.specs.declared.version.Version.{Version}
-use Rattle.vm_calls.specs.Active.{Sees}
+use Rattle.vm_calls.specs.Active.{Sees, TellsSame, IsAtCommand}
 use Rattle.vm_calls.specs.Making.{IsLong}
 use Rattle.vm_calls.specs.declared.active.Active.{Active}
 use Rattle.vm_causes.specs.Causes.{Tells, TellsLast}
@@ -100,27 +101,60 @@ IsMismatchCode code = (code ≡ journal_mismatch) ⊎ ((code ≡ protocol_violat
 -- What a call is told as that is not carried out, where this version is spoken, and where these commands were asked for in the end: the
 -- code, the command that it is about, if one is, and the text, where the cause alone says which that is.
 module _ (version : Version) (journal : JournalCounts) (call : Call) where
-  abbrev pub TellsFault : Fault → Error → Type 0
-  TellsFault Mismatch told = (code : ℕ) × (IsMismatchCode code × TellsLast journal code None told)
-  TellsFault UncompletedInReplay told = Tells journal_mismatch None told
-  TellsFault EndInReplay told = told ≡ unexpected_error phases.Active true (codes "end invocation")
-  TellsFault KeysNotText told = told ≡ plain_error internal (codes "Cannot convert an eager state key into UTF-8 String")
+  abbrev pub FaultTells : Fault → Error → Type 0
+  FaultTells Mismatch told = (code : ℕ) × (IsMismatchCode code × TellsLast journal code None told)
+  FaultTells UncompletedInReplay told = Tells journal_mismatch None told
+  FaultTells EndInReplay told = told ≡ unexpected_error phases.Active true (codes "end invocation")
+  FaultTells KeysNotText told = told ≡ plain_error internal (codes "Cannot convert an eager state key into UTF-8 String")
   -- no child is tracked
-  TellsFault ChildNotId told = ⊥
-  TellsFault (Refused refusal) told =
+  FaultTells ChildNotId told = ⊥
+  FaultTells (Refused refusal) told =
       (refused : CallRefusal) × ((refusal_meant refused ≡ refusal) × Tells (refusal_code refused) (Some (text_of_refusal refused version (moment_event call))) told)
 
-  abbrev pub TellsCause : Cause → Error → Type 0
-  TellsCause (ByFault fault) told = TellsFault fault told
-  TellsCause NoNumber told = TellsEither journal internal None told
-  TellsCause TooLong told = TellsEither journal internal None told
-  TellsCause NoReplay told = told ≡ plain_error unsupported_feature (codes "awakeables need journal replay")
-  TellsCause NoRuns told = told ≡ no_runs_error
+  abbrev pub CauseTells : Cause → Error → Type 0
+  CauseTells (ByFault fault) told = FaultTells fault told
+  CauseTells NoNumber told = TellsEither journal internal None told
+  CauseTells TooLong told = TellsEither journal internal None told
+  CauseTells NoReplay told = told ≡ plain_error unsupported_feature (codes "awakeables need journal replay")
+  CauseTells NoRuns told = told ≡ no_runs_error
   -- no error is made where memory is refused
-  TellsCause NoMemory told = ⊥
+  CauseTells NoMemory told = ⊥
+
+-- ---- what is left
+
+-- a command was asked for, or none was
+abbrev pub IsAsked : (old new : JournalCounts) → Type 0
+IsAsked old new = TellsSame old new ⊎ ((ty : MessageType) × ((name : Text) × IsAtCommand ty name old new))
+
+-- but for what is written nothing has changed
+abbrev pub IsAsBefore : (old new : Active) → Type 0
+IsAsBefore old new = new ≡ record old { output = new.output }
+
+-- nor has anything but what has come, and what handles stand for
+abbrev pub IsLookedAt : (old new : Active) → Type 0
+IsLookedAt old new = new ≡ record old { results = new.results; output = new.output }
+
+abbrev pub LeavesFault : Fault → (old new : Active) → Type 0
+LeavesFault Mismatch old new = IsAsked old.journal new.journal
+LeavesFault UncompletedInReplay old new = IsLookedAt old new
+LeavesFault EndInReplay old new = IsAsBefore old new
+LeavesFault KeysNotText old new = IsLookedAt old new
+-- no child is tracked
+LeavesFault ChildNotId old new = ⊥
+LeavesFault (Refused refusal) old new = IsAsBefore old new
+
+-- What is left of what is kept for calls. Where a number was taken, a record was matched or a frame was made the commands alone are told.
+abbrev pub Leaves : Cause → (old new : Active) → Type 0
+Leaves (ByFault fault) old new = LeavesFault fault old new
+Leaves NoNumber old new = IsAsked old.journal new.journal
+Leaves TooLong old new = IsAsked old.journal new.journal
+Leaves NoReplay old new = IsAsBefore old new
+Leaves NoRuns old new = IsAsBefore old new
+Leaves NoMemory old new = IsAsked old.journal new.journal
 
 -- a cause that there is, with the error that it is told by, or that memory was refused for one; `after` is kept for calls then
 pub record HasCause (given : Invocation) (m : Machine) (call : Call) (vm : MachineState) (after : Active) (told : Result Error AllocError) : Type 0 where
   pub cause : Cause
   pub when : FailsWhen given m call vm cause
-  pub tells : IfOk told (λ error. TellsCause vm.version after.journal call cause error)
+  pub tells : IfOk told (λ error. CauseTells vm.version after.journal call cause error)
+  pub leaves : Leaves cause vm.active after
