@@ -1,5 +1,5 @@
 -- Lines are a schedule, so each invocation is in the run of the handler that they name.
-use Rattle.std.proofs.Common.{◌≡◌, ℕ, suc, zero, List, [], ◌∷◌, ◌++◌, sym, subst, inl, inr}
+use Rattle.std.proofs.Common.{◌≡◌, ℕ, suc, zero, List, [], ◌∷◌, ◌++◌, refl, sym, subst, inl, inr}
 use Rattle.std.specs.List.{AllByRecursion}
 use Rattle.built_in_handlers.specs.declared.built_in.BuiltIn.{BuiltIn}
 use Rattle.built_in_handlers.specs.BuiltIn.{function_of}
@@ -10,7 +10,7 @@ use Rattle.schedule_runs.proofs.Growing.{Grows, all_grow}
 use Rattle.schedule_runs.proofs.Running.{each_more}
 use Rattle.schedule_runs.proofs.Schedules.{schedules_grow}
 use Rattle.schedule_runs.specs.Attempts.{Answered}
-use Rattle.schedule_runs.specs.Passed.{LeavesHolds}
+use Rattle.schedule_runs.specs.Passed.{LeavesHolds, IsCovered}
 use Rattle.schedule_runs.specs.Schedules.event
 use Rattle.schedule_runs.specs.Schedules.{FitsEvent, Event, Reply, Turned, Scheduled, AppliesAll, Brings}
 use Rattle.script_lines.specs.declared.line.Line.{Line}
@@ -96,8 +96,12 @@ lines_are (one ∷ before) start end d = line_more (Bring before) one.text start
 
 -- ---- what lines leave
 
+-- the journal is replayed, and signals wait in line
+covered : IsCovered default_options
+covered = record { replays = refl; queued = refl }
+
 pub follow_lines : LeavesHolds function_of → LinesFollow
-follow_lines law start end done none does id next covered bring holds =
+follow_lines law start end done none does id next bring holds =
     let s = lines_are done start end does in
     law default_options s.events s.replies start end none s.applies s.fits next id covered (s.brings id next bring) holds
 

@@ -44,8 +44,8 @@ module _ (law : laws.LeavesHolds function_of) (headline : laws.HoldsHeadline) (l
         let follows = follow_lines law (at_first s.0) it.0 done refl it.2 in (
           it.0.standing.events,
           it.1.stands,
-          λ id next covered bring holds.
-              so next id it.0.standing.events it.0.standing.accepted (follows id next covered bring (subst (λ (events : List Event). HoldsOf next default_options id events) (sym s.1.same) holds)),
+          λ id next bring holds.
+              so next id it.0.standing.events it.0.standing.accepted (follows id next bring (subst (λ (events : List Event). HoldsOf next default_options id events) (sym s.1.same) holds)),
         )
 
     -- what a crash leaves of the lines
@@ -65,9 +65,9 @@ module _ (law : laws.LeavesHolds function_of) (headline : laws.HoldsHeadline) (l
         record {
           more = grown.0;
           accepted = subst (λ (events : List Event). IsAccepted events) all kept.0.standing.accepted;
-          related = λ id next covered bring holds.
+          related = λ id next bring holds.
               let was = subst (λ (events : List Event). HoldsOf next default_options id events) (sym s.1.same) holds in
-              let now = so next id kept.0.standing.events kept.0.standing.accepted (follows id next covered (cut.brings id next bring) was) in
+              let now = so next id kept.0.standing.events kept.0.standing.accepted (follows id next (cut.brings id next bring) was) in
               subst (λ (events : List Event). Left default_options next id events) all now;
           kept = subst (λ (events : List Event). KeepsAll events db) all kept.2;
         })

@@ -13,7 +13,7 @@ use Rattle.vm_types.specs.declared.options.VMOptions.{VMOptions}
 use Rattle.journal_store.specs.Stored.{Stored}
 use Rattle.journal_store.specs.Stands.{Stands, IsStanding}
 use Rattle.store_calls.specs.Standing.{Standing}
-use Rattle.schedule_runs.specs.Passed.{IsCovered, HoldsOf}
+use Rattle.schedule_runs.specs.Passed.{HoldsOf}
 use Rattle.schedule_runs.specs.Runs.{Extends, HeadlineAfter, HoldsAfter, NeverLateAfter, WakesExactlyAfter, at_first}
 use Rattle.schedule_runs.specs.Schedules.{Scheduled}
 use Rattle.built_in_handlers.specs.BuiltIn.{function_of}
@@ -63,11 +63,11 @@ abbrev pub AllBring : Text → Handler → List DoneLine → Type 0
 AllBring id next [] = Unit {0}
 AllBring id next (one ∷ before) = AllBring id next before × BringsFunction id next one.line
 
--- Of each invocation whose begins in these lines all name handlers of one function, whose calls are all carried out, if what is recorded
--- of it before them is of the run of that function: this holds of what is recorded behind them. Nothing is recorded of one that is new.
+-- Of each invocation whose begins in these lines all name handlers of one function, if what is recorded of it before them is of the run of
+-- that function: this holds of what is recorded behind them. Nothing is recorded of one that is new.
 abbrev pub LinesLeave : List DoneLine → (VMOptions → Handler → Text → List Event → Type 0) → (before after : List Event) → Type 0
 LinesLeave done Left before after =
-    (id : Text) (next : Handler) → IsCovered default_options next → AllBring id next done → HoldsOf next default_options id before → Left default_options next id after
+    (id : Text) (next : Handler) → AllBring id next done → HoldsOf next default_options id before → Left default_options next id after
 
 -- What was done is all that `Does` tells of.
 module _ (lines : List (ℕ × List ℕ)) (Does : List DoneLine → Type 0) where

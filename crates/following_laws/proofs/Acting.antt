@@ -226,7 +226,7 @@ module _ {H : Type 0} (function : H → Handler) (next : Handler) (options : VMO
 
     -- ---- it makes a turn
 
-    module _ (turn : Turn) (changed : Attempt H) (accepted : IsAccepted events) (covered : IsCovered options next) (turns : Turns function one.attempt turn changed) where
+    module _ (turn : Turn) (changed : Attempt H) (accepted : IsAccepted events) (covered : IsCovered options) (turns : Turns function one.attempt turn changed) where
       flown_turned : IsFlown function next options id events held new output waits (record one { attempt = changed }) → FollowsBegun function next options id events output (changed_to changed) new
       flown_turned it = flown function next options id events held new output waits n one (record one { attempt = changed }) f.typed f.numbered live there refl refl it
 
@@ -258,7 +258,7 @@ module _ {H : Type 0} (function : H → Handler) (next : Handler) (options : VMO
           let before : FollowsSo next s.live.start.given id events s.live.coming =
           subst (λ (run : Invocation). FollowsSo next run id events s.live.coming) (sym given_is)
           (subst (λ (frames : List Frame). FollowsSo next (given_of options id events new) id events frames) (sym s.coming_are) f.follows) in
-          let k = laws.turns f.version id events s.live one.attempt turn changed covered.queued covered.keyed before s.lives s.serves turns in
+          let k = laws.turns f.version id events s.live one.attempt turn changed covered.queued before s.lives s.serves turns in
           record {
             version = f.version;
             coming = f.coming ++ k.sent;

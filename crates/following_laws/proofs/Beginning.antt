@@ -27,7 +27,7 @@ use Rattle.vm_errors.specs.Failing.{out_of_memory}
 use Rattle.turning_laws.specs.Attempts.{Feeds, output_of}
 use Rattle.turning_laws.specs.Reading.{IsRunOf}
 use Rattle.turning_laws.specs.Sending.{frame_meant}
-use Rattle.turning_laws.specs.Servings.{Serves, IsOver, machine_failed, LacksMemory, attempt_started}
+use Rattle.turning_laws.specs.Servings.{asking_by_text, Serves, IsOver, machine_failed, LacksMemory, attempt_started}
 use Rattle.store_calls.specs.declared.begun.BegunAttempt.{BegunAttempt}
 use Rattle.store_calls.specs.Standing.{Standing, Adds}
 use Rattle.store_calls.specs.Calls.{Begins}
@@ -37,10 +37,11 @@ use Rattle.schedule_model.specs.Schedule.{HoldsBegun}
 use Rattle.schedule_model.proofs.Firsts.{first_push_none, first_push_other}
 use Rattle.schedule_model.proofs.Holding.{some_is, some_none, is_held_by, not_held_number, not_held_invocation}
 use Rattle.fitting_events.specs.Fitting.{InvocationFits}
-use Rattle.following_laws.specs.Following.{IsCovered, HoldsOf, given_of, IsServed, Flies, FollowsBegun, FollowsWhere, Follows}
+use Rattle.following_laws.specs.Following.{IsCovered, HoldsOf, given_of, IsServed, Flies, FollowsBegun, FollowsWhere, Follows, FollowsByText}
 use Rattle.fitting_laws.proofs.Fits.{apart, unborn_fits}
 use Rattle.fitting_laws.specs.Laws.{CanStart, IsFedWell}
 use Rattle.fitting_laws.proofs.Beginnings.{can_start, fed_begun}
+use Rattle.following_laws.proofs.ByText.{holds_by_text, holds_own}
 use Rattle.following_laws.proofs.Following.{same_held}
 use Rattle.following_laws.proofs.Others.{into, other_on}
 use Rattle.following_laws.proofs.Serving.{ServingLaws}
@@ -66,10 +67,10 @@ begun_some None is = absurd (true≢false (sym is))
 module _ {H : Type 0} (function : H → Handler) (next : Handler) (options : VMOptions) (id : Text) where
   -- ---- where nothing is held
 
-  pub holds_follows : (s : Standing) → HoldsOf next options id s.events → Follows function next options id s []
+  pub holds_follows : (s : Standing) → HoldsOf next options id s.events → FollowsByText function next options id s []
   holds_follows s holds = by_begun (invocation_begun s.events id) refl
     where
-      by_begun : (o : Option NewInvocation) → invocation_begun s.events id ≡ o → FollowsWhere function next options id s.events (s.outputs id) [] o
+      by_begun : (o : Option NewInvocation) → invocation_begun s.events id ≡ o → FollowsWhere function (asking_by_text next) options id s.events (s.outputs id) [] o
       by_begun None is = λ number. refl
       by_begun (Some new) is =
           let h = holds new is in record {
@@ -78,16 +79,16 @@ module _ {H : Type 0} (function : H → Handler) (next : Handler) (options : VMO
             typed = h.fit;
             fit = tt;
             of_store = tt;
-            follows = record { accepted = s.accepted; holds = h.holds; flies = λ attempt live. tt };
+            follows = record { accepted = s.accepted; holds = holds_by_text next (given_of options id s.events new) id s.events s.accepted h.fit h.holds; flies = λ attempt live. tt };
             numbered = λ number above. refl;
             flies = λ number waits one live is_out found. some_none (sym found);
           }
 
-  pub follows_holds : (s : Standing) (held : List (HeldAttempt H)) → Follows function next options id s held → HoldsOf next options id s.events
+  pub follows_holds : (s : Standing) (held : List (HeldAttempt H)) → FollowsByText function next options id s held → HoldsOf next options id s.events
   follows_holds s held f new is =
-      let g : FollowsBegun function next options id s.events (s.outputs id) held new =
-      subst (λ (o : Option NewInvocation). FollowsWhere function next options id s.events (s.outputs id) held o) is f in
-      record { fit = g.typed; holds = g.follows.holds }
+      let g : FollowsBegun function (asking_by_text next) options id s.events (s.outputs id) held new =
+      subst (λ (o : Option NewInvocation). FollowsWhere function (asking_by_text next) options id s.events (s.outputs id) held o) is f in
+      record { fit = g.typed; holds = holds_own next (given_of options id s.events new) id s.events s.accepted g.typed g.follows.holds }
 
   -- ---- an invocation is made
 
@@ -170,7 +171,7 @@ module _ {H : Type 0} (function : H → Handler) (next : Handler) (options : VMO
             some_none (sym found ∙ f.numbered m (omega (arith, one_more, same)));
       }
 
-      module _ (handler : H) (answer : BegunAttempt) (held more : List (HeldAttempt H)) (covered : IsCovered options next) (brings : function handler ≡ next)
+      module _ (handler : H) (answer : BegunAttempt) (held more : List (HeldAttempt H)) (covered : IsCovered options) (brings : asking_by_text (function handler) ≡ next)
           (number_is : answer.number ≡ 1 + attempts_begun s.events id) (speaks : answer.version ≡ version_of s.events id) (told : answer.start ≡ start.frame)
           (h : HoldsBegun options id handler answer held more) (f : FollowsBegun function next options id s.events (s.outputs id) held new) where
         speaks_version : new.version ≡ version_number h.version
@@ -257,7 +258,7 @@ module _ {H : Type 0} (function : H → Handler) (next : Handler) (options : VMO
           let (new, is) = own_begun b in
           into_own held new is b (begun_alone now moment s new is (own_accepted b) (Some []) held (follows_own new is))
 
-      pub held_own : (handler : H) (more : List (HeldAttempt H)) → IsCovered options next → function handler ≡ next → Begins id now answer s t → HoldsBegun options id handler answer held more
+      pub held_own : (handler : H) (more : List (HeldAttempt H)) → IsCovered options → asking_by_text (function handler) ≡ next → Begins id now answer s t → HoldsBegun options id handler answer held more
           → Follows function next options id t more
       held_own handler more covered brings b h =
           let (new, is) = own_begun b in
@@ -271,8 +272,8 @@ module _ {H : Type 0} (function : H → Handler) (next : Handler) (options : VMO
         by_id true e = unheld_own now moment answer s t held f (subst (λ (x : Text). Begins x now answer s t) ((bytes_eq-Decides other id).0 e) b)
         by_id false e = other_on function next options id laws (Event.Begin other now) s t held e b.leaves.events (b.leaves.others id e) f
 
-    pub begun : (other : Text) (handler : H) (now : ℕ) (answer : BegunAttempt) (s t : Standing) (held more : List (HeldAttempt H)) → now < 2 ^ 64 → IsCovered options next
-        → (other ≡ id → function handler ≡ next) → Begins other now answer s t → HoldsBegun options other handler answer held more
+    pub begun : (other : Text) (handler : H) (now : ℕ) (answer : BegunAttempt) (s t : Standing) (held more : List (HeldAttempt H)) → now < 2 ^ 64 → IsCovered options
+        → (other ≡ id → asking_by_text (function handler) ≡ next) → Begins other now answer s t → HoldsBegun options other handler answer held more
         → Follows function next options id s held → Follows function next options id t more
     begun other handler now answer s t held more moment covered brings b h f = by_id (bytes_eq other id) refl
       where

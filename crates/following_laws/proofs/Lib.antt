@@ -4,6 +4,7 @@ pub mod Events
 pub mod Others
 pub mod Acting
 pub mod Taking
+pub mod ByText
 pub mod Beginning
 pub mod Schedules
 pub mod Fittings

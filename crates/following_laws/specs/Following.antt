@@ -20,18 +20,18 @@ use Rattle.vm_types.specs.declared.options.JournalReplay.TheVariants.{Enabled}
 use Rattle.turning_laws.specs.Attempts.{output_of, Attempt}
 use Rattle.turning_laws.specs.Sending.sent
 use Rattle.turning_laws.specs.Sending.{Sent, sent_stream, frame_meant, IsOfStore}
-use Rattle.turning_laws.specs.Servings.{IsTextKeyed, IsOver, Serves, IsLiveAt}
+pub use Rattle.turning_laws.specs.Servings.{asking_by_text}
+use Rattle.turning_laws.specs.Servings.{IsOver, Serves, IsLiveAt}
 use Rattle.store_calls.specs.Standing.{Standing}
 use Rattle.schedule_model.specs.declared.held.HeldAttempt.{HeldAttempt}
 use Rattle.schedule_model.specs.Held.{held_of}
 use Rattle.fitting_laws.specs.Fitting.{AllFit}
 
--- what is asked of the options and of a handler: the journal is replayed, signals wait in line, and the keys of its state calls are text.
--- A call that is not carried out fails its attempt.
-pub record IsCovered (options : VMOptions) (next : Handler) : Type 0 where
+-- What is asked of the options: the journal is replayed, and signals wait in line. Nothing is asked of a handler: a call that is not
+-- carried out fails its attempt.
+pub record IsCovered (options : VMOptions) : Type 0 where
   pub replays : options.journal_replay ≡ Enabled
   pub queued : options.signal_delivery ≡ Queued
-  pub keyed : IsTextKeyed next
 
 -- what the run of an invocation begins with
 abbrev pub given_of : VMOptions → Text → List Event → NewInvocation → Invocation
@@ -88,3 +88,7 @@ module _ {H : Type 0} (function : H → Handler) (next : Handler) (options : VMO
 
   abbrev pub Follows : Standing → List (HeldAttempt H) → Type 0
   Follows s held = FollowsIn s.events (s.outputs id) held
+
+-- All of that is kept of a handler as it asks by text. What is recorded is then of its own run too.
+abbrev pub FollowsByText : {H : Type 0} → (H → Handler) → Handler → VMOptions → Text → Standing → List (HeldAttempt H) → Type 0
+FollowsByText function next options id s held = Follows function (asking_by_text next) options id s held

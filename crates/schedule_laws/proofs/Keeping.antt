@@ -17,7 +17,7 @@ use Rattle.store_calls.specs.Calls.{Invokes, Completes, Ticks, Stops}
 use Rattle.store_calls.proofs.Live.{live_when}
 use Rattle.store_calls.proofs.Taking.{bytes_stay}
 use Rattle.fitting_events.specs.Fitting.{ResultFits}
-use Rattle.following_laws.specs.Following.{IsCovered, FollowsBegun, FollowsWhere, Follows}
+use Rattle.following_laws.specs.Following.{asking_by_text, IsCovered, FollowsBegun, FollowsWhere, Follows}
 use Rattle.following_laws.proofs.Acting.{fed, closed, turned, advanced}
 use Rattle.following_laws.proofs.Beginning.{made, unheld, begun}
 use Rattle.following_laws.proofs.Events.{IsPlain, where_on}
@@ -154,7 +154,7 @@ module _ {H : Type 0} (function : H → Handler) (next : Handler) (options : VMO
         by_live None is = not_live None is (λ m so. some_none (sym so))
         by_live (Some m) is = by_number m is (m == one.number) refl
 
-    turned_begun : (turn : Turn) → IsCovered options next → Turns function one.attempt turn changed → Changed
+    turned_begun : (turn : Turn) → IsCovered options → Turns function one.attempt turn changed → Changed
     turned_begun turn covered turns =
         if_live (λ waits live is. turned function next options id laws s.events (s.outputs id) held new one.number one waits live is there f turn changed s.accepted covered turns)
 
@@ -215,7 +215,7 @@ module _ {H : Type 0} (function : H → Handler) (next : Handler) (options : VMO
   kept_stop other n (reply.Refused (refusal.Store why)) s t held d f = stands_still function next options id s t held d.stays f
   kept_stop other n _ s t held d f = absurd d
 
-  kept_begin : (other : Text) (handler : H) (now : ℕ) (answer : Reply) (s t : Standing) (held more : List (HeldAttempt H)) → IsCovered options next → now < 2 ^ 64 → (other ≡ id → function handler ≡ next)
+  kept_begin : (other : Text) (handler : H) (now : ℕ) (answer : Reply) (s t : Standing) (held more : List (HeldAttempt H)) → IsCovered options → now < 2 ^ 64 → (other ≡ id → asking_by_text (function handler) ≡ next)
       → BeginDoes options other handler now s held answer t more → In s held → In t more
   kept_begin other handler now (reply.Begun n) s t held more covered moment brings d f = begun function next options id laws other handler now d.0 s t held more moment covered brings d.2 d.3 f
   kept_begin other handler now (reply.Refused (refusal.Store why)) s t held more covered moment brings d f =
@@ -244,7 +244,7 @@ module _ {H : Type 0} (function : H → Handler) (next : Handler) (options : VMO
   kept_close one (reply.Refused (refusal.Store why)) s t held changed there d f = unchanged one changed s t held there d.1 d.0.stays f
   kept_close one _ s t held changed there d f = absurd d
 
-  kept_turn : (one : HeldAttempt H) (answer : Reply) (s t : Standing) (held : List (HeldAttempt H)) (changed : Attempt H) → IsCovered options next
+  kept_turn : (one : HeldAttempt H) (answer : Reply) (s t : Standing) (held : List (HeldAttempt H)) (changed : Attempt H) → IsCovered options
       → held_of held one.invocation one.number ≡ Some one → TurnsOne function one s answer t changed → In s held → In t (with_attempt held one changed)
   kept_turn one (reply.Turned turn) s t held changed covered there d f =
       by_invocation one changed s t held there (λ same. changed_own one changed s t held d.1 (λ own new g. turned_begun one changed s held own new g turn covered d.0) f) (λ far. stands_still function next options id s t held d.1 f)
@@ -280,7 +280,7 @@ module _ {H : Type 0} (function : H → Handler) (next : Handler) (options : VMO
           (own one d.0 (ap (λ (i : Text). held_of held i one.number) is.0 ∙ ap (λ (m : ℕ). held_of held other m) is.1 ∙ there) is.0 is.1 d.2 d.1 f)
 
   -- what an event does keeps the invocation in its run
-  pub keeps : (one : Event H) (answer : Reply) (s t : Standing) (held more : List (HeldAttempt H)) → IsCovered options next → FitsEvent one → Brings function id next one
+  pub keeps : (one : Event H) (answer : Reply) (s t : Standing) (held more : List (HeldAttempt H)) → IsCovered options → FitsEvent one → Brings (λ handler. asking_by_text (function handler)) id next one
       → Does function options one s held answer t more → In s held → In t more
   keeps (event.Invoke one) answer s t held more covered fits brings d f = subst (λ (hs : List (HeldAttempt H)). In t hs) (sym d.1) (kept_invoke one answer s t held fits d.0 f)
   keeps (event.Result other n value) answer s t held more covered fits brings d f = subst (λ (hs : List (HeldAttempt H)). In t hs) (sym d.1) (kept_result other n value answer s t held fits d.0 f)
@@ -296,3 +296,9 @@ module _ {H : Type 0} (function : H → Handler) (next : Handler) (options : VMO
   keeps (event.Move other n count) answer s t held more covered fits brings d f =
       kept_held (MovesOne count) other n answer s t held more (λ one changed there i m is c g. kept_move count one answer s t held changed there c g) d f
   keeps (event.Stop other n) answer s t held more covered fits brings d f = subst (λ (hs : List (HeldAttempt H)). In t hs) (sym d.1) (kept_stop other n answer s t held d.0 f)
+
+-- a begin that brings a function brings it as it asks by text
+pub brings_by_text : {H : Type 0} (function : H → Handler) (id : Text) (next : Handler) (one : Event H) → Brings function id next one
+    → Brings (λ handler. asking_by_text (function handler)) id (asking_by_text next) one
+brings_by_text function id next (event.Begin other handler now) brings = λ same. ap asking_by_text (brings same)
+brings_by_text function id next one brings = tt

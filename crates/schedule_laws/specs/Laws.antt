@@ -14,7 +14,7 @@ use Rattle.store_calls.specs.Standing.{Standing}
 use Rattle.store_refusals.specs.declared.refusal.Refusal.{Refusal}
 use Rattle.store_steps.specs.Taken.{lies_in_frame}
 use Rattle.following_laws.specs.Attempts.{Attempt}
-use Rattle.following_laws.specs.Following.{IsCovered, HoldsOf, given_of, Follows}
+use Rattle.following_laws.specs.Following.{IsCovered, HoldsOf, given_of, FollowsByText}
 use Rattle.following_laws.specs.Schedules.reply
 use Rattle.following_laws.specs.Schedules.{Event, Reply, HeldAttempt, held_of, MovesOne, Does, Scheduled, AppliesAll, Brings, FitsEvent}
 
@@ -23,30 +23,30 @@ module _ {H : Type 0} (function : H → Handler) where
 
   -- where nothing is held, an invocation is in its run whose records are, and so is one that was not begun
   abbrev pub HoldsFollows : Type 0
-  HoldsFollows = (next : Handler) (options : VMOptions) (id : Text) (s : Standing) → HoldsOf next options id s.events → Follows function next options id s []
+  HoldsFollows = (next : Handler) (options : VMOptions) (id : Text) (s : Standing) → HoldsOf next options id s.events → FollowsByText function next options id s []
 
   -- what an event does keeps an invocation in its run, if begins of it bring the run's function
   abbrev pub KeptByEach : Type 0
-  KeptByEach = (next : Handler) (options : VMOptions) (id : Text) (one : Event H) (answer : Reply) (old new : Standing) (held more : List (HeldAttempt H)) → IsCovered options next
-      → FitsEvent one → Brings function id next one → Does function options one old held answer new more → Follows function next options id old held
-      → Follows function next options id new more
+  KeptByEach = (next : Handler) (options : VMOptions) (id : Text) (one : Event H) (answer : Reply) (old new : Standing) (held more : List (HeldAttempt H)) → IsCovered options
+      → FitsEvent one → Brings function id next one → Does function options one old held answer new more → FollowsByText function next options id old held
+      → FollowsByText function next options id new more
 
   -- the records of an invocation in its run are
   abbrev pub FollowsHolds : Type 0
-  FollowsHolds = (next : Handler) (options : VMOptions) (id : Text) (s : Standing) (held : List (HeldAttempt H)) → Follows function next options id s held → HoldsOf next options id s.events
+  FollowsHolds = (next : Handler) (options : VMOptions) (id : Text) (s : Standing) (held : List (HeldAttempt H)) → FollowsByText function next options id s held → HoldsOf next options id s.events
 
   -- no frame of an invocation in its run is refused for a cause that lies in it
   abbrev pub NoneRefused : Type 0
   NoneRefused = (next : Handler) (options : VMOptions) (old new : Standing) (held : List (HeldAttempt H)) (count bytes frames : ℕ) (why : Refusal) (one : HeldAttempt H) (changed : Attempt H)
-      → IsCovered options next → held_of held one.invocation one.number ≡ Some one → MovesOne count one old (reply.Moved bytes frames (Some why)) new changed
-      → Follows function next options one.invocation old held → lies_in_frame why ≡ false
+      → IsCovered options → held_of held one.invocation one.number ≡ Some one → MovesOne count one old (reply.Moved bytes frames (Some why)) new changed
+      → FollowsByText function next options one.invocation old held → lies_in_frame why ≡ false
 
   -- ---- what a schedule leaves
 
   -- of each invocation whose begins all bring one function, what is needed to go on
   abbrev pub LeavesHolds : Type 0
   LeavesHolds = (options : VMOptions) (events : List (Event H)) (replies : List Reply) (old new : Scheduled H) → old.held ≡ [] → AppliesAll function options events replies old new
-      → AllByRecursion FitsEvent events → (next : Handler) (id : Text) → IsCovered options next → AllByRecursion (Brings function id next) events
+      → AllByRecursion FitsEvent events → (next : Handler) (id : Text) → IsCovered options → AllByRecursion (Brings function id next) events
       → HoldsOf next options id old.standing.events → HoldsOf next options id new.standing.events
 
 -- ---- what that gives

@@ -58,7 +58,7 @@ Extends g Relation old new =
 -- holds of what is recorded behind it.
 abbrev pub RunsLeave : {H : Type 0} → (H → Handler) → VMOptions → List (scheduled.Event H) → (Handler → Text → List Event → Type 0) → (before after : List Event) → Type 0
 RunsLeave function options events Left before after =
-    (id : Text) (next : Handler) → IsCovered options next → AllByRecursion (Brings function id next) events → HoldsOf next options id before → Left next id after
+    (id : Text) (next : Handler) → IsCovered options → AllByRecursion (Brings function id next) events → HoldsOf next options id before → Left next id after
 
 -- that it is of the run too, with which the next schedule can begin
 abbrev pub HoldsAfter : VMOptions → Handler → Text → List Event → Type 0

@@ -5,7 +5,7 @@ use Rattle.protocol_errors.specs.Error.{plain_error}
 use Rattle.protocol_errors.specs.Fixed.{fixed_code, fixed_text}
 use Rattle.protocol_errors.specs.declared.fixed.FixedError.TheVariants.{InputClosedWhileWaitingEntries}
 use Rattle.vm_errors.specs.Phases.{kept_error}
-use Rattle.serving_laws.specs.Serving.{kind_where, HasNotRead, HasRead, Serves}
+use Rattle.serving_laws.specs.Serving.{asking_by_text, kind_where, HasNotRead, HasRead, Serves}
 use Rattle.serving_laws.specs.Keeping.{StaysClosed, ClosesEarly, ClosesServing, WritesNothing}
 use Rattle.serving_laws.proofs.Notes.{TellsNotes, cause_tells, waits_more}
 use Rattle.serving_laws.proofs.Over.{waits_same}
@@ -49,7 +49,7 @@ module _ {H : Type 0} (function : H → Handler) (next : Handler) (version : Ver
     stays stands = record {
       journal = journal;
       serves = record {
-        handler = ap (λ (a : Attempt H). function a.handler) does.1 ∙ s.handler;
+        handler = ap (λ (a : Attempt H). asking_by_text (function a.handler)) does.1 ∙ s.handler;
         going = ap (λ (a : Attempt H). a.over) does.1 ∙ s.going;
         cancellation = ap (λ (a : Attempt H). a.cancellation) does.1 ∙ s.cancellation;
         kind = closed_kind;

@@ -7,7 +7,7 @@ use Rattle.input_laws.proofs.Telling.{arrivals_carried-append}
 use Rattle.machine_laws.specs.Laws.{MachinesStayLive}
 use Rattle.feeding_laws.proofs.Inputs.{stays_active}
 use Rattle.beginning_laws.proofs.Messages.{arrivals_waited_for, arrivals_gathered, all_in_front}
-use Rattle.serving_laws.specs.Serving.{IsFedBy, kind_where, HasNotRead, HasRead, Serves}
+use Rattle.serving_laws.specs.Serving.{asking_by_text, IsFedBy, kind_where, HasNotRead, HasRead, Serves}
 use Rattle.serving_laws.specs.Keeping.{IsLiveAt, StaysServing, ReadsOn, LacksMemory, WritesNothing, FeedsServing}
 use Rattle.serving_laws.proofs.Beginning.{bytes_append, feeds_new}
 use Rattle.serving_laws.proofs.Driven.{messages_number}
@@ -77,7 +77,7 @@ module _ {H : Type 0} (function : H → Handler) (next : Handler) (version : Ver
       kept = after.vm.state.decoder;
       lives = lives;
       serves = record {
-        handler = ap (λ (a : Attempt H). function a.handler) does.1 ∙ s.handler;
+        handler = ap (λ (a : Attempt H). asking_by_text (function a.handler)) does.1 ∙ s.handler;
         going = ap (λ (a : Attempt H). a.over) does.1 ∙ s.going;
         cancellation = ap (λ (a : Attempt H). a.cancellation) does.1 ∙ s.cancellation;
         kind = kind;

@@ -8,7 +8,7 @@ use Rattle.serving_laws.specs.Machine.phases
 use Rattle.serving_laws.specs.Machine.{out_of_memory}
 use Rattle.serving_laws.specs.Reading.{MessageFits, CanBegin, IsRunOf}
 use Rattle.serving_laws.specs.Sending.{Sent, sent_stream, AllFit, frame_meant}
-use Rattle.serving_laws.specs.Serving.{IsFedBy, Serves, IsOver}
+use Rattle.serving_laws.specs.Serving.{asking_by_text, IsFedBy, Serves, IsOver}
 use Rattle.serving_laws.specs.Words.{Error, Version, Bytes, Text, Handler, Invocation, Event, Frame, IsAccepted, InputMessage, CarriesArrival, FollowsSo, IsNote, AttemptStart, ShowsStart, LiveAttempt, IsLiveMachine, HasReadJournal, attempt_begun, handed_bytes, after_reading, is_cancellation, run_options, VMOptions}
 
 -- as it is begun, once it has read its start frame
@@ -49,7 +49,7 @@ module _ {H : Type 0} (function : H → Handler) (next : Handler) (version : Ver
 
   -- a new attempt that is fed its start frame serves the live attempt that has read that frame, or has failed for want of memory
   abbrev pub BeginsServing : Type 0
-  BeginsServing = (start : AttemptStart) (shows : ShowsStart start) (handler : H) (new fed : Attempt H) → function handler ≡ next → IsRunOf start version options → CanBegin start shows
+  BeginsServing = (start : AttemptStart) (shows : ShowsStart start) (handler : H) (new fed : Attempt H) → asking_by_text (function handler) ≡ next → IsRunOf start version options → CanBegin start shows
       → IsFedBy (attempt_begun start) → IsBegun version options handler (Ok new) → Feeds start.frame new fed
       → (output_of fed ≡ []) × (Serves function next version options (attempt_started start) false fed ⊎ LacksMemory fed)
 

@@ -8,9 +8,9 @@ use Rattle.attempt_laws.proofs.Coming.{kinds_by_asking}
 use Rattle.children_laws.proofs.Coming.{next_replies_are_same}
 use Rattle.vm_commands.specs.HeaderEquality.{same_header}
 use Rattle.vm_commands.proofs.Comparing.{compares_reflexively}
-use Rattle.serving_laws.specs.Serving.{IsTextKeyed, IsOfStore, AwaitsWithin, HasNumbers, kind_where, HasRead, Serves}
+use Rattle.serving_laws.specs.Serving.{IsOfStore, AwaitsWithin, HasNumbers, kind_where, HasRead, Serves}
 use Rattle.serving_laws.specs.Keeping.{IsLiveAt}
-use Rattle.serving_laws.proofs.Covered.{covered_stored, covered_within}
+use Rattle.serving_laws.proofs.Covered.{covered_stored, covered_within, covered_same}
 use Rattle.serving_laws.proofs.Messages.{unread_fit}
 use Rattle.serving_laws.proofs.Reading.{no_arrival_is_held}
 use Rattle.serving_laws.specs.Attempts.{Attempt, is_covered}
@@ -18,7 +18,7 @@ use Rattle.serving_laws.specs.Machine.{checks_off, MachineState, IsDriven, Track
 use Rattle.serving_laws.specs.Reading.{kind_of}
 use Rattle.serving_laws.specs.Words.{version_number, Version, Answer, Call, item_at, arrivals_within, input_left, is_input_closed, child_of, Event, answers_of, Text, Arrival, Request, Handler, Invocation, Progress, piece_of, arrivals_carried, requests_carried, FollowsSo, Machine, Reply, reply_to, IsInRun, LiveAttempt, without_children, untracked, childless, childless_reply, is_cancellation, run_options, VMOptions, ImplicitCancellationOption, Disabled, Enabled, starting_state}
 use Rattle.turning_laws.specs.Words.{Queued, Fits, next_call, RepliesAsRun, StandsWithJournal, JournalsStand, KeepsOn, MachinesKeepOn, HasTextKeys, IsTypedCall}
-use Rattle.turning_laws.proofs.Texts.{shown_text, asks_by_text}
+use Rattle.turning_laws.proofs.Texts.{shown_text, asks_by_keys, asks_by_text}
 
 -- what its requests are compared by
 abbrev pub compares : MachineState → Call → Request → Request → Bool
@@ -65,7 +65,7 @@ tracks_none given m call = go given.options.implicit_cancellation
     go (Enabled calls sends) = refl
 
 module _ {H : Type 0} (function : H → Handler) (next : Handler) (version : Version) (options : VMOptions) (stand : JournalsStand) (keep_on : MachinesKeepOn) (id : Text) (events : List Event) (live : LiveAttempt)
-    (before : Attempt H) (queued : options.signal_delivery ≡ Queued) (keyed : IsTextKeyed next) (f : FollowsSo next live.start.given id events live.coming)
+    (before : Attempt H) (queued : options.signal_delivery ≡ Queued) (f : FollowsSo next live.start.given id events live.coming)
     (l : IsLiveAt function next version options id events live) (s : Serves function next version options live (is_input_closed events id) before)
     (r : HasRead function next version options live before) where
   stands : StandsWithJournal next (run_options options) live
@@ -77,24 +77,29 @@ module _ {H : Type 0} (function : H → Handler) (next : Handler) (version : Ver
       (shown_text live.start.new.state (starting_state events id) (starts_text events id f.accepted))
 
   fits : Fits next live.start.given (requests_carried live.read) (arrivals_carried live.read)
-  fits = stands.fits queued (kinds_by_asking next live.start.given (arrivals_carried live.read) (stands.asked (asks_by_text next keyed live.start.given starts (arrivals_carried live.read))))
+  fits = stands.fits queued (kinds_by_asking next live.start.given (arrivals_carried live.read) (stands.asked (asks_by_text next (asks_by_keys (function before.handler) next s.handler) live.start.given starts (arrivals_carried live.read))))
 
   no_cancellation : list_any is_cancellation (arrivals_carried live.read) ≡ false
   no_cancellation =
       none_in_front (arrivals_carried live.read) (arrivals_carried live.unread)
       (ap (λ (arrivals : List Arrival). list_any is_cancellation arrivals) (sym (arrivals_carried-append live.read live.unread)) ∙ s.fed.uncancelled)
 
-  called : function before.handler live.start.given.input before.answers ≡ call_of next live stands.at
-  called =
-      ap (λ (handler : Handler). handler live.start.given.input before.answers) s.handler
-      ∙ ap (λ (answers : List Answer). next live.start.given.input answers) (r.answers ∙ ap (λ (p : Progress). answers_of p.steps) stands.at.stands.going)
+  abbrev asked : Call
+  asked = function before.handler live.start.given.input before.answers
 
-  covered_call : is_covered before.cancellation (function before.handler live.start.given.input before.answers) ≡ true → is_covered options.implicit_cancellation (call_of next live stands.at) ≡ true
+  -- a call that is carried out is the next one of the run
+  pub called : is_covered before.cancellation asked ≡ true → (at : IsInRun next live.start.given live.read live.unread live.calls live.machine) → asked ≡ call_of next live at
+  called covered at =
+      sym (covered_same before.cancellation asked covered)
+      ∙ ap (λ (handler : Handler). handler live.start.given.input before.answers) s.handler
+      ∙ ap (λ (answers : List Answer). next live.start.given.input answers) (r.answers ∙ ap (λ (p : Progress). answers_of p.steps) at.stands.going)
+
+  covered_call : is_covered before.cancellation asked ≡ true → is_covered options.implicit_cancellation (call_of next live stands.at) ≡ true
   covered_call covered =
-      sym (ap (λ (cancellation : ImplicitCancellationOption). is_covered cancellation (function before.handler live.start.given.input before.answers)) s.cancellation
-      ∙ ap (λ (call : Call). is_covered options.implicit_cancellation call) called) ∙ covered
+      sym (ap (λ (cancellation : ImplicitCancellationOption). is_covered cancellation asked) s.cancellation
+      ∙ ap (λ (call : Call). is_covered options.implicit_cancellation call) (called covered stands.at)) ∙ covered
 
-  pub now : IsTypedCall (function before.handler live.start.given.input before.answers) → is_covered before.cancellation (function before.handler live.start.given.input before.answers) ≡ true → Now next version options id events live before.vm.state
+  pub now : IsTypedCall asked → is_covered before.cancellation asked ≡ true → Now next version options id events live before.vm.state
   now typed covered = record {
     at = stands.at;
     keeps = keep_on (compares before.vm.state) next (run_options options) options.fallback_random_seed id events live
@@ -105,7 +110,7 @@ module _ {H : Type 0} (function : H → Handler) (next : Handler) (version : Ver
     kind = s.kind;
     driven = r.driven;
     numbers = r.numbers;
-    typed = subst IsTypedCall called typed;
+    typed = subst IsTypedCall (called covered stands.at) typed;
     recorded = covered_stored options.implicit_cancellation (call_of next live stands.at) (covered_call covered);
     within = covered_within (run_options options) (call_of next live stands.at) (covered_call covered);
     of_options = ap (λ (given : Invocation). given.options) s.of_run.given_is;
@@ -115,8 +120,3 @@ module _ {H : Type 0} (function : H → Handler) (next : Handler) (version : Ver
     as_run = simulates (compares before.vm.state) next live.start.given (requests_carried live.read) (arrivals_carried live.read) live.calls live.machine
         (compares_reflexively (checks_off before.vm.state.options.non_determinism_checks)) fits stands.at.stands;
   }
-
-  pub same_call : (now : Now next version options id events live before.vm.state) → function before.handler live.start.given.input before.answers ≡ call_of next live now.at
-  same_call n =
-      ap (λ (handler : Handler). handler live.start.given.input before.answers) s.handler
-      ∙ ap (λ (answers : List Answer). next live.start.given.input answers) (r.answers ∙ ap (λ (p : Progress). answers_of p.steps) n.at.stands.going)

@@ -1,6 +1,6 @@
 -- Turns one after the other, with the journal read and the input closed.
 use Rattle.std.proofs.Common.{◌≡◌, ◌⊎◌, inl, inr, ◌∙◌, ◌+◌, arith, ℕ, suc, Bool, true, false, true≢false, List, [], ◌∷◌, ◌++◌, length, map, sym, ap, subst}
-use Rattle.serving_laws.specs.Serving.{IsTextKeyed, Serves, IsOver}
+use Rattle.serving_laws.specs.Serving.{Serves, IsOver}
 use Rattle.serving_laws.specs.Keeping.{IsLiveAt}
 use Rattle.serving_laws.proofs.Over.{overs_stay}
 use Rattle.serving_laws.specs.Attempts.turns
@@ -26,7 +26,7 @@ module _ {H : Type 0} (function : H → Handler) (next : Handler) (version : Ver
   one_more : (n k m : ℕ) → m ≡ suc n → m + k ≡ n + suc k
   one_more n k m e = omega (arith, e)
 
-  module _ (keeps : TurnServes function next version options) (queued : options.signal_delivery ≡ Queued) (keyed : IsTextKeyed next) (closed : is_input_closed events id ≡ true) where
+  module _ (keeps : TurnServes function next version options) (queued : options.signal_delivery ≡ Queued) (closed : is_input_closed events id ≡ true) where
     progress : (some : List Turn) (live : LiveAttempt) (before after : Attempt H) → FollowsSo next live.start.given id events live.coming → IsLiveAt function next version options id events live
         → HasReadJournal live → Serves function next version options live (is_input_closed events id) before → TurnsEach function next version options some before after
         → IsOver after ⊎ AnswersEach function next version options id events live before some after
@@ -43,7 +43,7 @@ module _ {H : Type 0} (function : H → Handler) (next : Handler) (version : Ver
         by_turn turn kept.sent kept.follows kept.behind (λ now. progress more now each.0 after)
       where
         kept : TurnKeeps function next version options id events live before turn each.0
-        kept = keeps id events live before turn each.0 queued keyed f l s each.1
+        kept = keeps id events live before turn each.0 queued f l s each.1
 
         by_turn : (turn' : Turn) (sent : List Sent) → FollowsSo next live.start.given id events (live.coming ++ map (frame_meant version) sent)
             → TurnsBehind function next version options id events live before sent turn' each.0
@@ -69,6 +69,6 @@ module _ {H : Type 0} (function : H → Handler) (next : Handler) (version : Ver
         by_turn (turns.Failed error) sent follows behind later = inl (over_each more each.0 after behind.1 each.2)
 
 pub turns_answer : {H : Type 0} (function : H → Handler) (next : Handler) (version : Version) (options : VMOptions) → TurnServes function next version options → TurnsAnswer function next version options
-turns_answer function next version options keeps id events live some before after queued keyed f l journal closed s each =
-    progress function next version options id events keeps queued keyed closed some live before after f l journal
+turns_answer function next version options keeps id events live some before after queued f l journal closed s each =
+    progress function next version options id events keeps queued closed some live before after f l journal
     (subst (λ (b : Bool). Serves function next version options live b before) (sym closed) s) each

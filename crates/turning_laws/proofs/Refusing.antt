@@ -2,6 +2,7 @@
 use Rattle.std.proofs.Common.{◌≡◌, ◌∙◌, inr, false, List, ◌++◌, map, sym, ap, subst}
 use Rattle.std.specs.List.{AllByRecursion}
 use Rattle.serving_laws.specs.Serving.{HasRead, Serves, machine_failed}
+use Rattle.serving_laws.proofs.Covered.{covered_by_text}
 use Rattle.serving_laws.proofs.Notes.{fails_now, TellsNotes, cause_tells, notes_follow, waits_more}
 use Rattle.serving_laws.specs.Attempts.{is_covered, RefusesCall, Attempt, Turn}
 use Rattle.serving_laws.specs.Machine.{MachineState, Written, FailsNow}
@@ -39,6 +40,7 @@ module _ {H : Type 0} (function : H → Handler) (next : Handler) (version : Ver
     follows = notes_follow next live.start.given id events live.coming (map (frame_meant version) told.coming) f notes;
     behind = (
       inr (sym (ap (λ (cancellation : ImplicitCancellationOption). is_covered cancellation (function before.handler live.start.given.input before.answers)) s.cancellation
+          ∙ sym (covered_by_text options.implicit_cancellation (function before.handler live.start.given.input before.answers))
           ∙ ap (λ (handler : Handler). is_covered options.implicit_cancellation (handler live.start.given.input before.answers)) s.handler) ∙ uncovered),
       machine_failed fails.told fails.phase_is,
     );

@@ -1,8 +1,7 @@
--- A handler whose state calls have keys that are text asks for state, and changes it, by such.
-use Rattle.std.proofs.Common.{◌≡◌, ℕ, zero, suc, Bool, true, false, ◌&&◌, if◌then◌else◌, List, [], ◌∷◌, ◌++◌, Option, Some, None, refl, ap}
-use Rattle.std.proofs.lemmas.Str.{is_utf8-from_IsUtf8}
+-- A handler that asks by text asks for state, and changes it, by keys that are text.
+use Rattle.std.proofs.Common.{◌≡◌, ℕ, zero, suc, Bool, true, false, ◌&&◌, if◌then◌else◌, List, [], ◌∷◌, ◌++◌, Option, Some, None, refl, ap, subst}
 use Rattle.std.specs.List.{list_all}
-use Rattle.std.specs.Prelude.{IsUtf8}
+use Rattle.std.proofs.lemmas.Str.{is_utf8-from_IsUtf8, IsUtf8-nil}
 use Rattle.std.specs.Str.{is_utf8}
 use Rattle.journal_model.specs.declared.invocation.StateMode.{StateMode}
 use Rattle.journal_model.specs.declared.value.Value.{Value}
@@ -13,8 +12,8 @@ use Rattle.journal_model.specs.Run.{Kind, Awaits, Ends, Answers, kind_of, name_o
 use Rattle.attempt_laws.proofs.Coming.{all-both}
 use Rattle.machine_laws.specs.Asking.{AsksByText}
 use Rattle.machine_laws.proofs.Texts.{text_after, keys_text}
-use Rattle.serving_laws.specs.Serving.{IsTextKeyed, HasTextKey}
-use Rattle.serving_laws.specs.Words.{Bytes, Call, NotificationId, RunOptions, AwaitTree, keys_of, Step, answers_of, requests_of, Arrival, Request, Handler, Invocation, Progress, Ending, GoesOn, run, next_completion, StateMap, knows_key, knows_all_keys, known_value, known_keys, state_after}
+use Rattle.serving_laws.specs.Serving.{text_or_empty, with_text_key, asking_by_text}
+use Rattle.serving_laws.specs.Words.{Bytes, Answer, Call, Input, NotificationId, RunOptions, AwaitTree, keys_of, Step, answers_of, requests_of, Arrival, Request, Handler, Invocation, Progress, Ending, GoesOn, run, next_completion, StateMap, knows_key, knows_all_keys, known_value, known_keys, state_after}
 use Rattle.turning_laws.specs.Words.{HasTextKeys}
 
 abbrev has_text : Request → Bool
@@ -28,11 +27,37 @@ both_text xs ys one other = all-both (λ request. list_all is_utf8 (keys_of requ
 
 -- ---- a call
 
-key_text : (key : Bytes) → IsUtf8 key → ((is_utf8 key && true) && true) ≡ true
-key_text key typed = ap (λ (b : Bool). (b && true) && true) (is_utf8-from_IsUtf8 key typed)
+-- its key is text, if it is by one
+abbrev pub HasTextKey : Call → Type 0
+HasTextKey (Call.StateGet key name options) = is_utf8 key ≡ true
+HasTextKey (Call.StateSet key value name options) = is_utf8 key ≡ true
+HasTextKey (Call.StateClear key name) = is_utf8 key ≡ true
+HasTextKey _ = Unit {0}
+
+abbrev pub IsTextKeyed : Handler → Type 0
+IsTextKeyed next = (input : Input) (answers : List Answer) → HasTextKey (next input answers)
+
+is_text : (key : Bytes) → is_utf8 (text_or_empty key) ≡ true
+is_text key = by_test (is_utf8 key) refl
+  where
+    by_test : (b : Bool) → is_utf8 key ≡ b → is_utf8 (if b then key else []) ≡ true
+    by_test true e = e
+    by_test false e = is_utf8-from_IsUtf8 [] IsUtf8-nil
+
+text_keyed : (call : Call) → HasTextKey (with_text_key call)
+text_keyed (Call.StateGet key name options) = is_text key
+text_keyed (Call.StateSet key value name options) = is_text key
+text_keyed (Call.StateClear key name) = is_text key
+text_keyed _ = tt
+
+pub asks_by_keys : (asked next : Handler) → asking_by_text asked ≡ next → IsTextKeyed next
+asks_by_keys asked next same = subst IsTextKeyed same (λ input answers. text_keyed (asked input answers))
+
+key_text : (key : Bytes) → is_utf8 key ≡ true → ((is_utf8 key && true) && true) ≡ true
+key_text key typed = ap (λ (b : Bool). (b && true) && true) typed
 
 module _ (given : Invocation) (starts : HasTextKeys given.start.entries) (steps : List Step) where
-  read_text : (key : Bytes) (name : Option (List ℕ)) → IsUtf8 key → (is_known : Bool)
+  read_text : (key : Bytes) (name : Option (List ℕ)) → is_utf8 key ≡ true → (is_known : Bool)
       → HaveText ((if is_known then Request.GetEagerState key (known_value given.start (requests_of steps) key) (name_or_empty name) else Request.GetLazyState key (next_completion steps) (name_or_empty name)) ∷ [])
   read_text key name typed true = key_text key typed
   read_text key name typed false = key_text key typed

@@ -1,6 +1,6 @@
 -- Each turn of an attempt, by what its machine does.
 use Rattle.std.proofs.Common.{◌≡◌, ◌⊎◌, inl, inr, ◌∙◌, ℕ, suc, List, [], ◌∷◌, ◌++◌, map, Option, Some, sym, ap, subst}
-use Rattle.serving_laws.specs.Serving.{HasNumbers, HasRead, Serves, finished, machine_failed}
+use Rattle.serving_laws.specs.Serving.{asking_by_text, HasNumbers, HasRead, Serves, finished, machine_failed}
 use Rattle.serving_laws.specs.Keeping.{IsLiveAt}
 use Rattle.serving_laws.proofs.Notes.{notes_follow, waits_more}
 use Rattle.serving_laws.specs.Attempts.finishes
@@ -54,7 +54,7 @@ module _ {H : Type 0} (function : H → Handler) (next : Handler) (version : Ver
       goes_on_with = record {
         lives = n.keeps.lives (map (frame_meant version) sends.coming) calls whole sends.sends goes;
         serves = record {
-          handler = ap function handler ∙ s.handler;
+          handler = ap (λ (h : H). asking_by_text (function h)) handler ∙ s.handler;
           going = over ∙ s.going;
           cancellation = cancellation ∙ s.cancellation;
           kind = ap kind_of (state_is ∙ others) ∙ s.kind;

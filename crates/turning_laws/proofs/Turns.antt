@@ -1,6 +1,6 @@
 -- A turn of an attempt, wherever it stands.
 use Rattle.std.proofs.Common.{◌≡◌, ◌⊎◌, inl, inr, ◌∙◌, ℕ, suc, Bool, true, false, List, [], ◌++◌, append-nil, Option, Some, None, Result, Ok, refl, sym, ap, subst}
-use Rattle.serving_laws.specs.Serving.{IsTextKeyed, HasNumbers, kind_where, HasNotRead, HasRead, Serves, finished, machine_failed}
+use Rattle.serving_laws.specs.Serving.{asking_by_text, HasNumbers, kind_where, HasNotRead, HasRead, Serves, finished, machine_failed}
 use Rattle.serving_laws.specs.Keeping.{IsLiveAt}
 use Rattle.serving_laws.proofs.Driven.{begins_driven, numbers_begin}
 use Rattle.serving_laws.proofs.Messages.{read_input}
@@ -14,7 +14,7 @@ use Rattle.serving_laws.specs.Machine.{MachineState, Written, out_of_memory, Pha
 use Rattle.serving_laws.specs.Reading.{AnswersInput, RefusesInput, InputsAreAnswered}
 use Rattle.serving_laws.specs.Words.{item_at, Error, Version, Call, Input, is_input_closed, Event, Frame, answers_of, Text, Handler, run, arrivals_carried, FollowsSo, Machine, machine_at_start, with_messages, LiveAttempt, HasReadJournal, after_turn, untracked, childless, VMOptions}
 use Rattle.turning_laws.specs.Turning.{turns_answered, GoesOnWith, FailsBy, TurnsBehind, TurnKeeps, TurnServes}
-use Rattle.turning_laws.proofs.Now.{Now, call_of, tracks_none, now, same_call}
+use Rattle.turning_laws.proofs.Now.{Now, call_of, tracks_none, now, called}
 use Rattle.turning_laws.proofs.Refusing.{refused}
 use Rattle.turning_laws.proofs.Turning.{answered, waiting, suspended, ended as has_ended, failed}
 use Rattle.turning_laws.specs.Words.{Queued, JournalsStand, MachinesKeepOn}
@@ -97,7 +97,7 @@ module _ {H : Type 0} (function : H → Handler) (next : Handler) (version : Ver
 
         serves : Serves function next version options live (is_input_closed events id) after
         serves = record {
-          handler = ap (λ (some : Attempt H). function some.handler) gives.1 ∙ s.handler;
+          handler = ap (λ (some : Attempt H). asking_by_text (function some.handler)) gives.1 ∙ s.handler;
           going = ap (λ (some : Attempt H). some.over) gives.1 ∙ s.going;
           cancellation = ap (λ (some : Attempt H). some.cancellation) gives.1 ∙ s.cancellation;
           kind = a.asked.kind_is;
@@ -146,7 +146,7 @@ module _ {H : Type 0} (function : H → Handler) (next : Handler) (version : Ver
 
   -- ---- its handler is asked
 
-  module _ (stand : JournalsStand) (keep_on : MachinesKeepOn) (queued : options.signal_delivery ≡ Queued) (keyed : IsTextKeyed next)
+  module _ (stand : JournalsStand) (keep_on : MachinesKeepOn) (queued : options.signal_delivery ≡ Queued)
       (r : HasRead function next version options live before) where
     abbrev asked : Call
     asked = function before.handler live.start.given.input before.answers
@@ -160,15 +160,15 @@ module _ {H : Type 0} (function : H → Handler) (next : Handler) (version : Ver
     by_outcome here outcomes.Ended comes to = has_ended function next version options id events live before l s r here after.vm turn after comes to
     by_outcome here (outcomes.Failed error) comes to = failed function next version options id events live before l s r here after.vm turn after error comes to.0 to.1
 
-    carried : (here : Now next version options id events live before.vm.state) → CarriesCall asked before turn after → Keeps turn
-    carried here c =
+    carried : is_covered before.cancellation asked ≡ true → (here : Now next version options id events live before.vm.state) → CarriesCall asked before turn after → Keeps turn
+    carried covered here c =
         by_outcome here c.outcome
         (subst (λ (call : Call). Comes (untracked live.start.given) (childless live.machine) call before.vm.state c.outcome after.vm.state)
-        (same_call function next version options stand keep_on id events live before queued keyed f l s r here)
+        (called function next version options stand keep_on id events live before queued f l s r covered here.at)
         (c.carries (untracked live.start.given) (childless live.machine) (tracks_none live.start.given (childless live.machine) asked) r.driven)) c.comes
 
     by_covered : (covered : Bool) → is_covered before.cancellation asked ≡ covered → CarriesWhere covered asked before turn after → Keeps turn
-    by_covered true is c = carried (now function next version options stand keep_on id events live before queued keyed f l s r c.typed is) c
+    by_covered true is c = carried is (now function next version options stand keep_on id events live before queued f l s r c.typed is) c
     by_covered false is c = refused function next version options id events live before f s r turn after c is
 
     carries : AnswersCall asked before turn after ⊎ IsOverBy finishes.OutOfMemory before turn after → Keeps turn
@@ -182,11 +182,11 @@ module _ {H : Type 0} (function : H → Handler) (next : Handler) (version : Ver
         (subst (λ (ready : Result Bool Error). TurnsWhere function ready before turn after) (ready_where before.vm.state.phase turns.ready r.driven.phase turns.is_ready) turns.turns))
 
 pub turn_keeps : {H : Type 0} (function : H → Handler) (next : Handler) (version : Version) (options : VMOptions) → JournalsStand → MachinesKeepOn → InputsAreAnswered → TurnServes function next version options
-turn_keeps function next version options stand keep_on answers id events live before turn after queued keyed f l s turns = go s.stands
+turn_keeps function next version options stand keep_on answers id events live before turn after queued f l s turns = go s.stands
   where
     on : TurnsOn function before turn after
     on = turns_new function before.over before turn after refl s.going turns
 
     go : HasNotRead function next version options live (is_input_closed events id) before ⊎ HasRead function next version options live before → TurnKeeps function next version options id events live before turn after
     go (inl n) = not_read function next version options id events live before turn after f l s answers n on
-    go (inr r) = has_read function next version options id events live before turn after f l s stand keep_on queued keyed r on
+    go (inr r) = has_read function next version options id events live before turn after f l s stand keep_on queued r on

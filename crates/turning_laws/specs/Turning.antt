@@ -3,7 +3,7 @@ use Rattle.std.specs.Prelude.{◌≡◌, ◌⊎◌, ◌+◌, ℕ, suc, true, fal
 use Rattle.std.specs.List.{AllByRecursion}
 use Rattle.journal_model.specs.Run.{Handler, Invocation, Ending, Waits, RefusedCall, Ended, run, run_requests}
 use Rattle.serving_laws.specs.Attempts.{output_of, Turns, Attempt, Turn, is_covered}
-use Rattle.serving_laws.specs.Serving.{IsTextKeyed, Serves, IsOver}
+use Rattle.serving_laws.specs.Serving.{Serves, IsOver}
 use Rattle.serving_laws.specs.Keeping.{IsLiveAt}
 use Rattle.serving_laws.specs.Machine.{Cause, ByFault, NoReplay, NoRuns, FailsWhen}
 use Rattle.serving_laws.specs.Sending.{Sent, sent_stream, AllFit, frame_meant, IsOfStore}
@@ -77,7 +77,7 @@ module _ {H : Type 0} (function : H → Handler) (next : Handler) (version : Ver
 module _ {H : Type 0} (function : H → Handler) (next : Handler) (version : Version) (options : VMOptions) where
   abbrev pub TurnServes : Type 0
   TurnServes = (id : Text) (events : List Event) (live : LiveAttempt) (before : Attempt H) (turn : Turn) (after : Attempt H) → options.signal_delivery ≡ Queued
-      → IsTextKeyed next → FollowsSo next live.start.given id events live.coming → IsLiveAt function next version options id events live
+      → FollowsSo next live.start.given id events live.coming → IsLiveAt function next version options id events live
       → Serves function next version options live (is_input_closed events id) before → Turns function before turn after
       → TurnKeeps function next version options id events live before turn after
 
@@ -96,7 +96,7 @@ module _ {H : Type 0} (function : H → Handler) (next : Handler) (version : Ver
 
   -- with the whole journal fed and the input closed each turn answers, or the attempt is over
   abbrev pub TurnsAnswer : Type 0
-  TurnsAnswer = (id : Text) (events : List Event) (live : LiveAttempt) (turns : List Turn) (before after : Attempt H) → options.signal_delivery ≡ Queued → IsTextKeyed next
+  TurnsAnswer = (id : Text) (events : List Event) (live : LiveAttempt) (turns : List Turn) (before after : Attempt H) → options.signal_delivery ≡ Queued
       → FollowsSo next live.start.given id events live.coming → IsLiveAt function next version options id events live → HasReadJournal live → is_input_closed events id ≡ true
       → Serves function next version options live true before → TurnsEach turns before after
       → IsOver after ⊎ AnswersEach id events live before turns after
