@@ -165,6 +165,26 @@ AgreesEnded = (events : List Event) (id : Text) (number : ℕ) (frame : Frame) �
 abbrev pub AgreesStopped : Type 0
 AgreesStopped = (events : List Event) (id : Text) (number : ℕ) → Agrees (Event.Stop id number ∷ events) id None
 
+-- what an attempt is handed is kept: an arrival, and that a run's outcome came, are put behind, bytes are handed out, and the input is closed
+pub record KeepsInput : Type 0 where
+  pub arrived : AgreesArrived
+  pub acknowledged : AgreesAcknowledged
+  pub handed_out : AgreesHandedOut
+  pub closed : AgreesClosed
+
+-- so is what events add to the journal that are no arrivals
+pub record KeepsAdded : Type 0 where
+  pub ticked : AgreesTicked
+  pub at_once : AgreesTickedAtOnce
+  pub unticked : AgreesUnticked
+  pub commanded : AgreesCommanded
+
+-- and that a frame was taken, or the attempt is over
+pub record KeepsTaken : Type 0 where
+  pub taken : AgreesTaken
+  pub ended : AgreesEnded
+  pub stopped : AgreesStopped
+
 -- ---- what it tells
 
 abbrev pub has_number : ℕ → Option LiveAttempt → Bool

@@ -2,7 +2,7 @@
 //! events is refused. Each function does nothing: its contract is the law.
 #![tactic(auto)]
 
-ghost use Rattle.store_live_laws.specs.Agrees.{AgreesAtFirst, AgreesElsewhere, AgreesInvoked, AgreesBegun, AgreesTicked, AgreesTickedAtOnce, AgreesUnticked, AgreesCommanded, AgreesArrived, AgreesAcknowledged, AgreesHandedOut, AgreesClosed, AgreesTaken, AgreesEnded, AgreesStopped, LiveIsTold, LiveIsOpen, CausesAreTold, StaleIsTold};
+ghost use Rattle.store_live_laws.specs.Agrees.{AgreesAtFirst, AgreesElsewhere, AgreesInvoked, AgreesBegun, LiveIsTold, LiveIsOpen, CausesAreTold, StaleIsTold, KeepsInput, KeepsAdded, KeepsTaken};
 
 /// Before any event no attempt is live; and an event of another invocation, that is no tick, changes nothing.
 pub fn elsewhere_kept()
@@ -18,25 +18,17 @@ pub fn begun_kept()
 
 /// An arrival, or that a run's outcome came, is put behind, bytes are handed out, and the input is closed.
 pub fn input_kept()
-    ensures arrived { AgreesArrived }
-    ensures acknowledged { AgreesAcknowledged }
-    ensures handed_out { AgreesHandedOut }
-    ensures closed { AgreesClosed }
+    ensures { KeepsInput }
 {}
 
 /// What a tick and a request add to the journal is put behind.
 pub fn added_kept()
-    ensures ticked { AgreesTicked }
-    ensures at_once { AgreesTickedAtOnce }
-    ensures unticked { AgreesUnticked }
-    ensures commanded { AgreesCommanded }
+    ensures { KeepsAdded }
 {}
 
 /// A frame that was taken changes nothing, or ends the attempt, as a stop does.
 pub fn taken_kept()
-    ensures taken { AgreesTaken }
-    ensures ended { AgreesEnded }
-    ensures stopped { AgreesStopped }
+    ensures { KeepsTaken }
 {}
 
 /// Which attempt is live is told by its number, and then the invocation is open.

@@ -1,16 +1,7 @@
--- The laws are proved in `Added`.
+-- The laws are proved in `Added` and `Ticked`.
 use Rattle.store_live_laws.proofs.Added.{ticked, commanded}
 use Rattle.store_live_laws.proofs.Ticked.{ticked_at_once, unticked}
 use Rattle.store_live_laws.proofs.added_kept.Goals as goal
 
-pub returns-clause-at_once : goal.returns-clause-at_once
-returns-clause-at_once c = ticked_at_once
-
-pub returns-clause-unticked : goal.returns-clause-unticked
-returns-clause-unticked c = unticked
-
-pub returns-clause-ticked : goal.returns-clause-ticked
-returns-clause-ticked c = ticked
-
-pub returns-clause-commanded : goal.returns-clause-commanded
-returns-clause-commanded c = commanded
+pub returns : goal.returns
+returns c = record { ticked = ticked; at_once = ticked_at_once; unticked = unticked; commanded = commanded }
