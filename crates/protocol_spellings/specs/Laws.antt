@@ -21,6 +21,13 @@ AcknowledgementsSpelled = (completion : ℕ) → acknowledgement_record_payload 
 abbrev pub SuspensionsSpelled : Type 0
 SuspensionsSpelled = (tree : AwaitTree NotificationId) → suspension_record_payload tree ≡ suspension_payload tree
 
+-- the canonical payload of each record that the definitions give one is that one
+pub record AreSpelled : Type 0 where
+  pub request : RequestsSpelled
+  pub notification : NotificationsSpelled
+  pub acknowledgement : AcknowledgementsSpelled
+  pub suspension : SuspensionsSpelled
+
 -- the record of a request stands for it
 abbrev pub RequestsTold : Type 0
 RequestsTold = (request : Request) → request_told (command_record request) ≡ Some request

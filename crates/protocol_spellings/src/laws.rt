@@ -1,14 +1,11 @@
 //! The laws.
 
-ghost use Rattle.protocol_spellings.specs.Laws.{RequestsSpelled, RequestsTold, RecordsTold, NotificationsSpelled, AcknowledgementsSpelled, SuspensionsSpelled};
+ghost use Rattle.protocol_spellings.specs.Laws.{AreSpelled, RequestsTold, RecordsTold};
 
 /// The canonical payload of the record of each request, of a notification, of an acknowledgement and of a suspension is that
 /// which the definitions give.
 pub fn spelled_as_defined()
-    ensures request { RequestsSpelled }
-    ensures notification { NotificationsSpelled }
-    ensures acknowledgement { AcknowledgementsSpelled }
-    ensures suspension { SuspensionsSpelled }
+    ensures { AreSpelled }
 {}
 
 /// The record of each request stands for that request, and no other record does.
