@@ -1,7 +1,8 @@
 -- Room is made for frames of several attempts, and they are put behind, one after another.
-use Rattle.std.proofs.Common.{arith, ℕ, suc, ◌+◌, ◌<◌, ◌≤◌, ◌≡◌, refl, sym, ap, subst, ◌∙◌, inl, inr, ◌⊎◌, true≢false, Bool, true, false, if◌then◌else◌, List, [], ◌∷◌, ◌++◌, append-nil, append_assoc, length, length-append, map, filter, Option, Some, None, option_map, bytes_eq}
+use Rattle.std.proofs.Common.{arith, ℕ, suc, ◌+◌, ◌<◌, ◌≤◌, ◌≡◌, refl, sym, ap, subst, ◌∙◌, inl, inr, ◌⊎◌, true≢false, Bool, true, false, if◌then◌else◌, List, [], ◌∷◌, ◌++◌, append-nil, append_assoc, length, length-append, map, filter, Option, Some, None, option_map, bytes_eq, get_or, drop}
 use Rattle.std.specs.List.{AllByRecursion}
 use Rattle.std.specs.Option.{ForSome}
+use Rattle.std.proofs.lemmas.List.{at_drop_more}
 use Rattle.std.proofs.lemmas.List.Elements.{filter-append}
 use Rattle.std.proofs.lemmas.Slice.Eq.{bytes_eq-Decides}
 use Rattle.store_live.specs.declared.attempt.LiveAttempt.{LiveAttempt}
@@ -102,6 +103,10 @@ has_room (Some attempt) frames x e = let same : x ≡ after_reserve_all frames a
 all-append : {A : Type 0} (P : A → Type 0) (xs : List A) (x : A) → AllByRecursion P xs → P x → AllByRecursion P (xs ++ x ∷ [])
 all-append P [] x all it = (it, tt)
 all-append P (y ∷ xs) x all it = (all.0, all-append P xs x all.1 it)
+
+-- what is left at a place of a list is what stands there, with what is left behind it
+pub next_left : (added : List AddedFrames) (i : ℕ) (one : AddedFrames) → i < length added → one ≡ get_or added i one → drop i added ≡ one ∷ drop (i + 1) added
+next_left added i one there is = at_drop_more (λ (xs : List AddedFrames). xs) added i one there ∙ ap (λ (x : AddedFrames). x ∷ drop (i + 1) added) (sym is)
 
 -- room was made for these, and those are left
 pub record HasRoomSoFar (all left : List AddedFrames) (now : ByInvocation) : Type 0 where
