@@ -1,12 +1,9 @@
 //! What a closed invocation answers.
 
 ghost use Rattle.std.specs.Prelude.{◌≡◌, ◌<◌, ◌^◌, length, List, IfOk, IfSome};
-ghost use Rattle.sqlite.specs.Held.{state};
-ghost use Rattle.sqlite.specs.State.{HasCleanDisk};
 ghost use Rattle.journal_model.specs.Event.{Event};
-ghost use Rattle.store_tables.specs.Looks.{Looks};
-ghost use Rattle.store_invocations.specs.Rows.{Decides, IsStoreOf, known_tests};
 ghost use Rattle.store_reads.specs.Answered.{IsShortPayload, Reads, answer_by, answer_told, failure_by, output_by, output_in};
+ghost use Rattle.store_reads.specs.Words.{state, HasCleanDisk, Looks, Decides, IsStoreOf, known_tests};
 
 use bytes::{ByteStr, Bytes};
 use journal_model::NonEmptyValue;

@@ -1,13 +1,10 @@
 //! How far an invocation is.
 
 ghost use Rattle.std.specs.Prelude.{◌≡◌, List};
-ghost use Rattle.sqlite.specs.Held.{state};
-ghost use Rattle.sqlite.specs.State.{HasCleanDisk};
 ghost use Rattle.journal_model.specs.Event.{Event};
 ghost use Rattle.journal_model.specs.Journal.{is_open as is_open_after};
-ghost use Rattle.store_tables.specs.Looks.{Looks};
 ghost use Rattle.store_model.specs.Progress.{last_error_of};
-ghost use Rattle.store_invocations.specs.Rows.{Decides, IsStoreOf, known_tests};
+ghost use Rattle.store_reads.specs.Words.{state, HasCleanDisk, Looks, Decides, IsStoreOf, known_tests};
 
 use bytes::ByteStr;
 use sqlite::Alter;

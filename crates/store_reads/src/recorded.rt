@@ -1,14 +1,11 @@
 //! The journal of an invocation, by place.
 
 ghost use Rattle.std.specs.Prelude.{◌≡◌, List, filter, map, IfOk};
-ghost use Rattle.sqlite.specs.Held.{state};
-ghost use Rattle.sqlite.specs.State.{HasCleanDisk};
 ghost use Rattle.journal_model.specs.Event.{Event};
 ghost use Rattle.protocol_types.specs.MessageType.{is_command};
-ghost use Rattle.store_tables.specs.Looks.{Looks};
 ghost use Rattle.store_model.specs.Kept.{journal_rows};
-ghost use Rattle.store_invocations.specs.Rows.{Decides, IsStoreOf, known_tests};
 ghost use Rattle.store_reads.specs.Told.{entries_told, entry_read, is_entry, kind_by};
+ghost use Rattle.store_reads.specs.Words.{state, HasCleanDisk, Looks, Decides, IsStoreOf, known_tests};
 
 use bytes::{ByteStr, Bytes};
 use protocol_types::MessageType;
