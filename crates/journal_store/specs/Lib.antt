@@ -5,3 +5,4 @@ pub mod Taking
 pub mod Writing
 pub mod Accepting
 pub mod Opened
+pub mod Words

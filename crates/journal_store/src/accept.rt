@@ -1,15 +1,12 @@
 // All of the frames among bytes that came are taken.
 ghost use Rattle.std.specs.Prelude.{◌≡◌, ◌+◌, true, IfErr, IfOk, OnErr, vec_len};
-ghost use Rattle.sqlite.specs.Held.{state};
 ghost use Rattle.journal_model.specs.Attempt.{is_live};
-ghost use Rattle.sql_tables.specs.Asking.{IsKept};
 ghost use Rattle.store_refusals.specs.declared.refusal.Refusal.TheVariants.{OutOfMemory};
-ghost use Rattle.store_live.specs.Attempts.{attempt_of};
-ghost use Rattle.store_live_laws.specs.Agrees.{has_number};
 ghost use Rattle.store_calls.specs.Calls.{PutsBehind};
 ghost use Rattle.store_calls.specs.Frames.{Accepts, AcceptsFirst, TakesFirst, TakesFrames, TakesOne};
 ghost use Rattle.journal_store.specs.Accepting.{SettlesFrames, SettlesNext, TakesNext, told};
 ghost use Rattle.journal_store.specs.Stands.{Endures, Leads};
+ghost use Rattle.journal_store.specs.Words.{state, IsKept, attempt_of, has_number};
 
 use crate::store::Store;
 use bytes::ByteStr;

@@ -1,17 +1,13 @@
 // What is done to a live attempt. The database is asked only to tell why an attempt is not live.
 ghost use Rattle.std.specs.Prelude.{◌≡◌, true, List, None, IfErr, OnErr};
-ghost use Rattle.sqlite.specs.Held.{state};
-ghost use Rattle.sqlite.specs.State.{HasCleanDisk};
 ghost use Rattle.journal_model.specs.Event.{Event};
-ghost use Rattle.sql_tables.specs.Asking.{IsKept};
 ghost use Rattle.store_tables.specs.Looks.{Looks};
 ghost use Rattle.store_invocations.specs.Rows.{IsStoreOf};
 ghost use Rattle.store_refusals.specs.declared.refusal.Refusal.TheVariants.{OutOfMemory};
-ghost use Rattle.store_live.specs.Attempts.{attempt_of};
-ghost use Rattle.store_live_laws.specs.Agrees.{has_number};
 ghost use Rattle.store_calls.specs.Calls.{ClosesInput, Feeds, HandsOut, Stops};
 ghost use Rattle.journal_store.specs.Attempts.{IsStale, has_closed, has_rest};
 ghost use Rattle.journal_store.specs.Stands.{IsQuiet, KeepsOutputs, Leads, WaitsAfter};
+ghost use Rattle.journal_store.specs.Words.{state, HasCleanDisk, IsKept, attempt_of, has_number};
 
 use crate::store::Store;
 use bytes::{ByteStr, Bytes};

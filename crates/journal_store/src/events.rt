@@ -1,14 +1,11 @@
 // Events that are recorded: each is made ready, and then written in one transaction.
 ghost use Rattle.std.specs.Prelude.{◌≡◌, ◌∷◌, Some, [], ◌+◌, ◌<◌, ◌^◌, false, length, List, IfOk, OnErr, OnOk};
-ghost use Rattle.sqlite.specs.Held.{state};
-ghost use Rattle.sqlite.specs.State.{HasCleanDisk, Survives};
 ghost use Rattle.journal_model.specs.Event.{Event};
-ghost use Rattle.sql_tables.specs.Asking.{IsKept};
 ghost use Rattle.store_live.specs.Attempts.{Changes, after_put};
-ghost use Rattle.store_live.specs.Before.{AreAsBefore};
 ghost use Rattle.store_calls.specs.Calls.{BeginsAttempt, Completes, Invokes};
 ghost use Rattle.journal_store.specs.Attempts.{IsToldAs, TakesIn, fresh};
 ghost use Rattle.journal_store.specs.Stands.{Commits, KeepsOutputs, Leads, Outlasts, Stands, WaitsAfter};
+ghost use Rattle.journal_store.specs.Words.{state, HasCleanDisk, Survives, IsKept, AreAsBefore};
 ghost use Rattle.journal_store.specs.Writing.{WritesAll};
 
 use crate::store::Store;

@@ -1,10 +1,7 @@
 // A store that is opened over a database.
 ghost use Rattle.std.specs.Prelude.{◌≡◌, ◌≢◌, [], true, false, List, IfErr, IfOk, OnErr, OnOk, Err};
-ghost use Rattle.sqlite.specs.Held.{state};
-ghost use Rattle.sqlite.specs.State.{HasCleanDisk, Survives};
 ghost use Rattle.journal_model.specs.Event.{Event};
 ghost use Rattle.journal_model.specs.Cause.{after_open};
-ghost use Rattle.sql_tables.specs.Asking.{IsKept};
 ghost use Rattle.sql_tables.specs.Columns.{no_schema};
 ghost use Rattle.store_tables.specs.Records.{Holds, no_records};
 ghost use Rattle.store_tables.specs.Steps.{IsStore};
@@ -12,6 +9,7 @@ ghost use Rattle.store_refusals.specs.declared.refusal.Refusal.TheVariants.{Fore
 ghost use Rattle.store_invocations.specs.Rows.{IsStoreOf};
 ghost use Rattle.journal_store.specs.Opened.{CanBeTaken, ComesBack, IsNotTaken, MakesTables};
 ghost use Rattle.journal_store.specs.Stands.{Stands};
+ghost use Rattle.journal_store.specs.Words.{state, HasCleanDisk, Survives, IsKept};
 
 use crate::store::Store;
 use sqlite::{Alter, Connection};

@@ -1,7 +1,5 @@
 // What a store tells of an invocation.
 ghost use Rattle.std.specs.Prelude.{◌≡◌, List};
-ghost use Rattle.sqlite.specs.Held.{state};
-ghost use Rattle.sqlite.specs.State.{HasCleanDisk, Survives};
 ghost use Rattle.journal_model.specs.Event.{Event};
 ghost use Rattle.journal_model.specs.Journal.{is_open as is_open_after};
 ghost use Rattle.store_model.specs.Progress.{last_error_of};
@@ -9,6 +7,7 @@ ghost use Rattle.store_invocations.specs.Rows.{Decides, known_tests};
 ghost use Rattle.store_reads.specs.Told.{entries_told};
 ghost use Rattle.store_reads.specs.Answered.{answer_told};
 ghost use Rattle.journal_store.specs.Stands.{Stands};
+ghost use Rattle.journal_store.specs.Words.{state, HasCleanDisk, Survives};
 
 use crate::store::Store;
 use bytes::ByteStr;

@@ -1,15 +1,13 @@
 // Frames of an attempt are taken one by one: what a frame asks for is recorded, and then it is passed.
 ghost use Rattle.std.specs.Prelude.{◌≡◌, ◌≤◌, true, length, Some, IfOk, OnErr, OnOk};
 ghost use Rattle.std.specs.Option.{ForSome};
-ghost use Rattle.sqlite.specs.Held.{state};
-ghost use Rattle.sql_tables.specs.Asking.{IsKept};
 ghost use Rattle.store_steps.specs.Taken.{does_end, lies_in_frame};
-ghost use Rattle.store_live.specs.Attempts.{IsNow, attempt_of};
-ghost use Rattle.store_live_laws.specs.Agrees.{has_number};
+ghost use Rattle.store_live.specs.Attempts.{IsNow};
 ghost use Rattle.store_calls.specs.Frames.{Steps, TakesOne};
 ghost use Rattle.journal_store.specs.Stands.{Endures, Leads};
 ghost use Rattle.journal_store.specs.Stored.{stored};
 ghost use Rattle.journal_store.specs.Taking.{HasMessage, HasMessageOf, IsEndedBy, IsFirstOf, IsFirstSeen, IsSeenOf, SettlesStep, passed};
+ghost use Rattle.journal_store.specs.Words.{state, IsKept, attempt_of, has_number};
 ghost use Rattle.journal_store.specs.Writing.{WritesSome};
 
 use crate::attempt::{is_live, stale_refusal};

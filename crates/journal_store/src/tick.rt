@@ -1,15 +1,12 @@
 // A tick is recorded: the ends of all sleeps that are due, of all open invocations, in one transaction.
 ghost use Rattle.std.specs.Prelude.{◌≡◌, ◌∷◌, List, IfOk, OnErr, OnOk};
 ghost use Rattle.std.specs.List.{AllByRecursion};
-ghost use Rattle.sqlite.specs.Held.{state};
-ghost use Rattle.sqlite.specs.State.{HasCleanDisk, Survives};
 ghost use Rattle.journal_model.specs.Event.{Event};
-ghost use Rattle.sql_tables.specs.Asking.{IsKept};
 ghost use Rattle.store_live.specs.Added.{ArePut, HasPlaces};
-ghost use Rattle.store_live.specs.Before.{AreAsBefore};
 ghost use Rattle.store_calls.specs.Calls.{Ticks};
 ghost use Rattle.journal_store.specs.Attempts.{PutsAll};
 ghost use Rattle.journal_store.specs.Stands.{Commits, KeepsOutputs, Leads, Outlasts, Stands};
+ghost use Rattle.journal_store.specs.Words.{state, HasCleanDisk, Survives, IsKept, AreAsBefore};
 ghost use Rattle.journal_store.specs.Writing.{WritesSome};
 
 use crate::step::commit_some;
