@@ -41,8 +41,9 @@ module _ {S : Type 0} (g : Ghosts S) (id : Text) (n : ℕ) (first old new : Stor
       (λ s m t taken one. takes_first id n replies one.0 s m t taken.taken one.1) before so_far lives
 
   -- one more was taken, and there may be more
-  pub goes_further : Leads g (TakesNext id n (Ok true) replies after) old new → Leads g (GoesOn id n after) first new
-  goes_further next clean s is =
+  pub goes_further : (further : Bool) → further ≡ true → Leads g (TakesNext id n (Ok further) replies after) old new → Leads g (GoesOn id n after) first new
+  goes_further further more does clean s is =
+      let next : Leads g (TakesNext id n (Ok true) replies after) old new = subst (λ (b : Bool). Leads g (TakesNext id n (Ok b) replies after) old new) more does in
       let m = so_far (before_clean clean) s is in
       let t = next clean m.0 m.1 in
       let it : HasTaken true id n replies after m.0 t.0 = t.2 in (
@@ -55,8 +56,9 @@ module _ {S : Type 0} (g : Ghosts S) (id : Text) (n : ℕ) (first old new : Stor
       )
 
   -- no further one is
-  pub rests_so : Leads g (TakesNext id n (Ok false) replies after) old new → Leads g (TakesLive id n after None) first new
-  rests_so next clean s is =
+  pub rests_so : (goes_on : Bool) → goes_on ≡ false → Leads g (TakesNext id n (Ok goes_on) replies after) old new → Leads g (TakesLive id n after None) first new
+  rests_so goes_on rests does clean s is =
+      let next : Leads g (TakesNext id n (Ok false) replies after) old new = subst (λ (b : Bool). Leads g (TakesNext id n (Ok b) replies after) old new) rests does in
       let m = so_far (before_clean clean) s is in
       let t = next clean m.0 m.1 in (
         t.0,
@@ -107,8 +109,8 @@ module _ {S : Type 0} (g : Ghosts S) (id : Text) (n : ℕ) (first old new : Stor
         (subst (λ (store : Stored S). Settles g (TakesEach id n replies) first store) (sym it.1) (before (λ none. some (it.0 ∙ none))))
   ]
 
-  pub rests_settled : IsSettled replies old → SettlesNext g id n (Ok false) replies after old new → SettlesFrames g (λ s m. m ≡ s) id n after None first new
-  rests_settled before next some clean s is = let t = settled_on false before next some clean s is in (s, refl, (t.0, t.2, t.3))
+  pub rests_settled : (goes_on : Bool) → IsSettled replies old → SettlesNext g id n (Ok goes_on) replies after old new → SettlesFrames g (λ s m. m ≡ s) id n after None first new
+  rests_settled goes_on before next some clean s is = let t = settled_on goes_on before next some clean s is in (s, refl, (t.0, t.2, t.3))
 
   pub refused_settled : (why : Refusal) → IsSettled replies old → SettlesNext g id n (Err why) replies after old new → SettlesFrames g (λ s m. m ≡ s) id n after (Some why) first new
   refused_settled why before same some clean s is =

@@ -1,7 +1,6 @@
 -- An attempt is begun.
-use Rattle.std.proofs.Common.{◌≡◌, ℕ, suc, ◌+◌, ◌++◌, ◌<◌, ◌^◌, refl, sym, ap, ap₂, subst, ◌∙◌, length, map, filter, inr, Bool, true, false, not, ◌&&◌, is_some, if◌then◌else◌, List, [], ◌∷◌, Option, Some, None, option_map, Result, Ok, Err, IfErr, IfOk, OnOk, OnErr, IsTrue, arith}
+use Rattle.std.proofs.Common.{◌≡◌, ℕ, suc, ◌+◌, ◌++◌, ◌<◌, ◌^◌, refl, sym, ap, ap₂, subst, ◌∙◌, length, map, inr, not, ◌&&◌, is_some, List, [], ◌∷◌, Option, Some, None, option_map, Result, Ok, Err, IfErr, IfOk, OnOk, OnErr, IsTrue, arith}
 use Rattle.std.proofs.lemmas.List.{length-map}
-use Rattle.std.specs.List.{AllByRecursion}
 use Rattle.std.specs.Option.{option_to_list}
 use Rattle.sqlite_trees.specs.Tree.{Trees}
 use Rattle.sqlite.specs.State.{State, HasCleanDisk, Survives}
@@ -32,22 +31,11 @@ use Rattle.store_live_laws.proofs.Begun.{begun}
 use Rattle.store_calls.specs.declared.begun.BegunAttempt.{BegunAttempt}
 use Rattle.journal_store.specs.Stands.{Stands}
 use Rattle.journal_store.specs.Attempts.{IsToldAs, TakesIn, fresh}
+use Rattle.journal_store.proofs.Found.{found_in}
 use Rattle.journal_store.proofs.Leading.{Does, IsBegunAttempt}
 use Rattle.journal_store.proofs.Standing.{store_still, stands_after, written}
 
 -- ---- how many rows a journal has
-
-abbrev first_or : {A : Type 0} → A → List A → A
-first_or x [] = x
-first_or x (y ∷ ys) = y
-
-found_passes : {A : Type 0} (P : A → Type 0) (test : A → Bool) (xs : List A) (y : A) → AllByRecursion P xs → filter test xs ≡ y ∷ [] → P y
-found_passes P test [] y all e = cc
-found_passes P test (x ∷ xs) y all e = by_test (test x) (found_passes P test xs y all.1) e
-  where
-    by_test : (b : Bool) → (filter test xs ≡ y ∷ [] → P y) → (if b then x ∷ filter test xs else filter test xs) ≡ y ∷ [] → P y
-    by_test true later e = subst P (ap (first_or x) e) all.0
-    by_test false later e = later e
 
 -- a row holds how many there are
 rows_fit : (events : List Event) (id : Text) (new : NewInvocation) (s : State) → Keeps events s → invocation_begun events id ≡ Some new
@@ -55,7 +43,7 @@ rows_fit : (events : List Event) (id : Text) (new : NewInvocation) (s : State) �
 rows_fit events id new s k begun_so =
     let found = (all_found events k.records k.accepted k.kept).invocation id in
     let only = found ∙ ap (λ (o : Option NewInvocation). option_to_list (option_map (invocation_row events) o)) begun_so in
-    let fits = found_passes FitsInvocation (has_id id) k.records.invocations (invocation_row events new) k.held.fit_invocations only in
+    let fits = found_in FitsInvocation (has_id id) k.records.invocations (invocation_row events new) k.held.fit_invocations only in
     subst (λ (one : Text). 1 + length (entries_of events one) < 2 ^ 32) (begun_named events id new begun_so) fits.progress.entries
 
 rows_counted : (id : Text) (before : List Entry) (place : ℕ) (entries : List Entry) → length (rows_from id before place entries) ≡ length entries

@@ -75,9 +75,10 @@ module _ {S : Type 0} (g : Ghosts S) (a b : Held S) (live : Attempts) (id : Text
       )
 
   -- so a call is refused
-  pub dead : (Relation : Standing → Standing → Type 0) (why : Refusal) → ((s t : Standing) → IsDead id n why s t → Relation s t) → has_number n (attempt_of live.attempts id) ≡ false → Looks g a b
-      → (HasCleanDisk (state g b) → (events : List Event) → IsStoreOf events (state g a) → IsStale events id why) → Leads g Relation (stored a live) (stored b live)
-  dead Relation why so none looks told = leads_so g (IsDead id n why) Relation (stored a live) (stored b live) so (is_dead why none looks told)
+  pub dead : (Call : Refusal → Standing → Standing → Type 0) → ((why : Refusal) (s t : Standing) → IsDead id n why s t → Call why s t) → (why : Refusal)
+      → has_number n (attempt_of live.attempts id) ≡ false → Looks g a b
+      → (HasCleanDisk (state g b) → (events : List Event) → IsStoreOf events (state g a) → IsStale events id why) → Leads g (Call why) (stored a live) (stored b live)
+  dead Call so why none looks told = leads_so g (IsDead id n why) (Call why) (stored a live) (stored b live) (so why) (is_dead why none looks told)
 
 -- ---- memory
 

@@ -1,4 +1,6 @@
 pub mod Standing
+pub mod Asking
+pub mod Found
 pub mod Waiting
 pub mod Lasting
 pub mod Leading

@@ -14,7 +14,7 @@ use Rattle.journal_model.specs.Journal.{invocation_of, is_tick, is_text, entries
 use Rattle.journal_model.specs.Attempt.{live_attempt, acknowledged, notification_type}
 use Rattle.journal_model.specs.Cause.{causes_of, IsAccepted}
 use Rattle.store_frames.specs.Read.{AreRead, IsReadIn}
-use Rattle.store_tables.specs.Records.{Holds, applied_all}
+use Rattle.store_tables.specs.Records.{Holds, Records, applied_all}
 use Rattle.store_tables.specs.declared.row.Write.{Write}
 use Rattle.store_tables.specs.Steps.{Turns, Lands}
 use Rattle.store_model.specs.Kept.{IsKept}
@@ -64,9 +64,10 @@ pub landed : (events : List Event) (event : Event) (old : State) (writes : List 
     → writes ≡ writes_of events event → IsTrue old.is_open → Turns (applied_all writes) old.now.trees trees → KeepsAll (event ∷ events) trees
 landed events event old writes trees store read clean accepted are is_open turns = all_kept events event old writes trees (store.keeps clean is_open) (read, store.read) accepted are turns
 
--- an event that writes nothing
-pub unwritten : (events : List Event) (event : Event) (s : State) → IsStoreOf events s → IsReadIn event → causes_of events event ≡ [] → writes_of events event ≡ [] → IsStoreOf (event ∷ events) s
-unwritten events event s store read accepted none = record {
+-- an event that writes nothing, of writes that keep what is recorded
+pub stored_still : (events : List Event) (event : Event) (s : State) (writes : List Write) → IsStoreOf events s → IsReadIn event → causes_of events event ≡ [] → writes ≡ []
+    → ((r : Records) → IsAccepted events → IsKept events r → IsKept (event ∷ events) (applied_all writes r)) → IsStoreOf (event ∷ events) s
+stored_still events event s writes store read accepted none keeps = record {
   accepted = (accepted, store.accepted);
   read = (read, store.read);
   keeps = λ clean is_open.
@@ -75,9 +76,13 @@ unwritten events event s store read accepted none = record {
         accepted = (accepted, store.accepted);
         records = k.records;
         held = k.held;
-        kept = subst (λ (ws : List Write). IsKept (event ∷ events) (applied_all ws k.records)) none (kept_after events event k.records k.accepted accepted k.kept);
+        kept = subst (λ (ws : List Write). IsKept (event ∷ events) (applied_all ws k.records)) none (keeps k.records k.accepted k.kept);
       };
 }
+
+pub unwritten : (events : List Event) (event : Event) (s : State) → IsStoreOf events s → IsReadIn event → causes_of events event ≡ [] → writes_of events event ≡ [] → IsStoreOf (event ∷ events) s
+unwritten events event s store read accepted none =
+    stored_still events event s (writes_of events event) store read accepted none (λ r before kept. kept_after events event r before accepted kept)
 
 -- ---- attempts
 
@@ -140,14 +145,6 @@ agrees_still events id None (Some other) same agrees = absurd same
 agrees_still events id (Some one) None same agrees = absurd same
 
 -- the tables keep the same records where nothing was changed
-keeps_now : (events : List Event) (old new : State) → new.now ≡ old.now → Keeps events old → Keeps events new
-keeps_now events old new same k = record {
-  accepted = k.accepted;
-  records = k.records;
-  held = subst (λ (d : Database). Holds d.trees k.records) (sym same) k.held;
-  kept = k.kept;
-}
-
 pub store_still : (events : List Event) (old new : State) (P : Trees → Type 0) → Survives old new P → Asked old new → IsStoreOf events old → IsStoreOf events new
 store_still events old new P lives asked store = record {
   accepted = store.accepted;
@@ -155,7 +152,8 @@ store_still events old new P lives asked store = record {
   keeps = λ clean is_open.
       let early : HasCleanDisk old = omega (arith, lives.clean, clean) in
       let it = asked clean is_open in
-      keeps_now events old new it.1 (store.keeps early it.0);
+      let k = store.keeps early it.0 in
+      record { accepted = k.accepted; records = k.records; held = subst (λ (d : Database). Holds d.trees k.records) (sym it.1) k.held; kept = k.kept };
 }
 
 -- a store stands as before

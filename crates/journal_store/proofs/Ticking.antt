@@ -9,7 +9,7 @@ use Rattle.sqlite_trees.specs.declared.store.Store.{Ghosts}
 use Rattle.sqlite.specs.Held.{Held, state}
 use Rattle.sqlite.specs.State.{State, HasCleanDisk, Survives}
 use Rattle.sqlite.proofs.StateLemmas.{survives_then}
-use Rattle.sqlite_keyed.proofs.ListLemmas.{all-filter, filter-map}
+use Rattle.sqlite_keyed.proofs.ListLemmas.{filter-map}
 use Rattle.sql_tables.specs.Asking.{IsKept as Asked}
 use Rattle.journal_model.specs.Notification.{Text}
 use Rattle.journal_model.specs.Event.{Event}
@@ -46,9 +46,10 @@ use Rattle.journal_store.specs.Attempts.{PutsAll}
 use Rattle.journal_store.specs.Stands.{Commits, IsStanding, KeepsAll, KeepsOutputs, Leads, Outlasts, Stands}
 use Rattle.journal_store.specs.Taking.{HasWritten, LandsSome}
 use Rattle.journal_store.specs.Writing.{WritesSome}
+use Rattle.journal_store.proofs.Found.{found_in, passes}
 use Rattle.journal_store.proofs.Lasting.{outlasts_now}
 use Rattle.journal_store.proofs.Leading.{adds, refuses, stood}
-use Rattle.journal_store.proofs.Standing.{agrees_still, stands_still, store_still}
+use Rattle.journal_store.proofs.Standing.{agrees_still, stands_still, store_still, stored_still}
 use Rattle.journal_store.proofs.Waiting.{before_waits, put_waits}
 
 -- ---- which invocations
@@ -93,17 +94,6 @@ is_not_listed : (b : Bool) (id : Text) → ◌≡◌ {A = List Text} [] (if b th
 is_not_listed true id e = cc
 is_not_listed false id e = refl
 
-found_in : {A : Type 0} (P : A → Type 0) (p : A → Bool) (xs : List A) (x : A) → AllByRecursion P xs → filter p xs ≡ x ∷ [] → P x
-found_in P p xs x all e = (subst (AllByRecursion P) e (all-filter P p xs all)).0
-
-all_pass : {A : Type 0} (p : A → Bool) (xs : List A) → AllByRecursion (λ x. p x ≡ true) (filter p xs)
-all_pass p [] = tt
-all_pass {A} p (x ∷ xs) = by_test (p x) refl (all_pass p xs)
-  where
-    by_test : (b : Bool) → p x ≡ b → AllByRecursion (λ y. p y ≡ true) (filter p xs) → AllByRecursion (λ y. p y ≡ true) (if b then x ∷ filter p xs else filter p xs)
-    by_test true own later = (own, later)
-    by_test false own later = later
-
 module _ (events : List Event) (now : ℕ) (added : List AddedFrames) (mid new : ByInvocation) (accepted : IsAccepted events) (none : causes_of events (Event.Tick now) ≡ [])
     (ending : AreEnding events now (ids_ended added)) (framed : AllByRecursion (AreFrames events now) added) (live : (id : Text) → Agrees events id (attempt_of mid id))
     (room : HaveRoomFor mid added) (put : ArePut added mid new) where
@@ -122,7 +112,7 @@ module _ (events : List Event) (now : ℕ) (added : List AddedFrames) (mid new :
   of_own id [] own =
       unticked events now id (attempt_of mid id) accepted none
       (is_not_listed (ends_sleep events now id) id (ap (map (λ (x : AddedFrames). x.id)) (sym own) ∙ sym (own_ids id added) ∙ ending id)) (live id)
-  of_own id (one ∷ []) own = of_one id one own ((bytes_eq-Decides one.id id).0 (subst (AllByRecursion (λ (x : AddedFrames). is_added_to id x ≡ true)) own (all_pass (is_added_to id) added)).0)
+  of_own id (one ∷ []) own = of_one id one own ((bytes_eq-Decides one.id id).0 (passes (is_added_to id) added one own))
   of_own id (one ∷ two ∷ more) own = absurd (too_many (length more) (subst (λ (xs : List AddedFrames). length xs ≤ 1) own (are_alone events now added ending id)))
     where
       too_many : (n : ℕ) → suc (suc n) ≤ 1 → ⊥
@@ -164,18 +154,7 @@ module _ (events : List Event) (now : ℕ) (writes : List Write) (keeps : KeepsB
       }
 
   none_written : (s : State) → writes ≡ [] → IsStoreOf events s → IsStoreOf (Event.Tick now ∷ events) s
-  none_written s nothing store = record {
-    accepted = (none, store.accepted);
-    read = (tt, store.read);
-    keeps = λ clean is_open.
-        let k = store.keeps clean is_open in
-        record {
-          accepted = (none, store.accepted);
-          records = k.records;
-          held = k.held;
-          kept = subst (λ (ws : List Write). IsKept (Event.Tick now ∷ events) (applied_all ws k.records)) nothing (keeps k.records k.accepted k.kept);
-        };
-  }
+  none_written s nothing store = stored_still events (Event.Tick now) s writes store tt none nothing keeps
 
   pub tick_stored : (mid new : State) (P : Trees → Type 0) → Survives mid new P → IsStoreOf events mid → HasCleanDisk mid → HasWritten writes mid new → IsStoreOf (Event.Tick now ∷ events) new
   tick_stored mid new P lives store clean (inl nothing) = none_written new nothing.0 (store_still events mid new P lives nothing.1 store)

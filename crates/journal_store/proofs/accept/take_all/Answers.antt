@@ -1,7 +1,5 @@
-use Rattle.std.proofs.Common.{◌≡◌, subst, rules, true, false, Ok, Bool}
+use Rattle.std.proofs.Common.{rules}
 use Rattle.store_calls.specs.Frames.{TakesFirst}
-use Rattle.journal_store.specs.Stands.{Leads}
-use Rattle.journal_store.specs.Accepting.{SettlesNext, TakesNext}
 use Rattle.journal_store.proofs.Enduring.{same_endures}
 use Rattle.journal_store.proofs.Accepting.{first_endures, goes_further, none_taken, refused_settled, refused_so, rests_settled, rests_so, settled_on}
 use Rattle.journal_store.proofs.accept.take_all.Goals as goal
@@ -19,24 +17,17 @@ loop-replies-preserved g c =
     let new = c.take_next.new.store in
     let before = c.loop-replies.replies.items in
     let after = c.take_next.new.replies.items in
-    let more : c.in-Ok-true.field-0 ≡ true = search rules in
+    let taken = c.loop-replies.invariant.taken in
     record {
-      taken = goes_further g.S.Store c.args.id.now c.args.attempt c.args.store.now old new before after c.loop-replies.invariant.taken c.take_next.ensures.crash
-          (subst (λ (b : Bool). Leads g.S.Store (TakesNext c.args.id.now c.args.attempt (Ok b) before after) old new) more c.in-Ok-true.ensures.does);
-      settled = settled_on g.S.Store c.args.id.now c.args.attempt c.args.store.now old new before after c.loop-replies.invariant.taken c.take_next.ensures.crash true c.loop-replies.invariant.settled
-          (subst (λ (b : Bool). SettlesNext g.S.Store c.args.id.now c.args.attempt (Ok b) before after old new) more c.in-Ok-true.ensures.settled);
-      crash = first_endures g.S.Store c.args.id.now c.args.attempt c.args.store.now old new before after c.loop-replies.invariant.taken c.take_next.ensures.crash c.loop-replies.invariant.crash;
+      taken = goes_further g.S.Store c.args.id.now c.args.attempt c.args.store.now old new before after taken c.take_next.ensures.crash c.in-Ok-true.field-0 (search rules) c.in-Ok-true.ensures.does;
+      settled = settled_on g.S.Store c.args.id.now c.args.attempt c.args.store.now old new before after taken c.take_next.ensures.crash c.in-Ok-true.field-0 c.loop-replies.invariant.settled c.in-Ok-true.ensures.settled;
+      crash = first_endures g.S.Store c.args.id.now c.args.attempt c.args.store.now old new before after taken c.take_next.ensures.crash c.loop-replies.invariant.crash;
     }
 
 pub returns-in-Ok-false-clause-does : goal.returns-in-Ok-false-clause-does
 returns-in-Ok-false-clause-does g c =
-    let old = c.loop-replies.store in
-    let new = c.take_next.new.store in
-    let before = c.loop-replies.replies.items in
-    let after = c.take_next.new.replies.items in
-    let more : c.in-Ok-false.field-0 ≡ false = search rules in
-    rests_so g.S.Store c.args.id.now c.args.attempt c.args.store.now old new before after c.loop-replies.invariant.taken c.take_next.ensures.crash
-    (subst (λ (b : Bool). Leads g.S.Store (TakesNext c.args.id.now c.args.attempt (Ok b) before after) old new) more c.in-Ok-false.ensures.does)
+    rests_so g.S.Store c.args.id.now c.args.attempt c.args.store.now c.loop-replies.store c.take_next.new.store c.loop-replies.replies.items c.take_next.new.replies.items
+    c.loop-replies.invariant.taken c.take_next.ensures.crash c.in-Ok-false.field-0 (search rules) c.in-Ok-false.ensures.does
 
 pub returns-in-Ok-false-clause-crash : goal.returns-in-Ok-false-clause-crash
 returns-in-Ok-false-clause-crash g c =
@@ -55,13 +46,8 @@ returns-in-Err-clause-crash g c =
 
 pub returns-in-Ok-false-clause-settled : goal.returns-in-Ok-false-clause-settled
 returns-in-Ok-false-clause-settled g c =
-    let old = c.loop-replies.store in
-    let new = c.take_next.new.store in
-    let before = c.loop-replies.replies.items in
-    let after = c.take_next.new.replies.items in
-    let more : c.in-Ok-false.field-0 ≡ false = search rules in
-    rests_settled g.S.Store c.args.id.now c.args.attempt c.args.store.now old new before after c.loop-replies.invariant.taken c.take_next.ensures.crash c.loop-replies.invariant.settled
-    (subst (λ (b : Bool). SettlesNext g.S.Store c.args.id.now c.args.attempt (Ok b) before after old new) more c.in-Ok-false.ensures.settled)
+    rests_settled g.S.Store c.args.id.now c.args.attempt c.args.store.now c.loop-replies.store c.take_next.new.store c.loop-replies.replies.items c.take_next.new.replies.items
+    c.loop-replies.invariant.taken c.take_next.ensures.crash c.in-Ok-false.field-0 c.loop-replies.invariant.settled c.in-Ok-false.ensures.settled
 
 pub returns-in-Err-clause-settled : goal.returns-in-Err-clause-settled
 returns-in-Err-clause-settled g c =

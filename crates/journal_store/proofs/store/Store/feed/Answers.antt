@@ -1,4 +1,4 @@
-use Rattle.std.proofs.Common.{rules, ◌≡◌, true, false, Err}
+use Rattle.std.proofs.Common.{rules, ◌≡◌, true, Err}
 use Rattle.store_live.specs.Attempts.{attempt_of}
 use Rattle.store_live_laws.specs.Agrees.{has_number}
 use Rattle.store_calls.specs.Calls.{Feeds}
@@ -18,7 +18,4 @@ returns-in_err-push_output-clause-does g c =
 
 pub returns-then-not-is_live-clause-does : goal.returns-then-not-is_live-clause-does
 returns-then-not-is_live-clause-does g c =
-    let none : has_number c.args.attempt (attempt_of c.self.inside.live.attempts c.args.id.now) ≡ false = search rules in
-    let why = c.stale_refusal.result in
-    rw (← c.self.view_is) (dead g.S.Store c.self.inside.tables c.stale_refusal.new.tables c.self.inside.live c.args.id.now c.args.attempt (Feeds c.args.id.now c.args.attempt c.args.bytes.now (Err why)) why
-    (λ s t d. feed_dead c.args.id.now c.args.attempt why s t d c.args.bytes.now) none c.stale_refusal.ensures.looks c.stale_refusal.ensures.told)
+    rw (← c.self.view_is) (dead g.S.Store c.self.inside.tables c.stale_refusal.new.tables c.self.inside.live c.args.id.now c.args.attempt (λ why. Feeds c.args.id.now c.args.attempt c.args.bytes.now (Err why)) (λ why s t d. feed_dead c.args.id.now c.args.attempt why s t d c.args.bytes.now) c.stale_refusal.result (search rules) c.stale_refusal.ensures.looks c.stale_refusal.ensures.told)

@@ -30,7 +30,4 @@ returns-clause-waits g c = rw (← c.self.view_is) (handed_waits c.args.id.now c
 
 pub returns-then-not-is_live-clause-does : goal.returns-then-not-is_live-clause-does
 returns-then-not-is_live-clause-does g c =
-    let none : has_number c.args.attempt (attempt_of c.self.inside.live.attempts c.args.id.now) ≡ false = search rules in
-    let why = c.stale_refusal.result in
-    rw (← c.self.view_is) (dead g.S.Store c.self.inside.tables c.stale_refusal.new.tables c.self.inside.live c.args.id.now c.args.attempt (HandsOut c.args.id.now c.args.attempt c.args.most (Err why)) why
-    (λ s t d. hand_out_dead c.args.id.now c.args.attempt why s t d c.args.most) none c.stale_refusal.ensures.looks c.stale_refusal.ensures.told)
+    rw (← c.self.view_is) (dead g.S.Store c.self.inside.tables c.stale_refusal.new.tables c.self.inside.live c.args.id.now c.args.attempt (λ why. HandsOut c.args.id.now c.args.attempt c.args.most (Err why)) (λ why s t d. hand_out_dead c.args.id.now c.args.attempt why s t d c.args.most) c.stale_refusal.result (search rules) c.stale_refusal.ensures.looks c.stale_refusal.ensures.told)

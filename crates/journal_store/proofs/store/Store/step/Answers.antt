@@ -1,4 +1,4 @@
-use Rattle.std.proofs.Common.{rules, ◌≡◌, true, refl, false, Err}
+use Rattle.std.proofs.Common.{rules, ◌≡◌, true, refl, Err}
 use Rattle.store_live.specs.Attempts.{attempt_of}
 use Rattle.store_live_laws.specs.Agrees.{has_number}
 use Rattle.store_calls.specs.Frames.{Steps}
@@ -25,10 +25,7 @@ returns-in-Err-clause-does g c =
 
 pub returns-then-not-is_live-clause-does : goal.returns-then-not-is_live-clause-does
 returns-then-not-is_live-clause-does g c =
-    let none : has_number c.args.attempt (attempt_of c.self.inside.live.attempts c.args.id.now) ≡ false = search rules in
-    let why = c.stale_refusal.result in
-    rw (← c.self.view_is) (dead g.S.Store c.self.inside.tables c.stale_refusal.new.tables c.self.inside.live c.args.id.now c.args.attempt (Steps c.args.id.now c.args.attempt (Err why)) why
-    (λ s t d. step_dead c.args.id.now c.args.attempt why s t d) none c.stale_refusal.ensures.looks c.stale_refusal.ensures.told)
+    rw (← c.self.view_is) (dead g.S.Store c.self.inside.tables c.stale_refusal.new.tables c.self.inside.live c.args.id.now c.args.attempt (λ why. Steps c.args.id.now c.args.attempt (Err why)) (step_dead c.args.id.now c.args.attempt) c.stale_refusal.result (search rules) c.stale_refusal.ensures.looks c.stale_refusal.ensures.told)
 
 pub returns-in-Ok-Frame-clause-does : goal.returns-in-Ok-Frame-clause-does
 returns-in-Ok-Frame-clause-does g c = rw (← c.self.view_is) c.take_seen.ensures.does

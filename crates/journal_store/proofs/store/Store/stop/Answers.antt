@@ -1,4 +1,4 @@
-use Rattle.std.proofs.Common.{rules, ◌≡◌, true, false, Err}
+use Rattle.std.proofs.Common.{rules, ◌≡◌, true, Err}
 use Rattle.store_live.specs.Attempts.{attempt_of}
 use Rattle.store_live_laws.specs.Agrees.{has_number}
 use Rattle.store_calls.specs.Calls.{Stops}
@@ -16,7 +16,4 @@ returns-clause-waits g c = rw (← c.self.view_is) (stopped_waits c.args.id.now 
 
 pub returns-then-not-is_live-clause-does : goal.returns-then-not-is_live-clause-does
 returns-then-not-is_live-clause-does g c =
-    let none : has_number c.args.attempt (attempt_of c.self.inside.live.attempts c.args.id.now) ≡ false = search rules in
-    let why = c.stale_refusal.result in
-    rw (← c.self.view_is) (dead g.S.Store c.self.inside.tables c.stale_refusal.new.tables c.self.inside.live c.args.id.now c.args.attempt (Stops c.args.id.now c.args.attempt (Err why)) why
-    (λ s t d. stop_dead c.args.id.now c.args.attempt why s t d) none c.stale_refusal.ensures.looks c.stale_refusal.ensures.told)
+    rw (← c.self.view_is) (dead g.S.Store c.self.inside.tables c.stale_refusal.new.tables c.self.inside.live c.args.id.now c.args.attempt (λ why. Stops c.args.id.now c.args.attempt (Err why)) (stop_dead c.args.id.now c.args.attempt) c.stale_refusal.result (search rules) c.stale_refusal.ensures.looks c.stale_refusal.ensures.told)
