@@ -39,9 +39,21 @@ store_of events s accepted keeps =
     record { accepted = accepted; read = keeps.read; keeps = λ clean is_open. record { accepted = accepted; records = keeps.records; held = keeps.held; kept = keeps.kept } }
 
 -- The connection that was opened over the files, and the store that was opened over it.
-module _ (image : Image) (was is : State) (attempts : ByInvocation) (found : FindsIn image was) (opens : Opens was) (live : IsLive was)
-    (fresh : was.now.schema ≡ no_schema → Stands [] is attempts)
+module _ (image : Image) (was is : State) (attempts : ByInvocation) (Commits : Trees → Type 0) (survives : Survives was is Commits) (clean : HasCleanDisk is)
+    (finds : HasCleanDisk was → FindsIn image was) (opened : HasCleanDisk was → Opens was × IsLive was) (fresh : was.now.schema ≡ no_schema → Stands [] is attempts)
     (left : was.now.schema ≢ no_schema → (events : List Event) → IsStoreOf events was → Stands (after_open events) is attempts) where
+  before : HasCleanDisk was
+  before = was_clean was is Commits survives clean
+
+  found : FindsIn image was
+  found = finds before
+
+  opens : Opens was
+  opens = (opened before).0
+
+  live : IsLive was
+  live = (opened before).1
+
   sound : IsSound was.now.schema was.now.trees
   sound = (live opens.is_open).0
 

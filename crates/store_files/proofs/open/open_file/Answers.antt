@@ -1,31 +1,25 @@
 use Rattle.std.proofs.Common.{true, false, ap₂}
 use Rattle.sqlite_std_file.specs.File.{IsFresh}
 use Rattle.store_files.specs.Refused.{IsNoStore, IsUnopened}
-use Rattle.store_files.proofs.Opening.{by_error, by_store, fresh_left, fresh_read, given_back, image, is_spared, is_taken, kept_stands, none_stands, seen_again, was_clean}
+use Rattle.store_files.proofs.Opening.{by_error, by_store, fresh_left, fresh_read, given_back, image, is_spared, is_taken, kept_stands, none_stands, seen_again}
 use Rattle.sqlite.specs.Files.{file_state}
 use Rattle.sqlite_wal.specs.Files.{image_at}
 use Rattle.store_files.proofs.open.open_file.Goals as goal
 
 pub returns-in-Ok-open-clause-none : goal.returns-in-Ok-open-clause-none
 returns-in-Ok-open-clause-none g c = λ clean.
-    let first = was_clean _ _ _ c.in-Ok-open.ensures.crash clean in
-    let opened = c.in-Ok.ensures.opened first in
-    none_stands (image_at g.S.Start) (file_state c.in-Ok.connection) (file_state c.in-Ok-open.store.connection) c.in-Ok-open.store.live.attempts (c.in-Ok.ensures.found first) opened.0 opened.1
-    (c.in-Ok-open.ensures.fresh clean) (c.in-Ok-open.ensures.left clean)
+    none_stands (image_at g.S.Start) (file_state c.in-Ok.connection) (file_state c.in-Ok-open.store.connection) c.in-Ok-open.store.live.attempts _ c.in-Ok-open.ensures.crash clean
+    c.in-Ok.ensures.found c.in-Ok.ensures.opened (c.in-Ok-open.ensures.fresh clean) (c.in-Ok-open.ensures.left clean)
 
 pub returns-in-Ok-open-clause-kept : goal.returns-in-Ok-open-clause-kept
 returns-in-Ok-open-clause-kept g c = λ clean.
-    let first = was_clean _ _ _ c.in-Ok-open.ensures.crash clean in
-    let opened = c.in-Ok.ensures.opened first in
-    kept_stands (image_at g.S.Start) (file_state c.in-Ok.connection) (file_state c.in-Ok-open.store.connection) c.in-Ok-open.store.live.attempts (c.in-Ok.ensures.found first) opened.0 opened.1
-    (c.in-Ok-open.ensures.fresh clean) (c.in-Ok-open.ensures.left clean)
+    kept_stands (image_at g.S.Start) (file_state c.in-Ok.connection) (file_state c.in-Ok-open.store.connection) c.in-Ok-open.store.live.attempts _ c.in-Ok-open.ensures.crash clean
+    c.in-Ok.ensures.found c.in-Ok.ensures.opened (c.in-Ok-open.ensures.fresh clean) (c.in-Ok-open.ensures.left clean)
 
 pub returns-in-Ok-open-clause-taken : goal.returns-in-Ok-open-clause-taken
 returns-in-Ok-open-clause-taken g c = λ clean.
-    let first = was_clean _ _ _ c.in-Ok-open.ensures.crash clean in
-    let opened = c.in-Ok.ensures.opened first in
-    is_taken (image_at g.S.Start) (file_state c.in-Ok.connection) (file_state c.in-Ok-open.store.connection) c.in-Ok-open.store.live.attempts (c.in-Ok.ensures.found first) opened.0 opened.1
-    (c.in-Ok-open.ensures.fresh clean) (c.in-Ok-open.ensures.left clean) (c.in-Ok-open.ensures.taken clean)
+    is_taken (image_at g.S.Start) (file_state c.in-Ok.connection) (file_state c.in-Ok-open.store.connection) c.in-Ok-open.store.live.attempts _ c.in-Ok-open.ensures.crash clean
+    c.in-Ok.ensures.found c.in-Ok.ensures.opened (c.in-Ok-open.ensures.fresh clean) (c.in-Ok-open.ensures.left clean) (c.in-Ok-open.ensures.taken clean)
 
 pub returns-in-Err-clause-unopened : goal.returns-in-Err-clause-unopened
 returns-in-Err-clause-unopened g c =
