@@ -1,6 +1,6 @@
 use Rattle.journal_model.specs.Event as model
 use Rattle.journal_store.proofs.Enduring.{invoke_endures}
-use Rattle.durable_schedule.proofs.Scheduling.{lasts_behind}
+use Rattle.durable_schedule.proofs.Scheduling.{settles}
 use Rattle.durable_schedule.proofs.scheduler.Scheduler.invoke.Goals as goal
 
 pub returns-in-Ok-clause-does : goal.returns-in-Ok-clause-does
@@ -10,10 +10,7 @@ pub returns-in-Err-clause-does : goal.returns-in-Err-clause-does
 returns-in-Err-clause-does g c = c.in-Err.ensures.does
 
 pub returns-in-Ok-clause-settled : goal.returns-in-Ok-clause-settled
-returns-in-Ok-clause-settled g c written clean s is =
-    let it = c.in-Ok.ensures.does clean s is in
-    let lasts = c.in-Ok.ensures.settled clean s.events is.stands in
-    (it.0, it.1, (it.2, lasts_behind g.S.Store (model.Event.Invoke c.args.new) s it.0 c.invoke.new.self it.2.events lasts))
+returns-in-Ok-clause-settled g c written = settles g.S.Store (model.Event.Invoke c.args.new) _ c.args.self.now.store c.invoke.new.self (λ s t it. it.events) c.in-Ok.ensures.does c.in-Ok.ensures.settled
 
 pub returns-in-Err-clause-settled : goal.returns-in-Err-clause-settled
 returns-in-Err-clause-settled g c written = absurd written
