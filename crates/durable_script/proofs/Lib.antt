@@ -1,3 +1,4 @@
+pub mod Naming
 pub mod Reaching
 pub mod Following
 pub mod Leaving

@@ -1,5 +1,5 @@
 -- What a scheduler reaches: by nothing, by one call, by one call behind another.
-use Rattle.std.proofs.Common.{◌≡◌, List, refl, sym, ap, subst, ◌∙◌, inl, arith}
+use Rattle.std.proofs.Common.{◌≡◌, List, refl, sym, ap, subst, ◌∙◌, arith}
 use Rattle.sqlite_trees.specs.declared.store.Store.{Ghosts}
 use Rattle.sqlite.specs.Held.{state}
 use Rattle.sqlite.specs.State.{HasCleanDisk, Survives}
@@ -13,6 +13,7 @@ use Rattle.journal_store.specs.Stored.{Stored}
 use Rattle.schedule_runs.specs.Passed.{Scheduler, AppliesWith, IsScheduled}
 use Rattle.schedule_runs.specs.Schedules.{FitsEvent, Event, Reply, HeldAttempt, Scheduled, Does, Applies}
 use Rattle.journal_store.specs.Stands.{Endures, Keeps}
+use Rattle.journal_store.proofs.Enduring.{same_endures}
 use Rattle.durable_script.specs.Line.{AppliesOne}
 use Rattle.durable_script.specs.Reaching.{KeepsCut, Leaves, Reaches, Nowhere}
 use Rattle.durable_script.specs.Shown.{Looks}
@@ -27,14 +28,9 @@ module _ {S : Type 0} (g : Ghosts S) where
 
   -- nothing was done to the store
   same_leaves : (C : Scheduled BuiltIn → Scheduled BuiltIn → Type 0) (a : Scheduler BuiltIn S) → Leaves g C a a
-  same_leaves C a = record {
-    clean = omega arith;
-    shield = λ it. it;
-    counts = omega arith;
-    limit = refl;
-    closes = λ clean is_open. inl is_open;
-    crash = λ clean db may. inl may;
-  }
+  same_leaves C a =
+      survives_weaker (state g a.store.connection) (state g a.store.connection) (Keeps g (λ s t. ⊥) a.store) (KeepsCut g C a)
+      (λ clean db it before at. absurd ((it before.standing at.scheduled.standing).1)) (same_endures g (λ s t. ⊥) a.store)
 
   -- nothing was done
   pub reaches_none : (C P : Scheduled BuiltIn → Scheduled BuiltIn → Type 0) (a : Scheduler BuiltIn S) → ((s : Scheduled BuiltIn) → P s s) → Reaches g C P a a
