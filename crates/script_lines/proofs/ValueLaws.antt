@@ -1,6 +1,6 @@
 -- A value's word is read just where it is the spelling of what is read.
 use Rattle.std.proofs.Common.{◌≡◌, ℕ, ◌+◌, ◌-◌, Bool, true, false, cond, eqb, ltb, inl, inr, List, [], ◌∷◌, ◌++◌, length, take, drop, get_or, Option, Some, None, refl, sym, ap, subst, ◌∙◌, arith, length-append}
-use Rattle.std.specs.Prelude.{codes, decimal, bytes_eq, option_map}
+use Rattle.std.specs.Prelude.{codes, decimal, bytes_eq, option_map, All}
 use Rattle.std.specs.List.{AllByRecursion, position, position_or_len}
 use Rattle.std.specs.Str.Parse.{AllDigits}
 use Rattle.std.proofs.Math.Seq.{take-append_seam, take-length, drop-append-add}
@@ -89,29 +89,26 @@ failure_takes text value e =
 kind_is : (word kind text name : List ℕ) → word ≡ kind ++ 58 ∷ text → bytes_eq kind name ≡ true → word ≡ name ++ 58 ∷ text
 kind_is word kind text name split e = split ∙ ap (λ (k : List ℕ). k ++ 58 ∷ text) ((bytes_eq-Decides kind name).0 e)
 
+-- a kind whose text is any printable bytes
+bytes_take : (make : List ℕ → LineValue) (word kind text name : List ℕ) (value : LineValue) → ((bytes : List ℕ) → All IsWordByte bytes → word ≡ name ++ 58 ∷ bytes → Takes word (make bytes))
+    → word ≡ kind ++ 58 ∷ text → bytes_eq kind name ≡ true → then_read (printable_of text) (λ (bytes : List ℕ). Some (make bytes)) ≡ Some value → Takes word value
+bytes_take make word kind text name value so split named e =
+    let t = read_step e in
+    let bytes = printable_takes text t.0 t.1 in
+    subst (λ (w : LineValue). Takes word w) (same_Some (make t.0) value t.2)
+    (so t.0 (All-from_recursion IsWordByte t.0 bytes.0) (kind_is word kind text name split named ∙ ap (λ (b : List ℕ). name ++ 58 ∷ b) bytes.1))
+
 kind_takes : (word kind text : List ℕ) (value : LineValue) → word ≡ kind ++ 58 ∷ text → value_in kind text ≡ Some value → Takes word value
 unfolding value_in
 kind_takes word kind text value split e =
     elim (chosen (bytes_eq kind (codes "v")) (then_read (printable_of text) (λ (bytes : List ℕ). Some (Value bytes))) _ (Some value) e) [
-      | inl v ↦
-          let t = read_step v.1 in
-          let bytes = printable_takes text t.0 t.1 in
-          subst (λ (w : LineValue). Takes word w) (same_Some (Value t.0) value t.2) (
-            All-from_recursion IsWordByte t.0 bytes.0,
-            kind_is word kind text (codes "v") split v.0 ∙ ap (λ (b : List ℕ). codes "v:" ++ b) bytes.1,
-          )
+      | inl v ↦ bytes_take Value word kind text (codes "v") value (λ bytes all is. (all, is)) split v.0 v.1
       | inr other ↦
           elim (chosen (bytes_eq kind (codes "f")) (failure_of text) _ (Some value) other.1) [
             | inl f ↦ let taken = failure_takes text value f.1 in (taken.0, kind_is word kind text (codes "f") split f.0 ∙ taken.1)
             | inr more ↦
                 elim (chosen (bytes_eq kind (codes "id")) (then_read (printable_of text) (λ (id : List ℕ). Some (InvocationId id))) None (Some value) more.1) [
-                  | inl i ↦
-                      let t = read_step i.1 in
-                      let id = printable_takes text t.0 t.1 in
-                      subst (λ (w : LineValue). Takes word w) (same_Some (InvocationId t.0) value t.2) (
-                        All-from_recursion IsWordByte t.0 id.0,
-                        kind_is word kind text (codes "id") split i.0 ∙ ap (λ (b : List ℕ). codes "id:" ++ b) id.1,
-                      )
+                  | inl i ↦ bytes_take InvocationId word kind text (codes "id") value (λ bytes all is. (all, is)) split i.0 i.1
                   | inr none ↦ absurd (none-some value none.1)
                 ]
           ]

@@ -8,7 +8,7 @@ use Rattle.std.proofs.lemmas.Option.{cond_some, none-some, same_Some}
 use Rattle.std.proofs.lemmas.Slice.Eq.{bytes_eq-Decides}
 use Rattle.std.proofs.lemmas.Fmt.{decimal_is_IsNumeral, parse-decimal, IsAscii-decimal}
 use Rattle.std.proofs.lemmas.Str.{IsUtf8-from_ascii}
-use Rattle.std.specs.Result.{result_ok}
+use Rattle.std.specs.Result.{OkIff, result_ok}
 use Rattle.std.specs.Bool.{then_some}
 use Rattle.std.proofs.lemmas.List.Elements.{All-from_recursion, recursion_from_All}
 use Rattle.script_lines.specs.declared.word.StateMode.{StateMode}
@@ -112,6 +112,23 @@ parsed bits word text printed answer number false wide same reads found prints t
     let given = parse-decimal bits other text answer below (omega arith) (same ∙ spells) reads in
     let equal : number ≡ other = cc in
     false≢true (tests ∙ (bytes_eq-Decides printed word).1 (prints ∙ ap (λ (n : ℕ). decimal n) equal ∙ sym spells))))
+
+-- a number below a limit is one below 2^64 that fits
+pub unread_below : (limit : ℕ) (word : List ℕ) (read : Option ℕ) → limit ≤ 2 ^ 64 → read ≡ number_below (2 ^ 64) word → read ≡ None → None ≡ number_below limit word
+unread_below limit word read wide is none =
+    sym (not_read (number_reading limit wide) word (λ number below spells.
+    none-some number (sym none ∙ is ∙ ap (number_below (2 ^ 64)) spells ∙ number_again (2 ^ 64) number (omega arith) (omega arith))))
+
+pub narrowed : {E : Type 0} (limit : ℕ) (word : List ℕ) (read : Option ℕ) (number : ℕ) (answer : Result ℕ E) → limit ≤ 2 ^ 64 → read ≡ number_below (2 ^ 64) word → read ≡ Some number
+    → OkIff answer (number < limit) number → result_ok answer ≡ number_below limit word
+narrowed limit word read number (Ok n) wide is some fits =
+    let it = number_64.takes word number (sym is ∙ some) in
+    ap Some fits.1 ∙ sym (ap (number_below limit) it.1 ∙ number_again limit number wide fits.0)
+narrowed limit word read number (Err d) wide is some fails =
+    sym (not_read (number_reading limit wide) word (λ other below spells.
+    let again = number_again (2 ^ 64) other (omega arith) (omega arith) in
+    let same : number ≡ other = same_Some number other (sym some ∙ is ∙ ap (number_below (2 ^ 64)) spells ∙ again) in
+    fails (subst (λ (n : ℕ). n < limit) (sym same) below)))
 
 -- ---- texts
 

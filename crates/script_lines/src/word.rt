@@ -72,18 +72,14 @@ pub enum HandlerName {
 pub fn parse_u16(word: &[u8]) -> Option<u16>
     ensures { result ≡ number_below (2 ^ 16) word.now }
 {
-    let number = str::from_utf8(word).ok()?.parse::<u16>().ok()?;
-    let is_spelling = Buffer::new().format(number).as_bytes() == word;
-    is_spelling.then_some(number)
+    u16::try_from(parse_u64(word)?).ok()
 }
 
 /// The number below 2^32 that a word spells.
 pub fn parse_u32(word: &[u8]) -> Option<u32>
     ensures { result ≡ number_below (2 ^ 32) word.now }
 {
-    let number = str::from_utf8(word).ok()?.parse::<u32>().ok()?;
-    let is_spelling = Buffer::new().format(number).as_bytes() == word;
-    is_spelling.then_some(number)
+    u32::try_from(parse_u64(word)?).ok()
 }
 
 /// The number below 2^64 that a word spells.
