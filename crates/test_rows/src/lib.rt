@@ -24,18 +24,6 @@ fn answer<A: Answers>(alloc: Global, answers: &mut A, file: &str, row: &str) -> 
     answers.answer(alloc, file, words.as_slice())
 }
 
-fn print_row<A: Answers, R: Print + AllocGlobal>(
-    rt: &R,
-    answers: &mut A,
-    file: &str,
-    row: &str,
-) -> io::Result<()> {
-    match answer(rt.alloc(), answers, file, row) {
-        Some(answer) => println!(rt; "{row} = {answer}"),
-        None => println!(rt; "{row} ?"),
-    }
-}
-
 fn print_all<A: Answers, R: Print + AllocGlobal>(
     rt: &R,
     answers: &mut A,
@@ -43,8 +31,12 @@ fn print_all<A: Answers, R: Print + AllocGlobal>(
     rows: &str,
 ) -> io::Result<()> {
     for row in rows.lines() {
-        if !row.is_empty() && !row.starts_with('#') {
-            print_row(rt, answers, file, row)?;
+        if row.is_empty() || row.starts_with('#') {
+            continue;
+        }
+        match answer(rt.alloc(), answers, file, row) {
+            Some(answer) => println!(rt; "{row} = {answer}")?,
+            None => println!(rt; "{row} ?")?,
         }
     }
     Ok(())
