@@ -14,22 +14,17 @@ pub use journal_protocol::{
 
 /// What is called of an error.
 pub fn name_errors() {
-    let _ = Error::new;
-    let _ = Error::internal;
-    let _ = Error::code;
-    let _ = Error::message;
-    let _ = Error::with_next_retry_delay_override;
-    let _ = Error::with_should_pause;
-    let _ = Error::with_related_command_metadata;
-    let _ = Error::is_suspended_error;
+    named!(Error:
+        new internal code message with_next_retry_delay_override with_should_pause
+        with_related_command_metadata is_suspended_error
+    );
 }
 
 /// What is called of a code.
 pub fn name_codes() {
-    let _ = InvocationErrorCode::new;
-    let _ = InvocationErrorCode::code;
-    let _ = <InvocationErrorCode as From<u16>>::from;
-    let _ = <InvocationErrorCode as From<u32>>::from;
-    let _ = <u16 as From<InvocationErrorCode>>::from;
-    let _ = <u32 as From<InvocationErrorCode>>::from;
+    named!(InvocationErrorCode: new code);
+    named!(InvocationErrorCode as From<u16>: from);
+    named!(InvocationErrorCode as From<u32>: from);
+    named!(u16 as From<InvocationErrorCode>: from);
+    named!(u32 as From<InvocationErrorCode>: from);
 }

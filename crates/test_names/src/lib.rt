@@ -2,6 +2,12 @@
 //! them are there. It names and calls none: what they do is shown elsewhere.
 #![tactic(auto)]
 
+// Names items of a type, or those that it has by a trait.
+macro_rules! named {
+    ($of:ty as $by:path: $($item:ident)*) => { $(let _ = <$of as $by>::$item;)* };
+    ($of:ty: $($item:ident)*) => { $(let _ = <$of>::$item;)* };
+}
+
 pub mod errors;
 pub mod machine;
 pub mod records;

@@ -5,13 +5,6 @@ use sqlite::Alter;
 
 /// What is called of a scheduler.
 pub fn name_schedules<H: Handler + Drop, S: Alter + Drop>() {
-    let _ = Scheduler::<H, S>::new;
-    let _ = Scheduler::<H, S>::apply;
-    let _ = Scheduler::<H, S>::take_turn;
-    let _ = Scheduler::<H, S>::entries;
-    let _ = Scheduler::<H, S>::answer;
-    let _ = Scheduler::<H, S>::failure;
-    let _ = Scheduler::<H, S>::is_open;
-    let _ = Scheduler::<H, S>::into_store;
+    named!(Scheduler<H, S>: new apply take_turn entries answer failure is_open into_store);
     let _ = run_schedule::<H, S>;
 }

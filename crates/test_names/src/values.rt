@@ -9,8 +9,7 @@ pub use journal_protocol::{
 
 /// What values are made of.
 pub fn name_values() {
-    let _ = <Value as From<Bytes>>::from;
-    let _ = <Value as From<NonEmptyValue>>::from;
-    let _ = PayloadOptions::stable_serialization;
-    let _ = PayloadOptions::unstable_serialization;
+    named!(Value as From<Bytes>: from);
+    named!(Value as From<NonEmptyValue>: from);
+    named!(PayloadOptions: stable_serialization unstable_serialization);
 }
