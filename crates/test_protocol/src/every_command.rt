@@ -1,16 +1,17 @@
 //! Each command of the table with the record that it is.
 use crate::commands::{Question, about};
-use journal_protocol::messages::{
-    AttachInvocationCommandMessage, CallCommandMessage, ClearAllStateCommandMessage,
-    ClearStateCommandMessage, CompleteAwakeableCommandMessage, CompletePromiseCommandMessage,
-    GetEagerStateCommandMessage, GetEagerStateKeysCommandMessage,
-    GetInvocationOutputCommandMessage, GetLazyStateCommandMessage, GetLazyStateKeysCommandMessage,
-    GetPromiseCommandMessage, InputCommandMessage, OneWayCallCommandMessage, OutputCommandMessage,
-    PeekPromiseCommandMessage, RunCommandMessage, SendSignalCommandMessage, SetStateCommandMessage,
-    SleepCommandMessage,
-};
+use journal_protocol::messages;
 use journal_protocol::wire::RecordType;
 use std::alloc::Global;
+
+macro_rules! about_in_list {
+    ($of:expr, $alloc:expr, $question:expr, $one:expr, $two:expr; $($name:ident $record:ident),*) => {
+        match $of {
+            $(RecordType::$name => about::<messages::$record>($alloc, $question, $one, $two),)*
+            _ => None,
+        }
+    };
+}
 
 /// Answers the question about the commands of this type that two payloads are.
 pub fn about_command(
@@ -20,55 +21,27 @@ pub fn about_command(
     one: &[u8],
     two: &[u8],
 ) -> Option<String> {
-    match of {
-        RecordType::InputCommand => about::<InputCommandMessage>(alloc, question, one, two),
-        RecordType::OutputCommand => about::<OutputCommandMessage>(alloc, question, one, two),
-        RecordType::SleepCommand => about::<SleepCommandMessage>(alloc, question, one, two),
-        RecordType::GetLazyStateCommand => about::<GetLazyStateCommandMessage>(
-            alloc, question, one, two,
-        ),
-        RecordType::GetLazyStateKeysCommand => about::<GetLazyStateKeysCommandMessage>(
-            alloc, question, one, two,
-        ),
-        RecordType::GetEagerStateCommand => about::<GetEagerStateCommandMessage>(
-            alloc, question, one, two,
-        ),
-        RecordType::GetEagerStateKeysCommand => about::<GetEagerStateKeysCommandMessage>(
-            alloc, question, one, two,
-        ),
-        RecordType::SetStateCommand => about::<SetStateCommandMessage>(alloc, question, one, two),
-        RecordType::ClearStateCommand => about::<ClearStateCommandMessage>(
-            alloc, question, one, two,
-        ),
-        RecordType::ClearAllStateCommand => about::<ClearAllStateCommandMessage>(
-            alloc, question, one, two,
-        ),
-        RecordType::GetPromiseCommand => about::<GetPromiseCommandMessage>(
-            alloc, question, one, two,
-        ),
-        RecordType::PeekPromiseCommand => about::<PeekPromiseCommandMessage>(
-            alloc, question, one, two,
-        ),
-        RecordType::CompletePromiseCommand => about::<CompletePromiseCommandMessage>(
-            alloc, question, one, two,
-        ),
-        RecordType::RunCommand => about::<RunCommandMessage>(alloc, question, one, two),
-        RecordType::CallCommand => about::<CallCommandMessage>(alloc, question, one, two),
-        RecordType::OneWayCallCommand => about::<OneWayCallCommandMessage>(
-            alloc, question, one, two,
-        ),
-        RecordType::SendSignalCommand => about::<SendSignalCommandMessage>(
-            alloc, question, one, two,
-        ),
-        RecordType::AttachInvocationCommand => about::<AttachInvocationCommandMessage>(
-            alloc, question, one, two,
-        ),
-        RecordType::GetInvocationOutputCommand => about::<GetInvocationOutputCommandMessage>(
-            alloc, question, one, two,
-        ),
-        RecordType::CompleteAwakeableCommand => about::<CompleteAwakeableCommandMessage>(
-            alloc, question, one, two,
-        ),
-        _ => None,
-    }
+    about_in_list!(
+        of, alloc, question, one, two;
+        InputCommand InputCommandMessage,
+        OutputCommand OutputCommandMessage,
+        SleepCommand SleepCommandMessage,
+        GetLazyStateCommand GetLazyStateCommandMessage,
+        GetLazyStateKeysCommand GetLazyStateKeysCommandMessage,
+        GetEagerStateCommand GetEagerStateCommandMessage,
+        GetEagerStateKeysCommand GetEagerStateKeysCommandMessage,
+        SetStateCommand SetStateCommandMessage,
+        ClearStateCommand ClearStateCommandMessage,
+        ClearAllStateCommand ClearAllStateCommandMessage,
+        GetPromiseCommand GetPromiseCommandMessage,
+        PeekPromiseCommand PeekPromiseCommandMessage,
+        CompletePromiseCommand CompletePromiseCommandMessage,
+        RunCommand RunCommandMessage,
+        CallCommand CallCommandMessage,
+        OneWayCallCommand OneWayCallCommandMessage,
+        SendSignalCommand SendSignalCommandMessage,
+        AttachInvocationCommand AttachInvocationCommandMessage,
+        GetInvocationOutputCommand GetInvocationOutputCommandMessage,
+        CompleteAwakeableCommand CompleteAwakeableCommandMessage
+    )
 }

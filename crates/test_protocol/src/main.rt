@@ -18,8 +18,7 @@ mod typed_errors;
 
 use std::alloc::Global;
 use std::process::ExitCode;
-use std::rt::{Env, Files};
-use std::{env, fs, io};
+use test_rows::{Answers, run};
 
 /// What a row of this file asks.
 fn answer_to(alloc: Global, file: &str, operation: &str, operands: &[&str]) -> Option<String> {
@@ -38,46 +37,23 @@ fn answer_to(alloc: Global, file: &str, operation: &str, operands: &[&str]) -> O
     }
 }
 
-/// What a row asks: its words stand between single spaces.
-fn answer(alloc: Global, file: &str, row: &str) -> Option<String> {
-    let words: Vec<&str> = row.split(' ').collect(alloc).ok()?;
-    match words.as_slice() {
-        [operation, operands @ ..] => answer_to(alloc, file, *operation, operands),
-        [] => None,
-    }
-}
+/// The rows of a file. None keeps anything for the next.
+#[derive(Drop)]
+struct Rows;
 
-fn print_row<R: Print + AllocGlobal>(rt: &R, file: &str, row: &str) -> io::Result<()> {
-    match answer(rt.alloc(), file, row) {
-        Some(answer) => println!(rt; "{row} = {answer}"),
-        None => println!(rt; "{row} ?"),
+impl Answers for Rows {
+    fn begin() -> Self {
+        Rows
     }
-}
 
-/// Prints the rows of a file, without its empty lines and those that begin with a `#`.
-fn print_rows<R: Files + Print + AllocGlobal>(rt: &R, file: &str) -> io::Result<()> {
-    let rows = fs::read_to_string(rt, file)?;
-    println!(rt; "== {file}")?;
-    for row in rows.as_str().lines() {
-        if !row.is_empty() && !row.starts_with('#') {
-            print_row(rt, file, row)?;
+    fn answer(&mut self, alloc: Global, file: &str, words: &[&str]) -> Option<String> {
+        match words {
+            [operation, operands @ ..] => answer_to(alloc, file, *operation, operands),
+            [] => None,
         }
     }
-    Ok(())
-}
-
-fn print_files<R: Files + Env + Print + AllocGlobal>(rt: &R) -> io::Result<()> {
-    let mut files = env::args(rt)?;
-    let _program = files.next();
-    for file in files {
-        print_rows(rt, file.as_str())?;
-    }
-    Ok(())
 }
 
 fn main(rt: HostRuntime) -> ExitCode {
-    match print_files(&rt) {
-        Ok(()) => ExitCode::SUCCESS,
-        Err(_) => ExitCode::FAILURE,
-    }
+    run::<Rows, _>(&rt)
 }

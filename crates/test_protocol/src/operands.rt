@@ -1,39 +1,6 @@
-//! Operands of rows, and how bytes and flags are printed. `-` alone is no bytes and the empty text.
+//! Operands of rows, and how flags are printed, with what is common to all rows.
 use journal_protocol::{MessageType, Version};
-use std::alloc::Global;
-use std::fmt;
-
-/// Bytes, printed as hexadecimal digits.
-#[derive(Clone, Copy)]
-pub struct Hex<'a>(pub &'a [u8]);
-
-impl fmt::Display for Hex<'_> {
-    fn fmt<W: fmt::Write>(&self, f: &mut fmt::Formatter<W>) -> fmt::Result {
-        if self.0.is_empty() {
-            return f.write_str("-");
-        }
-        for byte in self.0 {
-            let byte = *byte;
-            write!(f, "{byte:02x}")?;
-        }
-        Ok(())
-    }
-}
-
-/// A text that may be empty.
-pub fn text(operand: &str) -> &str {
-    if operand == "-" { "" } else { operand }
-}
-
-/// The bytes of hexadecimal digits.
-pub fn bytes(alloc: Global, operand: &str) -> Option<Vec<u8>> {
-    hex::decode(alloc, text(operand).as_bytes()).ok()
-}
-
-/// A number of decimal digits.
-pub fn number(operand: &str) -> Option<u32> {
-    operand.parse().ok()
-}
+pub use test_rows::{Hex, bytes, number, text, told};
 
 /// The type of this number, of four hexadecimal digits.
 pub fn message_type(operand: &str) -> Option<MessageType> {
@@ -53,9 +20,4 @@ pub fn flag(flag: Option<bool>) -> &'static str {
         Some(true) => "true",
         Some(false) => "false",
     }
-}
-
-/// The text for an answer that takes no memory to make.
-pub fn told(alloc: Global, text: &str) -> Option<String> {
-    String::from_str(alloc, text).ok()
 }
