@@ -23,8 +23,6 @@ use Rattle.vm_calls.specs.Active.{Sees}
 use Rattle.vm_commands.specs.Popping.{next_of}
 use Rattle.vm_entries.specs.Gathering.{without_input}
 use Rattle.vm_errors.specs.Failing.{ended}
-use Rattle.vm_feeding.specs.Failing.{HasFailed}
-use Rattle.vm_feeding.specs.Feeding.{has_failed}
 use Rattle.vm_input.specs.Input.{input_given, where_scoped}
 use Rattle.vm_machine.specs.declared.machine_state.MachineState.{MachineState}
 use Rattle.vm_start.specs.Starts.{without_state}
@@ -33,6 +31,7 @@ use Rattle.feeding_laws.specs.Messages.{raw_of, MessageFits}
 use Rattle.feeding_laws.specs.Inputs.{gathered_all, commands_in}
 use Rattle.feeding_laws.proofs.Beginning.{inputs_read_back}
 use Rattle.feeding_laws.proofs.Memory.{fails_for_memory, answers_memory}
+use Rattle.feeding_laws.specs.Feeding.{HasFailed, has_failed}
 use Rattle.beginning_laws.specs.Standing.{IsInputOf, IsRunOf, start_told, Kind, kind_of, HasStarted}
 use Rattle.beginning_laws.specs.Laws.{AnswersInput, RefusesInput, InputsAreAnswered}
 use Rattle.beginning_laws.proofs.Messages.{with_left, entries_gathered, input_active, input_entries}

@@ -4,3 +4,4 @@ pub mod Reading
 pub mod Starting
 pub mod Input
 pub mod Beginning
+pub mod Passed

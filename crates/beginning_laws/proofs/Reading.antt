@@ -14,12 +14,12 @@ use Rattle.vm_calls.specs.Active.{Sees}
 use Rattle.vm_entries.specs.Gathering.{Gathers}
 use Rattle.vm_errors.specs.declared.phase.Phase.{Phase}
 use Rattle.vm_errors.specs.declared.phase.Phase.TheVariants as phases
-use Rattle.vm_feeding.specs.Feeding.{has_failed}
 use Rattle.vm_machine.specs.declared.machine_state.MachineState.{MachineState}
 use Rattle.feeding_laws.specs.Memory.{FailsForMemory}
 use Rattle.feeding_laws.specs.Messages.{MessageFits, phase_then, MessagesAreKept}
 use Rattle.feeding_laws.specs.Inputs.{bytes_of, IsFedEach, gathered_all, commands_in, phase_behind, AreWaitedFor, AreKept, TakesFirst}
 use Rattle.feeding_laws.proofs.Inputs.{gathered_append, commands_append, phase_append, stays_active, well_then, inputs_are_kept}
+use Rattle.feeding_laws.specs.Feeding.{has_failed}
 use Rattle.beginning_laws.specs.Standing.{IsArrival, IsInputOf, Kind, kind_of, HasStarted, IsAsked}
 use Rattle.beginning_laws.specs.Laws.{ReadsOn, JournalsAreRead, ReadsArrivals, ArrivalsAreRead}
 use Rattle.beginning_laws.proofs.Messages.{all_behind, all_in_front, arrivals_waited_for, waited_behind, input_waited_for, arrivals_gathered}

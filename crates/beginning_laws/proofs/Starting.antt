@@ -22,7 +22,6 @@ use Rattle.vm_causes.specs.Causes.{Tells}
 use Rattle.vm_entries.specs.Gathering.{Gathers}
 use Rattle.vm_errors.specs.declared.phase.Phase.{Phase}
 use Rattle.vm_errors.specs.declared.phase.Phase.TheVariants as phases
-use Rattle.vm_feeding.specs.Feeding.{has_failed, with_bytes, with_input, TakesNext, TakesEach, StopsAt, Stops, Rests, RestsWhere, IsFed}
 use Rattle.vm_machine.specs.declared.machine_state.MachineState.{MachineState}
 use Rattle.feeding_laws.specs.Memory.{FailsForMemory}
 use Rattle.feeding_laws.specs.Messages.{MessagesAreKept}
@@ -31,6 +30,7 @@ use Rattle.feeding_laws.specs.Inputs.{bytes_of, IsFedEach, AreWaitedFor}
 use Rattle.feeding_laws.proofs.Beginning.{starts_read_back}
 use Rattle.feeding_laws.proofs.Inputs.{extended, same_found, same_message, unknown_is_none, Took, took_none, took_bytes, took_next, took_whole, memory_stays}
 use Rattle.feeding_laws.proofs.Memory.{unless_refused, fails_for_memory, memory_over}
+use Rattle.feeding_laws.specs.Feeding.{has_failed, with_bytes, with_input, TakesNext, TakesEach, StopsAt, Stops, Rests, RestsWhere, IsFed}
 use Rattle.beginning_laws.specs.Standing.{IsInputOf, start_told, CanBegin, Kind, kind_of, AwaitsStart, HasStarted}
 use Rattle.beginning_laws.specs.Laws.{HoldsStart, ReadsOn, StartsAreRead}
 use Rattle.beginning_laws.proofs.Messages.{input_waited_for}

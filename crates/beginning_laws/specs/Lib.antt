@@ -1,3 +1,4 @@
 pub mod Inputs
 pub mod Standing
 pub mod Laws
+pub mod Reading

@@ -5,6 +5,7 @@
 ghost use Rattle.beginning_laws.specs.Inputs.{InputsAreRead};
 ghost use Rattle.beginning_laws.specs.Laws.{StartsAreRead, JournalsAreRead, ArrivalsAreRead, InputsAreAnswered, AttemptsBegin};
 
+pub use feeding_laws::inputs_are_kept;
 use feeding_laws::{messages_are_kept, starts_are_kept};
 use vm_entries::calls_follow_the_input;
 

@@ -23,9 +23,9 @@ use Rattle.vm_entries.specs.Gathering.{Gathers}
 use Rattle.vm_errors.specs.declared.phase.Phase.{Phase}
 use Rattle.vm_errors.specs.declared.phase.Phase.TheVariants as phases
 use Rattle.vm_feeding.specs.Feeding.{has_failed, with_bytes, with_input, TakesNext, TakesEach, StopsAt, Stops, Rests, RestsWhere, IsFed}
+use Rattle.vm_feeding.specs.Passed.{MachineState}
 use Rattle.protocol_stream.proofs.Fronts.{item_at_extends}
 use Rattle.protocol_wire.proofs.Extends.{Extends}
-use Rattle.vm_machine.specs.declared.machine_state.MachineState.{MachineState}
 use Rattle.feeding_laws.specs.Memory.{FailsForMemory}
 use Rattle.feeding_laws.specs.Messages.{raw_of, MessageFits, IsWaitedFor, KeepsMessage, command_in, gathered, phase_then, Kept, Unkept, MessagesAreKept}
 use Rattle.feeding_laws.specs.Inputs.{bytes_of, IsFedEach, gathered_all, commands_in, phase_behind, AreWaitedFor, AreKept, TakesFirst, InputsAreKept}

@@ -12,7 +12,7 @@ use Rattle.vm_errors.specs.declared.phase.Phase.{Phase}
 use Rattle.vm_errors.specs.declared.phase.Phase.TheVariants as phases
 use Rattle.vm_feeding.specs.Failing.{HasFailed}
 use Rattle.vm_feeding.specs.Feeding.{has_failed}
-use Rattle.vm_machine.specs.declared.machine_state.MachineState.{MachineState}
+use Rattle.vm_feeding.specs.Passed.{MachineState}
 use Rattle.feeding_laws.specs.Memory.{FailsForMemory}
 use Rattle.feeding_laws.specs.Messages.{Unkept}
 

@@ -31,9 +31,7 @@ use Rattle.vm_entries.specs.declared.entry_error.EntryError.{EntryError}
 use Rattle.vm_entries.specs.declared.entry_error.EntryError.TheVariants as entries
 use Rattle.vm_entries.specs.Gathering.{Gathers, with_command, GathersCommands, GathersNotifications}
 use Rattle.vm_feeding.specs.Feeding.{with_bytes, TakesNext}
-use Rattle.vm_machine.specs.Failing.{MachineFails}
-use Rattle.vm_machine.specs.Receiving.{Takes, TakesAs, TakesNot, Receives, ReceivesCommand, ReceivesNotification}
-use Rattle.vm_machine.specs.declared.machine_state.MachineState.{MachineState}
+use Rattle.vm_feeding.specs.Passed.{MachineFails, Takes, TakesAs, TakesNot, Receives, ReceivesCommand, ReceivesNotification, MachineState}
 use Rattle.feeding_laws.specs.Messages.{raw_of, command_in, KeepsMessage, phase_then, Kept, Unkept, IsWaitedFor, MessagesAreKept}
 use Rattle.feeding_laws.proofs.Arrivals.{decodes}
 use Rattle.request_laws.proofs.Requests.{payload_read}

@@ -29,8 +29,7 @@ use Rattle.vm_entries.specs.Starting.{BeginsWith, Reads, ComesStart}
 use Rattle.vm_entries.specs.declared.entry_error.EntryError.{EntryError}
 use Rattle.vm_entries.specs.declared.entry_error.EntryError.TheVariants as entries
 use Rattle.vm_feeding.specs.Feeding.{has_failed, with_bytes}
-use Rattle.vm_machine.specs.Receiving.{TakesAs, TakesNot, ReceivesStart}
-use Rattle.vm_machine.specs.declared.machine_state.MachineState.{MachineState}
+use Rattle.vm_feeding.specs.Passed.{TakesAs, TakesNot, ReceivesStart, MachineState}
 use Rattle.vm_start.specs.Starts.{pairs_of, AreText, FirstNotText, StartFails, without_state}
 use Rattle.vm_start.specs.declared.error.StartError.{StartError}
 use Rattle.vm_start.specs.declared.error.StartError.TheVariants as starts

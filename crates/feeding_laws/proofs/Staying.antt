@@ -8,7 +8,7 @@ use Rattle.vm_errors.specs.Phases.{kept_error}
 use Rattle.vm_errors.specs.declared.phase.Phase.TheVariants as phases
 use Rattle.vm_feeding.specs.Feeding.{has_failed, with_input, TakesEach, RestsWhere, TakesAll, IsFed}
 use Rattle.vm_feeding.specs.Failing.{HasFailed}
-use Rattle.vm_machine.specs.declared.machine_state.MachineState.{MachineState}
+use Rattle.vm_feeding.specs.Passed.{MachineState}
 use Rattle.feeding_laws.specs.Inputs.{StaysFailed, FailedMachinesStay}
 
 -- it fails again with nothing

@@ -14,7 +14,7 @@ use Rattle.vm_errors.specs.declared.phase.Phase.{Phase}
 use Rattle.vm_errors.specs.declared.phase.Phase.TheVariants as phases
 use Rattle.vm_entries.specs.Gathering.{Gathers}
 use Rattle.vm_feeding.specs.Feeding.{has_failed, IsFed}
-use Rattle.vm_machine.specs.declared.machine_state.MachineState.{MachineState}
+use Rattle.vm_feeding.specs.Passed.{MachineState}
 use Rattle.feeding_laws.specs.Memory.{FailsForMemory}
 use Rattle.feeding_laws.specs.Messages.{MessageFits, IsWaitedFor, command_in, gathered, phase_then}
 

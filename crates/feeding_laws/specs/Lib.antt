@@ -4,3 +4,4 @@ pub mod Memory
 pub mod Messages
 pub mod Starting
 pub mod Inputs
+pub mod Feeding

@@ -2,7 +2,7 @@
 use Rattle.std.specs.Prelude.{◌≡◌}
 use Rattle.vm_errors.specs.Failing.{out_of_memory, ended}
 use Rattle.vm_errors.specs.declared.phase.Phase.TheVariants.{Failed}
-use Rattle.vm_machine.specs.declared.machine_state.MachineState.{MachineState}
+use Rattle.vm_feeding.specs.Passed.{MachineState}
 
 -- it has failed for want of memory, and has written nothing of that
 pub record FailsForMemory (old new : MachineState) : Type 0 where

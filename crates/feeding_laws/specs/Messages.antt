@@ -15,7 +15,7 @@ use Rattle.vm_errors.specs.declared.phase.Phase.{Phase}
 use Rattle.vm_errors.specs.declared.phase.Phase.TheVariants as phases
 use Rattle.vm_entries.specs.Gathering.{Gathers, with_command}
 use Rattle.vm_feeding.specs.Feeding.{LacksMemory, TakesNext}
-use Rattle.vm_machine.specs.declared.machine_state.MachineState.{MachineState}
+use Rattle.vm_feeding.specs.Passed.{MachineState}
 use Rattle.request_laws.specs.Fitting.{RequestFits}
 use Rattle.feeding_laws.specs.Arrivals.{ArrivalFits, IsNotificationType}
 use Rattle.feeding_laws.specs.Beginning.{InputFits}

@@ -17,7 +17,7 @@ use Rattle.vm_errors.specs.declared.phase.Phase.TheVariants as phases
 use Rattle.vm_entries.specs.Starting.{IsFresh}
 use Rattle.vm_entries.specs.Gathering.{Gathers}
 use Rattle.vm_feeding.specs.Feeding.{TakesNext}
-use Rattle.vm_machine.specs.declared.machine_state.MachineState.{MachineState}
+use Rattle.vm_feeding.specs.Passed.{MachineState}
 use Rattle.feeding_laws.specs.Beginning.{StartsFit}
 use Rattle.feeding_laws.specs.Memory.{FailsForMemory}
 

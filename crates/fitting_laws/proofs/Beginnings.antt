@@ -35,8 +35,8 @@ use Rattle.turn_laws.specs.Begun.{journal_after}
 use Rattle.position_laws.specs.Beginning.{AttemptStart, ShowsStart, IsBegunAs, start_after}
 use Rattle.position_laws.proofs.Beginning.{start_shows}
 use Rattle.children_laws.specs.Childless.{is_cancellation}
-use Rattle.feeding_laws.specs.Messages.{MessageFits}
-use Rattle.feeding_laws.proofs.Arrivals.{of_asked}
+use Rattle.beginning_laws.proofs.Passed.{of_asked}
+use Rattle.beginning_laws.specs.Reading.{MessageFits}
 use Rattle.beginning_laws.specs.Standing.{IsEntry}
 use Rattle.vm_start.specs.Starts.{AreText}
 use Rattle.fitting_laws.specs.Fitting.{AcceptedFits, AllFit}

@@ -21,8 +21,8 @@ use Rattle.input_laws.proofs.Events.{added_by, entries_now, entries_first, unbor
 use Rattle.input_laws.proofs.Telling.{arrivals_carried-append}
 use Rattle.children_laws.specs.Childless.{is_cancellation}
 use Rattle.request_laws.specs.Fitting.{RequestFits}
-use Rattle.feeding_laws.specs.Arrivals.{ArrivalFits, IsAsked, IsNotificationType}
-use Rattle.feeding_laws.proofs.Arrivals.{of_asked}
+use Rattle.beginning_laws.proofs.Passed.{of_asked}
+use Rattle.beginning_laws.specs.Reading.{ArrivalFits, IsAsked, IsNotificationType}
 use Rattle.sending_laws.specs.Sent.{is_recorded}
 use Rattle.fitting_events.specs.Fitting.{InvocationFits, ResultFits}
 use Rattle.fitting_laws.specs.Fitting.{AcceptedFits, AllFit}

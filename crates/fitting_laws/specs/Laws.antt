@@ -12,7 +12,7 @@ use Rattle.input_laws.specs.Message.{InputMessage, CarriesInput, CarriesArrival,
 use Rattle.position_laws.specs.Beginning.{AttemptStart, ShowsStart, IsBegunAs, start_after}
 use Rattle.machine_laws.specs.Living.{LiveAttempt, IsLiveMachine}
 use Rattle.children_laws.specs.Childless.{is_cancellation}
-use Rattle.feeding_laws.specs.Messages.{MessageFits}
+use Rattle.beginning_laws.specs.Reading.{MessageFits}
 use Rattle.beginning_laws.specs.Standing.{IsInputOf, CanBegin}
 use Rattle.fitting_laws.specs.Fitting.{AllFit}
 

@@ -5,11 +5,10 @@ use Rattle.protocol_headers.specs.Parts.{same_text}
 use Rattle.protocol_headers.specs.Records.{same_header}
 use Rattle.protocol_headers.specs.Payloads.{same_payload}
 use Rattle.protocol_headers.specs.Calls.{Called, called_by, called_one_way}
+use Rattle.protocol_headers.specs.Passed.{CallCommandMessage, OneWayCallCommandMessage}
 use Rattle.protocol_shown.specs.Texts.{quoted, escaped, list_text}
 use Rattle.protocol_records.specs.Texts.{header_text}
 use Rattle.protocol_differences.specs.Lines.{Compared, ◌before◌, field_line, text_line, optional_line, id_line, name_line}
-use Rattle.protocol_calls.specs.declared.call_command.CallCommandMessage.{CallCommandMessage}
-use Rattle.protocol_calls.specs.declared.one_way_call_command.OneWayCallCommandMessage.{OneWayCallCommandMessage}
 
 -- what calls of both kinds have
 abbrev pub called_lines : Called → Called → Compared

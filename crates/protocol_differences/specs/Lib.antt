@@ -5,3 +5,4 @@ pub mod Lines
 pub mod Mismatch
 pub mod Promises
 pub mod State
+pub mod Passed

@@ -1,12 +1,8 @@
 -- Commands on promises, and the effect. How two of them differ, as text.
 use Rattle.std.specs.Prelude.{ℕ, false, List, codes}
+use Rattle.protocol_headers.specs.Passed.{completion_text, GetPromiseCommandMessage, PeekPromiseCommandMessage, CompletePromiseCommandMessage, RunCommandMessage}
 use Rattle.protocol_headers.specs.Payloads.{same_completion}
-use Rattle.protocol_commands.specs.Texts.{completion_text}
 use Rattle.protocol_differences.specs.Lines.{Compared, ◌before◌, text_line, optional_line, id_line, name_line}
-use Rattle.protocol_commands.specs.declared.get_promise_command.GetPromiseCommandMessage.{GetPromiseCommandMessage}
-use Rattle.protocol_commands.specs.declared.peek_promise_command.PeekPromiseCommandMessage.{PeekPromiseCommandMessage}
-use Rattle.protocol_commands.specs.declared.complete_promise_command.CompletePromiseCommandMessage.{CompletePromiseCommandMessage}
-use Rattle.protocol_commands.specs.declared.run_command.RunCommandMessage.{RunCommandMessage}
 
 abbrev pub get_promise_command_lines : GetPromiseCommandMessage → GetPromiseCommandMessage → Compared
 get_promise_command_lines x y = text_line (codes "key") x.key y.key before id_line x.result_completion_id y.result_completion_id before name_line x.name y.name

@@ -11,15 +11,13 @@ ghost use Rattle.protocol_differences.specs.Lines.{silent_told};
 
 use crate::CommandMessageHeaderDiff;
 use crate::lines::{write_field, write_id, write_payload};
-use protocol_calls::{
-    AttachInvocationCommandMessage, CallCommandMessage, CompleteAwakeableCommandMessage,
-    GetInvocationOutputCommandMessage, OneWayCallCommandMessage, SendSignalCommandMessage,
-};
-use protocol_commands::{
-    ClearAllStateCommandMessage, ClearStateCommandMessage, CompletePromiseCommandMessage,
-    GetEagerStateCommandMessage, GetEagerStateKeysCommandMessage, GetLazyStateCommandMessage,
-    GetLazyStateKeysCommandMessage, GetPromiseCommandMessage, PeekPromiseCommandMessage,
-    RunCommandMessage, SetStateCommandMessage,
+use protocol_headers::{
+    AttachInvocationCommandMessage, CallCommandMessage, ClearAllStateCommandMessage,
+    ClearStateCommandMessage, CompleteAwakeableCommandMessage, CompletePromiseCommandMessage,
+    GetEagerStateCommandMessage, GetEagerStateKeysCommandMessage,
+    GetInvocationOutputCommandMessage, GetLazyStateCommandMessage, GetLazyStateKeysCommandMessage,
+    GetPromiseCommandMessage, OneWayCallCommandMessage, PeekPromiseCommandMessage,
+    RunCommandMessage, SendSignalCommandMessage, SetStateCommandMessage,
 };
 use protocol_records::{InputCommandMessage, OutputCommandMessage, SleepCommandMessage};
 use std::fmt;

@@ -1,5 +1,5 @@
 use bytes::ByteStr;
-use protocol_stream::CommandType;
+use protocol_errors::CommandType;
 
 /// Which command of the journal an error is about.
 #[derive(Debug, Clone, PartialEq, Eq, Drop)]

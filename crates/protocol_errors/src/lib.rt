@@ -20,6 +20,7 @@ pub use fixed::{
 };
 pub use metadata::{CommandMetadata, NotificationMetadata};
 pub use mismatch::{CommandTypeMismatchError, write_mismatch};
+pub use protocol_stream::CommandType;
 pub use typed::{
     BadEagerStateKeyError, BadProposeRunCompletionAck, ClosedError, DefaultErrorFormatter,
     EphemeralStateGetWithClosedInput, ErrorFormatter, OutOfBoundsDuration, UnavailableEntryError,

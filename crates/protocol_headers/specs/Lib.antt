@@ -6,3 +6,4 @@ pub mod Parts
 pub mod Payloads
 pub mod Records
 pub mod Tells
+pub mod Passed

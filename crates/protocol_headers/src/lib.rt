@@ -15,6 +15,16 @@ mod records;
 mod same;
 
 pub use laws::header_equality_is_an_equivalence;
+pub use protocol_calls::{
+    AttachInvocationCommandMessage, CallCommandMessage, CompleteAwakeableCommandMessage,
+    GetInvocationOutputCommandMessage, OneWayCallCommandMessage, SendSignalCommandMessage,
+};
+pub use protocol_commands::{
+    ClearAllStateCommandMessage, ClearStateCommandMessage, CompletePromiseCommandMessage,
+    GetEagerStateCommandMessage, GetEagerStateKeysCommandMessage, GetLazyStateCommandMessage,
+    GetLazyStateKeysCommandMessage, GetPromiseCommandMessage, PeekPromiseCommandMessage,
+    RunCommandMessage, SetStateCommandMessage,
+};
 pub use same::{Same, SameBesidesPayload};
 
 /// A command with a name, which may be empty.

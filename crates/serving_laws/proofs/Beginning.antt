@@ -13,9 +13,8 @@ use Rattle.journal_model.specs.Start.{start_payload_of}
 use Rattle.vm_entries.specs.Starting.{IsFresh}
 use Rattle.vm_start.specs.Negotiation.{Negotiates}
 use Rattle.vm_start.specs.declared.negotiation.NegotiationError.{NegotiationError}
-use Rattle.feeding_laws.proofs.Inputs.{front, nothing_at, some_is_none}
-use Rattle.feeding_laws.proofs.Beginning.{starts_read_back}
 use Rattle.beginning_laws.proofs.Messages.{all_in_front}
+use Rattle.beginning_laws.proofs.Passed.{front, nothing_at, some_is_none, starts_read_back}
 use Rattle.serving_laws.specs.Attempts.{IsUnasked, FeedsUnless, output_of, Attempt, Finish}
 use Rattle.serving_laws.specs.Serving.{asking_by_text, kind_where, IsFedBy, Serves}
 use Rattle.serving_laws.specs.Keeping.{attempt_started, LacksMemory, BeginsServing}

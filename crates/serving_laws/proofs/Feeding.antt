@@ -5,8 +5,8 @@ use Rattle.std.specs.List.{AllByRecursion, list_any}
 use Rattle.journal_model.proofs.Extension.{run-same}
 use Rattle.input_laws.proofs.Telling.{arrivals_carried-append}
 use Rattle.machine_laws.specs.Laws.{MachinesStayLive}
-use Rattle.feeding_laws.proofs.Inputs.{stays_active}
 use Rattle.beginning_laws.proofs.Messages.{arrivals_waited_for, arrivals_gathered, all_in_front}
+use Rattle.beginning_laws.proofs.Passed.{stays_active}
 use Rattle.serving_laws.specs.Serving.{asking_by_text, IsFedBy, kind_where, HasNotRead, HasRead, Serves}
 use Rattle.serving_laws.specs.Keeping.{IsLiveAt, StaysServing, ReadsOn, LacksMemory, WritesNothing, FeedsServing}
 use Rattle.serving_laws.proofs.Beginning.{bytes_append, feeds_new}

@@ -6,8 +6,7 @@ ghost use Rattle.serving_laws.specs.Keeping.{NotesFollow, OversStay};
 ghost use Rattle.serving_laws.specs.Laws.{AttemptsBegin, EventsKeep, FeedsKeep, ClosesKeep, TakesKeep};
 
 pub use beginning_laws::inputs_are_answered;
-use beginning_laws::{journals_are_read, starts_are_read};
-use feeding_laws::inputs_are_kept;
+use beginning_laws::{inputs_are_kept, journals_are_read, starts_are_read};
 use journal_model::Handler;
 use machine_laws::machines_stay_live;
 

@@ -8,11 +8,10 @@ use Rattle.protocol_errors.specs.declared.error.Error.{Error}
 use Rattle.protocol_errors.specs.declared.fixed.FixedError.TheVariants as fixed
 use Rattle.protocol_types.specs.Version.{version_content_type}
 use Rattle.protocol_types.specs.declared.version.Version.{Version}
-use Rattle.vm_causes.specs.Causes.{Tells, Unless}
-use Rattle.vm_entries.specs.Starting.{IsFresh}
 use Rattle.vm_ephemeral.specs.Reads.{no_reads}
 use Rattle.vm_errors.specs.Failing.{out_of_memory}
 use Rattle.vm_errors.specs.declared.phase.Phase.TheVariants.{WaitingStart}
+use Rattle.vm_machine.specs.Passed.{Tells, Unless, IsFresh}
 use Rattle.vm_machine.specs.declared.machine_state.MachineState.{MachineState}
 use Rattle.vm_start.specs.Negotiation.{Negotiates, negotiation_code, negotiation_text, content_type}
 use Rattle.vm_start.specs.declared.negotiation.NegotiationError.{NegotiationError}

@@ -8,13 +8,11 @@ use Rattle.protocol_types.specs.Version.{version_number}
 use Rattle.protocol_types.specs.declared.message_type.MessageType.TheVariants.{InputCommand}
 use Rattle.protocol_types.specs.declared.version.Version.{Version}
 use Rattle.vm_calls.specs.declared.active.Active.{Active}
-use Rattle.vm_causes.specs.Causes.{InputCauses}
-use Rattle.vm_entries.specs.Input.{ReadsInput}
-use Rattle.vm_entries.specs.declared.input.InputError.{InputError}
 use Rattle.vm_input.specs.Input.{input_given}
 use Rattle.vm_types.specs.declared.options.VMOptions.{VMOptions}
 use Rattle.vm_machine.specs.Admitting.{IsElsewhere}
 use Rattle.vm_machine.specs.Failing.{MachineFails}
+use Rattle.vm_machine.specs.Passed.{InputCauses, ReadsInput, InputError}
 use Rattle.vm_machine.specs.Steps.{Steps}
 use Rattle.vm_machine.specs.declared.machine_state.MachineState.{MachineState}
 use Rattle.vm_beginning.specs.declared.reading.Reading.{Reading}

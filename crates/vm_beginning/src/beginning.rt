@@ -10,11 +10,9 @@ use protocol_stream::{Decoder, HeaderMap};
 use protocol_types::Version;
 use std::alloc::{AllocError, Global};
 use std::fmt;
-use vm_causes::about_nothing;
-use vm_entries::fresh_active;
 use vm_ephemeral::EphemeralCommands;
 use vm_errors::Phase;
-use vm_machine::MachineState;
+use vm_machine::{MachineState, about_nothing, fresh_active};
 use vm_start::{NegotiationError, negotiate, response_head};
 use vm_types::{ResponseHead, VMOptions};
 

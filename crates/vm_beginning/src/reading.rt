@@ -9,10 +9,8 @@ use protocol_records::{InputCommandMessage, StartMessage};
 use protocol_types::{MessageType, Version};
 use std::alloc::{AllocError, Global};
 use vm_calls::Active;
-use vm_causes::input_cause;
-use vm_entries::{InputError, read_input};
 use vm_input::input_of;
-use vm_machine::{Admission, MachineState};
+use vm_machine::{Admission, InputError, MachineState, input_cause, read_input};
 use vm_types::VMOptions;
 
 /// What becomes of a call that reads the input.

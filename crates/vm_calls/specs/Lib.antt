@@ -5,3 +5,4 @@ pub mod Making
 pub mod Handles
 pub mod Doing
 pub mod Spent
+pub mod Passed

@@ -22,3 +22,4 @@ pub use call_error::{CallError, NumberError};
 pub use options::{ignores, or_empty};
 pub use put_error::PutError;
 pub use putting::put;
+pub use vm_commands::{Command, ReplayError};

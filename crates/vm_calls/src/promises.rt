@@ -14,9 +14,9 @@ use journal_model::{NonEmptyValue, NotificationHandle, PayloadOptions};
 use protocol_commands::{
     CompletePromiseCommandMessage, GetPromiseCommandMessage, PeekPromiseCommandMessage,
 };
-use protocol_messages::to_promise_completion;
 use protocol_types::MessageType;
 use std::alloc::{AllocError, Global};
+use vm_commands::to_promise_completion;
 
 // The command that completes a promise, once its own completion's id is taken.
 fn completing_command(

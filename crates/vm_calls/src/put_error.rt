@@ -1,9 +1,8 @@
 // Why the command of a call was neither matched nor written.
-use protocol_differences::CommandMessageHeaderDiff;
 use protocol_errors::{InvocationErrorCode, WithInvocationErrorCode};
 use protocol_stream::EncodingError;
 use std::fmt;
-use vm_commands::ReplayError;
+use vm_commands::{CommandMessageHeaderDiff, ReplayError};
 
 /// Why the command of a call was neither matched nor written.
 #[derive(Debug, Drop)]

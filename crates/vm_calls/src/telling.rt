@@ -14,11 +14,11 @@ use protocol_calls::{
     CompleteAwakeableCommandMessage, SendSignalCommandMessage, SendSignalCommandResult,
     SendSignalCommandSignalId,
 };
-use protocol_messages::{to_awakeable_result, to_signal_result};
 use protocol_records::{OutputCommandMessage, Void};
 use protocol_stream::to_output_result;
 use protocol_types::MessageType;
 use std::alloc::Global;
+use vm_commands::{to_awakeable_result, to_signal_result};
 
 /// The signal that cancels an invocation.
 const CANCEL_SIGNAL: u32 = 1;

@@ -7,25 +7,17 @@ use Rattle.protocol_errors.specs.Error.{plain_error, decoding_code}
 use Rattle.protocol_errors.specs.Fixed.{fixed_code, fixed_text}
 use Rattle.protocol_errors.specs.declared.error.Error.{Error}
 use Rattle.protocol_stream.specs.declared.encoder.EncodingError.TheVariants as unsent
-use Rattle.vm_calls.specs.declared.call_error.CallError.{CallError}
-use Rattle.vm_calls.specs.declared.call_error.CallError.TheVariants as calls
-use Rattle.vm_calls.specs.declared.call_error.NumberError.{NumberError}
-use Rattle.vm_calls.specs.declared.call_error.NumberError.TheVariants as numbers
-use Rattle.vm_calls.specs.declared.put_error.PutError.{PutError}
-use Rattle.vm_calls.specs.declared.put_error.PutError.TheVariants.{Replay, Encoding}
-use Rattle.vm_calls.specs.Putting.{put_code, put_error_text}
-use Rattle.vm_commands.specs.declared.replay_error.ReplayError.TheVariants as unmatched
-use Rattle.vm_context.specs.Journal.{JournalCounts, command_told}
+use Rattle.vm_entries.specs.Passed.calls
+use Rattle.vm_entries.specs.Passed.numbers
+use Rattle.vm_entries.specs.Passed.starts
+use Rattle.vm_entries.specs.Passed.unmatched
+use Rattle.vm_entries.specs.Passed.{CallError, NumberError, PutError, Replay, Encoding, put_code, put_error_text, Phase, unexpected_error, start_code, start_text, JournalCounts, command_told}
 use Rattle.vm_entries.specs.declared.entry_error.EntryError.{EntryError}
 use Rattle.vm_entries.specs.declared.entry_error.EntryError.TheVariants as entries
 use Rattle.vm_entries.specs.declared.incoming.Incoming.{Incoming}
 use Rattle.vm_entries.specs.declared.incoming.Incoming.TheVariants as incoming
 use Rattle.vm_entries.specs.declared.input.InputError.{InputError}
 use Rattle.vm_entries.specs.declared.input.InputError.TheVariants as inputs
-use Rattle.vm_errors.specs.declared.phase.Phase.{Phase}
-use Rattle.vm_errors.specs.Phases.{unexpected_error}
-use Rattle.vm_start.specs.declared.error.StartError.TheVariants as starts
-use Rattle.vm_start.specs.Starts.{start_code, start_text}
 
 -- an error of this code, and of this text where one is known, about no command
 pub record Tells (code : ℕ) (text : Option (List ℕ)) (told : Error) : Type 0 where

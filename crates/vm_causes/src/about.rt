@@ -5,7 +5,7 @@ ghost use Rattle.vm_causes.specs.Causes.{Tells, TellsLast};
 use protocol_errors::{Error, WithInvocationErrorCode, to_error};
 use std::alloc::{AllocError, Global};
 use std::fmt;
-use vm_context::Journal;
+use vm_entries::Journal;
 
 /// The error of what came up, about no command.
 pub fn about_nothing<E: WithInvocationErrorCode + fmt::Display>(

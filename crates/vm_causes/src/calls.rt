@@ -7,10 +7,9 @@ use protocol_differences::CommandMessageHeaderDiff;
 use protocol_errors::Error;
 use protocol_stream::EncodingError;
 use std::alloc::{AllocError, Global};
-use vm_calls::{CallError, NumberError, PutError};
-use vm_commands::ReplayError;
-use vm_context::{IdsExhausted, Journal};
-use vm_entries::InputError;
+use vm_entries::{
+    CallError, IdsExhausted, InputError, Journal, NumberError, PutError, ReplayError,
+};
 
 fn lacks_memory<M>(error: &PutError<M>) -> bool
     ensures { result ≡ put_lacks_memory error.now }

@@ -6,9 +6,7 @@ use crate::about::about_nothing;
 use bytes::ByteStr;
 use protocol_errors::Error;
 use std::alloc::{AllocError, Global};
-use vm_entries::{EntryError, Incoming};
-use vm_errors::{Phase, unexpected};
-use vm_start::StartError;
+use vm_entries::{EntryError, Incoming, Phase, StartError, unexpected};
 
 // The name that errors have for a message that comes.
 fn event_name(kind: Incoming) -> ByteStr

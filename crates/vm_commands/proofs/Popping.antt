@@ -16,8 +16,8 @@ use Rattle.protocol_stream.specs.declared.decoder.RawMessage.{RawMessage}
 use Rattle.protocol_stream.specs.declared.decoder.DecodingError.{DecodingError}
 use Rattle.protocol_stream.specs.declared.decoder.DecodingError.TheVariants as unread
 use Rattle.protocol_messages.specs.Decoded.{DecodesTo, HasItsType, IsOther}
+use Rattle.protocol_differences.specs.Passed.{AreHeaderEqual}
 use Rattle.protocol_differences.specs.declared.mismatch.CommandMismatchError.{CommandMismatchError}
-use Rattle.protocol_headers.specs.Laws.{AreHeaderEqual}
 use Rattle.vm_commands.specs.declared.replay_error.ReplayError.{ReplayError}
 use Rattle.vm_commands.specs.declared.replay_error.ReplayError.TheVariants.{Unavailable, Decoding, Mismatch, OutOfMemory}
 use Rattle.vm_commands.specs.HeaderEquality.{header_equal, is_recorded}

@@ -11,7 +11,7 @@ use Rattle.protocol_stream.specs.declared.decoder.DecodingError.TheVariants as u
 use Rattle.protocol_messages.specs.Decoded.{DecodesTo, HasItsType, IsOther}
 use Rattle.protocol_stream.specs.Header.{message_type}
 use Rattle.protocol_types.specs.declared.message_type.MessageType.{MessageType}
-use Rattle.protocol_headers.specs.Laws.{AreHeaderEqual}
+use Rattle.protocol_differences.specs.Passed.{AreHeaderEqual}
 use Rattle.protocol_errors.specs.declared.mismatch.CommandTypeMismatchError.{CommandTypeMismatchError}
 use Rattle.std.proofs.lemmas.Option.{none-some}
 use Rattle.vm_commands.specs.declared.replay_error.ReplayError.{ReplayError}

@@ -5,3 +5,4 @@ pub mod Popping
 pub mod Recorded
 pub mod Retold
 pub mod StateReads
+pub mod Passed

@@ -12,8 +12,7 @@ use Rattle.protocol_stream.specs.declared.decoder.RawMessage.{RawMessage}
 use Rattle.protocol_stream.specs.Header.{message_type}
 use Rattle.protocol_messages.specs.RecordMessage.{type_of_record}
 use Rattle.protocol_messages.specs.Decoded.{HasItsType}
-use Rattle.protocol_headers.specs.Laws.{AreHeaderEqual}
-use Rattle.protocol_headers.specs.Tells.{Tells}
+use Rattle.protocol_differences.specs.Passed.{AreHeaderEqual, Tells}
 use Rattle.protocol_spellings.specs.Commands.{CommandRecord, command_record, command_parts}
 use Rattle.protocol_spellings.specs.Requests.{request_told}
 use Rattle.protocol_spellings.proofs.Back.{records_told}

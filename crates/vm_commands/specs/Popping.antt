@@ -14,7 +14,7 @@ use Rattle.protocol_errors.specs.Error.{decoding_code}
 use Rattle.protocol_errors.specs.Texts.{mismatch_text}
 use Rattle.protocol_differences.specs.declared.mismatch.CommandMismatchError.{CommandMismatchError}
 use Rattle.protocol_differences.specs.Mismatch.{place_text}
-use Rattle.protocol_headers.specs.Laws.{AreHeaderEqual}
+use Rattle.protocol_differences.specs.Passed.{AreHeaderEqual}
 use Rattle.vm_commands.specs.declared.replay_error.ReplayError.{ReplayError}
 use Rattle.vm_commands.specs.declared.replay_error.ReplayError.TheVariants.{Unavailable, Decoding, Mismatch, OutOfMemory}
 use Rattle.vm_commands.specs.HeaderEquality.{header_equal}

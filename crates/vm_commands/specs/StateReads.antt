@@ -12,7 +12,7 @@ use Rattle.protocol_stream.specs.Header.{message_type}
 use Rattle.protocol_messages.specs.RecordMessage.{type_of_record}
 use Rattle.protocol_messages.specs.Decoded.{DecodesTo, HasItsType}
 use Rattle.protocol_errors.specs.declared.mismatch.CommandTypeMismatchError.{CommandTypeMismatchError}
-use Rattle.protocol_headers.specs.Laws.{AreHeaderEqual}
+use Rattle.protocol_differences.specs.Passed.{AreHeaderEqual}
 use Rattle.vm_commands.specs.declared.replay_error.ReplayError.{ReplayError}
 use Rattle.vm_commands.specs.declared.replay_error.ReplayError.TheVariants.{Unavailable, Decoding, Mismatch, OutOfMemory}
 use Rattle.vm_commands.specs.declared.state_read.StateRead.{StateRead}

@@ -3,8 +3,7 @@ ghost use Rattle.std.specs.Prelude.{Option};
 ghost use Rattle.journal_model.specs.Request.{Request};
 ghost use Rattle.vm_commands.specs.Meant.{MeansRequests};
 
-use protocol_differences::CommandMessageHeaderDiff;
-use protocol_headers::NamedCommandMessage;
+use protocol_differences::{CommandMessageHeaderDiff, NamedCommandMessage};
 use protocol_messages::PlainMessage;
 
 /// A command that a call makes: it is matched with the recorded one, or written.

@@ -16,5 +16,7 @@ mod state_read;
 pub use command::Command;
 pub use eager_read::EagerRead;
 pub use pop::pop_journal_entry;
+pub use protocol_differences::CommandMessageHeaderDiff;
+pub use protocol_messages::{to_awakeable_result, to_promise_completion, to_signal_result};
 pub use replay_error::ReplayError;
 pub use state_read::{StateRead, StateReadError, pop_state_read};

@@ -2,3 +2,4 @@ pub mod Eager
 pub mod Following
 pub mod Journal
 pub mod Output
+pub mod Passed

@@ -1,5 +1,5 @@
 // Ids that have run out.
-use protocol_errors::{InvocationErrorCode, WithInvocationErrorCode, codes};
+use protocol_differences::{InvocationErrorCode, WithInvocationErrorCode, codes};
 use thiserror::Error;
 
 /// V3: every number that an id may have was taken.
@@ -8,7 +8,7 @@ use thiserror::Error;
 pub struct IdsExhausted;
 
 impl WithInvocationErrorCode for IdsExhausted {
-    ghost use Rattle.protocol_errors.specs.Code.{internal};
+    ghost use Rattle.protocol_differences.specs.Passed.{internal};
 
     ghost code_of = { λ _. internal };
 

@@ -5,8 +5,7 @@ ghost use Rattle.protocol_differences.specs.declared.relationship.CommandRelatio
 
 use crate::IdsExhausted;
 use bytes::ByteStr;
-use protocol_differences::CommandRelationship;
-use protocol_errors::CommandMetadata;
+use protocol_differences::{CommandMetadata, CommandRelationship};
 use protocol_stream::MessageType;
 use std::alloc::AllocError;
 use std::marker::Model;

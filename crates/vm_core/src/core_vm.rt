@@ -23,8 +23,7 @@ ghost use Rattle.vm_feeding.specs.Feeding.{IsFed};
 ghost use Rattle.vm_feeding.specs.Telling.{IsTold};
 ghost use Rattle.vm_handles.specs.Calling.{IsCalled};
 ghost use Rattle.vm_handles.specs.Handles.{id_of, IsNamed, IsAwakeable, IsNoAwakeable, Looks, MakesSignal, TakesFirst, TakeCauses};
-ghost use Rattle.vm_machine.specs.Calls.{Calls};
-ghost use Rattle.vm_machine.specs.Steps.{IsUnexpected, Steps};
+ghost use Rattle.vm_syscalls.specs.Passed.{Calls, IsUnexpected, Steps};
 ghost use Rattle.vm_progress.specs.Awaiting.{DoesAwait};
 ghost use Rattle.vm_progress.specs.Ending.{EndsAs};
 ghost use Rattle.vm_reading.specs.Reading.{value_read, keys_read, StepsOfRead};
@@ -44,7 +43,7 @@ use std::alloc::{AllocError, Global};
 use std::fmt;
 use vm_beginning::begin;
 use vm_errors::Phase;
-use vm_machine::MachineState;
+use vm_syscalls::MachineState;
 use vm_types::{
     AwaitResponse, AwakeableHandle, CallHandle, EphemeralCompletionId, ResponseHead, SendHandle,
     State, VMOptions,

@@ -9,11 +9,8 @@ use Rattle.vm_awaits.specs.Calls.{with_queued}
 use Rattle.vm_awaits.specs.Views.{AsyncResults, results_of}
 use Rattle.vm_calls.specs.declared.active.Active.{Active}
 use Rattle.vm_calls.specs.Active.{Sees, left_of, has_left, still_replays}
-use Rattle.vm_commands.specs.Recorded.{command_of, commands_of}
-use Rattle.vm_context.specs.Eager.{KnownState}
-use Rattle.vm_context.specs.Following.{KnowsState}
-use Rattle.vm_context.specs.Journal.{JournalCounts}
-use Rattle.vm_context.specs.Output.{Written}
+use Rattle.vm_calls.specs.Passed.{command_of, commands_of}
+use Rattle.vm_errors.specs.Passed.{KnownState, KnowsState, JournalCounts, Written}
 use Rattle.vm_entries.specs.Gathering.{Gathers, BeginsGathering, GathersCommands, GathersNotifications, SeesBehindInput}
 
 pub begins_gathering : BeginsGathering

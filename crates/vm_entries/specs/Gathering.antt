@@ -11,8 +11,8 @@ use Rattle.vm_awaits.specs.Calls.{with_queued}
 use Rattle.vm_awaits.specs.Views.{results_of}
 use Rattle.vm_calls.specs.declared.active.Active.{Active}
 use Rattle.vm_calls.specs.Active.{Sees, left_of}
-use Rattle.vm_commands.specs.Recorded.{command_of}
-use Rattle.vm_context.specs.Following.{KnowsState}
+use Rattle.vm_calls.specs.Passed.{command_of}
+use Rattle.vm_errors.specs.Passed.{KnowsState}
 use Rattle.vm_types.specs.declared.options.JournalReplay.TheVariants.{Enabled}
 use Rattle.vm_entries.specs.Entries.{Pushes}
 use Rattle.vm_entries.specs.Input.{LeavesReplayed}

@@ -9,8 +9,8 @@ use Rattle.protocol_table.specs.declared.table.RecordType.TheVariants as records
 use Rattle.protocol_types.specs.declared.message_type.MessageType.TheVariants.{InputCommand}
 use Rattle.vm_calls.specs.declared.active.Active.{Active}
 use Rattle.vm_calls.specs.Active.{still_replays}
-use Rattle.vm_commands.specs.Popping.{next_of}
-use Rattle.vm_context.specs.Journal.{JournalCounts, after_command, after_skip}
+use Rattle.vm_calls.specs.Passed.{next_of}
+use Rattle.vm_errors.specs.Passed.{JournalCounts, after_command, after_skip}
 use Rattle.vm_types.specs.declared.options.JournalReplay.{JournalReplay}
 use Rattle.vm_entries.specs.declared.input.InputError.{InputError}
 use Rattle.vm_entries.specs.declared.input.InputError.TheVariants.{Unavailable, Decoding, OutOfMemory}

@@ -4,3 +4,4 @@ pub mod Starting
 pub mod Answers
 pub mod Input
 pub mod Gathering
+pub mod Passed

@@ -12,7 +12,7 @@ use Rattle.protocol_types.specs.declared.version.Version.{Version}
 use Rattle.vm_awaits.specs.Calls.{no_results}
 use Rattle.vm_awaits.specs.Views.{results_of}
 use Rattle.vm_calls.specs.declared.active.Active.{Active}
-use Rattle.vm_context.specs.Journal.{no_commands}
+use Rattle.vm_errors.specs.Passed.{no_commands}
 use Rattle.vm_errors.specs.declared.phase.Phase.{Phase}
 use Rattle.vm_errors.specs.declared.phase.Phase.TheVariants as phases
 use Rattle.vm_start.specs.Starts.{Begins, StartFails}

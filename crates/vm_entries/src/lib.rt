@@ -16,3 +16,6 @@ pub use incoming::{Incoming, kind_of};
 pub use input::{InputError, read_input};
 pub use laws::{calls_follow_the_input, entries_are_gathered, starts_begin_attempts};
 pub use starting::{fresh_active, receive_start};
+pub use vm_calls::{Active, CallError, Command, NumberError, PutError, ReplayError};
+pub use vm_errors::{IdsExhausted, Journal, Phase, again, fail, unexpected};
+pub use vm_start::StartError;

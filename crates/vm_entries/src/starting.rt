@@ -15,8 +15,7 @@ use std::collections::VecDeque;
 use std::mem::replace;
 use vm_awaits::AsyncResultsState;
 use vm_calls::Active;
-use vm_context::{EagerState, Journal, Output};
-use vm_errors::Phase;
+use vm_errors::{EagerState, Journal, Output, Phase};
 use vm_start::{Started, read_start};
 
 /// What is kept before anything has come.

@@ -17,7 +17,6 @@ use Rattle.protocol_stream.specs.declared.encoder.EncodingError.{EncodingError}
 use Rattle.protocol_stream.specs.declared.encoder.EncodingError.TheVariants as unsent
 use Rattle.protocol_types.specs.declared.message_type.MessageType.TheVariants as messages
 use Rattle.protocol_types.specs.declared.version.Version.{Version}
-use Rattle.vm_causes.specs.Causes.{Tells, Unless}
 use Rattle.vm_context.specs.Eager.{told_value}
 use Rattle.vm_context.specs.Output.{Written, with_frame}
 use Rattle.vm_context.specs.declared.eager_state.EagerGetState.{EagerGetState}
@@ -26,6 +25,7 @@ use Rattle.vm_ephemeral.specs.Reads.{known, asked, answer_of, after_take}
 use Rattle.vm_ephemeral.specs.declared.commands.RegisterError.{RegisterError}
 use Rattle.vm_ephemeral.specs.declared.commands.RegisterError.TheVariants as unregistered
 use Rattle.vm_machine.specs.Failing.{MachineFails}
+use Rattle.vm_machine.specs.Passed.{Tells, Unless}
 use Rattle.vm_machine.specs.Steps.{Steps, FailsBy, IsUnexpected}
 use Rattle.vm_machine.specs.declared.machine_state.MachineState.{MachineState}
 use Rattle.vm_types.specs.declared.handles.EphemeralCompletionId.{EphemeralCompletionId}

@@ -9,9 +9,8 @@ use crate::registering::{ask, register};
 use bytes::ByteStr;
 use journal_model::Value;
 use protocol_errors::{EPHEMERAL_COMMAND_DURING_REPLAY, Error};
-use vm_causes::about_nothing;
 use vm_context::EagerGetState;
-use vm_machine::{Admission, MachineState};
+use vm_machine::{Admission, MachineState, about_nothing};
 use vm_types::EphemeralCompletionId;
 
 // Fails with why the read is not made.

@@ -12,10 +12,9 @@ use protocol_controls::GetStateEphemeralCommandMessage;
 use protocol_errors::Error;
 use protocol_stream::EncodingError;
 use std::alloc::{AllocError, Global};
-use vm_causes::about_nothing;
 use vm_context::{IdsExhausted, Output};
 use vm_ephemeral::RegisterError;
-use vm_machine::MachineState;
+use vm_machine::{MachineState, about_nothing};
 use vm_types::EphemeralCompletionId;
 
 // What the machine fails with where a read has no number: it is about no command.

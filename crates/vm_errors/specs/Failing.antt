@@ -6,7 +6,6 @@ use Rattle.protocol_types.specs.declared.version.Version.{Version}
 use Rattle.protocol_types.specs.Version.{version_number}
 use Rattle.protocol_stream.specs.declared.decoder.RawMessage.{RawMessage}
 use Rattle.protocol_stream.specs.Frame.{spelled}
-use Rattle.protocol_messages.specs.Encoded.{record_message}
 use Rattle.protocol_wire.specs.declared.record.TheConstants.{LEVELS}
 use Rattle.protocol_controls.specs.Error.{error_parts, ErrorFits}
 use Rattle.protocol_errors.specs.Code.{internal}
@@ -14,6 +13,7 @@ use Rattle.protocol_errors.specs.Error.{plain_error}
 use Rattle.protocol_errors.specs.declared.error.Error.{Error}
 use Rattle.vm_types.specs.declared.options.JournalMismatchRetryBehavior.{JournalMismatchRetryBehavior}
 use Rattle.vm_context.specs.Output.{Written, with_frame}
+use Rattle.vm_context.specs.Passed.{record_message}
 use Rattle.vm_errors.specs.Failure.{failed_with, told_error}
 use Rattle.vm_errors.specs.Phases.{kept_error}
 use Rattle.vm_errors.specs.declared.phase.Phase.{Phase}

@@ -1,3 +1,4 @@
 pub mod Failure
 pub mod Phases
 pub mod Failing
+pub mod Passed

@@ -9,3 +9,4 @@ mod phase;
 pub use failing::{again, fail};
 pub use failure::{error_message, fail_with};
 pub use phase::{Phase, unexpected};
+pub use vm_context::{EagerState, IdsExhausted, Journal, Output};

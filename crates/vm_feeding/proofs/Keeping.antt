@@ -4,10 +4,6 @@ use Rattle.std.specs.declared.alloc.AllocError.{AllocError}
 use Rattle.protocol_errors.specs.declared.error.Error.{Error}
 use Rattle.protocol_stream.specs.declared.decoder.RawMessage.{RawMessage}
 use Rattle.protocol_stream.specs.Header.{message_type}
-use Rattle.vm_entries.specs.Incoming.{incoming_of}
-use Rattle.vm_entries.specs.declared.entry_error.EntryError.{EntryError}
-use Rattle.vm_entries.specs.declared.incoming.Incoming.{Incoming}
-use Rattle.vm_entries.specs.declared.incoming.Incoming.TheVariants as incoming
 use Rattle.vm_errors.specs.Failing.{FailsAs}
 use Rattle.vm_errors.specs.Phases.{kept_error}
 use Rattle.vm_errors.specs.declared.phase.Phase.{Phase}
@@ -15,6 +11,8 @@ use Rattle.vm_errors.specs.declared.phase.Phase.TheVariants as phases
 use Rattle.vm_feeding.specs.Failing.{HasFailed}
 use Rattle.vm_feeding.specs.Feeding.{has_failed, with_bytes}
 use Rattle.vm_machine.specs.Failing.{MachineFails}
+use Rattle.vm_machine.specs.Passed.incoming
+use Rattle.vm_machine.specs.Passed.{incoming_of, EntryError, Incoming}
 use Rattle.vm_machine.specs.Receiving.{Receives, Takes, TakesAs}
 use Rattle.vm_machine.specs.declared.machine_state.MachineState.{MachineState}
 

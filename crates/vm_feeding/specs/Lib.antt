@@ -4,3 +4,4 @@ pub mod Telling
 pub mod Asking
 pub mod Feeding
 pub mod Cuts
+pub mod Passed

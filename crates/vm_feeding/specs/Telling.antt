@@ -9,9 +9,9 @@ use Rattle.protocol_types.specs.Feature.{first_version, lacks_feature}
 use Rattle.protocol_types.specs.Version.{version_number}
 use Rattle.protocol_types.specs.declared.feature.Feature.TheVariants as features
 use Rattle.protocol_types.specs.declared.version.Version.{Version}
-use Rattle.vm_causes.specs.Causes.{Tells}
 use Rattle.vm_context.specs.Journal.{JournalCounts, command_told, copies_name}
 use Rattle.vm_feeding.specs.Failing.{HasFailed}
+use Rattle.vm_machine.specs.Passed.{Tells}
 use Rattle.vm_machine.specs.declared.machine_state.MachineState.{MachineState}
 use Rattle.vm_refusals.specs.Refusals.{unsupported_text}
 

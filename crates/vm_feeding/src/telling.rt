@@ -10,9 +10,8 @@ use protocol_errors::{Error, ErrorBehavior, InvocationErrorCode, WithInvocationE
 use protocol_types::{Feature, Version};
 use std::alloc::{AllocError, Global};
 use std::fmt;
-use vm_causes::about_nothing;
 use vm_context::Journal;
-use vm_machine::MachineState;
+use vm_machine::{MachineState, about_nothing};
 
 // Writes that a feature came with a later version.
 #[tactic(auto, unfolding(vm_refusals::specs::Refusals::unsupported_text))]

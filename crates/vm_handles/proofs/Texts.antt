@@ -7,7 +7,7 @@ use Rattle.vm_types.specs.declared.options.JournalReplay.{JournalReplay}
 use Rattle.vm_types.specs.declared.options.JournalReplay.TheVariants.{Enabled, Disabled}
 use Rattle.vm_calls.specs.declared.active.Active.{Active}
 use Rattle.vm_calls.specs.declared.call_error.NumberError.{NumberError}
-use Rattle.vm_causes.specs.Causes.{NumberCauses}
+use Rattle.vm_machine.specs.Passed.{NumberCauses}
 use Rattle.vm_machine.specs.declared.machine_state.MachineState.{MachineState}
 use Rattle.vm_handles.specs.Calling.{AnswersBy}
 use Rattle.vm_handles.specs.Handles.{id_of, MakesAwakeable, IsAwakeableWhere, IsNamed}

@@ -25,11 +25,11 @@ use Rattle.vm_calls.specs.Active.{Sees, TellsSame}
 use Rattle.vm_calls.specs.Handles.{LacksHandle, LacksSignal, GivesSignal, GivesAwakeable, MakesHandle}
 use Rattle.vm_calls.specs.declared.active.Active.{Active}
 use Rattle.vm_calls.specs.declared.call_error.NumberError.{NumberError}
-use Rattle.vm_causes.specs.Causes.{NumberCauses}
 use Rattle.vm_errors.specs.declared.phase.Phase.{Phase}
 use Rattle.vm_errors.specs.declared.phase.Phase.TheVariants as phases
 use Rattle.vm_waiting.specs.Waiting.{IsTaken, Takes}
 use Rattle.vm_machine.specs.Failing.{MachineFails}
+use Rattle.vm_machine.specs.Passed.{NumberCauses}
 use Rattle.vm_machine.specs.Steps.{IsUnexpected}
 use Rattle.vm_machine.specs.declared.machine_state.MachineState.{MachineState}
 use Rattle.vm_handles.specs.Calling.{IsCalled}

@@ -1,11 +1,10 @@
 // What a machine answers of a call that makes a handle and puts no command.
-ghost use Rattle.vm_causes.specs.Causes.{NumberCauses};
+ghost use Rattle.vm_machine.specs.Passed.{NumberCauses};
 ghost use Rattle.vm_handles.specs.Calling.{AnswersBy};
 
 use protocol_errors::Error;
 use vm_calls::NumberError;
-use vm_causes::number_cause;
-use vm_machine::MachineState;
+use vm_machine::{MachineState, number_cause};
 
 // What was made, or what the machine fails with: it is about no command.
 pub(crate) fn answer<T>(vm: &mut MachineState, made: Result<T, NumberError>) -> Result<T, Error>

@@ -1,6 +1,6 @@
 // The handle of a signal, of a machine in any phase.
 ghost use Rattle.std.specs.Prelude.{codes, None};
-ghost use Rattle.vm_causes.specs.Causes.{NumberCauses};
+ghost use Rattle.vm_machine.specs.Passed.{NumberCauses};
 ghost use Rattle.vm_machine.specs.Steps.{IsUnexpected, Steps};
 ghost use Rattle.vm_handles.specs.Calling.{IsCalled};
 ghost use Rattle.vm_handles.specs.Handles.{MakesSignal};

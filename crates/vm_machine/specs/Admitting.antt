@@ -7,13 +7,9 @@ use Rattle.protocol_errors.specs.declared.error.Error.{Error}
 use Rattle.protocol_types.specs.TypeText.{type_text}
 use Rattle.protocol_types.specs.declared.message_type.MessageType.{MessageType}
 use Rattle.protocol_types.specs.declared.version.Version.{Version}
-use Rattle.vm_calls.specs.Active.{asking}
 use Rattle.vm_causes.specs.Causes.{Tells}
-use Rattle.vm_context.specs.Journal.{JournalCounts, command_told}
-use Rattle.vm_errors.specs.Failing.{IsCopy}
-use Rattle.vm_errors.specs.Phases.{kept_error, unexpected_error}
-use Rattle.vm_errors.specs.declared.phase.Phase.{Phase}
-use Rattle.vm_errors.specs.declared.phase.Phase.TheVariants as phases
+use Rattle.vm_causes.specs.Passed.phases
+use Rattle.vm_causes.specs.Passed.{asking, IsCopy, kept_error, unexpected_error, Phase, JournalCounts, command_told}
 use Rattle.vm_refusals.specs.Refusals.{refusal_code, refusal_text}
 use Rattle.vm_refusals.specs.declared.refusal.CallRefusal.{CallRefusal}
 use Rattle.vm_refusals.specs.declared.refusal_error.RefusalError.{RefusalError}

@@ -4,3 +4,4 @@ pub mod Admitting
 pub mod Receiving
 pub mod Steps
 pub mod Calls
+pub mod Passed

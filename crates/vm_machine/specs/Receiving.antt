@@ -7,14 +7,8 @@ use Rattle.protocol_records.specs.declared.start.StartMessage.{StartMessage}
 use Rattle.protocol_stream.specs.declared.decoder.RawMessage.{RawMessage}
 use Rattle.protocol_stream.specs.Header.{message_type}
 use Rattle.vm_causes.specs.Causes.{EntryCauses}
-use Rattle.vm_entries.specs.Answers.{stage_of, ComesAnswer, ComesAcknowledgement}
-use Rattle.vm_entries.specs.Entries.{ComesCommand, ComesNotification}
-use Rattle.vm_entries.specs.Incoming.{incoming_of}
-use Rattle.vm_entries.specs.Starting.{ComesStart}
-use Rattle.vm_entries.specs.declared.entry_error.EntryError.{EntryError}
-use Rattle.vm_entries.specs.declared.entry_error.EntryError.TheVariants.{Fixed}
-use Rattle.vm_entries.specs.declared.incoming.Incoming.{Incoming}
-use Rattle.vm_entries.specs.declared.incoming.Incoming.TheVariants as incoming
+use Rattle.vm_causes.specs.Passed.incoming
+use Rattle.vm_causes.specs.Passed.{stage_of, ComesAnswer, ComesAcknowledgement, ComesCommand, ComesNotification, incoming_of, ComesStart, EntryError, Fixed, Incoming}
 use Rattle.vm_machine.specs.Failing.{MachineFails}
 use Rattle.vm_machine.specs.declared.machine_state.MachineState.{MachineState}
 

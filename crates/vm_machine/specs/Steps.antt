@@ -2,7 +2,7 @@
 use Rattle.std.specs.Prelude.{◌≡◌, List, ℕ, Option, Result, Ok, Err, IfOk}
 use Rattle.std.specs.declared.alloc.AllocError.{AllocError}
 use Rattle.protocol_errors.specs.declared.error.Error.{Error}
-use Rattle.vm_errors.specs.Phases.{unexpected_error}
+use Rattle.vm_causes.specs.Passed.{unexpected_error}
 use Rattle.vm_refusals.specs.declared.refusal_error.RefusalError.{RefusalError}
 use Rattle.vm_machine.specs.Admitting.{Admits}
 use Rattle.vm_machine.specs.Failing.{MachineFails}

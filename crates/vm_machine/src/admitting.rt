@@ -8,9 +8,7 @@ use bytes::ByteStr;
 use protocol_errors::Error;
 use protocol_types::{MessageType, Version};
 use std::alloc::{AllocError, Global};
-use vm_causes::about_nothing;
-use vm_context::Journal;
-use vm_errors::{Phase, again, unexpected};
+use vm_causes::{Journal, Phase, about_nothing, again, unexpected};
 use vm_refusals::{CallRefusal, RefusalError};
 
 /// What stands before a call.

@@ -4,7 +4,7 @@ ghost use Rattle.vm_machine.specs.Failing.{MachineFails};
 use crate::MachineState;
 use protocol_errors::Error;
 use std::alloc::AllocError;
-use vm_errors::fail;
+use vm_causes::fail;
 
 impl MachineState {
     /// Fails with what came up, or is answered again what it has failed with.

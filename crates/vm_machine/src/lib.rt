@@ -11,3 +11,6 @@ mod sleeping;
 pub use admitting::{Admission, refusal_error};
 pub use machine_state::MachineState;
 pub use sleeping::checks_off;
+pub use vm_causes::{
+    InputError, about_last, about_nothing, fresh_active, input_cause, number_cause, read_input,
+};

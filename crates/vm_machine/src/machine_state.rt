@@ -3,9 +3,8 @@ use protocol_records::StartMessage;
 use protocol_stream::Decoder;
 use protocol_types::Version;
 use std::alloc::Global;
-use vm_calls::Active;
+use vm_causes::{Active, Phase};
 use vm_ephemeral::EphemeralCommands;
-use vm_errors::Phase;
 use vm_types::VMOptions;
 
 /// All that a machine keeps.

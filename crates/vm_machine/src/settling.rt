@@ -3,9 +3,7 @@ ghost use Rattle.vm_machine.specs.Settling.{Settles};
 
 use crate::MachineState;
 use protocol_errors::Error;
-use vm_calls::CallError;
-use vm_causes::call_cause;
-use vm_commands::Command;
+use vm_causes::{CallError, Command, call_cause};
 
 impl MachineState {
     /// The answer of a call that puts one command: what it has made, or what the machine fails with.

@@ -11,8 +11,7 @@ use Rattle.vm_calls.specs.Making.{Replies}
 use Rattle.vm_calls.specs.declared.active.Active.{Active}
 use Rattle.vm_context.specs.Output.{Written}
 use Rattle.vm_waiting.specs.Waiting.{Becomes}
-use Rattle.vm_machine.specs.Calls.{checks_off}
-use Rattle.vm_machine.specs.declared.machine_state.MachineState.{MachineState}
+use Rattle.vm_feeding.specs.Passed.{checks_off, MachineState}
 use Rattle.vm_outcomes.specs.Carrying.{Answers}
 use Rattle.vm_outcomes.specs.Causes.{NumbersLeft}
 use Rattle.vm_outcomes.specs.Driven.{IsDriven, reply_of}

@@ -16,15 +16,11 @@ use Rattle.protocol_stream.specs.declared.encoder.EncodingError.{EncodingError}
 use Rattle.protocol_stream.specs.declared.encoder.EncodingError.TheVariants as unsent
 use Rattle.protocol_types.specs.declared.version.Version.{Version}
 use Rattle.vm_calls.specs.declared.active.Active.{Active}
-use Rattle.vm_causes.specs.Causes.{Tells}
 use Rattle.vm_context.specs.Output.{Written}
 use Rattle.vm_ephemeral.specs.Reads.{EphemeralReads, no_reads}
 use Rattle.vm_errors.specs.declared.phase.Phase.{Phase}
 use Rattle.vm_errors.specs.declared.phase.Phase.TheVariants as phases
-use Rattle.vm_machine.specs.Calls.{checks_off}
-use Rattle.vm_machine.specs.Failing.{MachineFails}
-use Rattle.vm_machine.specs.Steps.{IsUnexpected}
-use Rattle.vm_machine.specs.declared.machine_state.MachineState.{MachineState}
+use Rattle.vm_feeding.specs.Passed.{checks_off, MachineFails, IsUnexpected, MachineState, Tells}
 use Rattle.vm_progress.specs.Asleep.{LacksMemory, FailsUnwritten, SettlesStay, ClosesAs, SleepIs, SleepsAs}
 use Rattle.vm_progress.specs.Awaiting.{ready_read, GoesOnAs, IsAwaited, DoesAwaitWhere, DoesAwait}
 use Rattle.vm_progress.specs.Uncompleted.{started_id, TellsUncompleted}

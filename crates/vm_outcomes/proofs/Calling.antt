@@ -22,13 +22,9 @@ use Rattle.vm_calls.specs.declared.call_error.CallError.{CallError}
 use Rattle.vm_calls.specs.declared.call_error.CallError.TheVariants.{Number, Put, OutOfMemory}
 use Rattle.vm_calls.specs.declared.call_error.NumberError.TheVariants as numbers
 use Rattle.vm_calls.specs.declared.put_error.PutError.TheVariants.{Replay, Encoding}
-use Rattle.vm_causes.specs.Causes.{CallCauses}
 use Rattle.vm_commands.specs.declared.replay_error.ReplayError.TheVariants as unmatched
 use Rattle.vm_refusals.specs.declared.refusal_error.RefusalError.{RefusalError}
-use Rattle.vm_machine.specs.Admitting.{IsElsewhere, IsRefused}
-use Rattle.vm_machine.specs.Calls.{checks_off, IsOf, IsRefusalOf, IsMade, Calls}
-use Rattle.vm_machine.specs.Settling.{Settles}
-use Rattle.vm_machine.specs.declared.machine_state.MachineState.{MachineState}
+use Rattle.vm_feeding.specs.Passed.{IsElsewhere, IsRefused, checks_off, IsOf, IsRefusalOf, IsMade, Calls, Settles, MachineState, CallCauses}
 use Rattle.vm_outcomes.specs.Carrying.{Answers, Fails, Comes, CarriesOut}
 use Rattle.vm_outcomes.specs.Causes.{NoNumber, TooLong, LacksNumber, IsAsked, moment_event, HasCause}
 use Rattle.vm_outcomes.specs.Driven.{IsDriven, TracksNone}

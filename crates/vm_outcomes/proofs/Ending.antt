@@ -14,8 +14,7 @@ use Rattle.vm_context.specs.Output.{Written}
 use Rattle.vm_errors.specs.Phases.{kept_error, unexpected_error}
 use Rattle.vm_errors.specs.declared.phase.Phase.{Phase}
 use Rattle.vm_errors.specs.declared.phase.Phase.TheVariants as phases
-use Rattle.vm_machine.specs.Steps.{IsUnexpected}
-use Rattle.vm_machine.specs.declared.machine_state.MachineState.{MachineState}
+use Rattle.vm_feeding.specs.Passed.{IsUnexpected, MachineState}
 use Rattle.vm_progress.specs.Ending.{end_place, ClosesEnd, Ends, EndsAt, EndsAs}
 use Rattle.vm_progress.specs.declared.ending.EndPlace.{EndPlace}
 use Rattle.vm_progress.specs.declared.ending.EndPlace.TheVariants.{Elsewhere}

@@ -11,7 +11,6 @@ use Rattle.protocol_stream.specs.declared.decoder.DecodingError.{DecodingError}
 use Rattle.protocol_stream.specs.declared.decoder.DecodingError.TheVariants as undecoded
 use Rattle.protocol_types.specs.declared.version.Version.{Version}
 use Rattle.vm_calls.specs.declared.active.Active.{Active}
-use Rattle.vm_causes.specs.Causes.{Tells, TellsLast, Unless}
 use Rattle.vm_commands.specs.HeaderEquality.{same_header}
 use Rattle.vm_context.specs.Journal.{JournalCounts}
 use Rattle.vm_context.specs.Output.{Written}
@@ -20,10 +19,7 @@ use Rattle.vm_errors.specs.Phases.{kept_error}
 use Rattle.vm_errors.specs.declared.phase.Phase.TheVariants as phases
 use Rattle.vm_refusals.specs.Refusals.{refusal_meant, refusal_code, refusal_text, text_of_refusal}
 use Rattle.vm_refusals.specs.declared.refusal_error.RefusalError.{RefusalError}
-use Rattle.vm_machine.specs.Admitting.{IsRefused}
-use Rattle.vm_machine.specs.Calls.{checks_off}
-use Rattle.vm_machine.specs.Failing.{MachineFails}
-use Rattle.vm_machine.specs.declared.machine_state.MachineState.{MachineState}
+use Rattle.vm_feeding.specs.Passed.{IsRefused, checks_off, MachineFails, MachineState, Tells, TellsLast, Unless}
 use Rattle.vm_outcomes.specs.Carrying.{Fails}
 use Rattle.vm_outcomes.specs.Causes.{Cause, ByFault, NoNumber, TooLong, NoReplay, NoRuns, NoMemory, IsAsked, IsAsBefore, IsLookedAt, Leaves, IsMismatchCode, TellsEither, FaultTells, CauseTells, moment_event, HasCause}
 use Rattle.vm_outcomes.specs.Driven.{reply_of}

@@ -22,16 +22,13 @@ use Rattle.vm_calls.specs.Handles.{LacksHandle, LacksSignal, MakesHandle}
 use Rattle.vm_calls.specs.declared.active.Active.{Active}
 use Rattle.vm_calls.specs.declared.call_error.NumberError.{NumberError}
 use Rattle.vm_calls.specs.declared.call_error.NumberError.TheVariants as numbers
-use Rattle.vm_causes.specs.Causes.{NumberCauses}
 use Rattle.vm_errors.specs.declared.phase.Phase.{Phase}
 use Rattle.vm_handles.specs.Calling.{AnswersBy, IsCalled}
 use Rattle.vm_handles.specs.Handles.{MakesSignal, IsAwakeableWhere, IsAwakeable, IsNoAwakeable, TakesFirst, TakeCauses, Looks}
 use Rattle.vm_types.specs.declared.handles.AwakeableHandle.{AwakeableHandle}
 use Rattle.vm_types.specs.declared.options.JournalReplay.{JournalReplay}
 use Rattle.vm_types.specs.declared.options.JournalReplay.TheVariants.{Enabled, Disabled}
-use Rattle.vm_machine.specs.Calls.{checks_off}
-use Rattle.vm_machine.specs.Steps.{IsUnexpected, Steps}
-use Rattle.vm_machine.specs.declared.machine_state.MachineState.{MachineState}
+use Rattle.vm_feeding.specs.Passed.{checks_off, IsUnexpected, Steps, MachineState, NumberCauses}
 use Rattle.vm_outcomes.specs.Carrying.{Answers, Comes, CarriesOut}
 use Rattle.vm_outcomes.specs.Causes.{ByFault, NoNumber, NoReplay, NoMemory, LacksNumber, IsAsked, IsLookedAt, HasCause}
 use Rattle.vm_outcomes.specs.Driven.{IsDriven}

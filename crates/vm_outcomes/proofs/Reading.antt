@@ -25,8 +25,7 @@ use Rattle.vm_state_reads.specs.Reading.{ReadFailsAs, Reads}
 use Rattle.vm_state_reads.specs.Telling.{type_in_replay, type_behind, IsAtRead}
 use Rattle.vm_state_reads.specs.declared.read_error.ReadError.{ReadError}
 use Rattle.vm_state_reads.specs.declared.read_error.ReadError.TheVariants.{Number, Replay, Encoding, OutOfMemory}
-use Rattle.vm_machine.specs.Calls.{checks_off}
-use Rattle.vm_machine.specs.declared.machine_state.MachineState.{MachineState}
+use Rattle.vm_feeding.specs.Passed.{checks_off, MachineState}
 use Rattle.vm_outcomes.specs.Carrying.{Answers, Comes, CarriesOut}
 use Rattle.vm_outcomes.specs.Causes.{NoNumber, TooLong, IsAsked, HasCause}
 use Rattle.vm_outcomes.specs.Driven.{IsDriven}

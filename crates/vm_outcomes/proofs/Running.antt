@@ -14,9 +14,9 @@ use Rattle.vm_errors.specs.Phases.{kept_error}
 use Rattle.vm_errors.specs.declared.phase.Phase.{Phase}
 use Rattle.vm_errors.specs.declared.phase.Phase.TheVariants as phases
 use Rattle.vm_feeding.specs.Asking.{IsReady}
+use Rattle.vm_feeding.specs.Passed.{MachineState}
 use Rattle.vm_feeding.specs.Telling.{HostCauses, IsTold}
 use Rattle.vm_types.specs.declared.options.JournalMismatchRetryBehavior.{JournalMismatchRetryBehavior}
-use Rattle.vm_machine.specs.declared.machine_state.MachineState.{MachineState}
 use Rattle.vm_outcomes.specs.Carrying.{Fails, CarriesOut, StaysFailed, StaysClosed}
 use Rattle.vm_outcomes.specs.Causes.{NoRuns, no_runs_error}
 use Rattle.vm_outcomes.specs.Driven.{IsDriven}

@@ -19,7 +19,7 @@ use Rattle.vm_errors.specs.Phases.{closed_error}
 use Rattle.vm_errors.specs.declared.phase.Phase.{Phase}
 use Rattle.vm_errors.specs.declared.phase.Phase.TheVariants as phases
 use Rattle.vm_waiting.specs.Suspending.{tells_awaiting, TellsIf, TellsAsRun, IsSuspended}
-use Rattle.vm_machine.specs.declared.machine_state.MachineState.{MachineState}
+use Rattle.vm_feeding.specs.Passed.{MachineState}
 use Rattle.vm_outcomes.specs.Causes.{NumbersLeft, HasCause}
 use Rattle.vm_outcomes.specs.Driven.{IsDriven, TracksNone, reply_of}
 use Rattle.vm_outcomes.specs.declared.outcome.CallOutcome.{CallOutcome}

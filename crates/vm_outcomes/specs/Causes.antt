@@ -18,7 +18,6 @@ use Rattle.protocol_types.specs.declared.version.Version.{Version}
 use Rattle.vm_calls.specs.Active.{Sees, TellsSame, IsAtCommand}
 use Rattle.vm_calls.specs.Making.{IsLong}
 use Rattle.vm_calls.specs.declared.active.Active.{Active}
-use Rattle.vm_causes.specs.Causes.{Tells, TellsLast}
 use Rattle.vm_context.specs.Journal.{JournalCounts}
 use Rattle.vm_errors.specs.Phases.{unexpected_error}
 use Rattle.vm_errors.specs.declared.phase.Phase.TheVariants as phases
@@ -26,8 +25,7 @@ use Rattle.vm_refusals.specs.Refusals.{refusal_meant, refusal_code, text_of_refu
 use Rattle.vm_refusals.specs.declared.refusal.CallRefusal.{CallRefusal}
 use Rattle.vm_types.specs.declared.options.JournalReplay.TheVariants.{Disabled}
 use Rattle.vm_waiting.specs.Suspending.{over_ids, suspension_payload_in}
-use Rattle.vm_machine.specs.Calls.{checks_off}
-use Rattle.vm_machine.specs.declared.machine_state.MachineState.{MachineState}
+use Rattle.vm_feeding.specs.Passed.{checks_off, MachineState, Tells, TellsLast}
 use Rattle.vm_outcomes.specs.Driven.{reply_of}
 
 -- why a call is not carried out

@@ -7,7 +7,7 @@ use Rattle.journal_model.specs.declared.notification.NotificationId.{Notificatio
 use Rattle.protocol_errors.specs.Code.{journal_mismatch}
 use Rattle.protocol_errors.specs.declared.error.Error.{Error}
 use Rattle.protocol_errors.specs.declared.uncompleted.UncompletedDoProgressDuringReplay.{UncompletedDoProgressDuringReplay}
-use Rattle.vm_causes.specs.Causes.{Tells}
+use Rattle.vm_machine.specs.Passed.{Tells}
 use Rattle.vm_progress.specs.Uncompleted.{lists_over, NamesIn, TellsUncompleted}
 
 pub told_by : (invocation : Bytes) (tree : AwaitTree NotificationId) (error : UncompletedDoProgressDuringReplay) (text : Option (List ℕ)) (told : Result Error AllocError)

@@ -10,9 +10,9 @@ use Rattle.protocol_errors.specs.declared.fixed.FixedError.TheVariants.{Suspende
 use Rattle.protocol_stream.specs.declared.encoder.EncodingError.{EncodingError}
 use Rattle.protocol_stream.specs.declared.encoder.EncodingError.TheVariants.{PayloadTooLong, OutOfMemory}
 use Rattle.vm_calls.specs.declared.active.Active.{Active}
-use Rattle.vm_causes.specs.Causes.{Tells}
 use Rattle.vm_errors.specs.declared.phase.Phase.TheVariants.{Closed}
 use Rattle.vm_machine.specs.Failing.{MachineFails}
+use Rattle.vm_machine.specs.Passed.{Tells}
 use Rattle.vm_machine.specs.Steps.{FailsBy}
 use Rattle.vm_machine.specs.declared.machine_state.MachineState.{MachineState}
 use Rattle.vm_types.specs.declared.answers.AwaitResponse.{AwaitResponse}

@@ -12,8 +12,7 @@ use protocol_errors::{Error, UncompletedDoProgressDuringReplay};
 use protocol_records::{StartMessage, SuspensionMessageV6};
 use std::alloc::{AllocError, Global};
 use vm_awaits::AsyncResultsState;
-use vm_causes::about_nothing;
-use vm_machine::MachineState;
+use vm_machine::{MachineState, about_nothing};
 
 // The error over the ids in three lists.
 fn naming(

@@ -10,7 +10,7 @@ use Rattle.protocol_errors.specs.declared.fixed.FixedError.{FixedError}
 use Rattle.protocol_stream.specs.declared.encoder.EncodingError.{EncodingError}
 use Rattle.protocol_stream.specs.declared.encoder.EncodingError.TheVariants as unsent
 use Rattle.vm_calls.specs.declared.call_error.NumberError.TheVariants as numbers
-use Rattle.vm_causes.specs.Causes.{Tells, TellsLast, Unless}
+use Rattle.vm_machine.specs.Passed.{Tells, TellsLast, Unless}
 use Rattle.vm_commands.specs.Popping.{difference_text}
 use Rattle.vm_commands.specs.declared.replay_error.ReplayError.{ReplayError}
 use Rattle.vm_commands.specs.declared.replay_error.ReplayError.TheVariants as unmatched

@@ -7,9 +7,9 @@ use protocol_errors::{Error, FixedError};
 use protocol_stream::EncodingError;
 use std::alloc::{AllocError, Global};
 use vm_calls::NumberError;
-use vm_causes::about_last;
 use vm_commands::{ReplayError, StateReadError};
 use vm_context::{IdsExhausted, Journal};
+use vm_machine::about_last;
 use vm_state_reads::ReadError;
 
 // Of a recorded command that is not the read.

@@ -16,3 +16,4 @@ pub use state::{sys_state_clear, sys_state_clear_all, sys_state_set};
 pub use telling::{
     sys_cancel_invocation, sys_complete_awakeable, sys_complete_signal, sys_write_output,
 };
+pub use vm_machine::MachineState;

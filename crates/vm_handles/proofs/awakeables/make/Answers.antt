@@ -1,5 +1,5 @@
 use Rattle.std.proofs.Common.{sym, subst}
-use Rattle.vm_causes.specs.Causes.{NumberCauses}
+use Rattle.vm_machine.specs.Passed.{NumberCauses}
 use Rattle.vm_types.specs.declared.options.JournalReplay.{JournalReplay}
 use Rattle.vm_handles.specs.Handles.{id_of, MakesAwakeable, IsAwakeableWhere}
 use Rattle.vm_handles.proofs.Called.{called}

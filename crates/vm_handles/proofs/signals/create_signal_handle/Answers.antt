@@ -1,6 +1,6 @@
 use Rattle.std.proofs.Common.{None, codes}
-use Rattle.vm_causes.specs.Causes.{NumberCauses}
 use Rattle.vm_machine.proofs.Admitted.{steps_made}
+use Rattle.vm_machine.specs.Passed.{NumberCauses}
 use Rattle.vm_machine.specs.Steps.{IsUnexpected}
 use Rattle.vm_handles.specs.Calling.{IsCalled}
 use Rattle.vm_handles.specs.Handles.{MakesSignal}

@@ -1,0 +1,8 @@
+-- Names of crates below, passed on, so that crates above name this one alone.
+pub use Rattle.protocol_errors.specs.Code.{internal}
+pub use Rattle.protocol_errors.specs.declared.metadata.CommandMetadata.{CommandMetadata}
+pub use Rattle.protocol_headers.specs.Calls.{call_command_tells, one_way_call_command_tells, same_call_command, erased_call_command, same_one_way_call_command, erased_one_way_call_command}
+pub use Rattle.protocol_headers.specs.Commands.{output_command_tells, sleep_command_tells, get_lazy_state_command_tells, get_lazy_state_keys_command_tells, get_eager_state_command_tells, get_eager_state_keys_command_tells, set_state_command_tells, clear_state_command_tells, clear_all_state_command_tells, get_promise_command_tells, peek_promise_command_tells, complete_promise_command_tells, run_command_tells, send_signal_command_tells, attach_invocation_command_tells, get_invocation_output_command_tells, complete_awakeable_command_tells, same_output_command, erased_output_command, same_sleep_command, erased_sleep_command, same_get_lazy_state_command, erased_get_lazy_state_command, same_get_lazy_state_keys_command, erased_get_lazy_state_keys_command, same_get_eager_state_command, erased_get_eager_state_command, same_get_eager_state_keys_command, erased_get_eager_state_keys_command, same_set_state_command, erased_set_state_command, same_clear_state_command, erased_clear_state_command, same_clear_all_state_command, erased_clear_all_state_command, same_get_promise_command, erased_get_promise_command, same_peek_promise_command, erased_peek_promise_command, same_complete_promise_command, erased_complete_promise_command, same_run_command, erased_run_command, same_send_signal_command, erased_send_signal_command, same_attach_invocation_command, erased_attach_invocation_command, same_get_invocation_output_command, erased_get_invocation_output_command, same_complete_awakeable_command, erased_complete_awakeable_command}
+pub use Rattle.protocol_headers.specs.Laws.{AreHeaderEqual}
+pub use Rattle.protocol_headers.specs.Payloads.{erased_output_result, erased_state_result, erased_value, erased_completion, erased_awakeable_result}
+pub use Rattle.protocol_headers.specs.Tells.{Tells}
