@@ -1,8 +1,9 @@
 use crate::invocation_target::{InvocationTarget, len_target, put_target, target_at};
 use bytes::ByteStr;
+use protocol_records::both;
 use protocol_wire::table::attach_invocation_command::{NAME, RESULT_COMPLETION_ID};
 use protocol_wire::{
-    Record, RecordType, both, len_text, len_u32, put_text, put_u32, text_at, u32_at,
+    Payload, Record, RecordType, len_text, len_u32, put_text, put_u32, text_at, u32_at,
 };
 use std::alloc::{AllocError, Global};
 
@@ -34,7 +35,7 @@ impl Record for AttachInvocationCommandMessage {
 
     fn select(
         alloc: Global,
-        payload: &[u8],
+        payload: &Payload<'_>,
         levels: u32,
     ) -> Result<AttachInvocationCommandMessage, AllocError> {
         let (target, name) = both(

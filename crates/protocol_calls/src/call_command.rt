@@ -1,11 +1,11 @@
 use bytes::{ByteStr, Bytes};
-use protocol_records::Header;
+use protocol_records::{Header, all_three};
 use protocol_wire::table::call_command::{
     HANDLER_NAME, HEADERS, IDEMPOTENCY_KEY, INVOCATION_ID_NOTIFICATION_IDX, KEY, LIMIT_KEY, NAME,
     PARAMETER, RESULT_COMPLETION_ID, SCOPE, SERVICE_NAME,
 };
 use protocol_wire::{
-    Record, RecordType, all_three, bytes_at, len_bytes, len_optional_text, len_records, len_text,
+    Payload, Record, RecordType, bytes_at, len_bytes, len_optional_text, len_records, len_text,
     len_u32, optional_text_at, put_bytes, put_optional_text, put_records, put_text, put_u32,
     records_at, text_at, u32_at,
 };
@@ -50,7 +50,7 @@ impl Record for CallCommandMessage {
 
     fn select(
         alloc: Global,
-        payload: &[u8],
+        payload: &Payload<'_>,
         levels: u32,
     ) -> Result<CallCommandMessage, AllocError> {
         let names = all_three(

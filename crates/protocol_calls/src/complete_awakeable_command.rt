@@ -7,12 +7,12 @@ ghost use Rattle.protocol_table.specs.declared.table.RecordType.TheVariants.{Com
 ghost use Rattle.protocol_calls.specs.CompleteAwakeableCommand.{complete_awakeable_command_result_of, result_parts};
 
 use bytes::ByteStr;
-use protocol_records::{Failure, Value};
+use protocol_records::{Failure, Value, all_three};
 use protocol_wire::table::complete_awakeable_command::{
     AWAKEABLE_ID, FAILURE, NAME, RESULT, VALUE,
 };
 use protocol_wire::{
-    Record, RecordType, all_three, chosen_record_at, len_record, len_text, put_record, put_text,
+    Payload, Record, RecordType, chosen_record_at, len_record, len_text, put_record, put_text,
     text_at,
 };
 use std::alloc::{AllocError, Global};
@@ -34,7 +34,7 @@ pub struct CompleteAwakeableCommandMessage {
 
 fn result_at(
     alloc: Global,
-    payload: &[u8],
+    payload: &Payload<'_>,
     levels: u32,
 ) -> Result<Option<CompleteAwakeableCommandResult>, AllocError>
     requires { payload_fault levels complete_awakeable_command_type payload.now ≡ None }
@@ -95,7 +95,7 @@ impl Record for CompleteAwakeableCommandMessage {
 
     fn select(
         alloc: Global,
-        payload: &[u8],
+        payload: &Payload<'_>,
         levels: u32,
     ) -> Result<CompleteAwakeableCommandMessage, AllocError> {
         let (awakeable_id, result, name) = all_three(

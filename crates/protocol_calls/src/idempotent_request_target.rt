@@ -1,10 +1,11 @@
 use bytes::ByteStr;
+use protocol_records::{all_three, both};
 use protocol_wire::table::idempotent_request_target::{
     HANDLER_NAME, IDEMPOTENCY_KEY, SCOPE, SERVICE_KEY, SERVICE_NAME,
 };
 use protocol_wire::{
-    Record, RecordType, all_three, both, len_optional_text, len_text, optional_text_at,
-    put_optional_text, put_text, text_at,
+    Payload, Record, RecordType, len_optional_text, len_text, optional_text_at, put_optional_text,
+    put_text, text_at,
 };
 use std::alloc::{AllocError, Global};
 
@@ -37,7 +38,7 @@ impl Record for IdempotentRequestTarget {
 
     fn select(
         alloc: Global,
-        payload: &[u8],
+        payload: &Payload<'_>,
         levels: u32,
     ) -> Result<IdempotentRequestTarget, AllocError> {
         let names = all_three(

@@ -17,7 +17,8 @@ use protocol_wire::table::attach_invocation_command::{
     IDEMPOTENT_REQUEST_TARGET, INVOCATION_ID, TARGET, WORKFLOW_TARGET,
 };
 use protocol_wire::{
-    chosen_record_at, chosen_text_at, len_present_text, len_record, put_present_text, put_record,
+    Payload, chosen_record_at, chosen_text_at, len_present_text, len_record, put_present_text,
+    put_record,
 };
 use std::alloc::{AllocError, Global};
 
@@ -32,7 +33,7 @@ pub enum InvocationTarget {
 /// Which is meant by the last run of its fields, in a record with which nothing is wrong there.
 pub fn target_at(
     alloc: Global,
-    payload: &[u8],
+    payload: &Payload<'_>,
     levels: u32,
 ) -> Result<Option<InvocationTarget>, AllocError>
     requires { AreTexts (values INVOCATION_ID.number (fields payload.now)) × AreSound (payload_fault (levels - 1) workflow_target_type) (values WORKFLOW_TARGET.number (fields payload.now)) × AreSound (payload_fault (levels - 1) idempotent_request_target_type) (values IDEMPOTENT_REQUEST_TARGET.number (fields payload.now)) }

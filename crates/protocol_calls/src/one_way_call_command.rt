@@ -1,11 +1,11 @@
 use bytes::{ByteStr, Bytes};
-use protocol_records::Header;
+use protocol_records::{Header, all_three};
 use protocol_wire::table::one_way_call_command::{
     HANDLER_NAME, HEADERS, IDEMPOTENCY_KEY, INVOCATION_ID_NOTIFICATION_IDX, INVOKE_TIME, KEY,
     LIMIT_KEY, NAME, PARAMETER, SCOPE, SERVICE_NAME,
 };
 use protocol_wire::{
-    Record, RecordType, all_three, bytes_at, len_bytes, len_optional_text, len_records, len_text,
+    Payload, Record, RecordType, bytes_at, len_bytes, len_optional_text, len_records, len_text,
     len_u32, len_u64, optional_text_at, put_bytes, put_optional_text, put_records, put_text,
     put_u32, put_u64, records_at, text_at, u32_at, u64_at,
 };
@@ -50,7 +50,7 @@ impl Record for OneWayCallCommandMessage {
 
     fn select(
         alloc: Global,
-        payload: &[u8],
+        payload: &Payload<'_>,
         levels: u32,
     ) -> Result<OneWayCallCommandMessage, AllocError> {
         let names = all_three(

@@ -7,14 +7,14 @@ ghost use Rattle.protocol_table.specs.declared.table.RecordType.TheVariants.{Sen
 ghost use Rattle.protocol_calls.specs.SendSignalCommand.{send_signal_command_signal_id_of, signal_id_parts, send_signal_command_result_of, result_parts};
 
 use bytes::ByteStr;
-use protocol_records::{Failure, Value, Void};
+use protocol_records::{Failure, Value, Void, all_three, both};
 use protocol_wire::table::send_signal_command::{
     ENTRY_NAME, FAILURE, IDX, NAME, RESULT, SIGNAL_ID, TARGET_INVOCATION_ID, VALUE, VOID,
 };
 use protocol_wire::{
-    Record, RecordType, all_three, both, chosen_record_at, chosen_text_at, chosen_u32_at,
-    len_present_text, len_present_u32, len_record, len_text, put_present_text, put_present_u32,
-    put_record, put_text, text_at,
+    Payload, Record, RecordType, chosen_record_at, chosen_text_at, chosen_u32_at, len_present_text,
+    len_present_u32, len_record, len_text, put_present_text, put_present_u32, put_record, put_text,
+    text_at,
 };
 use std::alloc::{AllocError, Global};
 
@@ -44,7 +44,7 @@ pub struct SendSignalCommandMessage {
 
 fn signal_id_at(
     alloc: Global,
-    payload: &[u8],
+    payload: &Payload<'_>,
     levels: u32,
 ) -> Result<Option<SendSignalCommandSignalId>, AllocError>
     requires { payload_fault levels send_signal_command_type payload.now ≡ None }
@@ -84,7 +84,7 @@ fn len_signal_id(before: u64, one: &Option<SendSignalCommandSignalId>) -> u64
 
 fn result_at(
     alloc: Global,
-    payload: &[u8],
+    payload: &Payload<'_>,
     levels: u32,
 ) -> Result<Option<SendSignalCommandResult>, AllocError>
     requires { payload_fault levels send_signal_command_type payload.now ≡ None }
@@ -146,7 +146,7 @@ impl Record for SendSignalCommandMessage {
 
     fn select(
         alloc: Global,
-        payload: &[u8],
+        payload: &Payload<'_>,
         levels: u32,
     ) -> Result<SendSignalCommandMessage, AllocError> {
         let names = both(

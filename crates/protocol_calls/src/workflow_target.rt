@@ -1,8 +1,9 @@
 use bytes::ByteStr;
+use protocol_records::all_three;
 use protocol_wire::table::workflow_target::{SCOPE, WORKFLOW_KEY, WORKFLOW_NAME};
 use protocol_wire::{
-    Record, RecordType, all_three, len_optional_text, len_text, optional_text_at,
-    put_optional_text, put_text, text_at,
+    Payload, Record, RecordType, len_optional_text, len_text, optional_text_at, put_optional_text,
+    put_text, text_at,
 };
 use std::alloc::{AllocError, Global};
 
@@ -31,7 +32,11 @@ impl Record for WorkflowTarget {
         RecordType::WorkflowTarget
     }
 
-    fn select(alloc: Global, payload: &[u8], levels: u32) -> Result<WorkflowTarget, AllocError> {
+    fn select(
+        alloc: Global,
+        payload: &Payload<'_>,
+        levels: u32,
+    ) -> Result<WorkflowTarget, AllocError> {
         let (workflow_name, workflow_key, scope) = all_three(
             text_at(alloc, payload, WORKFLOW_NAME),
             text_at(alloc, payload, WORKFLOW_KEY),

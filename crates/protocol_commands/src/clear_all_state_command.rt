@@ -1,6 +1,6 @@
 use bytes::ByteStr;
 use protocol_wire::table::clear_all_state_command::NAME;
-use protocol_wire::{Record, RecordType, len_text, put_text, text_at};
+use protocol_wire::{Payload, Record, RecordType, len_text, put_text, text_at};
 use std::alloc::{AllocError, Global};
 
 /// The command that clears the object's state.
@@ -28,7 +28,7 @@ impl Record for ClearAllStateCommandMessage {
 
     fn select(
         alloc: Global,
-        payload: &[u8],
+        payload: &Payload<'_>,
         levels: u32,
     ) -> Result<ClearAllStateCommandMessage, AllocError> {
         Ok(ClearAllStateCommandMessage {

@@ -1,7 +1,7 @@
 use bytes::{ByteStr, Bytes};
 use protocol_wire::table::clear_state_command::{KEY, NAME};
 use protocol_wire::{
-    Record, RecordType, bytes_at, len_bytes, len_text, put_bytes, put_text, text_at,
+    Payload, Record, RecordType, bytes_at, len_bytes, len_text, put_bytes, put_text, text_at,
 };
 use std::alloc::{AllocError, Global};
 
@@ -31,7 +31,7 @@ impl Record for ClearStateCommandMessage {
 
     fn select(
         alloc: Global,
-        payload: &[u8],
+        payload: &Payload<'_>,
         levels: u32,
     ) -> Result<ClearStateCommandMessage, AllocError> {
         Ok(ClearStateCommandMessage {

@@ -7,12 +7,12 @@ ghost use Rattle.protocol_table.specs.declared.table.RecordType.TheVariants.{Com
 ghost use Rattle.protocol_commands.specs.CompletePromiseCommand.{complete_promise_command_completion_of, completion_parts};
 
 use bytes::ByteStr;
-use protocol_records::{Failure, Value};
+use protocol_records::{Failure, Value, all_three};
 use protocol_wire::table::complete_promise_command::{
     COMPLETION, COMPLETION_FAILURE, COMPLETION_VALUE, KEY, NAME, RESULT_COMPLETION_ID,
 };
 use protocol_wire::{
-    Record, RecordType, all_three, chosen_record_at, len_record, len_text, len_u32, put_record,
+    Payload, Record, RecordType, chosen_record_at, len_record, len_text, len_u32, put_record,
     put_text, put_u32, text_at, u32_at,
 };
 use std::alloc::{AllocError, Global};
@@ -36,7 +36,7 @@ pub struct CompletePromiseCommandMessage {
 
 fn completion_at(
     alloc: Global,
-    payload: &[u8],
+    payload: &Payload<'_>,
     levels: u32,
 ) -> Result<Option<CompletePromiseCommandCompletion>, AllocError>
     requires { payload_fault levels complete_promise_command_type payload.now ≡ None }
@@ -123,7 +123,7 @@ impl Record for CompletePromiseCommandMessage {
 
     fn select(
         alloc: Global,
-        payload: &[u8],
+        payload: &Payload<'_>,
         levels: u32,
     ) -> Result<CompletePromiseCommandMessage, AllocError> {
         let (key, completion, name) = all_three(

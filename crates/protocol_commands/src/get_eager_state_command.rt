@@ -7,10 +7,10 @@ ghost use Rattle.protocol_table.specs.declared.table.RecordType.TheVariants.{Get
 ghost use Rattle.protocol_commands.specs.GetEagerStateCommand.{get_eager_state_command_result_of, result_parts};
 
 use bytes::{ByteStr, Bytes};
-use protocol_records::{Value, Void};
+use protocol_records::{Value, Void, all_three};
 use protocol_wire::table::get_eager_state_command::{KEY, NAME, RESULT, VALUE, VOID};
 use protocol_wire::{
-    Record, RecordType, all_three, bytes_at, chosen_record_at, len_bytes, len_record, len_text,
+    Payload, Record, RecordType, bytes_at, chosen_record_at, len_bytes, len_record, len_text,
     put_bytes, put_record, put_text, text_at,
 };
 use std::alloc::{AllocError, Global};
@@ -32,7 +32,7 @@ pub struct GetEagerStateCommandMessage {
 
 fn result_at(
     alloc: Global,
-    payload: &[u8],
+    payload: &Payload<'_>,
     levels: u32,
 ) -> Result<Option<GetEagerStateCommandResult>, AllocError>
     requires { payload_fault levels get_eager_state_command_type payload.now ≡ None }
@@ -89,7 +89,7 @@ impl Record for GetEagerStateCommandMessage {
 
     fn select(
         alloc: Global,
-        payload: &[u8],
+        payload: &Payload<'_>,
         levels: u32,
     ) -> Result<GetEagerStateCommandMessage, AllocError> {
         let (key, name, result) = all_three(

@@ -1,8 +1,8 @@
 use bytes::ByteStr;
-use protocol_records::StateKeys;
+use protocol_records::{StateKeys, both};
 use protocol_wire::table::get_eager_state_keys_command::{NAME, VALUE};
 use protocol_wire::{
-    Record, RecordType, both, len_optional_record, len_text, optional_record_at,
+    Payload, Record, RecordType, len_optional_record, len_text, optional_record_at,
     put_optional_record, put_text, text_at,
 };
 use std::alloc::{AllocError, Global};
@@ -33,7 +33,7 @@ impl Record for GetEagerStateKeysCommandMessage {
 
     fn select(
         alloc: Global,
-        payload: &[u8],
+        payload: &Payload<'_>,
         levels: u32,
     ) -> Result<GetEagerStateKeysCommandMessage, AllocError> {
         let (name, value) = both(

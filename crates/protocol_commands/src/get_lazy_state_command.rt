@@ -1,8 +1,8 @@
 use bytes::{ByteStr, Bytes};
 use protocol_wire::table::get_lazy_state_command::{KEY, NAME, RESULT_COMPLETION_ID};
 use protocol_wire::{
-    Record, RecordType, bytes_at, len_bytes, len_text, len_u32, put_bytes, put_text, put_u32,
-    text_at, u32_at,
+    Payload, Record, RecordType, bytes_at, len_bytes, len_text, len_u32, put_bytes, put_text,
+    put_u32, text_at, u32_at,
 };
 use std::alloc::{AllocError, Global};
 
@@ -34,7 +34,7 @@ impl Record for GetLazyStateCommandMessage {
 
     fn select(
         alloc: Global,
-        payload: &[u8],
+        payload: &Payload<'_>,
         levels: u32,
     ) -> Result<GetLazyStateCommandMessage, AllocError> {
         Ok(GetLazyStateCommandMessage {

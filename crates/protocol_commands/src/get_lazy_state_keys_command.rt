@@ -1,6 +1,8 @@
 use bytes::ByteStr;
 use protocol_wire::table::get_lazy_state_keys_command::{NAME, RESULT_COMPLETION_ID};
-use protocol_wire::{Record, RecordType, len_text, len_u32, put_text, put_u32, text_at, u32_at};
+use protocol_wire::{
+    Payload, Record, RecordType, len_text, len_u32, put_text, put_u32, text_at, u32_at,
+};
 use std::alloc::{AllocError, Global};
 
 /// The command that lists the keys of the object's state, answered by a notification.
@@ -30,7 +32,7 @@ impl Record for GetLazyStateKeysCommandMessage {
 
     fn select(
         alloc: Global,
-        payload: &[u8],
+        payload: &Payload<'_>,
         levels: u32,
     ) -> Result<GetLazyStateKeysCommandMessage, AllocError> {
         Ok(GetLazyStateKeysCommandMessage {

@@ -1,6 +1,8 @@
 use bytes::ByteStr;
 use protocol_wire::table::peek_promise_command::{KEY, NAME, RESULT_COMPLETION_ID};
-use protocol_wire::{Record, RecordType, len_text, len_u32, put_text, put_u32, text_at, u32_at};
+use protocol_wire::{
+    Payload, Record, RecordType, len_text, len_u32, put_text, put_u32, text_at, u32_at,
+};
 use std::alloc::{AllocError, Global};
 
 /// The command that looks whether a promise is completed.
@@ -31,7 +33,7 @@ impl Record for PeekPromiseCommandMessage {
 
     fn select(
         alloc: Global,
-        payload: &[u8],
+        payload: &Payload<'_>,
         levels: u32,
     ) -> Result<PeekPromiseCommandMessage, AllocError> {
         Ok(PeekPromiseCommandMessage {

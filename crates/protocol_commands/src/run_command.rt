@@ -1,6 +1,8 @@
 use bytes::ByteStr;
 use protocol_wire::table::run_command::{NAME, RESULT_COMPLETION_ID};
-use protocol_wire::{Record, RecordType, len_text, len_u32, put_text, put_u32, text_at, u32_at};
+use protocol_wire::{
+    Payload, Record, RecordType, len_text, len_u32, put_text, put_u32, text_at, u32_at,
+};
 use std::alloc::{AllocError, Global};
 
 /// The command of an effect that the attempt itself carries out.
@@ -28,7 +30,11 @@ impl Record for RunCommandMessage {
         RecordType::RunCommand
     }
 
-    fn select(alloc: Global, payload: &[u8], levels: u32) -> Result<RunCommandMessage, AllocError> {
+    fn select(
+        alloc: Global,
+        payload: &Payload<'_>,
+        levels: u32,
+    ) -> Result<RunCommandMessage, AllocError> {
         Ok(RunCommandMessage {
             result_completion_id: u32_at(payload, RESULT_COMPLETION_ID),
             name: text_at(alloc, payload, NAME)?,

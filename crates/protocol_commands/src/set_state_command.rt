@@ -1,8 +1,8 @@
 use bytes::{ByteStr, Bytes};
-use protocol_records::Value;
+use protocol_records::{Value, all_three};
 use protocol_wire::table::set_state_command::{KEY, NAME, VALUE};
 use protocol_wire::{
-    Record, RecordType, all_three, bytes_at, len_bytes, len_optional_record, len_text,
+    Payload, Record, RecordType, bytes_at, len_bytes, len_optional_record, len_text,
     optional_record_at, put_bytes, put_optional_record, put_text, text_at,
 };
 use std::alloc::{AllocError, Global};
@@ -34,7 +34,7 @@ impl Record for SetStateCommandMessage {
 
     fn select(
         alloc: Global,
-        payload: &[u8],
+        payload: &Payload<'_>,
         levels: u32,
     ) -> Result<SetStateCommandMessage, AllocError> {
         let (key, value, name) = all_three(

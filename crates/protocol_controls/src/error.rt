@@ -1,10 +1,11 @@
 use bytes::ByteStr;
+use protocol_records::both;
 use protocol_wire::table::error::{
     BEHAVIOR, CODE, MESSAGE, NEXT_RETRY_DELAY, RELATED_COMMAND_INDEX, RELATED_COMMAND_NAME,
     RELATED_COMMAND_TYPE,
 };
 use protocol_wire::{
-    Record, RecordType, both, len_enum, len_optional_text, len_optional_u32, len_optional_u64,
+    Payload, Record, RecordType, len_enum, len_optional_text, len_optional_u32, len_optional_u64,
     len_text, len_u32, optional_text_at, optional_u32_at, optional_u64_at, put_enum,
     put_optional_text, put_optional_u32, put_optional_u64, put_text, put_u32, text_at, u32_at,
 };
@@ -43,7 +44,11 @@ impl Record for ErrorMessage {
         RecordType::Error
     }
 
-    fn select(alloc: Global, payload: &[u8], levels: u32) -> Result<ErrorMessage, AllocError> {
+    fn select(
+        alloc: Global,
+        payload: &Payload<'_>,
+        levels: u32,
+    ) -> Result<ErrorMessage, AllocError> {
         let (message, related_command_name) = both(
             text_at(alloc, payload, MESSAGE),
             optional_text_at(alloc, payload, RELATED_COMMAND_NAME),

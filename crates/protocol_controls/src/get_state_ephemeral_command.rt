@@ -1,6 +1,8 @@
 use bytes::Bytes;
 use protocol_wire::table::get_state_ephemeral_command::{EPHEMERAL_COMPLETION_ID, KEY};
-use protocol_wire::{Record, RecordType, bytes_at, len_bytes, len_u32, put_bytes, put_u32, u32_at};
+use protocol_wire::{
+    Payload, Record, RecordType, bytes_at, len_bytes, len_u32, put_bytes, put_u32, u32_at,
+};
 use std::alloc::{AllocError, Global};
 
 /// A read of the object's state that is not recorded.
@@ -30,7 +32,7 @@ impl Record for GetStateEphemeralCommandMessage {
 
     fn select(
         alloc: Global,
-        payload: &[u8],
+        payload: &Payload<'_>,
         levels: u32,
     ) -> Result<GetStateEphemeralCommandMessage, AllocError> {
         Ok(GetStateEphemeralCommandMessage {

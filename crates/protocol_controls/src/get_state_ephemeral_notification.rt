@@ -11,7 +11,7 @@ use protocol_wire::table::get_state_ephemeral_notification::{
     EPHEMERAL_COMPLETION_ID, RESULT, VALUE, VOID,
 };
 use protocol_wire::{
-    Record, RecordType, chosen_record_at, len_record, len_u32, put_record, put_u32, u32_at,
+    Payload, Record, RecordType, chosen_record_at, len_record, len_u32, put_record, put_u32, u32_at,
 };
 use std::alloc::{AllocError, Global};
 
@@ -31,7 +31,7 @@ pub struct GetStateEphemeralNotificationMessage {
 
 fn result_at(
     alloc: Global,
-    payload: &[u8],
+    payload: &Payload<'_>,
     levels: u32,
 ) -> Result<Option<GetStateEphemeralNotificationResult>, AllocError>
     requires { payload_fault levels get_state_ephemeral_notification_type payload.now ≡ None }
@@ -90,7 +90,7 @@ impl Record for GetStateEphemeralNotificationMessage {
 
     fn select(
         alloc: Global,
-        payload: &[u8],
+        payload: &Payload<'_>,
         levels: u32,
     ) -> Result<GetStateEphemeralNotificationMessage, AllocError> {
         Ok(GetStateEphemeralNotificationMessage {

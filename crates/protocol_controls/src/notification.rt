@@ -7,13 +7,13 @@ ghost use Rattle.protocol_table.specs.declared.table.RecordType.TheVariants.{Not
 ghost use Rattle.protocol_controls.specs.Notification.{notification_id_of, id_parts, notification_result_of, result_parts};
 
 use bytes::ByteStr;
-use protocol_records::{Failure, StateKeys, Value, Void};
+use protocol_records::{Failure, StateKeys, Value, Void, both};
 use protocol_wire::table::notification::{
     COMPLETION_ID, FAILURE, ID, INVOCATION_ID, RESULT, SIGNAL_ID, SIGNAL_NAME, STATE_KEYS, VALUE,
     VOID,
 };
 use protocol_wire::{
-    Record, RecordType, both, chosen_record_at, chosen_text_at, chosen_u32_at, len_present_text,
+    Payload, Record, RecordType, chosen_record_at, chosen_text_at, chosen_u32_at, len_present_text,
     len_present_u32, len_record, put_present_text, put_present_u32, put_record,
 };
 use std::alloc::{AllocError, Global};
@@ -45,7 +45,7 @@ pub struct NotificationMessage {
 
 fn id_at(
     alloc: Global,
-    payload: &[u8],
+    payload: &Payload<'_>,
     levels: u32,
 ) -> Result<Option<NotificationMessageId>, AllocError>
     requires { payload_fault levels notification_type payload.now ≡ None }
@@ -107,7 +107,7 @@ fn len_id(before: u64, one: &Option<NotificationMessageId>) -> u64
 
 fn result_at(
     alloc: Global,
-    payload: &[u8],
+    payload: &Payload<'_>,
     levels: u32,
 ) -> Result<Option<NotificationMessageResult>, AllocError>
     requires { payload_fault levels notification_type payload.now ≡ None }
@@ -193,7 +193,7 @@ impl Record for NotificationMessage {
 
     fn select(
         alloc: Global,
-        payload: &[u8],
+        payload: &Payload<'_>,
         levels: u32,
     ) -> Result<NotificationMessage, AllocError> {
         let (id, result) = both(

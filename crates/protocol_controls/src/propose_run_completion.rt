@@ -10,8 +10,8 @@ use bytes::Bytes;
 use protocol_records::Failure;
 use protocol_wire::table::propose_run_completion::{FAILURE, RESULT, RESULT_COMPLETION_ID, VALUE};
 use protocol_wire::{
-    Record, RecordType, chosen_bytes_at, chosen_record_at, len_present_bytes, len_record, len_u32,
-    put_present_bytes, put_record, put_u32, u32_at,
+    Payload, Record, RecordType, chosen_bytes_at, chosen_record_at, len_present_bytes, len_record,
+    len_u32, put_present_bytes, put_record, put_u32, u32_at,
 };
 use std::alloc::{AllocError, Global};
 
@@ -31,7 +31,7 @@ pub struct ProposeRunCompletionMessage {
 
 fn result_at(
     alloc: Global,
-    payload: &[u8],
+    payload: &Payload<'_>,
     levels: u32,
 ) -> Result<Option<ProposeRunCompletionResult>, AllocError>
     requires { payload_fault levels propose_run_completion_type payload.now ≡ None }
@@ -90,7 +90,7 @@ impl Record for ProposeRunCompletionMessage {
 
     fn select(
         alloc: Global,
-        payload: &[u8],
+        payload: &Payload<'_>,
         levels: u32,
     ) -> Result<ProposeRunCompletionMessage, AllocError> {
         Ok(ProposeRunCompletionMessage {

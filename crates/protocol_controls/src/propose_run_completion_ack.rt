@@ -1,5 +1,5 @@
 use protocol_wire::table::propose_run_completion_ack::COMPLETION_ID;
-use protocol_wire::{Record, RecordType, len_u32, put_u32, u32_at};
+use protocol_wire::{Payload, Record, RecordType, len_u32, put_u32, u32_at};
 use std::alloc::{AllocError, Global};
 
 /// The proposal of the run with this completion id is recorded.
@@ -27,7 +27,7 @@ impl Record for ProposeRunCompletionAckMessage {
 
     fn select(
         alloc: Global,
-        payload: &[u8],
+        payload: &Payload<'_>,
         levels: u32,
     ) -> Result<ProposeRunCompletionAckMessage, AllocError> {
         Ok(ProposeRunCompletionAckMessage {

@@ -1,4 +1,4 @@
-use protocol_wire::{Record, RecordType};
+use protocol_wire::{Payload, Record, RecordType};
 use std::alloc::{AllocError, Global};
 
 /// The end of an attempt that is done.
@@ -22,7 +22,7 @@ impl Record for EndMessage {
         RecordType::End
     }
 
-    fn select(alloc: Global, payload: &[u8], levels: u32) -> Result<EndMessage, AllocError> {
+    fn select(alloc: Global, payload: &Payload<'_>, levels: u32) -> Result<EndMessage, AllocError> {
         Ok(EndMessage {})
     }
 

@@ -1,7 +1,8 @@
+use crate::gather::both;
 use bytes::ByteStr;
 use protocol_wire::table::{failure, failure_metadata};
 use protocol_wire::{
-    Record, RecordType, both, len_records, len_text, len_u32, put_records, put_text, put_u32,
+    Payload, Record, RecordType, len_records, len_text, len_u32, put_records, put_text, put_u32,
     records_at, text_at, u32_at,
 };
 use sequence::Sequence;
@@ -31,7 +32,11 @@ impl Record for FailureMetadata {
         RecordType::FailureMetadata
     }
 
-    fn select(alloc: Global, payload: &[u8], levels: u32) -> Result<FailureMetadata, AllocError> {
+    fn select(
+        alloc: Global,
+        payload: &Payload<'_>,
+        levels: u32,
+    ) -> Result<FailureMetadata, AllocError> {
         Ok(FailureMetadata {
             key: text_at(alloc, payload, failure_metadata::KEY)?,
             value: text_at(alloc, payload, failure_metadata::VALUE)?,
@@ -77,7 +82,7 @@ impl Record for Failure {
         RecordType::Failure
     }
 
-    fn select(alloc: Global, payload: &[u8], levels: u32) -> Result<Failure, AllocError> {
+    fn select(alloc: Global, payload: &Payload<'_>, levels: u32) -> Result<Failure, AllocError> {
         let (message, metadata) = both(
             text_at(alloc, payload, failure::MESSAGE),
             records_at(alloc, payload, failure::METADATA, levels),

@@ -1,6 +1,6 @@
 use bytes::ByteStr;
 use protocol_wire::table::header::{KEY, VALUE};
-use protocol_wire::{Record, RecordType, len_text, put_text, text_at};
+use protocol_wire::{Payload, Record, RecordType, len_text, put_text, text_at};
 use std::alloc::{AllocError, Global};
 
 /// A header of an input or of a call. A key may come more than once.
@@ -27,7 +27,7 @@ impl Record for Header {
         RecordType::Header
     }
 
-    fn select(alloc: Global, payload: &[u8], levels: u32) -> Result<Header, AllocError> {
+    fn select(alloc: Global, payload: &Payload<'_>, levels: u32) -> Result<Header, AllocError> {
         Ok(Header {
             key: text_at(alloc, payload, KEY)?,
             value: text_at(alloc, payload, VALUE)?,

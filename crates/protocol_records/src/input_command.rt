@@ -1,9 +1,10 @@
+use crate::gather::all_three;
 use crate::header::Header;
 use crate::value::Value;
 use bytes::ByteStr;
 use protocol_wire::table::input_command::{HEADERS, NAME, VALUE};
 use protocol_wire::{
-    Record, RecordType, all_three, len_optional_record, len_records, len_text, optional_record_at,
+    Payload, Record, RecordType, len_optional_record, len_records, len_text, optional_record_at,
     put_optional_record, put_records, put_text, records_at, text_at,
 };
 use sequence::Sequence;
@@ -36,7 +37,7 @@ impl Record for InputCommandMessage {
 
     fn select(
         alloc: Global,
-        payload: &[u8],
+        payload: &Payload<'_>,
         levels: u32,
     ) -> Result<InputCommandMessage, AllocError> {
         let (headers, name, value) = all_three(

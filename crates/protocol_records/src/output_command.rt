@@ -7,11 +7,13 @@ ghost use Rattle.protocol_table.specs.declared.table.RecordType.TheVariants.{Out
 ghost use Rattle.protocol_records.specs.OutputCommand.{output_command_result_of, result_parts};
 
 use crate::failure::Failure;
+use crate::gather::both;
 use crate::value::Value;
 use bytes::ByteStr;
 use protocol_wire::table::output_command::{FAILURE, NAME, RESULT, VALUE};
 use protocol_wire::{
-    Record, RecordType, both, chosen_record_at, len_record, len_text, put_record, put_text, text_at,
+    Payload, Record, RecordType, chosen_record_at, len_record, len_text, put_record, put_text,
+    text_at,
 };
 use std::alloc::{AllocError, Global};
 
@@ -31,7 +33,7 @@ pub struct OutputCommandMessage {
 
 fn result_at(
     alloc: Global,
-    payload: &[u8],
+    payload: &Payload<'_>,
     levels: u32,
 ) -> Result<Option<OutputCommandResult>, AllocError>
     requires { payload_fault levels output_command_type payload.now ≡ None }
@@ -88,7 +90,7 @@ impl Record for OutputCommandMessage {
 
     fn select(
         alloc: Global,
-        payload: &[u8],
+        payload: &Payload<'_>,
         levels: u32,
     ) -> Result<OutputCommandMessage, AllocError> {
         let (name, result) = both(

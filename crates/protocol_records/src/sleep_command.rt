@@ -1,8 +1,8 @@
 use bytes::ByteStr;
 use protocol_wire::table::sleep_command::{NAME, RESULT_COMPLETION_ID, WAKE_UP_TIME};
 use protocol_wire::{
-    Record, RecordType, len_text, len_u32, len_u64, put_text, put_u32, put_u64, text_at, u32_at,
-    u64_at,
+    Payload, Record, RecordType, len_text, len_u32, len_u64, put_text, put_u32, put_u64, text_at,
+    u32_at, u64_at,
 };
 use std::alloc::{AllocError, Global};
 
@@ -35,7 +35,7 @@ impl Record for SleepCommandMessage {
 
     fn select(
         alloc: Global,
-        payload: &[u8],
+        payload: &Payload<'_>,
         levels: u32,
     ) -> Result<SleepCommandMessage, AllocError> {
         Ok(SleepCommandMessage {

@@ -1,7 +1,8 @@
+use crate::gather::all_three;
 use bytes::{ByteStr, Bytes};
 use protocol_wire::table::{start, state_entry};
 use protocol_wire::{
-    Record, RecordType, all_three, bool_at, bytes_at, len_bool, len_bytes, len_optional_text,
+    Payload, Record, RecordType, bool_at, bytes_at, len_bool, len_bytes, len_optional_text,
     len_records, len_text, len_u32, len_u64, optional_text_at, put_bool, put_bytes,
     put_optional_text, put_records, put_text, put_u32, put_u64, records_at, text_at, u32_at,
     u64_at,
@@ -33,7 +34,7 @@ impl Record for StateEntry {
         RecordType::StateEntry
     }
 
-    fn select(alloc: Global, payload: &[u8], levels: u32) -> Result<StateEntry, AllocError> {
+    fn select(alloc: Global, payload: &Payload<'_>, levels: u32) -> Result<StateEntry, AllocError> {
         Ok(StateEntry {
             key: bytes_at(alloc, payload, state_entry::KEY)?,
             value: bytes_at(alloc, payload, state_entry::VALUE)?,
@@ -94,7 +95,11 @@ impl Record for StartMessage {
         RecordType::Start
     }
 
-    fn select(alloc: Global, payload: &[u8], levels: u32) -> Result<StartMessage, AllocError> {
+    fn select(
+        alloc: Global,
+        payload: &Payload<'_>,
+        levels: u32,
+    ) -> Result<StartMessage, AllocError> {
         let names = all_three(
             bytes_at(alloc, payload, start::ID),
             text_at(alloc, payload, start::DEBUG_ID),

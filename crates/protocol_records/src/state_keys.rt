@@ -1,7 +1,7 @@
 use bytes::Bytes;
 use protocol_wire::table::state_keys::KEYS;
 use protocol_wire::{
-    Record, RecordType, len_repeated_bytes, put_repeated_bytes, repeated_bytes_at,
+    Payload, Record, RecordType, len_repeated_bytes, put_repeated_bytes, repeated_bytes_at,
 };
 use sequence::Sequence;
 use std::alloc::{AllocError, Global};
@@ -29,7 +29,7 @@ impl Record for StateKeys {
         RecordType::StateKeys
     }
 
-    fn select(alloc: Global, payload: &[u8], levels: u32) -> Result<StateKeys, AllocError> {
+    fn select(alloc: Global, payload: &Payload<'_>, levels: u32) -> Result<StateKeys, AllocError> {
         Ok(StateKeys {
             keys: repeated_bytes_at(alloc, payload, KEYS)?,
         })

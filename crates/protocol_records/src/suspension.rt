@@ -1,7 +1,7 @@
 use crate::future::Future;
 use protocol_wire::table::suspension::AWAITING_ON;
 use protocol_wire::{
-    Record, RecordType, len_optional_record, optional_record_at, put_optional_record,
+    Payload, Record, RecordType, len_optional_record, optional_record_at, put_optional_record,
 };
 use std::alloc::{AllocError, Global};
 
@@ -29,7 +29,11 @@ impl Record for SuspensionMessage {
         RecordType::Suspension
     }
 
-    fn select(alloc: Global, payload: &[u8], levels: u32) -> Result<SuspensionMessage, AllocError> {
+    fn select(
+        alloc: Global,
+        payload: &Payload<'_>,
+        levels: u32,
+    ) -> Result<SuspensionMessage, AllocError> {
         Ok(SuspensionMessage {
             awaiting_on: optional_record_at(alloc, payload, AWAITING_ON, levels)?,
         })

@@ -1,9 +1,10 @@
+use crate::gather::all_three;
 use bytes::ByteStr;
 use protocol_wire::table::suspension_v6::{
     WAITING_COMPLETIONS, WAITING_NAMED_SIGNALS, WAITING_SIGNALS,
 };
 use protocol_wire::{
-    Record, RecordType, all_three, len_numbers, len_texts, numbers_at, put_numbers, put_texts,
+    Payload, Record, RecordType, len_numbers, len_texts, numbers_at, put_numbers, put_texts,
     texts_at,
 };
 use sequence::Sequence;
@@ -39,7 +40,7 @@ impl Record for SuspensionMessageV6 {
 
     fn select(
         alloc: Global,
-        payload: &[u8],
+        payload: &Payload<'_>,
         levels: u32,
     ) -> Result<SuspensionMessageV6, AllocError> {
         let (waiting_completions, waiting_signals, waiting_named_signals) = all_three(

@@ -1,4 +1,4 @@
-use protocol_wire::{Record, RecordType};
+use protocol_wire::{Payload, Record, RecordType};
 use std::alloc::{AllocError, Global};
 
 /// Nothing: the result of what answers no value.
@@ -22,7 +22,7 @@ impl Record for Void {
         RecordType::Void
     }
 
-    fn select(alloc: Global, payload: &[u8], levels: u32) -> Result<Void, AllocError> {
+    fn select(alloc: Global, payload: &Payload<'_>, levels: u32) -> Result<Void, AllocError> {
         Ok(Void {})
     }
 

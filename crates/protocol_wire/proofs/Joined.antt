@@ -84,3 +84,11 @@ pub joined_step : (found : Bool) (before b : List ℕ) (number : ℕ) (f : Field
 joined_step found before b number f fs gs empty e t v =
     let hit : eqb f.number number ≡ true = eq-eqb f.number number t in
     rw (e, hit, v) (joined_push found before b (each_bytes (values number gs)) empty)
+
+-- ---- a payload that is there alone
+
+pub sole_sound : (levels : ℕ) (t : RecordType) (ws : List Wire) (b : List ℕ) → AreSound (payload_fault levels t) ws → each_bytes ws ≡ b ∷ [] → payload_fault levels t b ≡ None
+sole_sound levels t [] b h e = absurd cc
+sole_sound levels t (varint n ∷ ws) b h e = sole_sound levels t ws b h e
+sole_sound levels t (bytes c ∷ ws) b h e = let k = h.0 in cc
+sole_sound levels t (fixed ∷ ws) b h e = sole_sound levels t ws b h e

@@ -1,11 +1,13 @@
 -- The last run of a oneof, found from left to right.
 use Rattle.std.proofs.Common.{◌≡◌, ℕ, Bool, true, false, cond, eqb, List, [], ◌∷◌, ◌++◌, Option, Some, None, refl, sym, ap, ◌∙◌, append_assoc, eq-eqb}
+use Rattle.std.specs.Prelude.{option_map}
 use Rattle.std.proofs.lemmas.List.{append-nil}
 use Rattle.std.proofs.lemmas.Bool.{eqb-true}
 use Rattle.protocol_wire.specs.Wire.{Wire, varint, bytes, fixed, Field}
+use Rattle.protocol_wire.specs.Listed.{coming}
+use Rattle.protocol_wire.specs.declared.listed.Fields.{Fields}
 use Rattle.protocol_wire.specs.Sound.{AreTexts, AreSound}
 use Rattle.protocol_wire.specs.declared.check.Fault.{Fault}
-use Rattle.protocol_wire.specs.Fields.{fields}
 use Rattle.protocol_wire.specs.Selection.{values, run, is_among, among, all_numbered, last_run, variant_of, is_run}
 
 pub record Run (variants : List ℕ) (number : ℕ) (start rest whole : List Field) : Type 0 where
@@ -15,9 +17,17 @@ pub record Run (variants : List ℕ) (number : ℕ) (start rest whole : List Fie
   pub parts : among variants start ≡ current ++ among variants rest
   pub stands : last_run (among variants start) ≡ whole
 
-abbrev pub Running : List ℕ → Option (ℕ × List ℕ) → List Field → List Field → Type 0
+abbrev pub Running : List ℕ → Option (ℕ × List Field) → List Field → List Field → Type 0
 Running variants None rest whole = last_run (among variants rest) ≡ whole
-Running variants (Some x) rest whole = Run variants x.0 (fields x.1) rest whole
+Running variants (Some x) rest whole = Run variants x.0 x.1 rest whole
+
+-- What was found, with the fields from there on.
+abbrev pub onward : Option (ℕ × Fields) → Option (ℕ × List Field)
+onward o = option_map (λ x. (x.0, coming x.1)) o
+
+-- What was found, by its number alone.
+abbrev pub numbered : Option (ℕ × List Field) → Option (ℕ × List ℕ)
+numbered o = option_map (λ x. (x.0, [])) o
 
 pub eqb_comm : (m n : ℕ) → eqb m n ≡ eqb n m
 eqb_comm m n = go (eqb m n) (eqb n m) refl refl
@@ -76,7 +86,7 @@ last_run_same number (c ∷ a) h =
     let all : all_numbered c.number a ≡ true = rw s.0 s.1 in
     ap (λ (b : Bool). cond b (c ∷ a) (last_run a)) all
 
-pub run_skips : (variants : List ℕ) (found : Option (ℕ × List ℕ)) (fs gs whole : List Field) (f : Field) → Running variants found fs whole → fs ≡ f ∷ gs → is_among variants f.number ≡ false → Running variants found gs whole
+pub run_skips : (variants : List ℕ) (found : Option (ℕ × List Field)) (fs gs whole : List Field) (f : Field) → Running variants found fs whole → fs ≡ f ∷ gs → is_among variants f.number ≡ false → Running variants found gs whole
 run_skips variants None fs gs whole f h e left_out = ap last_run (sym (ap (among variants) e ∙ among_no variants f gs left_out)) ∙ h
 run_skips variants (Some x) fs gs whole f h e left_out =
     record { current = h.current; same = h.same; begins = h.begins; parts = h.parts ∙ ap (λ (r : List Field). h.current ++ r) (ap (among variants) e ∙ among_no variants f gs left_out); stands = h.stands }
@@ -85,7 +95,7 @@ variant_of-append : (a b : List Field) (number : ℕ) → variant_of a ≡ Some 
 variant_of-append [] b number h = absurd cc
 variant_of-append (f ∷ a) b number h = h
 
-pub run_goes_on : (variants : List ℕ) (found : Option (ℕ × List ℕ)) (fs gs whole : List Field) (f : Field) → Running variants found fs whole → fs ≡ f ∷ gs → is_among variants f.number ≡ true → is_run found f.number ≡ true → Running variants found gs whole
+pub run_goes_on : (variants : List ℕ) (found : Option (ℕ × List Field)) (fs gs whole : List Field) (f : Field) → Running variants found fs whole → fs ≡ f ∷ gs → is_among variants f.number ≡ true → is_run (numbered found) f.number ≡ true → Running variants found gs whole
 run_goes_on variants None fs gs whole f h e taken r = absurd cc
 run_goes_on variants (Some x) fs gs whole f h e taken r =
     let t : x.0 ≡ f.number = eqb-true x.0 f.number r in
@@ -98,11 +108,11 @@ run_goes_on variants (Some x) fs gs whole f h e taken r =
       stands = h.stands;
     }
 
-pub run_begins : (variants : List ℕ) (found : Option (ℕ × List ℕ)) (bs : List ℕ) (gs whole : List Field) (f : Field) → Running variants found (fields bs) whole → fields bs ≡ f ∷ gs → is_among variants f.number ≡ true → is_run found f.number ≡ false
-    → Running variants (Some (f.number, bs)) gs whole
-run_begins variants None bs gs whole f h e taken r =
+pub run_begins : (variants : List ℕ) (found : Option (ℕ × List Field)) (fs gs whole : List Field) (f : Field) → Running variants found fs whole → fs ≡ f ∷ gs → is_among variants f.number ≡ true → is_run (numbered found) f.number ≡ false
+    → Running variants (Some (f.number, fs)) gs whole
+run_begins variants None fs gs whole f h e taken r =
     record { current = f ∷ []; same = all_numbered_one f; begins = refl; parts = ap (among variants) e ∙ among_yes variants f gs taken; stands = h }
-run_begins variants (Some x) bs gs whole f h e taken r =
+run_begins variants (Some x) fs gs whole f h e taken r =
     let here = ap (among variants) e ∙ among_yes variants f gs taken in
     let other : eqb f.number x.0 ≡ false = eqb_comm f.number x.0 ∙ r in
     record {
@@ -116,7 +126,7 @@ run_begins variants (Some x) bs gs whole f h e taken r =
 pub run_none : (variants : List ℕ) (fs whole : List Field) → Running variants None fs whole → fs ≡ [] → whole ≡ []
 run_none variants fs whole h e = sym h ∙ ap (λ (r : List Field). last_run (among variants r)) e
 
-pub run_found : (variants : List ℕ) (x : ℕ × List ℕ) (fs whole : List Field) → Running variants (Some x) fs whole → fs ≡ [] → (variant_of whole ≡ Some x.0) × (among variants (fields x.1) ≡ whole)
+pub run_found : (variants : List ℕ) (x : ℕ × List Field) (fs whole : List Field) → Running variants (Some x) fs whole → fs ≡ [] → (variant_of whole ≡ Some x.0) × (among variants x.1 ≡ whole)
 run_found variants x fs whole h e =
     let all = h.parts ∙ ap (λ (r : List Field). h.current ++ among variants r) e ∙ append-nil h.current in
     let is = sym h.stands ∙ ap last_run all ∙ last_run_same x.0 h.current h.same in
@@ -163,16 +173,16 @@ run_sound_records fault number (f ∷ fs) h = go (all_numbered f.number fs) (run
     go true k = h
     go false k = k
 
--- The payload from the last run on has the values of the run.
-pub run_values : (variants : List ℕ) (number : ℕ) (payload rest : List ℕ) → is_among variants number ≡ true → among variants (fields rest) ≡ run variants (fields payload) → values number (fields rest) ≡ values number (run variants (fields payload))
-run_values variants number payload rest h e = sym (values-among variants number (fields rest) h) ∙ ap (values number) e
+-- The fields from the last run on have the values of the run.
+pub run_values : (variants : List ℕ) (number : ℕ) (fs gs : List Field) → is_among variants number ≡ true → among variants gs ≡ run variants fs → values number gs ≡ values number (run variants fs)
+run_values variants number fs gs h e = sym (values-among variants number gs h) ∙ ap (values number) e
 
-pub run_records_sound : (fault : List ℕ → Option Fault) (variants : List ℕ) (number : ℕ) (payload rest : List ℕ) → is_among variants number ≡ true → among variants (fields rest) ≡ run variants (fields payload) → AreSound fault (values number (fields payload)) → AreSound fault (values number (fields rest))
+pub run_records_sound : (fault : List ℕ → Option Fault) (variants : List ℕ) (number : ℕ) (fs gs : List Field) → is_among variants number ≡ true → among variants gs ≡ run variants fs → AreSound fault (values number fs) → AreSound fault (values number gs)
 unfolding run
-run_records_sound fault variants number payload rest h e s =
-    rw (run_values variants number payload rest h e) (run_sound_records fault number (among variants (fields payload)) (rw (values-among variants number (fields payload) h) s))
+run_records_sound fault variants number fs gs h e s =
+    rw (run_values variants number fs gs h e) (run_sound_records fault number (among variants fs) (rw (values-among variants number fs h) s))
 
-pub run_texts_sound : (variants : List ℕ) (number : ℕ) (payload rest : List ℕ) → is_among variants number ≡ true → among variants (fields rest) ≡ run variants (fields payload) → AreTexts (values number (fields payload)) → AreTexts (values number (fields rest))
+pub run_texts_sound : (variants : List ℕ) (number : ℕ) (fs gs : List Field) → is_among variants number ≡ true → among variants gs ≡ run variants fs → AreTexts (values number fs) → AreTexts (values number gs)
 unfolding run
-run_texts_sound variants number payload rest h e s =
-    rw (run_values variants number payload rest h e) (run_sound_texts number (among variants (fields payload)) (rw (values-among variants number (fields payload) h) s))
+run_texts_sound variants number fs gs h e s =
+    rw (run_values variants number fs gs h e) (run_sound_texts number (among variants fs) (rw (values-among variants number fs h) s))

@@ -214,3 +214,6 @@ neq-eqb m n h = go (eqb m n) refl
 pub is_end_is : (bs : List ℕ) → eqb (length bs) 0 ≡ is_end bs
 is_end_is [] = refl
 is_end_is (b ∷ bs) = neq-eqb (suc (length bs)) 0 (λ e. omega arith)
+
+pub is_shorter : (fs gs : List Field) (f : Field) → fs ≡ f ∷ gs → length gs < length fs
+is_shorter fs gs f e = let n = ap length e in omega (arith, n)

@@ -6,9 +6,8 @@ ghost use Rattle.protocol_wire.specs.Check.{worse as the_worse, bad_unless as th
 ghost use Rattle.protocol_wire.specs.Fields.{are_varints as the_are_varints};
 ghost use Rattle.protocol_wire.specs.Seen.{field as seen};
 
-use crate::field::field_at;
 use crate::varint::varint_at;
-use crate::{Scanned, ScannedField};
+use crate::{Payload, Scanned, ScannedField};
 use protocol_table::table::{FieldDescriptor, Kind, RecordType, fields_of, kind_of};
 use std::str;
 
@@ -70,15 +69,17 @@ fn fault_of_field(fields: &[FieldDescriptor], field: ScannedField<'_>, levels: u
             (Kind::Numbers, Scanned::Bytes(bytes)) => bad_unless(are_varints(bytes)),
             (Kind::Bytes, Scanned::Bytes(_)) => None,
             (Kind::Text, Scanned::Bytes(bytes)) => bad_unless(is_text(bytes)),
-            (Kind::Record(record), Scanned::Bytes(bytes)) => fault_of(record, bytes, levels),
+            (Kind::Record(record), Scanned::Bytes(bytes)) => {
+                fault_in(record, &Payload::new(bytes), levels)
+            }
             (_, _) => Some(Fault::BadPayload),
         },
     }
 }
 
-/// What is wrong with a payload of the record, where so many levels are left.
+/// What is wrong with a payload of the record, where so many levels are left. What is listed of it is looked at in the list.
 #[cycle(check)]
-pub fn fault_of(of: RecordType, payload: &[u8], levels: u32) -> Option<Fault>
+pub fn fault_in(of: RecordType, payload: &Payload<'_>, levels: u32) -> Option<Fault>
     ensures { result ≡ payload_fault levels of payload.now }
 {
     if levels == 0 {
@@ -86,10 +87,17 @@ pub fn fault_of(of: RecordType, payload: &[u8], levels: u32) -> Option<Fault>
     }
     let fields = fields_of(of);
     let mut fault = None;
-    let mut rest = payload;
-    while let Some((field, after)) = field_at(rest) {
+    let mut left = payload.fields();
+    while let Some((field, after)) = left.split_first() {
         fault = worse(fault, fault_of_field(fields, field, levels - 1));
-        rest = after;
+        left = after;
     }
-    worse(fault, bad_unless(rest.is_empty()))
+    worse(fault, bad_unless(left.rest.is_empty()))
+}
+
+/// The same of bytes.
+pub fn fault_of(of: RecordType, payload: &[u8], levels: u32) -> Option<Fault>
+    ensures { result ≡ payload_fault levels of payload.now }
+{
+    fault_in(of, &Payload::new(payload), levels)
 }

@@ -69,25 +69,3 @@ pub fn field_at(bytes: &[u8]) -> Option<(ScannedField<'_>, &[u8])>
         rest,
     ))
 }
-
-/// The fields of a payload, up to where none is read.
-#[derive(Drop)]
-pub struct Fields<'a>(pub &'a [u8]);
-
-impl<'a> Iterator for Fields<'a> {
-    type Item = ScannedField<'a>;
-
-    ghost use Rattle.protocol_wire.specs.Fields.{fields};
-    ghost use Rattle.protocol_wire.specs.Seen.{field};
-    ghost use Rattle.std.specs.Iterator.{YieldsFirstBy, item_count};
-
-    ghost next_gives = { YieldsFirstBy field (λ s. fields s.0.now) };
-
-    ghost remaining = { item_count (λ s. fields s.0.now) };
-
-    fn next(&mut self) -> Option<ScannedField<'a>> {
-        let (field, rest) = field_at(self.0)?;
-        self.0 = rest;
-        Some(field)
-    }
-}

@@ -1,29 +1,30 @@
 //! Fields of a Protocol Buffers payload: how each is found, checked and spelled, by one table of all records.
 //!
-//! A payload is a list of fields. `fault_of` says by the table whether anything is wrong with it; a record then selects each
-//! of its fields from the whole list (`u32_at`, `text_at`, ..), and spells them in ascending order (`put_u32`, `put_text`, ..).
+//! A payload is a list of fields. `fault_of` says by the table whether anything is wrong with it; its fields are then listed once
+//! (`Payload`), a record selects each of its fields from the whole list (`u32_at`, `text_at`, ..), and spells them in ascending
+//! order (`put_u32`, `put_text`, ..).
 #![tactic(auto)]
 
 mod check;
 mod chosen;
 mod field;
-mod gather;
 mod len;
+mod listed;
 mod put;
 mod record;
 mod select;
 mod varint;
 
-pub use check::{Fault, fault_of};
+pub use check::{Fault, fault_in, fault_of};
 pub use chosen::{chosen_bytes_at, chosen_record_at, chosen_text_at, chosen_u32_at};
-pub use field::{Fields, Scanned, ScannedField};
-pub use gather::{all_three, both};
+pub use field::{Scanned, ScannedField};
 pub use len::{
     len_bool, len_bytes, len_enum, len_numbers, len_optional_record, len_optional_text,
     len_optional_u32, len_optional_u64, len_present_bytes, len_present_text, len_present_u32,
     len_record, len_records, len_repeated_bytes, len_tagged_bytes, len_text, len_texts, len_u32,
     len_u64,
 };
+pub use listed::{Fields, Payload};
 pub use protocol_table::table;
 pub use protocol_table::table::{FieldDescriptor, Kind, RecordType};
 pub use put::{
@@ -37,6 +38,6 @@ pub use record::{
     optional_record_at, records_at,
 };
 pub use select::{
-    bool_at, bytes_at, numbers_at, optional_bytes_at, optional_text_at, optional_u32_at,
-    optional_u64_at, repeated_bytes_at, run_at, text_at, texts_at, u32_at, u64_at,
+    bool_at, bytes_at, numbers_at, optional_text_at, optional_u32_at, optional_u64_at,
+    repeated_bytes_at, text_at, texts_at, u32_at, u64_at,
 };

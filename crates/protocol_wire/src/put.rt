@@ -47,6 +47,14 @@ fn put_tagged_number(
     put_varint(out, value)
 }
 
+/// The tag of bytes, and how many there are.
+fn put_length(out: &mut Vec<u8>, field: FieldDescriptor, length: u64) -> Result<(), AllocError>
+    ensures { OnOk result (out.new.items ≡ out.old.items ++ (varint_spelling (8 * field.number + 2) ++ varint_spelling length)) }
+{
+    put_varint(out, 8 * u64::from(field.number) + 2)?;
+    put_varint(out, length)
+}
+
 /// The tag, the length and the bytes, also where there are none: as the payload of a record within a record is spelled.
 #[tactic(auto, unfolding(crate::specs::Spelling::tagged))]
 pub fn put_tagged_bytes(
@@ -56,8 +64,7 @@ pub fn put_tagged_bytes(
 ) -> Result<(), AllocError>
     ensures { OnOk result (out.new.items ≡ out.old.items ++ tagged field.number (bytes_value bytes.now)) }
 {
-    put_varint(out, 8 * u64::from(field.number) + 2)?;
-    put_varint(out, bytes.len() as u64)?;
+    put_length(out, field, bytes.len() as u64)?;
     out.extend_from_slice(bytes)
 }
 
@@ -239,7 +246,8 @@ pub fn put_numbers(
     put_slice(out, field, &packed)
 }
 
-/// Written also where all fields of the record have their defaults.
+/// Written also where all fields of the record have their defaults: its length, and then the record where it belongs.
+#[tactic(auto, unfolding(crate::specs::Spelling::tagged))]
 pub fn put_record<R: Record>(
     alloc: Global,
     out: &mut Vec<u8>,
@@ -248,9 +256,8 @@ pub fn put_record<R: Record>(
 ) -> Result<(), AllocError>
     ensures { OnOk result (out.new.items ≡ out.old.items ++ part_spelling (optional_bytes field.number (Some (payload_of (R.parts one.now))))) }
 {
-    let mut inner = Vec::new(alloc);
-    one.spell(alloc, &mut inner)?;
-    put_tagged_bytes(out, field, &inner)
+    put_length(out, field, one.payload_len())?;
+    one.spell(alloc, out)
 }
 
 /// Written where it is present.

@@ -1,18 +1,19 @@
 //! Records, and records in records.
 
-ghost use Rattle.std.specs.Prelude.{◌≡◌, ◌++◌, ◌-◌, ◌^◌, ◌<◌, ℕ, List, None, IfOk, IfErr, OnOk, OnErr, length, option_map};
+ghost use Rattle.std.specs.Prelude.{◌≡◌, ◌++◌, ◌-◌, ◌^◌, ◌<◌, ℕ, List, [], ◌∷◌, None, IfNone, IfSome, IfOk, IfErr, OnOk, OnErr, length, option_map};
 ghost use Rattle.protocol_wire.specs.Wire.{Field};
 ghost use Rattle.protocol_wire.specs.Fields.{fields};
+ghost use Rattle.protocol_wire.specs.Listed.{coming};
 ghost use Rattle.protocol_wire.specs.Check.{payload_fault};
 ghost use Rattle.protocol_wire.specs.Parts.{Part, payload_of};
 ghost use Rattle.protocol_wire.specs.Lengths.{counted, fitting};
 ghost use Rattle.protocol_wire.specs.Sound.{AreSound};
-ghost use Rattle.protocol_wire.specs.Selection.{values, texts, joined_bytes, optional_record, records};
+ghost use Rattle.protocol_wire.specs.Selection.{values, texts, joined_bytes as the_joined_bytes, optional_record, records};
 ghost use Rattle.protocol_wire.specs.Decodes.{Decodes, IsRead, ErrIs};
 ghost use Rattle.protocol_table.specs.declared.table.RecordType.{RecordType as RecordTypes};
 
-use crate::check::{Fault, fault_of};
-use crate::{FieldDescriptor, Fields, Scanned};
+use crate::listed::{list_fields, room};
+use crate::{Fault, FieldDescriptor, Fields, Payload, Scanned, fault_in};
 use protocol_table::table::RecordType;
 use sequence::Sequence;
 use std::alloc::{AllocError, Global};
@@ -38,7 +39,7 @@ pub trait Record: Drop + Sized {
         ensures { result ≡ record_type };
 
     /// The record that a payload is with which nothing is wrong, where so many levels are left.
-    fn select(alloc: Global, payload: &[u8], levels: u32) -> Result<Self, AllocError>
+    fn select(alloc: Global, payload: &Payload<'_>, levels: u32) -> Result<Self, AllocError>
         requires { payload_fault levels record_type payload.now ≡ None }
         ensures { IfOk result (λ r. r ≡ of levels (fields payload.now)) };
 
@@ -58,7 +59,7 @@ pub trait Record: Drop + Sized {
 #[tactic(auto, unfolding(crate::specs::Selection::texts))]
 pub fn records_at<R: Record>(
     alloc: Global,
-    payload: &[u8],
+    payload: &Payload<'_>,
     field: FieldDescriptor,
     levels: u32,
 ) -> Result<Sequence<R>, AllocError>
@@ -67,28 +68,57 @@ pub fn records_at<R: Record>(
 {
     let below = levels.saturating_sub(1);
     let mut all = Sequence::new(alloc);
-    for found in Fields(payload) {
+    for found in payload.fields() {
         if found.number == field.number {
             if let Scanned::Bytes(bytes) = found.value {
-                all.push(R::select(alloc, bytes, below)?)?;
+                all.push(R::select(alloc, &Payload::new(bytes), below)?)?;
             }
         }
     }
     Ok(all)
 }
 
+/// The bytes of the first field with this number that has any, and the fields after it.
+#[tactic(auto, unfolding(crate::specs::Selection::texts))]
+fn next_bytes<'a>(all: Fields<'a>, field: FieldDescriptor) -> Option<(&'a [u8], Fields<'a>)>
+    ensures none { IfNone result (texts field.number (coming all.entry) ≡ []) }
+    ensures some { IfSome result (λ x. texts field.number (coming all.entry) ≡ x.0.now ∷ texts field.number (coming x.1)) }
+{
+    let mut rest = all;
+    while let Some((found, after)) = rest.split_first() {
+        if found.number == field.number {
+            if let Scanned::Bytes(bytes) = found.value {
+                return Some((bytes, after));
+            }
+        }
+        rest = after;
+    }
+    None
+}
+
+/// The payload of this field, where there is one alone.
+fn sole_bytes<'a>(all: Fields<'a>, field: FieldDescriptor) -> Option<&'a [u8]>
+    ensures { IfSome result (λ b. texts field.number (coming all.entry) ≡ b.now ∷ []) }
+{
+    let (first, rest) = next_bytes(all, field)?;
+    match next_bytes(rest, field) {
+        None => Some(first),
+        Some(_) => None,
+    }
+}
+
 /// The payloads of this field, one after the other, if there is one.
 #[tactic(auto, unfolding(crate::specs::Selection::texts))]
-fn joined_at(
+fn joined_bytes(
     alloc: Global,
-    payload: &[u8],
+    from: Fields<'_>,
     field: FieldDescriptor,
 ) -> Result<Option<Vec<u8>>, AllocError>
-    ensures { IfOk result (λ j. option_map (λ v. v.items) j ≡ joined_bytes (texts field.number (fields payload.now))) }
+    ensures { IfOk result (λ j. option_map (λ v. v.items) j ≡ the_joined_bytes (texts field.number (coming from.entry))) }
 {
     let mut is_present = false;
     let mut all = Vec::new(alloc);
-    for found in Fields(payload) {
+    for found in from {
         if found.number == field.number {
             if let Scanned::Bytes(bytes) = found.value {
                 is_present = true;
@@ -99,20 +129,38 @@ fn joined_at(
     if is_present { Ok(Some(all)) } else { Ok(None) }
 }
 
+/// The record of this field, in a record where so many levels are left, of all payloads with it, if there is one. A payload that
+/// is there alone is read where it stands.
+pub(crate) fn joined_record<R: Record>(
+    alloc: Global,
+    all: Fields<'_>,
+    field: FieldDescriptor,
+    levels: u32,
+) -> Result<Option<R>, AllocError>
+    requires { AreSound (payload_fault (levels - 1) R.record_type) (values field.number (coming all)) }
+    ensures { IfOk result (λ r. r ≡ optional_record (R.of (levels - 1)) field.number (coming all.entry)) }
+{
+    let below = levels.saturating_sub(1);
+    if let Some(bytes) = sole_bytes(all, field) {
+        return Ok(Some(R::select(alloc, &Payload::new(bytes), below)?));
+    }
+    match joined_bytes(alloc, all, field)? {
+        None => Ok(None),
+        Some(bytes) => Ok(Some(R::select(alloc, &Payload::new(bytes.as_slice()), below)?)),
+    }
+}
+
 /// The record of this field, in a record where so many levels are left, of all payloads with it, if there is one.
 pub fn optional_record_at<R: Record>(
     alloc: Global,
-    payload: &[u8],
+    payload: &Payload<'_>,
     field: FieldDescriptor,
     levels: u32,
 ) -> Result<Option<R>, AllocError>
     requires { AreSound (payload_fault (levels - 1) R.record_type) (values field.number (fields payload.now)) }
     ensures { IfOk result (λ r. r ≡ optional_record (R.of (levels - 1)) field.number (fields payload.now)) }
 {
-    match joined_at(alloc, payload, field)? {
-        None => Ok(None),
-        Some(bytes) => Ok(Some(R::select(alloc, bytes.as_slice(), levels.saturating_sub(1))?)),
-    }
+    joined_record(alloc, payload.fields(), field, levels)
 }
 
 /// Why a payload gave no record.
@@ -140,9 +188,16 @@ pub fn decode<R: Record>(alloc: Global, payload: &[u8]) -> Result<R, DecodeError
     // Accepted are the payloads with which nothing is wrong, to their meaning.
     ensures { Decodes R.record_type R.of payload.now result }
 {
-    match fault_of(R::record_type(), payload, LEVELS) {
+    let mut room = room();
+    let (count, rest) = list_fields(payload, &mut room);
+    let listed = Payload {
+        bytes: payload,
+        listed: &room[..count],
+        rest,
+    };
+    match fault_in(R::record_type(), &listed, LEVELS) {
         Some(fault) => Err(DecodeError::Fault(fault)),
-        None => Ok(R::select(alloc, payload, LEVELS)?),
+        None => Ok(R::select(alloc, &listed, LEVELS)?),
     }
 }
 

@@ -20,9 +20,13 @@ fn varint_within(bytes: &[u8], most: u8) -> Option<(u64, &[u8])>
 }
 
 /// The number at the front, and the bytes after it.
-#[tactic(auto, unfolding(crate::specs::Wire::varint_at))]
+#[tactic(auto, unfolding(crate::specs::Wire::varint_at, crate::specs::Wire::varint_within))]
 pub fn varint_at(bytes: &[u8]) -> Option<(u64, &[u8])>
     ensures { option_map (λ x. (x.0, x.1.now)) result ≡ varint_spec bytes.now }
 {
+    let (first, rest) = bytes.split_first()?;
+    if *first < 128 {
+        return Some((u64::from(*first), rest));
+    }
     varint_within(bytes, 10)
 }

@@ -18,7 +18,7 @@ use protocol_records::{
     OutputCommandMessage, SleepCommandMessage, SuspensionMessage, SuspensionMessageV6,
 };
 use protocol_stream::{Feature, MessageHeader, MessageType, RawMessage};
-use protocol_wire::{Fault, LEVELS, RecordType, fault_of};
+use protocol_wire::{Fault, LEVELS, Payload, RecordType, fault_of};
 use std::alloc::{AllocError, Global};
 
 fn faulty(fault: Fault) -> AttemptFrame
@@ -54,7 +54,7 @@ fn read_as<R: FrameRecord>(
     match fault_of(R::record_type(), payload, LEVELS) {
         Some(fault) => Ok(faulty(fault)),
         None => {
-            let one = R::select(alloc, payload, LEVELS)?;
+            let one = R::select(alloc, &Payload::new(payload), LEVELS)?;
             let frame = one.to_frame(alloc, version);
             drop(one);
             frame

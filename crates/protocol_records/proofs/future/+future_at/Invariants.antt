@@ -1,5 +1,6 @@
 use Rattle.std.proofs.Common.{◌≡◌, ◌++◌, ◌-◌, map}
 use Rattle.protocol_wire.specs.Fields.{fields}
+use Rattle.protocol_wire.specs.Listed.{coming}
 use Rattle.protocol_wire.specs.Check.{payload_fault}
 use Rattle.protocol_wire.specs.Sound.{AreSound}
 use Rattle.protocol_wire.specs.Selection.{values, each_bytes, records}
@@ -13,6 +14,6 @@ decreases-future_at l = l.levels
 
 abbrev pub invariant-loop-found : goal.invariant-loop-found
 invariant-loop-found l = record {
-  nested : l.nested_futures ++ map (λ p. future_of (l.levels - 1) (fields p)) (each_bytes (values NESTED_FUTURES.number (fields l.found-iterator.0.now))) ≡ records (future_of (l.levels - 1)) NESTED_FUTURES.number (fields l.payload);
-  sound : AreSound (payload_fault (l.levels - 1) future_type) (values NESTED_FUTURES.number (fields l.found-iterator.0.now));
+  nested : l.nested_futures ++ map (λ p. future_of (l.levels - 1) (fields p)) (each_bytes (values NESTED_FUTURES.number (coming l.found-iterator))) ≡ records (future_of (l.levels - 1)) NESTED_FUTURES.number (fields l.payload);
+  sound : AreSound (payload_fault (l.levels - 1) future_type) (values NESTED_FUTURES.number (coming l.found-iterator));
 }

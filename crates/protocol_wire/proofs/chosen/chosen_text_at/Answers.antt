@@ -1,9 +1,11 @@
 use Rattle.protocol_wire.proofs.Runs.{run_texts_sound}
+use Rattle.protocol_wire.specs.Fields.{fields}
+use Rattle.protocol_wire.specs.Listed.{coming}
 use Rattle.protocol_wire.proofs.Choices.{chosen_text}
 use Rattle.protocol_wire.proofs.chosen.chosen_text_at.Goals as goal
 
-pub optional_text_at-requires : goal.optional_text_at-requires
-optional_text_at-requires c = run_texts_sound c.args.variants.now c.args.field.number c.args.payload.now c.last_run_at.result.now c.requires.0 c.last_run_at.ensures c.requires.1
+pub copied_text-requires : goal.copied_text-requires
+copied_text-requires c = run_texts_sound c.args.variants.now c.args.field.number (fields c.args.payload.now) (coming c.last_run_at.result) c.requires.0 c.last_run_at.ensures c.requires.1
 
 pub returns : goal.returns
-returns c = rw (← chosen_text c.args.variants.now c.args.field.number c.args.payload.now c.last_run_at.result.now c.requires.0 c.last_run_at.ensures) c.optional_text_at.ensures
+returns c = rw (← chosen_text c.args.variants.now c.args.field.number (fields c.args.payload.now) (coming c.last_run_at.result) c.requires.0 c.last_run_at.ensures) c.copied_text.ensures

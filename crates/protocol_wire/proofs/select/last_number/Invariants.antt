@@ -1,7 +1,7 @@
 use Rattle.std.proofs.Common.{◌≡◌, None}
-use Rattle.protocol_wire.specs.Fields.{fields}
+use Rattle.protocol_wire.specs.Listed.{coming}
 use Rattle.protocol_wire.specs.Selection.{values, last_number_or}
 use Rattle.protocol_wire.proofs.select.last_number.Given as goal
 
 abbrev pub invariant-loop-found : goal.invariant-loop-found
-invariant-loop-found l = last_number_or l.last (values l.field.number (fields l.found-iterator.0.now)) ≡ last_number_or None (values l.field.number (fields l.payload))
+invariant-loop-found l = last_number_or l.last (values l.field.number (coming l.found-iterator)) ≡ last_number_or None (values l.field.number (coming l.all))

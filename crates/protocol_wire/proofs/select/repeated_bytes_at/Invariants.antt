@@ -1,7 +1,8 @@
 use Rattle.std.proofs.Common.{◌≡◌, ◌++◌}
 use Rattle.protocol_wire.specs.Fields.{fields}
+use Rattle.protocol_wire.specs.Listed.{coming}
 use Rattle.protocol_wire.specs.Selection.{values, each_bytes}
 use Rattle.protocol_wire.proofs.select.repeated_bytes_at.Given as goal
 
 abbrev pub invariant-loop-found : goal.invariant-loop-found
-invariant-loop-found l = l.all ++ each_bytes (values l.field.number (fields l.found-iterator.0.now)) ≡ each_bytes (values l.field.number (fields l.payload))
+invariant-loop-found l = l.all ++ each_bytes (values l.field.number (coming l.found-iterator)) ≡ each_bytes (values l.field.number (fields l.payload))
