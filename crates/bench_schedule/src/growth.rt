@@ -1,12 +1,12 @@
 // An invocation whose journal grows, resumed at each tenth.
 use crate::events::{Place, begin, invoke, stop, transfer, turns};
 use crate::micros::Micros;
-use crate::opened::in_memory;
+use crate::opened::{in_lists, in_memory};
 use anyhow::Result;
 use bytes::ByteStr;
 use durable_schedule::Scheduler;
 use journal_model::{Answer, Call, Handler, Input, Moment};
-use sqlite::{Alter, MemStore};
+use sqlite::Alter;
 use std::alloc::AllocError;
 use std::rt::HostRuntime;
 use std::time::{CpuClock, Duration};
@@ -32,10 +32,14 @@ impl Handler for Sleeps {
     }
 }
 
-type Sleepers = Scheduler<Sleeps, MemStore>;
+type Sleepers<S> = Scheduler<Sleeps, S>;
 
 /// So many more sleeps, each moved as it is made.
-fn grow(scheduler: &mut Sleepers, place: &mut Place, entries: u32) -> Result<()> {
+fn grow<S: Alter + Drop>(
+    scheduler: &mut Sleepers<S>,
+    place: &mut Place,
+    entries: u32,
+) -> Result<()> {
     for _ in 0..entries {
         turns(scheduler, place, 1)?;
         transfer(scheduler, place, 1)?;
@@ -44,7 +48,11 @@ fn grow(scheduler: &mut Sleepers, place: &mut Place, entries: u32) -> Result<()>
 }
 
 /// Begins an attempt, which reads its input and makes the sleeps again that are recorded, behind the input.
-fn resume(scheduler: &mut Sleepers, place: &mut Place, entries: u32) -> Result<()> {
+fn resume<S: Alter + Drop>(
+    scheduler: &mut Sleepers<S>,
+    place: &mut Place,
+    entries: u32,
+) -> Result<()> {
     begin(scheduler, place, Sleeps {})?;
     turns(scheduler, place, entries)
 }
@@ -58,9 +66,9 @@ struct Tenth {
 }
 
 /// The journal grows from one number of entries to another; then the attempt is stopped, and the next one resumes.
-fn time_tenth<R: CpuClock>(
+fn time_tenth<R: CpuClock, S: Alter + Drop>(
     rt: &R,
-    scheduler: &mut Sleepers,
+    scheduler: &mut Sleepers<S>,
     place: &mut Place,
     from: u32,
     to: u32,
@@ -94,9 +102,9 @@ fn print_tenth<R: Print>(rt: &R, tenth: Tenth) -> Result<()> {
 }
 
 /// One tenth of so many entries behind the other, from the input on.
-fn time_tenths(
+fn time_tenths<S: Alter + Drop>(
     rt: &HostRuntime,
-    scheduler: &mut Sleepers,
+    scheduler: &mut Sleepers<S>,
     place: &mut Place,
     entries: u32,
 ) -> Result<()> {
@@ -111,7 +119,7 @@ fn time_tenths(
 }
 
 /// An invocation with one attempt, which has read its input.
-fn start(rt: &HostRuntime, scheduler: &mut Sleepers) -> Result<Place> {
+fn start<S: Alter + Drop>(rt: &HostRuntime, scheduler: &mut Sleepers<S>) -> Result<Place> {
     let mut place = invoke(rt.alloc(), scheduler, 0)?;
     match resume(scheduler, &mut place, 1) {
         Ok(()) => Ok(place),
@@ -122,14 +130,22 @@ fn start(rt: &HostRuntime, scheduler: &mut Sleepers) -> Result<Place> {
     }
 }
 
-fn time_all(rt: &HostRuntime, scheduler: &mut Sleepers) -> Result<()> {
+fn time_all<S: Alter + Drop>(rt: &HostRuntime, scheduler: &mut Sleepers<S>) -> Result<()> {
     let mut place = start(rt, scheduler)?;
     let timed = time_tenths(rt, scheduler, &mut place, ENTRIES);
     drop(place);
     timed
 }
 
-/// Prints what an event takes while the journal grows, and while an attempt is resumed, for each tenth.
+/// Prints what an event takes while the journal grows, and while an attempt is resumed, for each tenth: in the library's lists.
+pub fn time_growth_in_lists(rt: &HostRuntime) -> Result<()> {
+    let mut scheduler = in_lists(rt.alloc())?;
+    let timed = time_all(rt, &mut scheduler);
+    drop(scheduler);
+    timed
+}
+
+/// The same in files that lie in memory.
 pub fn time_growth(rt: &HostRuntime) -> Result<()> {
     let mut scheduler = in_memory(rt.alloc())?;
     let timed = time_all(rt, &mut scheduler);
@@ -137,13 +153,21 @@ pub fn time_growth(rt: &HostRuntime) -> Result<()> {
     timed
 }
 
-fn try_tenth(scheduler: &mut Sleepers, place: &mut Place, entries: u32) -> Result<()> {
+fn try_tenth<S: Alter + Drop>(
+    scheduler: &mut Sleepers<S>,
+    place: &mut Place,
+    entries: u32,
+) -> Result<()> {
     grow(scheduler, place, entries.saturating_sub(1))?;
     stop(scheduler, place)?;
     resume(scheduler, place, entries)
 }
 
-fn try_all(rt: &HostRuntime, scheduler: &mut Sleepers, entries: u32) -> Result<u32> {
+fn try_all<S: Alter + Drop>(
+    rt: &HostRuntime,
+    scheduler: &mut Sleepers<S>,
+    entries: u32,
+) -> Result<u32> {
     let mut place = start(rt, scheduler)?;
     let tried = try_tenth(scheduler, &mut place, entries);
     let events = place.events;

@@ -1,7 +1,7 @@
 // Invocations of `race` and `ask`, from invoke to end.
 use crate::events::{Place, begin, complete, feed, invoke, stop, tick, transfer, turns};
 use crate::micros::Micros;
-use crate::opened::{in_file, in_memory};
+use crate::opened::{in_file, in_lists, in_memory};
 use anyhow::Result;
 use built_in_handlers::BuiltIn;
 use built_in_handlers::handlers::{Ask, Race};
@@ -98,26 +98,52 @@ fn do_one<S: Alter + Drop>(
     Ok(events)
 }
 
+/// In which order the numbers of invocations come, of which their ids are made: one behind the other, or scattered.
+#[derive(Clone, Copy)]
+enum Numbers {
+    Counted,
+    Scattered,
+}
+
+impl Numbers {
+    fn name(self) -> &'static str {
+        match self {
+            Numbers::Counted => "counted",
+            Numbers::Scattered => "scattered",
+        }
+    }
+
+    /// No two numbers are scattered to the same one.
+    fn number(self, which: u32) -> u32 {
+        match self {
+            Numbers::Counted => which,
+            Numbers::Scattered => which.wrapping_mul(2_654_435_761),
+        }
+    }
+}
+
 /// So many invocations, one behind the other, by numbers from this one on. Answers how many events that were.
 fn do_all<S: Alter + Drop>(
     alloc: Global,
     scheduler: &mut Scheduler<BuiltIn, S>,
     kind: Kind,
+    numbers: Numbers,
     first: u32,
     count: u32,
 ) -> Result<u32> {
     let mut events = 0u32;
     for at in 0..count {
-        let which = first.wrapping_add(at);
+        let which = numbers.number(first.wrapping_add(at));
         events = events.wrapping_add(do_one(alloc, scheduler, kind, which)?);
     }
     Ok(events)
 }
 
-/// Where the database is.
+/// Where the database is: in files that lie in memory, in the library's lists in memory, or in a file.
 #[derive(Clone, Copy)]
 enum Medium {
     Memory,
+    Lists,
     File,
 }
 
@@ -125,6 +151,7 @@ impl Medium {
     fn name(self) -> &'static str {
         match self {
             Medium::Memory => "memory",
+            Medium::Lists => "lists",
             Medium::File => "file",
         }
     }
@@ -132,7 +159,7 @@ impl Medium {
     /// The processor time so far; of a file the time by the clock, since a disk is waited for.
     fn now(self, rt: &HostRuntime) -> Result<Duration> {
         let now = match self {
-            Medium::Memory => rt.thread_cpu_time()?,
+            Medium::Memory | Medium::Lists => rt.thread_cpu_time()?,
             Medium::File => rt.monotonic()?,
         };
         Ok(now)
@@ -145,15 +172,16 @@ fn time_kind<S: Alter + Drop>(
     scheduler: &mut Scheduler<BuiltIn, S>,
     medium: Medium,
     kind: Kind,
+    numbers: Numbers,
     first: u32,
     count: u32,
 ) -> Result<()> {
     let start = medium.now(rt)?;
-    let events = do_all(rt.alloc(), scheduler, kind, first, count)?;
+    let events = do_all(rt.alloc(), scheduler, kind, numbers, first, count)?;
     let end = medium.now(rt)?;
     let event = Micros::each(end.saturating_sub(start), events);
-    let (place, name) = (medium.name(), kind.name());
-    println!(rt; "{place} {name} {count} event {event}")?;
+    let (place, name, order) = (medium.name(), kind.name(), numbers.name());
+    println!(rt; "{place} {name} {count} event {event} {order}")?;
     Ok(())
 }
 
@@ -161,24 +189,48 @@ fn time_both<S: Alter + Drop>(
     rt: &HostRuntime,
     scheduler: &mut Scheduler<BuiltIn, S>,
     medium: Medium,
+    numbers: Numbers,
     count: u32,
 ) -> Result<()> {
-    time_kind(rt, scheduler, medium, Kind::Race, 0, count)?;
-    time_kind(rt, scheduler, medium, Kind::Ask, count, count)
+    time_kind(rt, scheduler, medium, Kind::Race, numbers, 0, count)?;
+    time_kind(rt, scheduler, medium, Kind::Ask, numbers, count, count)
+}
+
+fn time_memory(rt: &HostRuntime, numbers: Numbers, count: u32) -> Result<()> {
+    let mut scheduler = in_memory(rt.alloc())?;
+    let timed = time_both(rt, &mut scheduler, Medium::Memory, numbers, count);
+    drop(scheduler);
+    timed
+}
+
+fn time_lists(rt: &HostRuntime, numbers: Numbers, count: u32) -> Result<()> {
+    let mut scheduler = in_lists(rt.alloc())?;
+    let timed = time_both(rt, &mut scheduler, Medium::Lists, numbers, count);
+    drop(scheduler);
+    timed
 }
 
 /// Prints what an event takes in memory.
 pub fn time_in_memory(rt: &HostRuntime, count: u32) -> Result<()> {
-    let mut scheduler = in_memory(rt.alloc())?;
-    let timed = time_both(rt, &mut scheduler, Medium::Memory, count);
-    drop(scheduler);
-    timed
+    time_memory(rt, Numbers::Counted, count)
+}
+
+/// The same, and with ids that are scattered.
+pub fn time_orders_in_memory(rt: &HostRuntime, count: u32) -> Result<()> {
+    time_memory(rt, Numbers::Counted, count)?;
+    time_memory(rt, Numbers::Scattered, count)
+}
+
+/// The same in the library's lists.
+pub fn time_orders_in_lists(rt: &HostRuntime, count: u32) -> Result<()> {
+    time_lists(rt, Numbers::Counted, count)?;
+    time_lists(rt, Numbers::Scattered, count)
 }
 
 /// Prints what an event takes in a new file.
 pub fn time_in_file(rt: &HostRuntime, path: &str, count: u32) -> Result<()> {
     let mut scheduler = in_file(rt, path)?;
-    let timed = time_both(rt, &mut scheduler, Medium::File, count);
+    let timed = time_both(rt, &mut scheduler, Medium::File, Numbers::Counted, count);
     drop(scheduler);
     timed
 }
@@ -190,7 +242,7 @@ fn try_kind<S: Alter + Drop>(
     first: u32,
     count: u32,
 ) -> Result<()> {
-    let events = do_all(rt.alloc(), scheduler, kind, first, count)?;
+    let events = do_all(rt.alloc(), scheduler, kind, Numbers::Counted, first, count)?;
     let name = kind.name();
     println!(rt; "{name} {count} events {events}")?;
     Ok(())

@@ -2,6 +2,9 @@
 //! is stopped where it waits, and whose second goes on; and prints what an event takes, in memory, and in a new file of that name with
 //! its syncs. Then one invocation whose journal grows to 10,000 entries, resumed at each tenth of them.
 //!
+//! `bench_schedule memory COUNT` and `bench_schedule lists COUNT` do the same in memory alone, in files or in the library's lists, with
+//! ids that come one behind the other, and again with ids that are scattered.
+//!
 //! With no word it does a little of it in memory, and prints what came of it without times.
 #![tactic(auto)]
 
@@ -12,8 +15,10 @@ mod micros;
 mod opened;
 
 use anyhow::Result;
-use growth::{time_growth, try_growth};
-use handlers::{time_in_file, time_in_memory, try_in_memory};
+use growth::{time_growth, time_growth_in_lists, try_growth};
+use handlers::{
+    time_in_file, time_in_memory, time_orders_in_lists, time_orders_in_memory, try_in_memory,
+};
 use std::env;
 use std::rt::HostRuntime;
 
@@ -25,6 +30,16 @@ fn time(rt: &HostRuntime, count: u32, file: Option<String>) -> Result<()> {
     time_growth(rt)
 }
 
+fn time_files(rt: &HostRuntime, count: u32) -> Result<()> {
+    time_orders_in_memory(rt, count)?;
+    time_growth(rt)
+}
+
+fn time_lists(rt: &HostRuntime, count: u32) -> Result<()> {
+    time_orders_in_lists(rt, count)?;
+    time_growth_in_lists(rt)
+}
+
 fn try_all(rt: &HostRuntime) -> Result<()> {
     try_in_memory(rt, 2)?;
     try_growth(rt, 20)
@@ -33,12 +48,15 @@ fn try_all(rt: &HostRuntime) -> Result<()> {
 fn run(rt: &HostRuntime) -> Result<()> {
     let mut words = env::args(rt)?;
     let _program = words.next();
-    let Some(count) = words.next() else {
+    let Some(first) = words.next() else {
         return try_all(rt);
     };
-    let file = words.next();
-    let count: u32 = count.as_str().parse()?;
-    time(rt, count, file)
+    let second = words.next();
+    match (first.as_str(), second) {
+        ("memory", Some(count)) => time_files(rt, count.as_str().parse()?),
+        ("lists", Some(count)) => time_lists(rt, count.as_str().parse()?),
+        (count, file) => time(rt, count.parse()?, file),
+    }
 }
 
 fn main(rt: HostRuntime) -> Result<()> {

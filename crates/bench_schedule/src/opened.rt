@@ -6,6 +6,7 @@ use journal_store::Store;
 use sqlite::{Alter, Connection, FileFrom, FileStore, MemStore, Unknown};
 use std::alloc::Global;
 use std::rt::HostRuntime;
+use store_memory::{MemoryFile, open_in_memory};
 use vm_types::VMOptions;
 
 fn over<H: Handler + Drop, S: Alter + Drop>(
@@ -21,8 +22,19 @@ fn over<H: Handler + Drop, S: Alter + Drop>(
     }
 }
 
-/// A scheduler over an empty database in memory.
-pub fn in_memory<H: Handler + Drop>(alloc: Global) -> Result<Scheduler<H, MemStore>> {
+/// A scheduler over an empty database in memory, as the program's `:memory:` is.
+pub fn in_memory<H: Handler + Drop>(alloc: Global) -> Result<Scheduler<H, FileStore<MemoryFile>>> {
+    match open_in_memory(alloc) {
+        Ok(store) => Ok(Scheduler::new(alloc, store, VMOptions::default())),
+        Err(why) => {
+            let name = why.name();
+            bail!("no store was made in memory: {name}")
+        }
+    }
+}
+
+/// A scheduler over an empty database in memory, of which the library keeps each table as a sorted list.
+pub fn in_lists<H: Handler + Drop>(alloc: Global) -> Result<Scheduler<H, MemStore>> {
     over(alloc, Connection::open_in_memory(alloc)?)
 }
 

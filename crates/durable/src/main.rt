@@ -6,9 +6,7 @@ mod fault;
 ghost use Rattle.std.specs.Prelude.{◌≡◌, ◌↔◌, true, List, [], codes, Err, IfOk, IfErr};
 ghost use Rattle.sqlite_wal.specs.Files.{image_at};
 ghost use Rattle.sqlite.specs.Files.{file_state};
-ghost use Rattle.sqlite.specs.Held.{state};
 ghost use Rattle.sqlite.specs.State.{HasCleanDisk};
-ghost use Rattle.sqlite.specs.Steps.{over_memory};
 ghost use Rattle.journal_model.specs.Event.{Event};
 ghost use Rattle.journal_model.specs.Cause.{after_open};
 ghost use Rattle.journal_store.specs.Stands.{Stands};
@@ -17,7 +15,7 @@ ghost use Rattle.store_files.specs.Files.{IsNoFile, KeepsEvents};
 use durable_script::{ScriptEnd, ScriptFault, run_script};
 use fault::ProgramFault;
 use journal_store::Store;
-use sqlite::{Connection, FileFrom, FileStore, MemStore, Start, Unknown};
+use sqlite::{FileFrom, FileStore, Start, Unknown};
 use sqlite_disk::Disk;
 use std::alloc::Global;
 use std::fs::File;
@@ -26,6 +24,7 @@ use std::process::ExitCode;
 use std::rt::{Env, HostRuntime};
 use std::{env, io};
 use store_files::{close_file, open_file};
+use store_memory::{MemoryFile, open_in_memory};
 
 /// The two words that the program is called with.
 #[derive(Drop)]
@@ -53,17 +52,15 @@ fn read_words<R: Env + AllocGlobal>(rt: &R) -> Result<Words, ProgramFault> {
 }
 
 /// The store of no invocation, in memory.
-fn open_memory(alloc: Global) -> Result<Store<MemStore>, ProgramFault>
-    ensures ok { IfOk result (λ store. HasCleanDisk (state over_memory store.connection) → Stands [] (state over_memory store.connection) store.live.attempts) }
+fn open_memory(alloc: Global) -> Result<Store<FileStore<MemoryFile>>, ProgramFault>
+    ensures ok { IfOk result (λ store. Stands [] (file_state store.connection) store.live.attempts) }
+    ensures clean { IfOk result (λ store. HasCleanDisk (file_state store.connection)) }
     ensures err { IfErr result (λ fault. fault ≡ ProgramFault.DatabaseRefused) }
 {
-    let Ok(connection) = Connection::open_in_memory(alloc) else {
-        return Err(ProgramFault::DatabaseRefused);
-    };
-    match Store::open(alloc, connection) {
+    match open_in_memory(alloc) {
         Ok(store) => Ok(store),
-        Err(left) => {
-            drop(left);
+        Err(why) => {
+            drop(why);
             Err(ProgramFault::DatabaseRefused)
         }
     }

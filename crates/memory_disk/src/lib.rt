@@ -1,0 +1,6 @@
+//! A file that lies in memory, as a database sees it.
+#![tactic(auto)]
+
+mod file;
+
+pub use file::MemoryFile;

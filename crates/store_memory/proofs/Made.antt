@@ -1,0 +1,54 @@
+-- A store over a database that was just made in memory.
+use Rattle.std.proofs.Common.{◌≡◌, ◌∙◌, ◌&&◌, true, refl, sym, subst, ap₂, inl, inr, List, [], ◌∷◌, IsTrue}
+use Rattle.std.specs.List.{AllZip}
+use Rattle.sqlite_disk.specs.declared.Disk.{Ghosts}
+use Rattle.sqlite_pool.specs.Pool.{files}
+use Rattle.sqlite_schema.specs.declared.schema.Schema.{Schema}
+use Rattle.sqlite_schema.specs.declared.schema.Table.{Table}
+use Rattle.sqlite_schema.specs.declared.schema.Index.{Index}
+use Rattle.sqlite_schema.specs.declared.schema.View.{View as Stored}
+use Rattle.sqlite_catalog.specs.Listing.{IsSound, Lists, IsTableRow, IsIndexRow, IsViewRow}
+use Rattle.sqlite_trees.specs.Objects.{catalog_tree}
+use Rattle.sqlite_trees.specs.Tree.{Trees}
+use Rattle.sqlite_trees.specs.View.{IsClean}
+use Rattle.sqlite_trees.proofs.Doubt.{no_doubt}
+use Rattle.sqlite_store.specs.declared.store.FileStore.{FileStore}
+use Rattle.sqlite_store.specs.FileStore.{view}
+use Rattle.sqlite.specs.State.{State}
+use Rattle.sqlite.proofs.OpenLemmas.{pool_files}
+use Rattle.sql_tables.specs.Columns.{no_schema}
+use Rattle.store_refusals.specs.declared.refusal.Refusal.{Refusal}
+use Rattle.store_refusals.specs.Refused.{is_circumstance}
+use Rattle.journal_store.specs.Opened.{IsNotTaken}
+use Rattle.store_memory.specs.Made.{IsEmptyAndIdle}
+
+-- a database over disks that are always clean is
+pub never_in_doubt : {D : Type 0} {g : Ghosts D} (database : FileStore D g) → ((disk : D) → g.is_clean disk ≡ true) → IsClean (view database)
+never_in_doubt database always =
+    let both = files database.pool in
+    no_doubt _ ((pool_files database.pool).1 ∙ ap₂ ◌&&◌ (always both.0) (always both.1))
+
+-- where no row lists a table, an index or a view, there is none
+beside_none : {A B : Type 0} (R : A → B → Type 0) (others : List B) → AllZip R [] others → others ≡ []
+beside_none R [] all = refl
+beside_none R (other ∷ others) all = absurd all
+
+of_none : (tables : List Table) (indexes : List Index) (views : List Stored) → tables ≡ [] → indexes ≡ [] → views ≡ []
+    → record { tables = tables; indexes = indexes; views = views } ≡ no_schema
+of_none tables indexes views a b c = rw a (rw b (rw c refl))
+
+pub nothing_listed : (schema : Schema) (trees : Trees) → trees catalog_tree ≡ [] → IsSound schema trees → schema ≡ no_schema
+nothing_listed schema trees none sound =
+    let lists = subst (λ rows. Lists rows schema) none sound.lists in
+    of_none schema.tables schema.indexes schema.views (beside_none IsTableRow schema.tables lists.listed.tables)
+    (beside_none (IsIndexRow schema.tables) schema.indexes lists.listed.indexes) (beside_none IsViewRow schema.views lists.listed.views)
+
+-- it is no other's, so what is met in opening a store over it is a circumstance
+pub only_circumstances : (s : State) (why : Refusal) → IsEmptyAndIdle s → IsNotTaken s why → IsTrue (is_circumstance why)
+only_circumstances s why empty cause = elim cause [
+  | inl foreign ↦ elim foreign.1 [
+    | inl inside ↦ absurd (let outside = sym empty.idle ∙ inside in cc)
+    | inr tables ↦ absurd (tables.0 empty.none)
+  ]
+  | inr circumstance ↦ circumstance
+]

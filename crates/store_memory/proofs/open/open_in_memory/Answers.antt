@@ -1,0 +1,12 @@
+use Rattle.std.proofs.Common.{refl}
+use Rattle.store_memory.proofs.Made.{never_in_doubt, only_circumstances}
+use Rattle.store_memory.proofs.open.open_in_memory.Goals as goal
+
+pub returns-in-Ok-clause-none : goal.returns-in-Ok-clause-none
+returns-in-Ok-clause-none c = c.in-Ok.ensures.fresh (never_in_doubt c.in-Ok.store.connection.store (λ disk. refl)) c.in_ok-connection.ensures.ok.none
+
+pub returns-in-Ok-clause-clean : goal.returns-in-Ok-clause-clean
+returns-in-Ok-clause-clean c = never_in_doubt c.in-Ok.store.connection.store (λ disk. refl)
+
+pub returns-in-Err-clause-err : goal.returns-in-Err-clause-err
+returns-in-Err-clause-err c = only_circumstances _ _ c.in_ok-connection.ensures.ok (c.in-Err.ensures.why (never_in_doubt c.in-Err.left.connection.store (λ disk. refl)))
