@@ -11,7 +11,7 @@ use Rattle.vm_entries.specs.Passed.calls
 use Rattle.vm_entries.specs.Passed.numbers
 use Rattle.vm_entries.specs.Passed.starts
 use Rattle.vm_entries.specs.Passed.unmatched
-use Rattle.vm_entries.specs.Passed.{CallError, NumberError, PutError, Replay, Encoding, put_code, put_error_text, Phase, unexpected_error, start_code, start_text, JournalCounts, command_told}
+use Rattle.vm_entries.specs.Passed.{CallError, NumberError, PutError, Replay, Encoding, put_code, put_error_text, Phase, unexpected_error, start_code, start_text, JournalCounts, no_id_text, command_told}
 use Rattle.vm_entries.specs.declared.entry_error.EntryError.{EntryError}
 use Rattle.vm_entries.specs.declared.entry_error.EntryError.TheVariants as entries
 use Rattle.vm_entries.specs.declared.incoming.Incoming.{Incoming}
@@ -50,13 +50,13 @@ PutCauses difference journal error result = Unless (put_lacks_memory error) (Tel
 
 -- where a number is lacking, and where the command is neither matched nor written, the command is told
 abbrev pub CallCauses : {M : Type 0} → (M → M → List ℕ) → JournalCounts → CallError M → Result Error AllocError → Type 0
-CallCauses difference journal (calls.Number numbers.IdsExhausted) result = Unless false (TellsLast journal internal None) result
+CallCauses difference journal (calls.Number numbers.IdsExhausted) result = Unless false (TellsLast journal internal (Some no_id_text)) result
 CallCauses difference journal (calls.Number numbers.OutOfMemory) result = Unless true (Tells internal None) result
 CallCauses difference journal (calls.Put error) result = PutCauses difference journal error result
 CallCauses difference journal calls.OutOfMemory result = Unless true (Tells internal None) result
 
 abbrev pub NumberCauses : NumberError → Result Error AllocError → Type 0
-NumberCauses numbers.IdsExhausted result = Unless false (Tells internal None) result
+NumberCauses numbers.IdsExhausted result = Unless false (Tells internal (Some no_id_text)) result
 NumberCauses numbers.OutOfMemory result = Unless true (Tells internal None) result
 
 -- the input's command is the one that was asked for last

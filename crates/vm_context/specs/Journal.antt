@@ -1,5 +1,5 @@
 -- What is counted of an attempt's commands and ids, and how a command is told in an error.
-use Rattle.std.specs.Prelude.{ℕ, ◌+◌, ◌-◌, ◌*◌, ◌^◌, min, Bool, true, false, if◌then◌else◌, List, [], ◌∷◌, Option, Some, None}
+use Rattle.std.specs.Prelude.{ℕ, ◌+◌, ◌-◌, ◌*◌, ◌^◌, min, Bool, true, false, if◌then◌else◌, List, [], ◌∷◌, codes, Option, Some, None}
 use Rattle.journal_model.specs.Notification.{Text}
 use Rattle.protocol_types.specs.declared.message_type.MessageType.{MessageType}
 use Rattle.protocol_types.specs.declared.message_type.MessageType.TheVariants.{Start}
@@ -17,6 +17,10 @@ pub record JournalCounts : Type 0 where
   -- the type and the name of the last command, `Start` and none where there was none
   pub last_type : MessageType
   pub last_name : Text
+
+-- what is told where a number lacks
+abbrev pub no_id_text : List ℕ
+no_id_text = codes "No id is left"
 
 -- before the first command
 abbrev pub no_commands : JournalCounts

@@ -12,7 +12,7 @@ pub use Rattle.vm_calls.specs.declared.call_error.NumberError.{NumberError}
 pub use Rattle.vm_calls.specs.declared.put_error.PutError.TheVariants.{Replay, Encoding}
 pub use Rattle.vm_calls.specs.declared.put_error.PutError.{PutError}
 pub use Rattle.vm_errors.specs.Failing.{IsCopy, Fails}
-pub use Rattle.vm_errors.specs.Passed.{JournalCounts, command_told}
+pub use Rattle.vm_errors.specs.Passed.{JournalCounts, no_id_text, command_told}
 pub use Rattle.vm_errors.specs.Phases.{unexpected_error, kept_error}
 pub use Rattle.vm_errors.specs.declared.phase.Phase.TheVariants as phases
 pub use Rattle.vm_errors.specs.declared.phase.Phase.{Phase}

@@ -12,7 +12,7 @@ use Rattle.protocol_types.specs.declared.version.Version.{Version}
 use Rattle.vm_awaits.specs.Calls.{no_results}
 use Rattle.vm_awaits.specs.Views.{results_of}
 use Rattle.vm_calls.specs.declared.active.Active.{Active}
-use Rattle.vm_errors.specs.Passed.{no_commands}
+use Rattle.vm_errors.specs.Passed.{known_from, no_commands}
 use Rattle.vm_errors.specs.declared.phase.Phase.{Phase}
 use Rattle.vm_errors.specs.declared.phase.Phase.TheVariants as phases
 use Rattle.vm_start.specs.Starts.{Begins, StartFails}
@@ -27,6 +27,8 @@ pub record IsFresh (version : Version) (delivery : SignalDelivery) (active : Act
   pub replaying : active.is_replaying ≡ true
   pub commands : active.commands.items ≡ []
   pub results : results_of active.results ≡ no_results delivery
+  -- nothing is known of the object's state
+  pub state : active.state ≡ known_from true []
   pub journal : active.journal ≡ no_commands
   pub output : active.output ≡ record { version = version; bytes = []; is_closed = false }
 

@@ -18,6 +18,7 @@ use Rattle.protocol_stream.specs.declared.encoder.EncodingError.TheVariants as u
 use Rattle.protocol_types.specs.declared.message_type.MessageType.TheVariants as messages
 use Rattle.protocol_types.specs.declared.version.Version.{Version}
 use Rattle.vm_context.specs.Eager.{told_value}
+use Rattle.vm_context.specs.Journal.{no_id_text}
 use Rattle.vm_context.specs.Output.{Written, with_frame}
 use Rattle.vm_context.specs.declared.eager_state.EagerGetState.{EagerGetState}
 use Rattle.vm_context.specs.declared.eager_state.EagerGetState.TheVariants as told
@@ -50,7 +51,7 @@ with_read number key old = record old { active = record old.active { output = wi
 -- ---- causes
 
 abbrev pub RegisterCauses : RegisterError → Result Error AllocError → Type 0
-RegisterCauses unregistered.IdsExhausted cause = Unless false (Tells internal None) cause
+RegisterCauses unregistered.IdsExhausted cause = Unless false (Tells internal (Some no_id_text)) cause
 RegisterCauses unregistered.OutOfMemory cause = Unless true (Tells internal None) cause
 
 abbrev pub SendCauses : EncodingError → Result Error AllocError → Type 0
@@ -59,7 +60,7 @@ SendCauses unsent.OutOfMemory cause = Unless true (Tells internal None) cause
 
 -- no number is left, which is told, or memory was refused
 abbrev pub LacksNumber : (old : MachineState) → Error → (new : MachineState) → Type 0
-LacksNumber old answer new = FailsBy (λ error. (2 ^ 32 ≤ old.reads.next) × Tells internal None error) old answer new
+LacksNumber old answer new = FailsBy (λ error. (2 ^ 32 ≤ old.reads.next) × Tells internal (Some no_id_text) error) old answer new
 
 -- ---- reads
 

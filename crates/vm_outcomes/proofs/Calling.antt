@@ -23,6 +23,7 @@ use Rattle.vm_calls.specs.declared.call_error.CallError.TheVariants.{Number, Put
 use Rattle.vm_calls.specs.declared.call_error.NumberError.TheVariants as numbers
 use Rattle.vm_calls.specs.declared.put_error.PutError.TheVariants.{Replay, Encoding}
 use Rattle.vm_commands.specs.declared.replay_error.ReplayError.TheVariants as unmatched
+use Rattle.vm_context.specs.Journal.{no_id_text}
 use Rattle.vm_refusals.specs.declared.refusal_error.RefusalError.{RefusalError}
 use Rattle.vm_feeding.specs.Passed.{IsElsewhere, IsRefused, checks_off, IsOf, IsRefusalOf, IsMade, Calls, Settles, MachineState, CallCauses}
 use Rattle.vm_outcomes.specs.Carrying.{Answers, Fails, Comes, CarriesOut}
@@ -68,7 +69,7 @@ module _ (given : Invocation) (m : Machine) (call : Call) (old : MachineState) (
     call_cause difference active asked (Number numbers.IdsExhausted) told fails causes = record {
       cause = NoNumber;
       when = (unrefused, lacks_completions given m call old.active driven.sees same fails);
-      tells = told_last active.journal internal None told causes;
+      tells = told_last active.journal internal (Some no_id_text) told causes;
       leaves = asked;
     }
     call_cause difference active asked (Number numbers.OutOfMemory) told fails causes = no_memory given m call old active asked told causes

@@ -1,5 +1,5 @@
 -- Calls that make handles, take what they stand for, and look at it.
-use Rattle.std.proofs.Common.{◌≡◌, ◌⊎◌, ◌≤◌, ◌<◌, ◌+◌, ◌^◌, inl, inr, ℕ, Bool, true, false, leb, [], length, codes, Option, None, Result, Ok, Err, IfOk, refl, sym, ap, subst, arith, append-nil}
+use Rattle.std.proofs.Common.{◌≡◌, ◌⊎◌, ◌≤◌, ◌<◌, ◌+◌, ◌^◌, inl, inr, ℕ, Bool, true, false, leb, [], length, codes, Option, Some, None, Result, Ok, Err, IfOk, refl, sym, ap, subst, arith, append-nil}
 use Rattle.std.specs.declared.alloc.AllocError.{AllocError}
 use Rattle.std.proofs.lemmas.Bool.Decides.{leb_tells}
 use Rattle.journal_model.specs.History.{signals_of}
@@ -22,6 +22,7 @@ use Rattle.vm_calls.specs.Handles.{LacksHandle, LacksSignal, MakesHandle}
 use Rattle.vm_calls.specs.declared.active.Active.{Active}
 use Rattle.vm_calls.specs.declared.call_error.NumberError.{NumberError}
 use Rattle.vm_calls.specs.declared.call_error.NumberError.TheVariants as numbers
+use Rattle.vm_context.specs.Journal.{no_id_text}
 use Rattle.vm_errors.specs.declared.phase.Phase.{Phase}
 use Rattle.vm_handles.specs.Calling.{AnswersBy, IsCalled}
 use Rattle.vm_handles.specs.Handles.{MakesSignal, IsAwakeableWhere, IsAwakeable, IsNoAwakeable, TakesFirst, TakeCauses, Looks}
@@ -74,7 +75,7 @@ module _ (given : Invocation) (m : Machine) (call : Call) (old : MachineState) (
   handle_settles answer Lacks lacks left (Err lack) active asked (Ok got) new makes answers = absurd answers
   handle_settles answer Lacks lacks left (Err numbers.IdsExhausted) active asked (Err told) new makes answers =
       failed given m call old driven.phase answers.cause active told new
-      (record { cause = NoNumber; when = (unrefused, lacks makes.0); tells = unless_plain active.journal internal None answers.cause answers.causes; leaves = asked }) makes.1 answers.fails
+      (record { cause = NoNumber; when = (unrefused, lacks makes.0); tells = unless_plain active.journal internal (Some no_id_text) answers.cause answers.causes; leaves = asked }) makes.1 answers.fails
   handle_settles answer Lacks lacks left (Err numbers.OutOfMemory) active asked (Err told) new makes answers =
       failed given m call old driven.phase answers.cause active told new (no_memory given m call old active asked answers.cause answers.causes) makes answers.fails
 

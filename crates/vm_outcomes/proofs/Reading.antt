@@ -1,5 +1,5 @@
 -- Reads of the object's state.
-use Rattle.std.proofs.Common.{◌≡◌, ℕ, Bool, true, false, inl, inr, List, [], length, None, Result, Ok, Err, refl, sym, subst}
+use Rattle.std.proofs.Common.{◌≡◌, ℕ, Bool, true, false, inl, inr, List, [], length, Some, None, Result, Ok, Err, refl, sym, subst}
 use Rattle.std.specs.declared.alloc.AllocError.{AllocError}
 use Rattle.journal_model.specs.History.{completions_of, ids_of}
 use Rattle.journal_model.specs.Notification.{Text}
@@ -19,6 +19,7 @@ use Rattle.vm_calls.specs.declared.active.Active.{Active}
 use Rattle.vm_calls.specs.declared.call_error.NumberError.TheVariants as numbers
 use Rattle.vm_commands.specs.declared.replay_error.ReplayError.TheVariants as unmatched
 use Rattle.vm_commands.specs.declared.state_read.StateReadError.TheVariants as errors
+use Rattle.vm_context.specs.Journal.{no_id_text}
 use Rattle.vm_reading.specs.Causes.{ReadCauses}
 use Rattle.vm_reading.specs.Reading.{ReadKind, IsRead, MissesNext, SettlesRead, StepsOfRead}
 use Rattle.vm_state_reads.specs.Reading.{ReadFailsAs, Reads}
@@ -49,7 +50,7 @@ module _ (given : Invocation) (m : Machine) (call : Call) (old : MachineState) (
     read_cause active asked (Number numbers.IdsExhausted) told fails causes = record {
       cause = NoNumber;
       when = (unrefused, lacks_completions given m call old.active driven.sees same fails);
-      tells = told_last active.journal internal None told causes;
+      tells = told_last active.journal internal (Some no_id_text) told causes;
       leaves = asked;
     }
     read_cause active asked (Number numbers.OutOfMemory) told fails causes = no_memory given m call old active asked told causes

@@ -18,7 +18,7 @@ use Rattle.protocol_types.specs.declared.version.Version.{Version}
 use Rattle.vm_calls.specs.Active.{Sees, TellsSame, IsAtCommand}
 use Rattle.vm_calls.specs.Making.{IsLong}
 use Rattle.vm_calls.specs.declared.active.Active.{Active}
-use Rattle.vm_context.specs.Journal.{JournalCounts}
+use Rattle.vm_context.specs.Journal.{JournalCounts, no_id_text}
 use Rattle.vm_errors.specs.Phases.{unexpected_error}
 use Rattle.vm_errors.specs.declared.phase.Phase.TheVariants as phases
 use Rattle.vm_refusals.specs.Refusals.{refusal_meant, refusal_code, text_of_refusal}
@@ -111,7 +111,7 @@ module _ (version : Version) (journal : JournalCounts) (call : Call) where
 
   abbrev pub CauseTells : Cause → Error → Type 0
   CauseTells (ByFault fault) told = FaultTells fault told
-  CauseTells NoNumber told = TellsEither journal internal None told
+  CauseTells NoNumber told = TellsEither journal internal (Some no_id_text) told
   CauseTells TooLong told = TellsEither journal internal None told
   CauseTells NoReplay told = told ≡ plain_error unsupported_feature (codes "awakeables need journal replay")
   CauseTells NoRuns told = told ≡ no_runs_error

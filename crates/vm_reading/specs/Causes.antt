@@ -16,7 +16,7 @@ use Rattle.vm_commands.specs.declared.replay_error.ReplayError.{ReplayError}
 use Rattle.vm_commands.specs.declared.replay_error.ReplayError.TheVariants as unmatched
 use Rattle.vm_commands.specs.declared.state_read.StateReadError.{StateReadError}
 use Rattle.vm_commands.specs.declared.state_read.StateReadError.TheVariants as errors
-use Rattle.vm_context.specs.Journal.{JournalCounts}
+use Rattle.vm_context.specs.Journal.{JournalCounts, no_id_text}
 use Rattle.vm_state_reads.specs.declared.read_error.ReadError.{ReadError}
 use Rattle.vm_state_reads.specs.declared.read_error.ReadError.TheVariants.{Number, Replay, Encoding, OutOfMemory}
 
@@ -41,7 +41,7 @@ module _ {L E : Type 0} (lazy_difference : L → L → List ℕ) (eager_differen
   MatchCauses errors.Empty result = Unless false (TellsLast journal (fixed_code empty) (Some (fixed_text empty))) result
 
   abbrev pub ReadCauses : ReadError L E → Result Error AllocError → Type 0
-  ReadCauses (Number numbers.IdsExhausted) result = Unless false (TellsLast journal internal None) result
+  ReadCauses (Number numbers.IdsExhausted) result = Unless false (TellsLast journal internal (Some no_id_text)) result
   ReadCauses (Number numbers.OutOfMemory) result = Unless true (Tells internal None) result
   ReadCauses (Replay error) result = MatchCauses error result
   ReadCauses (Encoding error) result = EncodingCauses journal error result
