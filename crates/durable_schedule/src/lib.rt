@@ -5,6 +5,7 @@ mod held;
 mod scheduler;
 
 pub use schedule_model::{
-    Event, HeldAttempt, Refusal, Reply, Turn, attempts_are_held, schedules_grow,
+    Attempt, Event, HeldAttempt, HeldAttempts, Refusal, Reply, Turn, attempts_are_held,
+    schedules_grow,
 };
 pub use scheduler::Scheduler;

@@ -30,7 +30,7 @@ pub use sequence::Sequence;
 
 // Errors, and what a request and a response say of the protocol.
 pub use protocol_differences::CommandRelationship;
-pub use protocol_errors::{Error, ErrorBehavior, InvocationErrorCode, codes};
+pub use protocol_errors::{CommandMetadata, Error, ErrorBehavior, InvocationErrorCode, codes};
 pub use protocol_stream::{CommandType, HeaderMap, Version};
 
 // The handler of an attempt, and the attempt that drives it. A turn that fails brings an `Error`.

@@ -18,7 +18,7 @@ use protocol_records::{
     OutputCommandMessage, SleepCommandMessage, SuspensionMessage, SuspensionMessageV6,
 };
 use protocol_stream::{Feature, MessageHeader, MessageType, RawMessage};
-use protocol_wire::{Fault, LEVELS, Payload, RecordType, fault_of};
+use protocol_wire::{DecodeError, Fault, LEVELS, RecordType, decode, fault_of};
 use std::alloc::{AllocError, Global};
 
 fn faulty(fault: Fault) -> AttemptFrame
@@ -51,14 +51,14 @@ fn read_as<R: FrameRecord>(
 ) -> Result<AttemptFrame, AllocError>
     ensures { IfOk result (λ frame. frame ≡ told_as R.record_type (λ fs. R.told version (R.of the_levels fs)) payload.now) }
 {
-    match fault_of(R::record_type(), payload, LEVELS) {
-        Some(fault) => Ok(faulty(fault)),
-        None => {
-            let one = R::select(alloc, &Payload::new(payload), LEVELS)?;
+    match decode::<R>(alloc, payload) {
+        Ok(one) => {
             let frame = one.to_frame(alloc, version);
             drop(one);
             frame
         }
+        Err(DecodeError::Fault(fault)) => Ok(faulty(fault)),
+        Err(DecodeError::Memory) => Err(AllocError),
     }
 }
 

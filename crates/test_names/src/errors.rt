@@ -11,6 +11,7 @@ pub use journal_protocol::{
     UnavailableEntryError, UncompletedDoProgressDuringReplay, UnexpectedStateError,
     UnsupportedFeatureForNegotiatedVersion, codes,
 };
+use std::fmt;
 
 /// What is called of an error.
 pub fn name_errors() {
@@ -27,4 +28,9 @@ pub fn name_codes() {
     named!(InvocationErrorCode as From<u32>: from);
     named!(u16 as From<InvocationErrorCode>: from);
     named!(u32 as From<InvocationErrorCode>: from);
+}
+
+/// What is called of a host's words for errors.
+pub fn name_formatters<F: ErrorFormatter, W: fmt::Write>() {
+    let _ = <F as ErrorFormatter>::display_closed_error::<W>;
 }

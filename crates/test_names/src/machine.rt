@@ -1,12 +1,13 @@
 //! The machine: what a host embeds, handlers, what they call and are answered, and attempts.
+pub use invocation_vm::async_results::{Notification, NotificationId, NotificationResult};
 pub use invocation_vm::{
     Answer, AttachInvocationTarget, Attempt, AwaitResponse, AwaitedFuture, AwaitingOnPolicy,
-    AwakeableHandle, CANCEL_NOTIFICATION_HANDLE, Call, CallHandle, CommandRelationship,
-    CommandType, CoreVM, EphemeralCompletionId, Handler, ImplicitCancellationOption, Input,
-    JournalMismatchRetryBehavior, JournalReplay, Moment, NonDeterministicChecksOption,
-    NotificationHandle, PayloadOptions, ResponseHead, SendHandle, SignalDelivery, State, Target,
-    Turn, UnresolvedFuture, VM, VMOptions, VMResult, async_results, context, ephemeral,
-    transitions,
+    AwakeableHandle, CANCEL_NOTIFICATION_HANDLE, Call, CallHandle, CommandMetadata,
+    CommandRelationship, CommandType, CoreVM, EphemeralCompletionId, Handler,
+    ImplicitCancellationOption, Input, JournalMismatchRetryBehavior, JournalReplay, Moment,
+    NonDeterministicChecksOption, NotificationHandle, PayloadOptions, ResponseHead, SendHandle,
+    SignalDelivery, State, Target, Turn, UnresolvedFuture, VM, VMOptions, VMResult, async_results,
+    context, ephemeral, transitions,
 };
 
 /// What is called of an attempt.

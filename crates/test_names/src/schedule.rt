@@ -1,6 +1,7 @@
 //! The schedule.
+pub use durable_schedule::{Event, HeldAttempt, HeldAttempts, Refusal, Reply, Scheduler};
 use invocation_vm::Handler;
-pub use schedule_runs::{Event, HeldAttempt, NoRoom, Refusal, Reply, Scheduler, run_schedule};
+pub use schedule_runs::{NoRoom, run_schedule};
 use sqlite::Alter;
 
 /// What is called of a scheduler.

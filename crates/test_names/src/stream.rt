@@ -6,6 +6,7 @@ pub use journal_protocol::{
     MessageHeader, MessageType, NamedCommandMessage, RawMessage, RawMessageExt,
     RestateEncodableMessage, RestateMessage, UnknownMessageType, Version, await_state, is_awake,
 };
+use std::fmt;
 
 /// What is called of a type.
 pub fn name_types() {
@@ -49,6 +50,16 @@ pub fn name_messages<M: RestateMessage + RestateEncodableMessage>() {
 pub fn name_commands<M: NamedCommandMessage + CommandMessageHeaderDiff>() {
     named!(M as NamedCommandMessage: name);
     named!(M as CommandMessageHeaderEq: header_eq);
+}
+
+/// What is called of two commands that differ.
+pub fn name_differences<M: CommandMessageHeaderDiff, W: fmt::Write>() {
+    let _ = <M as CommandMessageHeaderDiff>::write_diff::<W>;
+}
+
+/// What is called of the headers of a request.
+pub fn name_request_headers<M: HeaderMap>() {
+    named!(M as HeaderMap: extract);
 }
 
 /// What is called of any tree.

@@ -42,7 +42,7 @@ Writes error old new = (old.is_closed ≡ false → CanBeTold old.version error)
 -- Of an error its frame is written. Where that would be too long, a frame is written that says so, of an error that the machine
 -- fails with instead; where memory is refused none is, and the machine fails with that.
 abbrev pub Tells : Error → (old : Written) → (told : Error) → (new : Written) → Type 0
-Tells error old told new = ((told ≡ error) × Writes error old new) ⊎ ((IsTooLong error old × (told.code.0 ≡ internal) × Writes told old new) ⊎ ((told ≡ out_of_memory) × (new ≡ old)))
+Tells error old told new = ((told ≡ error) × Writes error old new) ⊎ ((IsTooLong error old × (told ≡ plain_error internal told.message) × Writes told old new) ⊎ ((told ≡ out_of_memory) × (new ≡ old)))
 
 abbrev pub ended : Written → Written
 ended output = record output { is_closed = true }

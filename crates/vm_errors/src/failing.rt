@@ -1,6 +1,7 @@
 // A machine fails.
 ghost use Rattle.std.specs.Prelude.{◌≡◌, ◌⊎◌, OnOk, OnErr, IfOk, IsErrOf, Result, Ok};
 ghost use Rattle.protocol_errors.specs.Code.{internal};
+ghost use Rattle.protocol_errors.specs.Error.{plain_error};
 ghost use Rattle.protocol_stream.specs.declared.encoder.EncodingError.TheVariants.{PayloadTooLong};
 ghost use Rattle.vm_errors.specs.Failing.{out_of_memory, IsTooLong, Writes, Tells, TellsCause, IsCopy, Fails, IsAgain};
 ghost use Rattle.vm_errors.specs.Phases.{kept_error};
@@ -52,7 +53,7 @@ fn write_error(output: &mut Output, alloc: Global, error: &Error) -> Result<(), 
 
 // An error in place of one whose frame would be too long.
 fn tell_too_long(output: &mut Output, alloc: Global) -> Error
-    ensures { ((result.code.0 ≡ internal) × Writes result output.old output.new) ⊎ ((result ≡ out_of_memory) × (output.new ≡ output.old)) }
+    ensures { ((result ≡ plain_error internal result.message) × Writes result output.old output.new) ⊎ ((result ≡ out_of_memory) × (output.new ≡ output.old)) }
 {
     let Ok(error) = to_error(alloc, &EncodingError::PayloadTooLong) else {
         return out_of_memory();

@@ -72,7 +72,7 @@ IsOneOf n code = (code ≡ n) ⊎ (code ≡ internal)
 
 told_one : (error : Error) (old : Written) (told : Error) (new : Written) (n : ℕ) → error.code.0 ≡ n → Tells error old told new → IsOneOf n told.code.0
 told_one error old told new n is (inl tells) = inl (ap (λ (e : Error). e.code.0) tells.0 ∙ is)
-told_one error old told new n is (inr (inl tells)) = inr tells.1
+told_one error old told new n is (inr (inl tells)) = inr (ap (λ (e : Error). e.code.0) tells.1)
 told_one error old told new n is (inr (inr tells)) = inr (ap (λ (e : Error). e.code.0) tells.0)
 
 cause_one : (version : Version) (asked : JournalMismatchRetryBehavior) (cause : Result Error AllocError) (old : Written) (told : Error) (new : Written) (n : ℕ) → IfOk cause (λ error. error.code.0 ≡ n)
