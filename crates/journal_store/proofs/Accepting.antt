@@ -1,8 +1,9 @@
 -- Frames are taken one after another.
-use Rattle.std.proofs.Common.{◌≡◌, ◌≢◌, refl, sym, subst, ◌∙◌, ℕ, inl, inr, arith, Bool, true, false, true≢false, not, List, [], ◌∷◌, ◌++◌, Option, Some, None, Ok, Err}
+use Rattle.std.proofs.Common.{◌≡◌, ◌≢◌, refl, sym, subst, ◌∙◌, ℕ, inl, inr, arith, Bool, true, false, true≢false, not, List, [], ◌∷◌, ◌++◌, Option, Some, None, Result, Ok, Err}
 use Rattle.sqlite_trees.specs.declared.store.Store.{Ghosts}
 use Rattle.sqlite.specs.Held.{state}
 use Rattle.sqlite.specs.State.{HasCleanDisk}
+use Rattle.sql_tables.specs.Asking.{IsKept}
 use Rattle.journal_model.specs.Notification.{Bytes, Text}
 use Rattle.journal_model.specs.Event.{Event}
 use Rattle.journal_model.specs.Attempt.{is_live}
@@ -19,6 +20,7 @@ use Rattle.journal_store.specs.Stored.{Stored}
 use Rattle.journal_store.specs.Stands.{Leads, Endures, IsQuiet, Settles}
 use Rattle.journal_store.specs.Accepting.{HasTaken, OutlastsFrames, SettlesFrames, SettlesNext, TakesNext}
 use Rattle.journal_store.proofs.Enduring.{endures_on, quiet_endures}
+use Rattle.journal_store.proofs.Lasting.{kept_then}
 
 -- these frames were taken of an attempt, and it is live still
 pub record GoesOn (id : Text) (n : ℕ) (replies : List FrameReply) (s t : Standing) : Type 0 where
@@ -28,6 +30,15 @@ pub record GoesOn (id : Text) (n : ℕ) (replies : List FrameReply) (s t : Stand
 -- frames are taken to their end, of an attempt that is live
 abbrev pub TakesLive : Text → ℕ → List FrameReply → Option Refusal → Standing → Standing → Type 0
 TakesLive id n replies why s t = is_live s.events id n ≡ true → TakesFrames id n replies why s t
+
+-- with one more answer there is one, and there are more
+one_behind : (before : List FrameReply) (reply : FrameReply) → before ++ reply ∷ [] ≢ []
+one_behind [] reply e = cc
+one_behind (one ∷ before) reply e = cc
+
+pub more_behind : (before : List FrameReply) (reply : FrameReply) → before ++ reply ∷ [] ≢ before
+more_behind [] reply e = cc
+more_behind (one ∷ before) reply e = more_behind before reply cc
 
 module _ {S : Type 0} (g : Ghosts S) (id : Text) (n : ℕ) (first old new : Stored S) (replies after : List FrameReply) (so_far : Leads g (GoesOn id n replies) first old)
     (lives : Endures g (TakesOne id n) old new) where
@@ -123,6 +134,18 @@ module _ {S : Type 0} (g : Ghosts S) (id : Text) (n : ℕ) (first old new : Stor
           λ trees may. elim (lives.crash clean trees may) [ inl earlier ↦ inl (m.3 trees earlier) | inr keeps ↦ inr (keeps m.0 m.1) ],
         ),
       )
+
+  -- ---- where no frame was answered
+
+  -- the tables are as they were
+  pub kept_on : (result : Result Bool Refusal) → SettlesNext g id n result replies after old new → (replies ≡ [] → IsKept (state g first.connection) (state g old.connection))
+      → (after ≡ replies → IsKept (state g old.connection) (state g new.connection)) → after ≡ [] → IsKept (state g first.connection) (state g new.connection)
+  kept_on (Ok further) next before now none = elim next [
+    | inl it ↦ absurd (one_behind replies it.0 (sym it.1 ∙ none))
+    | inr it ↦ kept_then (state g first.connection) (state g old.connection) (state g new.connection) before_clean (before (sym it.0 ∙ none)) (now it.0)
+  ]
+  kept_on (Err why) same before now none =
+      kept_then (state g first.connection) (state g old.connection) (state g new.connection) before_clean (before (sym same ∙ none)) (now same)
 
 module _ {S : Type 0} (g : Ghosts S) (id : Text) (n : ℕ) (old new : Stored S) (before after : List FrameReply) where
   -- a step that took a frame

@@ -1,13 +1,16 @@
 -- What is committed lasts, and what is refused leaves the tables.
-use Rattle.std.proofs.Common.{◌∙◌, sym, subst, List, Result, Ok, Err, OnErr}
+use Rattle.std.proofs.Common.{◌≡◌, refl, ◌∙◌, sym, subst, List, Result, Ok, Err, OnErr}
 use Rattle.std.proofs.lemmas.Result.{on_err_weaker}
+use Rattle.sqlite_trees.specs.declared.store.Store.{Ghosts}
 use Rattle.sqlite_trees.specs.Tree.{Trees}
+use Rattle.sqlite.specs.Held.{state}
 use Rattle.sqlite.specs.State.{State, HasCleanDisk}
 use Rattle.journal_model.specs.Event.{Event}
 use Rattle.sql_tables.specs.Asking.{IsKept}
 use Rattle.store_tables.specs.Records.{Holds}
 use Rattle.store_tables.specs.Looks.{Lasts}
 use Rattle.store_live.specs.Attempts.{ByInvocation}
+use Rattle.journal_store.specs.Stored.{Stored}
 use Rattle.journal_store.specs.Stands.{Outlasts, Stands}
 
 pub outlasts_now : (events : List Event) (database : State) (attempts : ByInvocation) → HasCleanDisk database → Stands events database attempts → Lasts database → Outlasts events database
@@ -20,6 +23,10 @@ kept_then a b c earlier one two clean is_open =
     let later = two clean is_open in
     let first = one (earlier clean) later.0 in
     (first.0, later.1 ∙ first.1)
+
+-- where nothing was done they are left
+pub same_kept : {S : Type 0} (g : Ghosts S) (old new : Stored S) → new ≡ old → IsKept (state g old.connection) (state g new.connection)
+same_kept {S} g old new same = subst (λ (it : Stored S). IsKept (state g old.connection) (state g it.connection)) (sym same) (λ clean is_open. (is_open, refl))
 
 -- what was looked at before was left too
 pub undone_kept : {A E : Type 0} (result : Result A E) (a b c : State) → (HasCleanDisk c → HasCleanDisk b) → IsKept a b → OnErr result (IsKept b c) → OnErr result (IsKept a c)

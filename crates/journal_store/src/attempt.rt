@@ -1,5 +1,5 @@
 // What is done to a live attempt. The database is asked only to tell why an attempt is not live.
-ghost use Rattle.std.specs.Prelude.{◌≡◌, true, List, None, IfErr, OnErr};
+ghost use Rattle.std.specs.Prelude.{◌≡◌, true, List, None, IfErr};
 ghost use Rattle.journal_model.specs.Event.{Event};
 ghost use Rattle.store_tables.specs.Looks.{Looks};
 ghost use Rattle.store_invocations.specs.Rows.{IsStoreOf};
@@ -103,7 +103,7 @@ impl<S: Alter + Drop> Store<S> {
         ensures does { Leads S.Store (Feeds id.now attempt bytes.now result) self.old self.new }
         ensures live { has_number attempt (attempt_of self.old.live.attempts id.now) ≡ true → IfErr result (λ why. why ≡ OutOfMemory) }
         ensures asks { has_number attempt (attempt_of self.old.live.attempts id.now) ≡ true → self.new.connection ≡ self.old.connection }
-        ensures kept { OnErr result (IsKept (state S.Store self.old.connection) (state S.Store self.new.connection)) }
+        ensures kept { IsKept (state S.Store self.old.connection) (state S.Store self.new.connection) }
         ensures crash { IsQuiet S.Store self.old self.new }
     {
         if !is_live(&self.live, id, attempt) {

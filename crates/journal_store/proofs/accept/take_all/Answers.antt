@@ -1,13 +1,14 @@
-use Rattle.std.proofs.Common.{rules}
+use Rattle.std.proofs.Common.{rules, refl, Ok, Err}
 use Rattle.store_calls.specs.Frames.{TakesFirst}
 use Rattle.journal_store.proofs.Enduring.{same_endures}
-use Rattle.journal_store.proofs.Accepting.{first_endures, goes_further, none_taken, refused_settled, refused_so, rests_settled, rests_so, settled_on}
+use Rattle.journal_store.proofs.Accepting.{first_endures, goes_further, kept_on, none_taken, refused_settled, refused_so, rests_settled, rests_so, settled_on}
 use Rattle.journal_store.proofs.accept.take_all.Goals as goal
 
 pub loop-replies-init : goal.loop-replies-init
 loop-replies-init g c = record {
   taken = none_taken g.S.Store c.args.id.now c.args.attempt _ (search rules) c.args.store.now;
   settled = λ some. absurd (some (search rules));
+  kept = λ none clean is_open. (is_open, refl);
   crash = same_endures g.S.Store (TakesFirst c.args.id.now c.args.attempt) c.args.store.now;
 }
 
@@ -21,6 +22,7 @@ loop-replies-preserved g c =
     record {
       taken = goes_further g.S.Store c.args.id.now c.args.attempt c.args.store.now old new before after taken c.take_next.ensures.crash c.in-Ok-true.field-0 (search rules) c.in-Ok-true.ensures.does;
       settled = settled_on g.S.Store c.args.id.now c.args.attempt c.args.store.now old new before after taken c.take_next.ensures.crash c.in-Ok-true.field-0 c.loop-replies.invariant.settled c.in-Ok-true.ensures.settled;
+      kept = kept_on g.S.Store c.args.id.now c.args.attempt c.args.store.now old new before after taken c.take_next.ensures.crash (Ok c.in-Ok-true.field-0) c.in-Ok-true.ensures.settled c.loop-replies.invariant.kept c.take_next.ensures.kept;
       crash = first_endures g.S.Store c.args.id.now c.args.attempt c.args.store.now old new before after taken c.take_next.ensures.crash c.loop-replies.invariant.crash;
     }
 
@@ -53,3 +55,13 @@ pub returns-in-Err-clause-settled : goal.returns-in-Err-clause-settled
 returns-in-Err-clause-settled g c =
     refused_settled g.S.Store c.args.id.now c.args.attempt c.args.store.now c.loop-replies.store c.take_next.new.store c.loop-replies.replies.items c.take_next.new.replies.items
     c.loop-replies.invariant.taken c.take_next.ensures.crash c.in-Err.why c.loop-replies.invariant.settled c.in-Err.ensures.settled
+
+pub returns-in-Ok-false-clause-kept : goal.returns-in-Ok-false-clause-kept
+returns-in-Ok-false-clause-kept g c =
+    kept_on g.S.Store c.args.id.now c.args.attempt c.args.store.now c.loop-replies.store c.take_next.new.store c.loop-replies.replies.items c.take_next.new.replies.items
+    c.loop-replies.invariant.taken c.take_next.ensures.crash (Ok c.in-Ok-false.field-0) c.in-Ok-false.ensures.settled c.loop-replies.invariant.kept c.take_next.ensures.kept
+
+pub returns-in-Err-clause-kept : goal.returns-in-Err-clause-kept
+returns-in-Err-clause-kept g c =
+    kept_on g.S.Store c.args.id.now c.args.attempt c.args.store.now c.loop-replies.store c.take_next.new.store c.loop-replies.replies.items c.take_next.new.replies.items
+    c.loop-replies.invariant.taken c.take_next.ensures.crash (Err c.in-Err.why) c.in-Err.ensures.settled c.loop-replies.invariant.kept c.take_next.ensures.kept

@@ -3,7 +3,8 @@ use Rattle.store_steps.specs.declared.frame.FrameReply.{FrameReply}
 use Rattle.store_calls.specs.Frames.{Steps}
 use Rattle.journal_store.specs.Stands.{Leads}
 use Rattle.journal_store.specs.Taking.{SettlesStep}
-use Rattle.journal_store.proofs.Accepting.{next_none, next_refused, next_taken, next_unroomed}
+use Rattle.journal_store.proofs.Accepting.{more_behind, next_none, next_refused, next_taken, next_unroomed}
+use Rattle.journal_store.proofs.Lasting.{same_kept}
 use Rattle.journal_store.proofs.accept.take_next.Goals as goal
 
 pub returns-then-is_err-clause-does : goal.returns-then-is_err-clause-does
@@ -52,3 +53,18 @@ returns-in-Ok-None-clause-settled g c =
 
 pub returns-in-Err-clause-settled : goal.returns-in-Err-clause-settled
 returns-in-Err-clause-settled g c = c.reserve.ensures.items
+
+pub returns-in-Ok-Some-clause-kept : goal.returns-in-Ok-Some-clause-kept
+returns-in-Ok-Some-clause-kept g c same =
+    let reply = c.in-Ok-Some.reply in
+    let more = c.push_reserved.ensures.items ∙ ap (λ (all : List FrameReply). all ++ reply ∷ []) c.reserve.ensures.items in
+    absurd (more_behind c.args.replies.now.items reply (sym more ∙ same))
+
+pub returns-in-Ok-None-clause-kept : goal.returns-in-Ok-None-clause-kept
+returns-in-Ok-None-clause-kept g c same =
+    let old = c.args.store.now in
+    let new = c.step.new.self in
+    same_kept g.S.Store old new (subst (λ (o : Option FrameReply). SettlesStep g.S.Store c.args.id.now c.args.attempt (Ok o) old new) c.in-Ok-None.field-0-is c.in-Ok-None.ensures.settled)
+
+pub returns-in-Err-clause-kept : goal.returns-in-Err-clause-kept
+returns-in-Err-clause-kept g c same = c.in-Err.ensures.kept

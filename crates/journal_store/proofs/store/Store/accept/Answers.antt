@@ -1,5 +1,7 @@
 use Rattle.std.proofs.Common.{arith}
+use Rattle.sqlite.specs.Held.{state}
 use Rattle.journal_store.proofs.Accepting.{accepts, accept_endures, accept_settled}
+use Rattle.journal_store.proofs.Lasting.{kept_then}
 use Rattle.journal_store.proofs.store.Store.accept.Goals as goal
 
 pub returns-in-Ok-clause-does : goal.returns-in-Ok-clause-does
@@ -15,3 +17,8 @@ pub returns-in-Ok-clause-settled : goal.returns-in-Ok-clause-settled
 returns-in-Ok-clause-settled g c =
     accept_settled g.S.Store c.args.id.now c.args.attempt c.args.bytes.now c.args.self.now c.feed.new.self c.take_all.new.store c.in-Ok.ensures.does
     c.take_all.result.replies.items c.take_all.result.refusal (λ clean. omega (arith, c.take_all.ensures.crash.clean, clean)) c.take_all.ensures.settled
+
+pub returns-in-Ok-clause-kept_unanswered : goal.returns-in-Ok-clause-kept_unanswered
+returns-in-Ok-clause-kept_unanswered g c none =
+    kept_then (state g.S.Store c.args.self.now.connection) (state g.S.Store c.feed.new.self.connection) (state g.S.Store c.take_all.new.store.connection)
+    (λ clean. omega (arith, c.take_all.ensures.crash.clean, clean)) c.feed.ensures.kept (c.take_all.ensures.kept none)
