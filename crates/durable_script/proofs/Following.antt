@@ -106,7 +106,7 @@ follow_lines law start end done none does id next bring holds =
     law default_options s.events s.replies start end none s.applies s.fits next id covered (s.brings id next bring) holds
 
 -- the accepted events stay
-lines_grow : (done : List DoneLine) (start end : Scheduled BuiltIn) → DoesAll done start end → Grows start.standing end.standing
+pub lines_grow : (done : List DoneLine) (start end : Scheduled BuiltIn) → DoesAll done start end → Grows start.standing end.standing
 lines_grow done start end does =
     let s = lines_are done start end does in
     all_grow function_of default_options s.events s.replies start end s.applies

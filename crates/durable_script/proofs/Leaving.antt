@@ -16,11 +16,11 @@ use Rattle.journal_store.specs.Stored.{Stored}
 use Rattle.journal_store.specs.Stands.{Stands, IsStanding, KeepsAll}
 use Rattle.schedule_runs.specs.Passed.laws
 use Rattle.schedule_runs.specs.Passed.{HoldsOf, Scheduler}
-use Rattle.schedule_runs.specs.Runs.{KeepsMore, Extends, HeadlineAfter, HoldsAfter, NeverLateAfter, WakesExactlyAfter, at_first}
+use Rattle.schedule_runs.specs.Runs.{KeepsMore, Extends, LeavesMore, HeadlineAfter, HoldsAfter, NeverLateAfter, WakesExactlyAfter, at_first}
 use Rattle.journal_store.proofs.Leading.{stood}
 use Rattle.durable_script.specs.Reaching.{IsAt, KeepsCut, Reaches}
-use Rattle.durable_script.specs.Run.{DoneLine, DoesAll, DoesFirst, LinesLeave, LeadsAll, LeavesRuns, AreDone}
-use Rattle.durable_script.proofs.Following.{follow_lines, cut_of, first_grow}
+use Rattle.durable_script.specs.Run.{DoneLine, DoesAll, DoesFirst, LinesLeave, LeadsAll, AreDone}
+use Rattle.durable_script.proofs.Following.{follow_lines, lines_grow, cut_of, first_grow}
 
 -- what schedules leave, and what that gives, as `schedule_laws` has it
 module _ (law : laws.LeavesHolds function_of) (headline : laws.HoldsHeadline) (late : laws.HoldsNeverLate) (exact : laws.HoldsWakesExactly)
@@ -37,15 +37,18 @@ module _ (law : laws.LeavesHolds function_of) (headline : laws.HoldsHeadline) (l
 
   -- what holds of each invocation that is of its run
   module _ (Left : VMOptions → Handler → Text → List Event → Type 0) (so : (next : Handler) (id : Text) (events : List Event) → IsAccepted events → HoldsOf next default_options id events → Left default_options next id events) where
-    leaves_so : LeavesRuns g Left store after done
+    leaves_so : LeavesMore g (LinesLeave done Left) store after
     leaves_so = λ clean before stands.
         let s = stood g before store stands in
         let it = leads_all clean s.0 s.1.standing in
-        let follows = follow_lines law (at_first s.0) it.0 done refl it.2 in (
-          it.0.standing.events,
-          it.1.stands,
+        let follows = follow_lines law (at_first s.0) it.0 done refl it.2 in
+        let grown = lines_grow done (at_first s.0) it.0 it.2 in
+        let all : it.0.standing.events ≡ grown.0 ++ before = grown.1 ∙ ap (λ (events : List Event). grown.0 ++ events) s.1.same in (
+          grown.0,
+          subst (λ (events : List Event). Stands events (state g after.connection) after.live.attempts) all it.1.stands,
           λ id next bring holds.
-              so next id it.0.standing.events it.0.standing.accepted (follows id next bring (subst (λ (events : List Event). HoldsOf next default_options id events) (sym s.1.same) holds)),
+              let was = subst (λ (events : List Event). HoldsOf next default_options id events) (sym s.1.same) holds in
+              subst (λ (events : List Event). Left default_options next id events) all (so next id it.0.standing.events it.0.standing.accepted (follows id next bring was)),
         )
 
     -- what a crash leaves of the lines
@@ -82,4 +85,6 @@ module _ (law : laws.LeavesHolds function_of) (headline : laws.HoldsHeadline) (l
     wakes_exactly = leaves_so WakesExactlyAfter (λ next id events accepted holds new begun. exact next default_options id events new begun holds);
     crash = crash_so HoldsAfter (λ next id events accepted holds. holds);
     crash_headline = crash_so HeadlineAfter (λ next id events accepted holds. headline next default_options id events accepted holds);
+    crash_never_late = crash_so NeverLateAfter (λ next id events accepted holds new begun. late next default_options id events new begun holds);
+    crash_wakes_exactly = crash_so WakesExactlyAfter (λ next id events accepted holds new begun. exact next default_options id events new begun holds);
   }

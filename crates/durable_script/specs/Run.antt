@@ -11,10 +11,10 @@ use Rattle.journal_model.specs.Run.{Handler}
 use Rattle.vm_types.specs.Options.{default_options}
 use Rattle.vm_types.specs.declared.options.VMOptions.{VMOptions}
 use Rattle.journal_store.specs.Stored.{Stored}
-use Rattle.journal_store.specs.Stands.{Stands, IsStanding}
+use Rattle.journal_store.specs.Stands.{IsStanding}
 use Rattle.store_calls.specs.Standing.{Standing}
 use Rattle.schedule_runs.specs.Passed.{HoldsOf}
-use Rattle.schedule_runs.specs.Runs.{Extends, HeadlineAfter, HoldsAfter, NeverLateAfter, WakesExactlyAfter, at_first}
+use Rattle.schedule_runs.specs.Runs.{Extends, LeavesMore, HeadlineAfter, HoldsAfter, NeverLateAfter, WakesExactlyAfter, at_first}
 use Rattle.schedule_runs.specs.Schedules.{Scheduled}
 use Rattle.built_in_handlers.specs.BuiltIn.{function_of}
 use Rattle.built_in_handlers.specs.Handlers.{nap, nap99, race, both, ask, pair}
@@ -144,27 +144,23 @@ module _ {S : Type 0} (g : Ghosts S) where
       HasCleanDisk (state g after.connection) → (s : Standing) → IsStanding g s store
       → (end : Scheduled BuiltIn) × IsStanding g end.standing after × DoesAll done (at_first s) end
 
-  -- Whatever events a store stood for, the one that is left stands for such, unless the disk failed.
-  abbrev pub LeavesRuns : (VMOptions → Handler → Text → List Event → Type 0) → Stored S → Stored S → List DoneLine → Type 0
-  LeavesRuns Left store after done =
-      HasCleanDisk (state g after.connection) → (before : List Event) → Stands before (state g store.connection) store.live.attempts
-      → (events : List Event) × Stands events (state g after.connection) after.live.attempts × LinesLeave done Left before events
-
   -- these lines were done on a store, of which this is left
   pub record AreDone (store after : Stored S) (done : List DoneLine) : Type 0 where
     -- what each of them came to
     pub leads : LeadsAll store after done
-    -- of an invocation all is of the run of the handler that they name: with this the next script begins, also over a store that is
-    -- opened again
-    pub holds : LeavesRuns HoldsAfter store after done
+    -- The events from before stay, and more are put in front of them. Of an invocation all is of the run of the handler that the lines
+    -- name: with this the next script begins, by `schedule_runs::reopened_stores_hold` also over a store that is opened again.
+    pub holds : LeavesMore g (LinesLeave done HoldsAfter) store after
     -- so the recorded requests are a beginning of those of the one uninterrupted run, and the answer is that of the run
-    pub headline : LeavesRuns HeadlineAfter store after done
+    pub headline : LeavesMore g (LinesLeave done HeadlineAfter) store after
     -- waking is never late, and exact
-    pub never_late : LeavesRuns NeverLateAfter store after done
-    pub wakes_exactly : LeavesRuns WakesExactlyAfter store after done
+    pub never_late : LeavesMore g (LinesLeave done NeverLateAfter) store after
+    pub wakes_exactly : LeavesMore g (LinesLeave done WakesExactlyAfter) store after
     -- a crash leaves what it left before, or accepted events of which the same holds, with those from before behind them
     pub crash : Extends g (LinesLeave done HoldsAfter) store after
     pub crash_headline : Extends g (LinesLeave done HeadlineAfter) store after
+    pub crash_never_late : Extends g (LinesLeave done NeverLateAfter) store after
+    pub crash_wakes_exactly : Extends g (LinesLeave done WakesExactlyAfter) store after
 
   -- the script was read whole, and its lines were done
   pub record RunsLines (input left had has : Option (List ℕ)) (store after : Stored S) (result : Result (Unit {0}) ScriptFault) : Type 0 where

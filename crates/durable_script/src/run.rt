@@ -64,10 +64,10 @@ pub fn run_script<R: Read, W: Write, S: Alter + Drop>(
     writer: &mut W,
     store: Store<S>,
 ) -> ScriptEnd<S>
-    // What was done and written, and why no more. Of the lines that were done: what is recorded of an invocation is of the one
-    // uninterrupted run of the handler that they name, if what was recorded before is, so the headline holds of it, and waking is never
-    // late and exact; and what a crash leaves is what it left before, or has accepted events of which the same holds, with those from
-    // before behind them.
+    // What was done and written, and why no more. Of the lines that were done: the events from before stay, and more are put in front of
+    // them; what is recorded of an invocation is of the one uninterrupted run of the handler that they name, if what was recorded before
+    // is, so the headline holds of it, and waking is never late and exact; and what a crash leaves is what it left before, or has
+    // accepted events of which the same holds, with those from before behind them.
     ensures runs { RunsScript S.Store (R.remaining reader.old) (R.remaining reader.new) (W.contents writer.old) (W.contents writer.new) store result.store result.result }
     ensures unread { result.result ≡ Err ScriptFault.ScriptUnreadable → writer.new ≡ writer.old }
 {

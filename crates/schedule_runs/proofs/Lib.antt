@@ -1,3 +1,4 @@
 pub mod Growing
 pub mod Running
 pub mod Schedules
+mod Reopening

@@ -19,7 +19,7 @@ use Rattle.schedule_laws.specs.Schedules.{Event, Reply, HeldAttempt, Scheduled, 
 use Rattle.schedule_laws.specs.Words.{HoldsOf}
 use Rattle.durable_schedule.specs.declared.scheduler.Scheduler.{Scheduler}
 use Rattle.durable_schedule.specs.Scheduled.{IsScheduled, AppliesWith}
-use Rattle.schedule_runs.specs.Runs.{KeepsMore, Extends, AppliesFirst, RunsLeave, at_first}
+use Rattle.schedule_runs.specs.Runs.{KeepsMore, Extends, LeavesMore, AppliesFirst, RunsLeave, at_first}
 use Rattle.journal_store.proofs.Leading.{stood}
 use Rattle.journal_store.proofs.Enduring.{endures_on}
 use Rattle.schedule_runs.proofs.Growing.{all_grow}
@@ -33,12 +33,32 @@ first_all P [] ys all = tt
 first_all P (x ∷ xs) ys all = (all.0, first_all P xs ys all.1)
 
 module _ {H : Type 0} (function : H → Handler) (options : VMOptions) where
+  -- what is applied to a store, by a scheduler that held nothing at first
+  abbrev pub LeadsFirst : {S : Type 0} → Ghosts S → List (Event H) → List Reply → Stored S → Scheduler H S → Type 0
+  LeadsFirst g events replies first new =
+      HasCleanDisk (state g new.store.connection) → (s : Standing) → IsStanding g s first
+      → (to : Scheduled H) × IsScheduled g to new × AppliesAll function options events replies (at_first s) to
+
   module _ (law : LeavesHolds function) (Left : Handler → Text → List Accepted → Type 0) (gives : (next : Handler) (id : Text) (after : List Accepted) → IsAccepted after → HoldsOf next options id after → Left next id after) where
     -- what a schedule leaves, from the law of schedules
     pub runs_leave : (events : List (Event H)) (replies : List Reply) (s : Standing) (new : Scheduled H)
         → AllByRecursion FitsEvent events → AppliesAll function options events replies (at_first s) new → RunsLeave function options events Left s.events new.standing.events
     runs_leave events replies s new fits applies id next covered brings holds =
         gives next id new.standing.events new.standing.accepted (law options events replies (at_first s) new refl applies fits next id covered brings holds)
+
+    -- of the store that they are applied to
+    pub runs_more : {S : Type 0} (g : Ghosts S) (events : List (Event H)) (replies : List Reply) → AllByRecursion FitsEvent events → (first : Stored S) (new : Scheduler H S)
+        → LeadsFirst g events replies first new → LeavesMore g (RunsLeave function options events Left) first new.store
+    runs_more g events replies fits first new leads clean before stands =
+        let from = stood g before first stands in
+        let it = leads clean from.0 from.1.standing in
+        let grown = all_grow function options events replies (at_first from.0) it.0 it.2 in
+        let all : it.0.standing.events ≡ grown.0 ++ before = grown.1 ∙ ap (λ (es : List Accepted). grown.0 ++ es) from.1.same in (
+          grown.0,
+          subst (λ (es : List Accepted). StandsFor es (state g new.store.connection) new.store.live.attempts) all it.1.standing.stands,
+          subst (λ (es : List Accepted). RunsLeave function options events Left es (grown.0 ++ before)) from.1.same
+              (subst (λ (es : List Accepted). RunsLeave function options events Left from.0.events es) all (runs_leave events replies from.0 it.0 fits it.2)),
+        )
 
     -- of the first events
     first_leave : (events : List (Event H)) (s t : Standing) → AllByRecursion FitsEvent events → AppliesFirst function options events s t → RunsLeave function options events Left s.events t.events
@@ -85,14 +105,8 @@ module _ {H : Type 0} (function : H → Handler) (options : VMOptions) where
   all_first events replies held s t applies = record { first = events; rest = []; beginning = sym (append-nil events); answers = replies; held = held; applies = applies }
 
   module _ {S : Type 0} (g : Ghosts S) where
-    -- what is applied to a store, by a scheduler that held nothing at first
-    abbrev pub LeadsFirst : List (Event H) → List Reply → Stored S → Scheduler H S → Type 0
-    LeadsFirst events replies first new =
-        HasCleanDisk (state g new.store.connection) → (s : Standing) → IsStanding g s first
-        → (to : Scheduled H) × IsScheduled g to new × AppliesAll function options events replies (at_first s) to
-
     -- where a crash comes when one more event is applied
-    pub one_endures : (events : List (Event H)) (replies : List Reply) (one : Event H) (first : Stored S) (old new : Scheduler H S) → LeadsFirst events replies first old
+    pub one_endures : (events : List (Event H)) (replies : List Reply) (one : Event H) (first : Stored S) (old new : Scheduler H S) → LeadsFirst g events replies first old
         → Endures g (AppliesFirst function options events) first old.store → Endures g (AppliesWith function options one old.held) old.store new.store
         → Endures g (AppliesFirst function options (events ++ one ∷ [])) first new.store
     one_endures events replies one first old new leads before second =

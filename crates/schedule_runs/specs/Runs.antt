@@ -4,11 +4,11 @@ use Rattle.std.specs.List.{AllByRecursion}
 use Rattle.sqlite_trees.specs.declared.store.Store.{Ghosts}
 use Rattle.sqlite_trees.specs.Tree.{Trees}
 use Rattle.sqlite.specs.Held.{state}
-use Rattle.sqlite.specs.State.{Survives}
+use Rattle.sqlite.specs.State.{HasCleanDisk, Survives}
 use Rattle.journal_model.specs.Notification.{Text}
 use Rattle.journal_model.specs.declared.invocation.NewInvocation.{NewInvocation}
 use Rattle.journal_model.specs.Event.{Event}
-use Rattle.journal_model.specs.Cause.{IsAccepted}
+use Rattle.journal_model.specs.Cause.{IsAccepted, after_open}
 use Rattle.journal_model.specs.Journal.{invocation_begun}
 use Rattle.journal_model.specs.Headline.{Headline, NeverLate, WakesExactly}
 use Rattle.journal_model.specs.Run.{Handler}
@@ -37,7 +37,14 @@ module _ {H : Type 0} (function : H → Handler) (options : VMOptions) where
     pub held : List (HeldAttempt H)
     pub applies : AppliesAll function options first answers (at_first s) (record { standing = t; held = held })
 
--- ---- what a crash leaves
+-- ---- what is left of a store
+
+-- Whatever events a store stood for, the one that is left stands for these and further ones in front of them, in this relation to those
+-- from before, unless the disk failed.
+abbrev pub LeavesMore : {S : Type 0} → Ghosts S → (List Event → List Event → Type 0) → Stored S → Stored S → Type 0
+LeavesMore g Relation old new =
+    HasCleanDisk (state g new.connection) → (before : List Event) → Stands before (state g old.connection) old.live.attempts
+    → (more : List Event) × Stands (more ++ before) (state g new.connection) new.live.attempts × Relation before (more ++ before)
 
 -- the tables keep these events and further ones in front of them, all of which were accepted, in this relation to those from before
 pub record KeepsMore (Relation : List Event → List Event → Type 0) (events : List Event) (trees : Trees) : Type 0 where
@@ -74,3 +81,11 @@ NeverLateAfter options next id after = (new : NewInvocation) → invocation_begu
 
 abbrev pub WakesExactlyAfter : VMOptions → Handler → Text → List Event → Type 0
 WakesExactlyAfter options next id after = (new : NewInvocation) → invocation_begun after id ≡ Some new → WakesExactly next (given_of options id after new) after id
+
+-- ---- a store that is opened again
+
+-- What is recorded of an invocation is of the run behind the stops of the attempts that were live, if it was before them. That all were
+-- accepted, a store that stands for them tells (`Stands.kept`).
+abbrev pub ReopenedHold : Type 0
+ReopenedHold = (next : Handler) (options : VMOptions) (id : Text) (events : List Event) → IsAccepted (after_open events) → HoldsOf next options id events
+    → HoldsOf next options id (after_open events)

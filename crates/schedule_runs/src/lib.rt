@@ -4,17 +4,19 @@
 ghost use Rattle.std.specs.Prelude.{◌≡◌, ◌<◌, ◌≤◌, ◌+◌, List, [], ◌∷◌, ◌++◌, IfOk, IfErr, vec_len, vec_capacity};
 ghost use Rattle.sqlite.specs.Held.{state};
 ghost use Rattle.sqlite.specs.State.{HasCleanDisk};
-ghost use Rattle.journal_model.specs.Event.{Event as Accepted};
 ghost use Rattle.store_calls.specs.Standing.{Standing};
-ghost use Rattle.journal_store.specs.Stands.{Endures, IsStanding, Stands};
+ghost use Rattle.journal_store.specs.Stands.{Endures, IsStanding};
 ghost use Rattle.schedule_laws.specs.Schedules.{AppliesAll, Scheduled};
 ghost use Rattle.durable_schedule.specs.Scheduled.{IsScheduled};
-ghost use Rattle.schedule_runs.specs.Runs.{AppliesFirst, Extends, HeadlineAfter, HoldsAfter, NeverLateAfter, RunsLeave, WakesExactlyAfter, at_first};
+ghost use Rattle.schedule_runs.specs.Runs.{AppliesFirst, Extends, HeadlineAfter, HoldsAfter, LeavesMore, NeverLateAfter, RunsLeave, WakesExactlyAfter, at_first};
+
+mod laws;
 
 pub use durable_schedule::{Event, HeldAttempt, Refusal, Reply, Scheduler, Turn};
 use journal_model::Handler;
 use journal_store::Store;
-pub use schedule_laws::{records_of_runs, schedules_leave};
+pub use laws::reopened_stores_hold;
+pub use schedule_laws::{records_of_runs, schedules_keep, schedules_leave};
 use sqlite::Alter;
 use std::alloc::Global;
 use vm_types::VMOptions;
@@ -44,20 +46,17 @@ pub fn run_schedule<H: Handler + Drop, S: Alter + Drop>(
     options: VMOptions,
     events: Vec<Event<H>>,
 ) -> Result<(Scheduler<H, S>, Vec<Reply>), NoRoom<S>>
-    // Of each invocation whose begins all bring one function, and of whose run all is that was recorded before, so is all that is now:
-    // with this the next schedule begins, also over a store that is opened again.
-    ensures holds { IfOk result (λ done. HasCleanDisk (state S.Store done.0.store.connection) → (before : List Accepted) → Stands before (state S.Store store.connection) store.live.attempts →
-        (after : List Accepted) × Stands after (state S.Store done.0.store.connection) done.0.store.live.attempts × RunsLeave H.next_call options events.items (HoldsAfter options) before after) }
+    // The events from before stay, and more are put in front of them. Of each invocation whose begins all bring one function, and of
+    // whose run all is that was recorded before, so is all that is now: with this the next schedule begins, by `reopened_stores_hold` also
+    // over a store that is opened again.
+    ensures holds { IfOk result (λ done. LeavesMore S.Store (RunsLeave H.next_call options events.items (HoldsAfter options)) store done.0.store) }
     // So its recorded requests are a beginning of those of the one uninterrupted run, all of them where an attempt was suspended or has
     // ended, and its answer is that of the run.
-    ensures headline { IfOk result (λ done. HasCleanDisk (state S.Store done.0.store.connection) → (before : List Accepted) → Stands before (state S.Store store.connection) store.live.attempts →
-        (after : List Accepted) × Stands after (state S.Store done.0.store.connection) done.0.store.live.attempts × RunsLeave H.next_call options events.items (HeadlineAfter options) before after) }
+    ensures headline { IfOk result (λ done. LeavesMore S.Store (RunsLeave H.next_call options events.items (HeadlineAfter options)) store done.0.store) }
     // Waking is never late.
-    ensures never_late { IfOk result (λ done. HasCleanDisk (state S.Store done.0.store.connection) → (before : List Accepted) → Stands before (state S.Store store.connection) store.live.attempts →
-        (after : List Accepted) × Stands after (state S.Store done.0.store.connection) done.0.store.live.attempts × RunsLeave H.next_call options events.items (NeverLateAfter options) before after) }
+    ensures never_late { IfOk result (λ done. LeavesMore S.Store (RunsLeave H.next_call options events.items (NeverLateAfter options)) store done.0.store) }
     // From version 7 on it is exact.
-    ensures wakes_exactly { IfOk result (λ done. HasCleanDisk (state S.Store done.0.store.connection) → (before : List Accepted) → Stands before (state S.Store store.connection) store.live.attempts →
-        (after : List Accepted) × Stands after (state S.Store done.0.store.connection) done.0.store.live.attempts × RunsLeave H.next_call options events.items (WakesExactlyAfter options) before after) }
+    ensures wakes_exactly { IfOk result (λ done. LeavesMore S.Store (RunsLeave H.next_call options events.items (WakesExactlyAfter options)) store done.0.store) }
     // What each event answers and leaves.
     ensures applies { IfOk result (λ done. HasCleanDisk (state S.Store done.0.store.connection) → (s : Standing) → IsStanding S.Store s store →
         (new : Scheduled H) × IsScheduled S.Store new done.0 × AppliesAll H.next_call options events.items done.1.items (at_first s) new) }
@@ -67,6 +66,8 @@ pub fn run_schedule<H: Handler + Drop, S: Alter + Drop>(
     // So all of that holds of what a crash leaves too.
     ensures crash_holds { IfOk result (λ done. Extends S.Store (RunsLeave H.next_call options events.items (HoldsAfter options)) store done.0.store) }
     ensures crash_headline { IfOk result (λ done. Extends S.Store (RunsLeave H.next_call options events.items (HeadlineAfter options)) store done.0.store) }
+    ensures crash_never_late { IfOk result (λ done. Extends S.Store (RunsLeave H.next_call options events.items (NeverLateAfter options)) store done.0.store) }
+    ensures crash_wakes_exactly { IfOk result (λ done. Extends S.Store (RunsLeave H.next_call options events.items (WakesExactlyAfter options)) store done.0.store) }
     ensures err { IfErr result (λ refused. refused.store ≡ store) }
 {
     let Ok(mut replies) = Vec::with_capacity(alloc, events.len()) else {

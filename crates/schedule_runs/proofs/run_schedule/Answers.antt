@@ -3,17 +3,15 @@ use Rattle.std.proofs.lemmas.Iterator.Consumers.{YieldsList-end}
 use Rattle.std.proofs.lemmas.Iterator.Adapters.{YieldsList-from_vec}
 use Rattle.sqlite.specs.Held.{state}
 use Rattle.sqlite.specs.State.{HasCleanDisk}
-use Rattle.journal_model.specs.Event.{Event as Accepted}
 use Rattle.journal_store.specs.Stored.{Stored}
 use Rattle.vm_types.specs.declared.options.VMOptions.{VMOptions}
 use Rattle.schedule_laws.proofs.Schedules.{schedules_grow}
 use Rattle.schedule_laws.specs.Schedules.{Event, Reply, Applies, AppliesAll, FitsEvent}
 use Rattle.journal_store.specs.Stands.{IsStanding, Endures}
 use Rattle.durable_schedule.specs.Scheduled.{AppliesWith}
-use Rattle.schedule_runs.specs.Runs.{Extends, AppliesFirst, RunsLeave, HoldsAfter, HeadlineAfter, NeverLateAfter, WakesExactlyAfter, at_first}
-use Rattle.journal_store.proofs.Leading.{stood}
+use Rattle.schedule_runs.specs.Runs.{Extends, LeavesMore, AppliesFirst, RunsLeave, HoldsAfter, HeadlineAfter, NeverLateAfter, WakesExactlyAfter, at_first}
 use Rattle.journal_store.proofs.Enduring.{same_endures}
-use Rattle.schedule_runs.proofs.Running.{runs_leave, runs_kept, one_endures, each_more}
+use Rattle.schedule_runs.proofs.Running.{runs_more, runs_kept, one_endures, each_more}
 use Rattle.schedule_runs.proofs.run_schedule.Goals as goal
 
 pub loop-event-preserved : goal.loop-event-preserved
@@ -72,68 +70,40 @@ returns-clause-applies g c clean s is =
     )
 
 pub returns-clause-holds : goal.returns-clause-holds
-returns-clause-holds g c clean before stands =
+returns-clause-holds g c =
     let h = c.into_iter-event-iterator.ensures.into_iter_gives in
     let e = YieldsList-end (YieldsList-from_vec {s = c.into_iter-event-iterator.result} c.args.events.items h.0 (h.1 ∙ c.args.events.ok.0)) c.loop-event.yielded c.loop-event.event-iterator c.loop-event.yielded_by c.next.result c.next.new.self c.in-None.is c.next.ensures.steps in
     let all : c.loop-event.yielded ≡ c.args.events.items = sym (map-id c.loop-event.yielded) ∙ e.0 in
-    let from = stood g.S.Store before c.args.store stands in
-    let it = c.loop-event.invariant.applies clean from.0 from.1.standing in
     let function = g.H.Handler.next_call in
-    let leaves = runs_leave function c.args.options c.schedules_leave.ensures (HoldsAfter c.args.options) (λ next id after accepted holds. holds)
-    c.loop-event.yielded c.loop-event.replies.items from.0 it.0 c.loop-event.invariant.fits it.2 in (
-      it.0.standing.events,
-      it.1.standing.stands,
-      subst (λ (es : List Accepted). RunsLeave function c.args.options c.args.events.items (HoldsAfter c.args.options) es it.0.standing.events) from.1.same
-          (subst (λ (es : List (Event g.row.H.Denot)). RunsLeave function c.args.options es (HoldsAfter c.args.options) from.0.events it.0.standing.events) all leaves),
-    )
+    subst (λ (es : List (Event g.row.H.Denot)). LeavesMore g.S.Store (RunsLeave function c.args.options es (HoldsAfter c.args.options)) c.args.store c.loop-event.scheduler.store) all
+    (runs_more function c.args.options c.schedules_leave.ensures (HoldsAfter c.args.options) (λ next id after accepted holds. holds) g.S.Store c.loop-event.yielded c.loop-event.replies.items c.loop-event.invariant.fits c.args.store c.loop-event.scheduler c.loop-event.invariant.applies)
 
 pub returns-clause-headline : goal.returns-clause-headline
-returns-clause-headline g c clean before stands =
+returns-clause-headline g c =
     let h = c.into_iter-event-iterator.ensures.into_iter_gives in
     let e = YieldsList-end (YieldsList-from_vec {s = c.into_iter-event-iterator.result} c.args.events.items h.0 (h.1 ∙ c.args.events.ok.0)) c.loop-event.yielded c.loop-event.event-iterator c.loop-event.yielded_by c.next.result c.next.new.self c.in-None.is c.next.ensures.steps in
     let all : c.loop-event.yielded ≡ c.args.events.items = sym (map-id c.loop-event.yielded) ∙ e.0 in
-    let from = stood g.S.Store before c.args.store stands in
-    let it = c.loop-event.invariant.applies clean from.0 from.1.standing in
     let function = g.H.Handler.next_call in
-    let leaves = runs_leave function c.args.options c.schedules_leave.ensures (HeadlineAfter c.args.options) (λ next id after accepted holds. c.records_of_runs.ensures.headline next c.args.options id after accepted holds)
-    c.loop-event.yielded c.loop-event.replies.items from.0 it.0 c.loop-event.invariant.fits it.2 in (
-      it.0.standing.events,
-      it.1.standing.stands,
-      subst (λ (es : List Accepted). RunsLeave function c.args.options c.args.events.items (HeadlineAfter c.args.options) es it.0.standing.events) from.1.same
-          (subst (λ (es : List (Event g.row.H.Denot)). RunsLeave function c.args.options es (HeadlineAfter c.args.options) from.0.events it.0.standing.events) all leaves),
-    )
+    subst (λ (es : List (Event g.row.H.Denot)). LeavesMore g.S.Store (RunsLeave function c.args.options es (HeadlineAfter c.args.options)) c.args.store c.loop-event.scheduler.store) all
+    (runs_more function c.args.options c.schedules_leave.ensures (HeadlineAfter c.args.options) (λ next id after accepted holds. c.records_of_runs.ensures.headline next c.args.options id after accepted holds) g.S.Store c.loop-event.yielded c.loop-event.replies.items c.loop-event.invariant.fits c.args.store c.loop-event.scheduler c.loop-event.invariant.applies)
 
 pub returns-clause-never_late : goal.returns-clause-never_late
-returns-clause-never_late g c clean before stands =
+returns-clause-never_late g c =
     let h = c.into_iter-event-iterator.ensures.into_iter_gives in
     let e = YieldsList-end (YieldsList-from_vec {s = c.into_iter-event-iterator.result} c.args.events.items h.0 (h.1 ∙ c.args.events.ok.0)) c.loop-event.yielded c.loop-event.event-iterator c.loop-event.yielded_by c.next.result c.next.new.self c.in-None.is c.next.ensures.steps in
     let all : c.loop-event.yielded ≡ c.args.events.items = sym (map-id c.loop-event.yielded) ∙ e.0 in
-    let from = stood g.S.Store before c.args.store stands in
-    let it = c.loop-event.invariant.applies clean from.0 from.1.standing in
     let function = g.H.Handler.next_call in
-    let leaves = runs_leave function c.args.options c.schedules_leave.ensures (NeverLateAfter c.args.options) (λ next id after accepted holds new is. c.records_of_runs.ensures.never_late next c.args.options id after new is holds)
-    c.loop-event.yielded c.loop-event.replies.items from.0 it.0 c.loop-event.invariant.fits it.2 in (
-      it.0.standing.events,
-      it.1.standing.stands,
-      subst (λ (es : List Accepted). RunsLeave function c.args.options c.args.events.items (NeverLateAfter c.args.options) es it.0.standing.events) from.1.same
-          (subst (λ (es : List (Event g.row.H.Denot)). RunsLeave function c.args.options es (NeverLateAfter c.args.options) from.0.events it.0.standing.events) all leaves),
-    )
+    subst (λ (es : List (Event g.row.H.Denot)). LeavesMore g.S.Store (RunsLeave function c.args.options es (NeverLateAfter c.args.options)) c.args.store c.loop-event.scheduler.store) all
+    (runs_more function c.args.options c.schedules_leave.ensures (NeverLateAfter c.args.options) (λ next id after accepted holds new is. c.records_of_runs.ensures.never_late next c.args.options id after new is holds) g.S.Store c.loop-event.yielded c.loop-event.replies.items c.loop-event.invariant.fits c.args.store c.loop-event.scheduler c.loop-event.invariant.applies)
 
 pub returns-clause-wakes_exactly : goal.returns-clause-wakes_exactly
-returns-clause-wakes_exactly g c clean before stands =
+returns-clause-wakes_exactly g c =
     let h = c.into_iter-event-iterator.ensures.into_iter_gives in
     let e = YieldsList-end (YieldsList-from_vec {s = c.into_iter-event-iterator.result} c.args.events.items h.0 (h.1 ∙ c.args.events.ok.0)) c.loop-event.yielded c.loop-event.event-iterator c.loop-event.yielded_by c.next.result c.next.new.self c.in-None.is c.next.ensures.steps in
     let all : c.loop-event.yielded ≡ c.args.events.items = sym (map-id c.loop-event.yielded) ∙ e.0 in
-    let from = stood g.S.Store before c.args.store stands in
-    let it = c.loop-event.invariant.applies clean from.0 from.1.standing in
     let function = g.H.Handler.next_call in
-    let leaves = runs_leave function c.args.options c.schedules_leave.ensures (WakesExactlyAfter c.args.options) (λ next id after accepted holds new is. c.records_of_runs.ensures.wakes_exactly next c.args.options id after new is holds)
-    c.loop-event.yielded c.loop-event.replies.items from.0 it.0 c.loop-event.invariant.fits it.2 in (
-      it.0.standing.events,
-      it.1.standing.stands,
-      subst (λ (es : List Accepted). RunsLeave function c.args.options c.args.events.items (WakesExactlyAfter c.args.options) es it.0.standing.events) from.1.same
-          (subst (λ (es : List (Event g.row.H.Denot)). RunsLeave function c.args.options es (WakesExactlyAfter c.args.options) from.0.events it.0.standing.events) all leaves),
-    )
+    subst (λ (es : List (Event g.row.H.Denot)). LeavesMore g.S.Store (RunsLeave function c.args.options es (WakesExactlyAfter c.args.options)) c.args.store c.loop-event.scheduler.store) all
+    (runs_more function c.args.options c.schedules_leave.ensures (WakesExactlyAfter c.args.options) (λ next id after accepted holds new is. c.records_of_runs.ensures.wakes_exactly next c.args.options id after new is holds) g.S.Store c.loop-event.yielded c.loop-event.replies.items c.loop-event.invariant.fits c.args.store c.loop-event.scheduler c.loop-event.invariant.applies)
 
 pub returns-clause-crash : goal.returns-clause-crash
 returns-clause-crash g c =
@@ -159,3 +129,21 @@ returns-clause-crash_headline g c =
     let function = g.H.Handler.next_call in
     subst (λ (es : List (Event g.row.H.Denot)). Extends g.S.Store (RunsLeave function c.args.options es (HeadlineAfter c.args.options)) c.args.store c.loop-event.scheduler.store) all
     (runs_kept function c.args.options c.schedules_leave.ensures (HeadlineAfter c.args.options) (λ next id after accepted holds. c.records_of_runs.ensures.headline next c.args.options id after accepted holds) g.S.Store c.loop-event.yielded c.loop-event.invariant.fits c.args.store c.loop-event.scheduler.store c.loop-event.invariant.crash)
+
+pub returns-clause-crash_never_late : goal.returns-clause-crash_never_late
+returns-clause-crash_never_late g c =
+    let h = c.into_iter-event-iterator.ensures.into_iter_gives in
+    let e = YieldsList-end (YieldsList-from_vec {s = c.into_iter-event-iterator.result} c.args.events.items h.0 (h.1 ∙ c.args.events.ok.0)) c.loop-event.yielded c.loop-event.event-iterator c.loop-event.yielded_by c.next.result c.next.new.self c.in-None.is c.next.ensures.steps in
+    let all : c.loop-event.yielded ≡ c.args.events.items = sym (map-id c.loop-event.yielded) ∙ e.0 in
+    let function = g.H.Handler.next_call in
+    subst (λ (es : List (Event g.row.H.Denot)). Extends g.S.Store (RunsLeave function c.args.options es (NeverLateAfter c.args.options)) c.args.store c.loop-event.scheduler.store) all
+    (runs_kept function c.args.options c.schedules_leave.ensures (NeverLateAfter c.args.options) (λ next id after accepted holds new is. c.records_of_runs.ensures.never_late next c.args.options id after new is holds) g.S.Store c.loop-event.yielded c.loop-event.invariant.fits c.args.store c.loop-event.scheduler.store c.loop-event.invariant.crash)
+
+pub returns-clause-crash_wakes_exactly : goal.returns-clause-crash_wakes_exactly
+returns-clause-crash_wakes_exactly g c =
+    let h = c.into_iter-event-iterator.ensures.into_iter_gives in
+    let e = YieldsList-end (YieldsList-from_vec {s = c.into_iter-event-iterator.result} c.args.events.items h.0 (h.1 ∙ c.args.events.ok.0)) c.loop-event.yielded c.loop-event.event-iterator c.loop-event.yielded_by c.next.result c.next.new.self c.in-None.is c.next.ensures.steps in
+    let all : c.loop-event.yielded ≡ c.args.events.items = sym (map-id c.loop-event.yielded) ∙ e.0 in
+    let function = g.H.Handler.next_call in
+    subst (λ (es : List (Event g.row.H.Denot)). Extends g.S.Store (RunsLeave function c.args.options es (WakesExactlyAfter c.args.options)) c.args.store c.loop-event.scheduler.store) all
+    (runs_kept function c.args.options c.schedules_leave.ensures (WakesExactlyAfter c.args.options) (λ next id after accepted holds new is. c.records_of_runs.ensures.wakes_exactly next c.args.options id after new is holds) g.S.Store c.loop-event.yielded c.loop-event.invariant.fits c.args.store c.loop-event.scheduler.store c.loop-event.invariant.crash)
