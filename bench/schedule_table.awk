@@ -9,7 +9,12 @@ function put(name, time) {
     our_time[name] = time
 }
 
-$1 == "memory" || $1 == "file" { put($2 ", " $3 " of them, " ($1 == "file" ? "on a file" : "in memory"), $5) }
+$1 == "memory" { put($2 ", " $3 " of them, in memory", $5) }
+
+# Ours has a log in memory always.
+$1 == "log" || ($1 == "memory" && FILENAME == ours) { put($2 ", " $3 " of them, with a log there", $5) }
+
+$1 == "file" { put($2 ", " $3 " of them, on a file", $5) }
 
 $1 == "journal" { for (i = 3; i < NF; i += 2) put($i ", journal of " $2, $(i + 1)) }
 
@@ -18,6 +23,6 @@ END {
     printf format, "microseconds an event", "here", "stock SQLite", "times"
     for (i = 1; i <= rows; i++) {
         name = names[i]
-        printf format, name, our_time[name], their_time[name], their_time[name] > 0 ? sprintf("%.1f", our_time[name] / their_time[name]) : ""
+        printf format, name, our_time[name], their_time[name], (their_time[name] > 0 ? sprintf("%.1f", our_time[name] / their_time[name]) : "")
     }
 }

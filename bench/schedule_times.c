@@ -3,8 +3,8 @@
  *     schedule_times COUNT [FILE]
  *
  * Brings COUNT invocations of the handler race from invoke to end, and COUNT of ask, whose first attempt is stopped where it waits and
- * whose second goes on, and prints the microseconds of an event: in memory, of the processor, and in a new file of that name, by the
- * clock. Then an invocation whose journal grows to 10,000 entries, resumed at each tenth of them. To hand bytes out, to make a turn and
+ * whose second goes on, and prints the microseconds of an event: in memory, of the processor, there with a log too, as the library has
+ * it, and in a new file of that name, by the clock. Then an invocation whose journal grows to 10,000 entries, resumed at each tenth of them. To hand bytes out, to make a turn and
  * to stop an attempt are events without a statement. */
 #include "store_statements.h"
 
@@ -78,6 +78,7 @@ int main(int count, char **words) {
     if (count < 2) return 0;
     uint64_t invocations = strtoull(words[1], NULL, 10);
     time_handlers("memory", ":memory:", CLOCK_PROCESS_CPUTIME_ID, invocations);
+    time_handlers("log", "file:/schedule?vfs=memdb", CLOCK_PROCESS_CPUTIME_ID, invocations);
     if (count > 2) time_handlers("file", words[2], CLOCK_MONOTONIC, invocations);
     time_journal();
     return seen == 1 ? 2 : 0;

@@ -36,14 +36,20 @@ static const char *const TEXTS[STATEMENTS] = {
 
 static const char *const SCHEMA[] = {
     "CREATE TABLE meta (name TEXT NOT NULL, version INTEGER NOT NULL) STRICT",
-    "CREATE TABLE invocation (id TEXT NOT NULL UNIQUE, object TEXT NOT NULL, version INTEGER NOT NULL, seed INTEGER NOT NULL, mode INTEGER NOT NULL, open_object TEXT, suspension BLOB, handed INTEGER, closing INTEGER, answer BLOB, error_code INTEGER, error_behavior INTEGER, error_delay INTEGER, error_message TEXT, attempts INTEGER NOT NULL, attempts_since_entry INTEGER NOT NULL, first_moment INTEGER NOT NULL, last_completion INTEGER NOT NULL, entries INTEGER NOT NULL, UNIQUE (open_object, id)) STRICT",
-    "CREATE TABLE entry (invocation TEXT NOT NULL, place INTEGER NOT NULL, kind INTEGER NOT NULL, payload BLOB NOT NULL, completion INTEGER, second_completion INTEGER, answered INTEGER, moment INTEGER NOT NULL, UNIQUE (invocation, place), UNIQUE (invocation, completion, place), UNIQUE (invocation, second_completion, place), UNIQUE (invocation, answered, place)) STRICT",
+    "CREATE TABLE invocation (id TEXT NOT NULL UNIQUE, object TEXT NOT NULL, version INTEGER NOT NULL, seed INTEGER NOT NULL, mode INTEGER NOT NULL, open_object TEXT, suspension BLOB, handed INTEGER, closing INTEGER, answer BLOB, error_code INTEGER, error_behavior INTEGER, error_delay INTEGER, error_message TEXT, attempts INTEGER NOT NULL, attempts_since_entry INTEGER NOT NULL, first_moment INTEGER NOT NULL, last_completion INTEGER NOT NULL, entries INTEGER NOT NULL) STRICT",
+    "CREATE INDEX invocation_by_open_object ON invocation (open_object)",
+    "CREATE TABLE entry (invocation TEXT NOT NULL, place INTEGER NOT NULL, kind INTEGER NOT NULL, payload BLOB NOT NULL, completion INTEGER, second_completion INTEGER, answered INTEGER, moment INTEGER NOT NULL, UNIQUE (invocation, place)) STRICT",
+    "CREATE INDEX entry_by_completion ON entry (invocation, completion)",
+    "CREATE INDEX entry_by_second_completion ON entry (invocation, second_completion)",
+    "CREATE INDEX entry_by_answered ON entry (invocation, answered)",
     "CREATE TABLE state (object TEXT NOT NULL, key BLOB NOT NULL, value BLOB NOT NULL, UNIQUE (object, key)) STRICT",
-    "CREATE TABLE sleep (moment INTEGER NOT NULL, invocation TEXT NOT NULL, completion INTEGER NOT NULL, UNIQUE (moment, invocation, completion), UNIQUE (invocation, completion)) STRICT",
+    "CREATE TABLE sleep (moment INTEGER NOT NULL, invocation TEXT NOT NULL, completion INTEGER NOT NULL, UNIQUE (invocation, completion)) STRICT",
+    "CREATE INDEX sleep_by_moment ON sleep (moment)",
     "INSERT INTO meta VALUES ('journal_store', 1)",
 };
 
-/* As the library has it: a file is held by one process alone, with a log beside it, and each commit is on the disk. */
+/* As the library has it: a file is held by one process alone, with a log beside it, and each commit is on the disk. Of `:memory:` the
+ * stock library makes no log, whatever is set: it keeps the pages as they were until the commit, which writes nothing then. */
 static const char *const SETTINGS[] = {
     "PRAGMA foreign_keys = ON",
     "PRAGMA locking_mode = EXCLUSIVE",
@@ -92,7 +98,7 @@ static inline double now(void) {
 }
 
 static void open_database(const char *path) {
-    if (sqlite3_open(path, &database) != SQLITE_OK) fail("open");
+    if (sqlite3_open_v2(path, &database, SQLITE_OPEN_READWRITE | SQLITE_OPEN_CREATE | SQLITE_OPEN_URI, NULL) != SQLITE_OK) fail("open");
     for (size_t i = 0; i < sizeof SETTINGS / sizeof SETTINGS[0]; i++)
         if (sqlite3_exec(database, SETTINGS[i], NULL, NULL, NULL) != SQLITE_OK) fail(SETTINGS[i]);
     for (size_t i = 0; i < sizeof SCHEMA / sizeof SCHEMA[0]; i++)

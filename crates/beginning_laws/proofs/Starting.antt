@@ -2,6 +2,7 @@
 use Rattle.std.proofs.Common.{◌≡◌, ◌⊎◌, inl, inr, ◌∙◌, ◌+◌, ℕ, Bool, true≢false, false, List, [], ◌∷◌, ◌++◌, map, length, append_assoc, Option, Some, None, Result, Ok, Err, refl, sym, ap, subst}
 use Rattle.std.specs.List.{AllByRecursion}
 use Rattle.protocol_errors.specs.Error.{decoding_code}
+use Rattle.protocol_stream.specs.ErrorText.{decoding_text}
 use Rattle.protocol_records.specs.declared.start.StartMessage.{StartMessage}
 use Rattle.protocol_stream.specs.Decoder.{ConsumesNext}
 use Rattle.protocol_stream.specs.Frame.{message_of}
@@ -143,7 +144,7 @@ module _ (start_kept : StartsAreKept) (keeps : MessagesAreKept) (start : Attempt
         absurd (unknown_is_none ty (message_of types.Start payload) (found_first coming rest between.decoder (unknown ty) still.bytes consumes).0)
     stops_still coming between new still (Err OutOfMemory) rest consumes unread =
         inr (inr (fails_behind (with_bytes rest between) new (fresh_output between still.awaits)
-        (fails_for_memory unread.cause (with_bytes rest between) new (unless_refused (Tells (decoding_code OutOfMemory) None) unread.cause unread.causes) (ap has_failed still.awaits.waits.phase) unread.fails)))
+        (fails_for_memory unread.cause (with_bytes rest between) new (unless_refused (Tells (decoding_code OutOfMemory) (Some (decoding_text OutOfMemory))) unread.cause unread.causes) (ap has_failed still.awaits.waits.phase) unread.fails)))
     stops_still coming between new still (Err _) rest consumes unread = absurd consumes
 
     take_rest : (coming : List ℕ) (between new : MachineState) → At coming old between → Rests between new → AtEnd coming new

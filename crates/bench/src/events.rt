@@ -1,8 +1,8 @@
 // One more event of each kind, over a journal.
 use crate::frames::{call_frame, sleep_frame};
-use crate::micros::Micros;
 use crate::stores::{Memory, accept, begin, complete, empty_store, invoke, next_input};
 use anyhow::{Result, bail};
+use bench_micros::Micros;
 use bytes::{ByteStr, Bytes};
 use std::alloc::Global;
 use std::time::{CpuClock, Duration};

@@ -10,7 +10,6 @@ mod commands;
 mod events;
 mod frames;
 mod journal;
-mod micros;
 mod naps;
 mod report;
 mod samples;

@@ -1,8 +1,8 @@
 // Naps, each recorded to its suspension.
 use crate::frames::{NAP, NAP_FRAMES};
-use crate::micros::Micros;
 use crate::stores::{Memory, accept, begin, close_input, empty_store, invoke, next_input};
 use anyhow::{Result, bail};
+use bench_micros::Micros;
 use bytes::ByteStr;
 use std::alloc::Global;
 use std::time::CpuClock;

@@ -1,8 +1,8 @@
 // An invocation whose journal grows, resumed at each tenth.
 use crate::events::{Place, begin, invoke, stop, transfer, turns};
-use crate::micros::Micros;
 use crate::opened::{in_lists, in_memory};
 use anyhow::Result;
+use bench_micros::Micros;
 use bytes::ByteStr;
 use durable_schedule::Scheduler;
 use journal_model::{Answer, Call, Handler, Input, Moment};

@@ -1,8 +1,8 @@
 // Invocations of `race` and `ask`, from invoke to end.
 use crate::events::{Place, begin, complete, feed, invoke, stop, tick, transfer, turns};
-use crate::micros::Micros;
 use crate::opened::{in_file, in_lists, in_memory};
 use anyhow::Result;
+use bench_micros::Micros;
 use built_in_handlers::BuiltIn;
 use built_in_handlers::handlers::{Ask, Race};
 use durable_schedule::Scheduler;

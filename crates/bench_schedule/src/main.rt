@@ -11,7 +11,6 @@
 mod events;
 mod growth;
 mod handlers;
-mod micros;
 mod opened;
 
 use anyhow::Result;

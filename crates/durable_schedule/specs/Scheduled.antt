@@ -1,5 +1,5 @@
 -- What a scheduler stands for, and what its calls make of that.
-use Rattle.std.specs.Prelude.{◌≡◌, ◌≢◌, ℕ, List, length, Option, Ok, Err}
+use Rattle.std.specs.Prelude.{◌≡◌, ◌≢◌, ℕ, true, List, length, Option, Ok, Err}
 use Rattle.sqlite_trees.specs.declared.store.Store.{Ghosts}
 use Rattle.sqlite.specs.Held.{state}
 use Rattle.sqlite.specs.State.{State}
@@ -8,8 +8,10 @@ use Rattle.journal_model.specs.Run.{Handler}
 use Rattle.vm_types.specs.declared.options.VMOptions.{VMOptions}
 use Rattle.protocol_types.specs.declared.version.Version.{Version}
 use Rattle.store_refusals.specs.declared.refusal.Refusal.{Refusal}
+use Rattle.store_refusals.specs.declared.refusal.Refusal.TheVariants.{OutOfMemory}
 use Rattle.journal_store.specs.Accepting.{OutlastsFrames}
 use Rattle.journal_store.specs.Stored.{Stored}
+use Rattle.journal_store.specs.Words.{attempt_of, has_number}
 use Rattle.journal_store.specs.Stands.{IsStanding, Leads, Outlasts}
 use Rattle.schedule_model.specs.Attempts.attempts
 use Rattle.schedule_model.specs.Attempts.{Attempt, LetsGo}
@@ -60,6 +62,25 @@ IsWritten (event.Begin id handler now) answer = HasBegun answer
 IsWritten (event.Move id attempt count) answer = HasTakenFrames answer
 IsWritten _ answer = ⊥
 
+-- ---- a live attempt
+
+-- this attempt is the live one of the invocation
+abbrev pub IsLive : {S : Type 0} → Text → (attempt : ℕ) → Stored S → Type 0
+IsLive id attempt store = has_number attempt (attempt_of store.live.attempts id) ≡ true
+
+-- bytes were moved, or nobody holds the attempt, or memory was refused
+abbrev pub IsMovedIfHeld : Reply → Type 0
+IsMovedIfHeld (reply.Moved bytes frames why) = Unit {0}
+IsMovedIfHeld (reply.Refused refusal.AttemptNotHeld) = Unit {0}
+IsMovedIfHeld (reply.Refused (refusal.Store why)) = why ≡ OutOfMemory
+IsMovedIfHeld _ = ⊥
+
+-- Whatever the store stands for: a stop of a live attempt is never refused, nor are its bytes but for want of memory.
+abbrev pub TakesLive : {H S : Type 0} → scheduled.Event H → Reply → Stored S → Type 0
+TakesLive (event.Stop id attempt) answer store = IsLive id attempt store → IsDone answer
+TakesLive (event.Move id attempt count) answer store = IsLive id attempt store → IsMovedIfHeld answer
+TakesLive _ answer store = Unit {0}
+
 -- ---- what lasts of that
 
 -- The frames that were taken last, up to where no further one was; one that was refused may have been written.
@@ -80,7 +101,7 @@ abbrev pub LeadsMoved : {S : Type 0} → Ghosts S → Text → (attempt : ℕ) �
 LeadsMoved g id attempt answer Relation old new = Leads g (λ s t. Relation s t × OutlastsMove id attempt answer t (state g new.connection)) old new
 
 -- an attempt of this version was made, and fed its start frame
-pub record IsMade {H : Type 0} (version : Version) (options : VMOptions) (handler : H) (start : Bytes) (attempt : Attempt H) : Type 0 where
+pub record IsMadeAndFed {H : Type 0} (version : Version) (options : VMOptions) (handler : H) (start : Bytes) (attempt : Attempt H) : Type 0 where
   pub made : Attempt H
   pub begun : attempts.IsBegun version options handler (Ok made)
   pub fed : attempts.Feeds start made attempt

@@ -4,7 +4,7 @@ ghost use Rattle.journal_store.specs.Stands.{Endures, IsQuiet, Leads};
 ghost use Rattle.schedule_model.specs.Lends.{held_as};
 ghost use Rattle.schedule_model.specs.Schedule.{ClosesOne, FeedsOne, MovesOne};
 ghost use Rattle.store_calls.specs.Frames.{AcceptsFirst};
-ghost use Rattle.durable_schedule.specs.Scheduled.{AcceptsOne, HasTakenFrames, IsMade, LeadsMoved, MovesSome};
+ghost use Rattle.durable_schedule.specs.Scheduled.{AcceptsOne, HasTakenFrames, IsLive, IsMadeAndFed, IsMovedIfHeld, LeadsMoved, MovesSome};
 
 use bytes::{ByteStr, Bytes};
 use journal_model::Handler;
@@ -23,7 +23,7 @@ pub(crate) fn make<H: Handler + Drop>(
     handler: H,
     start: Bytes,
 ) -> Option<Attempt<H>>
-    ensures { IfSome result (IsMade version options handler start) }
+    ensures { IfSome result (IsMadeAndFed version options handler start) }
 {
     match Attempt::new(alloc, version, options, handler) {
         Ok(made) => {
@@ -89,6 +89,7 @@ fn accept_from<H: Handler, S: Alter + Drop>(
 ) -> Reply
     ensures does { Leads S.Store (λ s t. AcceptsOne bytes (held_as invocation.now number attempt.old) s result t attempt.new) store.old store.new }
     ensures settled { HasTakenFrames result → LeadsMoved S.Store invocation.now number result (λ s t. AcceptsOne bytes (held_as invocation.now number attempt.old) s result t attempt.new) store.old store.new }
+    ensures live { IsLive invocation.now number store.old → IsMovedIfHeld result }
     ensures crash { Endures S.Store (AcceptsFirst invocation.now number bytes) store.old store.new }
 {
     let len = bytes.len();
@@ -120,6 +121,7 @@ pub(crate) fn take_in<H: Handler, S: Alter + Drop>(
 ) -> Reply
     ensures does { Leads S.Store (λ s t. MovesOne count (held_as invocation.now number attempt.old) s result t attempt.new) store.old store.new }
     ensures settled { HasTakenFrames result → LeadsMoved S.Store invocation.now number result (λ s t. MovesOne count (held_as invocation.now number attempt.old) s result t attempt.new) store.old store.new }
+    ensures live { IsLive invocation.now number store.old → IsMovedIfHeld result }
     ensures crash { Endures S.Store (MovesSome count (held_as invocation.now number attempt.old)) store.old store.new }
 {
     match attempt.first_output(count) {

@@ -16,7 +16,7 @@ ghost use Rattle.schedule_model.specs.Held.{held_of};
 ghost use Rattle.schedule_model.specs.Schedule.{RepliesDone, RepliesPlace, RepliesCount, BeginDoes, IfHeld, FeedsOne, ClosesOne, TurnsOne, MovesOne, Applies, Scheduled};
 ghost use Rattle.schedule_model.specs.Fitting.{FitsEvent};
 ghost use Rattle.fitting_events.specs.Fitting.{InvocationFits, ResultFits};
-ghost use Rattle.durable_schedule.specs.Scheduled.{AppliesWith, HasBegun, HasTakenFrames, HasTicked, IsDone, IsPlaced, IsScheduled, IsWritten, LeadsLasting, LeadsMoved, OutlastsEvent};
+ghost use Rattle.durable_schedule.specs.Scheduled.{AppliesWith, HasBegun, HasTakenFrames, HasTicked, IsDone, IsLive, IsMovedIfHeld, IsPlaced, IsScheduled, IsWritten, LeadsLasting, LeadsMoved, OutlastsEvent, TakesLive};
 
 use crate::held::{close, hand_out, make, take_in};
 use bytes::ByteStr;
@@ -106,6 +106,7 @@ impl<H: Handler + Drop, S: Alter + Drop> Scheduler<H, S> {
     /// An attempt is stopped.
     fn stop(&mut self, invocation: &ByteStr, number: u32) -> Reply
         ensures does { Leads S.Store (λ s t. RepliesDone (λ answer. Stops invocation.now number answer s t) result) self.old.store self.new.store }
+        ensures live { IsLive invocation.now number self.old.store → IsDone result }
         ensures kept { self.new ≡ record self.old { store = self.new.store } }
         ensures crash { IsQuiet S.Store self.old.store self.new.store }
     {
@@ -193,6 +194,7 @@ impl<H: Handler + Drop, S: Alter + Drop> Scheduler<H, S> {
         ensures does { Leads S.Store (λ s t. IfHeld (MovesOne count) (held_of self.old.held invocation.now number) s self.old.held result t self.new.held) self.old.store self.new.store }
         ensures options { self.new.options ≡ self.old.options }
         ensures settled { HasTakenFrames result → LeadsMoved S.Store invocation.now number result (λ s t. IfHeld (MovesOne count) (held_of self.old.held invocation.now number) s self.old.held result t self.new.held) self.old.store self.new.store }
+        ensures live { IsLive invocation.now number self.old.store → IsMovedIfHeld result }
         ensures crash { Endures S.Store (AppliesWith H.next_call self.old.options (Event.Move invocation.now number count) self.old.held) self.old.store self.new.store }
     {
         match self.held.get_mut(invocation, number) {
@@ -208,6 +210,8 @@ impl<H: Handler + Drop, S: Alter + Drop> Scheduler<H, S> {
         // What is answered as written lasts: whatever a crash leaves from then on, the tables keep it.
         ensures settled { IsWritten event result → HasCleanDisk (state S.Store self.new.store.connection) → (old : Scheduled H) → IsScheduled S.Store old self.old → (new : Scheduled H) × IsScheduled S.Store new self.new × Applies H.next_call self.old.options event result old new × OutlastsEvent event result new.standing (state S.Store self.new.store.connection) }
         ensures fits { FitsEvent event }
+        // A stop of a live attempt is never refused, nor are its bytes but for want of memory, whatever the store stands for.
+        ensures live { TakesLive event result self.old.store }
         ensures crash { Endures S.Store (AppliesWith H.next_call self.old.options event self.old.held) self.old.store self.new.store }
     {
         match event {

@@ -12,7 +12,7 @@ use Rattle.durable_script.specs.declared.runner.Runner.{Runner}
 use Rattle.durable_script.specs.Line.{DoesLine, DoesSomeLine}
 use Rattle.durable_script.specs.Reaching.{Reaches}
 use Rattle.durable_script.specs.Runner.{DoesNext, StopsAt}
-use Rattle.durable_script.specs.Run.{DoneLine, lines_of, texts_of, AreUnderstood, DoesAll, DoesFirst, HasDone, DoesLines, ComesTo}
+use Rattle.durable_script.specs.Run.{DoneLine, lines_of, texts_of, AreUnderstood, DoesAll, DoesFirst, HasDone, DoesLines, ComesSoFar}
 use Rattle.durable_script.proofs.Reaching.{reaches_then}
 
 module _ {S : Type 0} (g : Ghosts S) (lines : List (ℕ × List ℕ)) (start : Scheduler BuiltIn S) where
@@ -125,7 +125,7 @@ module _ (lines : List (ℕ × List ℕ)) (Does Tells : List DoneLine → Type 0
   has_done_so : (done : List DoneLine) (rest : List (ℕ × List ℕ)) → HasDone lines Does done rest → HasDone lines Tells done rest
   has_done_so done rest h = record { lines_are = h.lines_are; understood = h.understood; does = so done h.understood h.does }
 
-  pub comes_so : (output : List ℕ) (result : Result (Unit {0}) ScriptFault) → ComesTo lines Does output result → ComesTo lines Tells output result
+  pub comes_so : (output : List ℕ) (result : Result (Unit {0}) ScriptFault) → ComesSoFar lines Does output result → ComesSoFar lines Tells output result
   comes_so output (Ok done) c = record { done = c.done; has_done = has_done_so c.done [] c.has_done; written = c.written }
   comes_so output (Err (LineNotUnderstood number)) c = record {
     done = c.done;

@@ -10,7 +10,7 @@ use Rattle.schedule_runs.proofs.Growing.{Grows, all_grow}
 use Rattle.schedule_runs.proofs.Running.{each_more}
 use Rattle.schedule_runs.proofs.Schedules.{schedules_grow}
 use Rattle.schedule_runs.specs.Attempts.{Answered}
-use Rattle.schedule_runs.specs.Passed.{LeavesHolds, IsCovered}
+use Rattle.schedule_runs.specs.Passed.{LeavesHolds, ReplaysInLine}
 use Rattle.schedule_runs.specs.Schedules.event
 use Rattle.schedule_runs.specs.Schedules.{FitsEvent, Event, Reply, Turned, Scheduled, AppliesAll, Brings}
 use Rattle.script_lines.specs.declared.line.Line.{Line}
@@ -97,13 +97,13 @@ lines_are (one ∷ before) start end d = line_more (Bring before) one.text start
 -- ---- what lines leave
 
 -- the journal is replayed, and signals wait in line
-covered : IsCovered default_options
-covered = record { replays = refl; queued = refl }
+in_line : ReplaysInLine default_options
+in_line = record { replays = refl; queued = refl }
 
 pub follow_lines : LeavesHolds function_of → LinesFollow
 follow_lines law start end done none does id next bring holds =
     let s = lines_are done start end does in
-    law default_options s.events s.replies start end none s.applies s.fits next id covered (s.brings id next bring) holds
+    law default_options s.events s.replies start end none s.applies s.fits next id in_line (s.brings id next bring) holds
 
 -- the accepted events stay
 pub lines_grow : (done : List DoneLine) (start end : Scheduled BuiltIn) → DoesAll done start end → Grows start.standing end.standing

@@ -15,7 +15,7 @@ use Rattle.schedule_runs.specs.Schedules.{FitsEvent, Event, Reply, HeldAttempt, 
 use Rattle.journal_store.specs.Stands.{Endures, Keeps}
 use Rattle.journal_store.proofs.Enduring.{same_endures}
 use Rattle.durable_script.specs.Line.{AppliesOne}
-use Rattle.durable_script.specs.Reaching.{KeepsCut, Leaves, Reaches, Nowhere}
+use Rattle.durable_script.specs.Reaching.{KeepsCut, LeavesCut, Reaches, Nowhere}
 use Rattle.durable_script.specs.Shown.{Looks}
 
 -- an event was applied, with some reply
@@ -23,11 +23,11 @@ abbrev pub Applied : Event BuiltIn → Scheduled BuiltIn → Scheduled BuiltIn �
 Applied one old new = (reply : Reply) × AppliesOne one reply old new
 
 module _ {S : Type 0} (g : Ghosts S) where
-  early : (C : Scheduled BuiltIn → Scheduled BuiltIn → Type 0) (old new : Scheduler BuiltIn S) → Leaves g C old new → HasCleanDisk (state g new.store.connection) → HasCleanDisk (state g old.store.connection)
+  early : (C : Scheduled BuiltIn → Scheduled BuiltIn → Type 0) (old new : Scheduler BuiltIn S) → LeavesCut g C old new → HasCleanDisk (state g new.store.connection) → HasCleanDisk (state g old.store.connection)
   early C old new leaves clean = omega (arith, leaves.clean, clean)
 
   -- nothing was done to the store
-  same_leaves : (C : Scheduled BuiltIn → Scheduled BuiltIn → Type 0) (a : Scheduler BuiltIn S) → Leaves g C a a
+  same_leaves : (C : Scheduled BuiltIn → Scheduled BuiltIn → Type 0) (a : Scheduler BuiltIn S) → LeavesCut g C a a
   same_leaves C a =
       survives_weaker (state g a.store.connection) (state g a.store.connection) (Keeps g (λ s t. ⊥) a.store) (KeepsCut g C a)
       (λ clean db it before at. absurd ((it before.standing at.scheduled.standing).1)) (same_endures g (λ s t. ⊥) a.store)
@@ -69,7 +69,7 @@ module _ {S : Type 0} (g : Ghosts S) where
   Promised one reply old new =
       HasCleanDisk (state g new.store.connection) → (s : Scheduled BuiltIn) → IsScheduled g s old → (t : Scheduled BuiltIn) × IsScheduled g t new × Applies function_of old.options one reply s t
 
-  reaches_promised : (C : Scheduled BuiltIn → Scheduled BuiltIn → Type 0) (one : Event BuiltIn) (reply : Reply) (old new : Scheduler BuiltIn S) → Leaves g C old new → Promised one reply old new
+  reaches_promised : (C : Scheduled BuiltIn → Scheduled BuiltIn → Type 0) (one : Event BuiltIn) (reply : Reply) (old new : Scheduler BuiltIn S) → LeavesCut g C old new → Promised one reply old new
       → FitsEvent one → new.options ≡ old.options → Reaches g C (AppliesOne one reply) old new
   reaches_promised C one reply old new leaves does fits options = record {
     leaves = leaves;

@@ -21,13 +21,13 @@ module _ {S : Type 0} (g : Ghosts S) where
   KeepsCut Cut scheduler trees = (before : Scheduled BuiltIn) → IsAt before scheduler → (after : Scheduled BuiltIn) × Cut before after × KeepsAll after.standing.events trees
 
   -- What a crash leaves is what it left before, or such tables.
-  abbrev pub Leaves : (Scheduled BuiltIn → Scheduled BuiltIn → Type 0) → Scheduler BuiltIn S → Scheduler BuiltIn S → Type 0
-  Leaves Cut old new = Survives (state g old.store.connection) (state g new.store.connection) (KeepsCut Cut old)
+  abbrev pub LeavesCut : (Scheduled BuiltIn → Scheduled BuiltIn → Type 0) → Scheduler BuiltIn S → Scheduler BuiltIn S → Type 0
+  LeavesCut Cut old new = Survives (state g old.store.connection) (state g new.store.connection) (KeepsCut Cut old)
 
   -- Whatever it stood for, it stands for something in this relation to it then, if the disk returned what was written; and what a
   -- crash leaves is cut off so.
   pub record Reaches (Cut Relation : Scheduled BuiltIn → Scheduled BuiltIn → Type 0) (old new : Scheduler BuiltIn S) : Type 0 where
-    pub leaves : Leaves Cut old new
+    pub leaves : LeavesCut Cut old new
     pub reaches : HasCleanDisk (state g new.store.connection) → (before : Scheduled BuiltIn) → IsAt before old → (after : Scheduled BuiltIn) × IsAt after new × Relation before after
 
 -- nothing was committed

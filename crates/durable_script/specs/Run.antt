@@ -118,19 +118,19 @@ module _ (lines : List (ℕ × List ℕ)) (Does : List DoneLine → Type 0) wher
     pub part : taken < length last.text
     pub written : output ≡ texts_of before ++ take taken last.text
 
-  abbrev pub ComesTo : List ℕ → Result (Unit {0}) ScriptFault → Type 0
-  ComesTo output (Ok done) = DoesWhole output
-  ComesTo output (Err (LineNotUnderstood number)) = StopsBefore output number
-  ComesTo output (Err LineOutOfMemory) = ReadsNoMore output
-  ComesTo output (Err TextOutOfMemory) = HasNoText output
-  ComesTo output (Err OutputUnwritable) = WritesPart output
-  ComesTo output (Err ScriptUnreadable) = ⊥
+  abbrev pub ComesSoFar : List ℕ → Result (Unit {0}) ScriptFault → Type 0
+  ComesSoFar output (Ok done) = DoesWhole output
+  ComesSoFar output (Err (LineNotUnderstood number)) = StopsBefore output number
+  ComesSoFar output (Err LineOutOfMemory) = ReadsNoMore output
+  ComesSoFar output (Err TextOutOfMemory) = HasNoText output
+  ComesSoFar output (Err OutputUnwritable) = WritesPart output
+  ComesSoFar output (Err ScriptUnreadable) = ⊥
 
   -- the lines were done in order, and this was written
   pub record DoesLines (had has : Option (List ℕ)) (result : Result (Unit {0}) ScriptFault) : Type 0 where
     pub output : List ℕ
     pub appended : Appends had has output
-    pub comes_to : ComesTo output result
+    pub comes_to : ComesSoFar output result
 
 -- the last call of the writer may fail too
 abbrev pub EndsWith : Result (Unit {0}) ScriptFault → Result (Unit {0}) ScriptFault → Type 0

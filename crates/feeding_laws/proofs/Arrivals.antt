@@ -14,7 +14,7 @@ use Rattle.journal_model.specs.Spelling.{notification_payload, completion_type}
 use Rattle.journal_model.specs.Journal.{Entry, requests_in, asks_for}
 use Rattle.journal_model.specs.Attempt.{notification_type, type_of_completion}
 use Rattle.protocol_controls.specs.Notification.{notification_parts}
-use Rattle.protocol_controls.specs.ReadBackNotification.{notification_reads}
+use Rattle.protocol_controls.specs.ReadBack.{notification_reads}
 use Rattle.protocol_stream.specs.Records.{pair_record, pair_told}
 use Rattle.protocol_stream.specs.Frame.{message_of}
 use Rattle.protocol_stream.proofs.Frames.{item_at-frame_bytes}

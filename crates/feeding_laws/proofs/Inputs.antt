@@ -10,6 +10,7 @@ use Rattle.protocol_stream.specs.declared.decoder.DecodingError.{DecodingError}
 use Rattle.protocol_stream.specs.declared.decoder.DecodingError.TheVariants.{UnknownMessageType as OfUnknownType, OutOfMemory}
 use Rattle.protocol_stream.proofs.Frames.{item_at-frame_bytes}
 use Rattle.protocol_errors.specs.Error.{decoding_code}
+use Rattle.protocol_stream.specs.ErrorText.{decoding_text}
 use Rattle.journal_model.specs.Notification.{Bytes}
 use Rattle.journal_model.specs.Spelling.{notification_payload}
 use Rattle.journal_model.specs.Run.{Invocation}
@@ -236,7 +237,7 @@ module _ (keeps : MessagesAreKept) (given : Invocation) (messages : List InputMe
           absurd (unknown_is_none ty (raw_of found.0) found.3)
       at_end (Err OutOfMemory) rest consumes unread =
           inr (memory_over old (with_bytes rest between) new k.kept.output
-          (fails_for_memory unread.cause (with_bytes rest between) new (unless_refused (Tells (decoding_code OutOfMemory) None) unread.cause unread.causes) k.well unread.fails))
+          (fails_for_memory unread.cause (with_bytes rest between) new (unless_refused (Tells (decoding_code OutOfMemory) (Some (decoding_text OutOfMemory))) unread.cause unread.causes) k.well unread.fails))
       at_end (Err _) rest consumes unread = absurd consumes
 
       stopped : Stops between new → (Took given messages coming old new × (item_at new.decoder ≡ None)) ⊎ FailsForMemory old new

@@ -29,7 +29,7 @@ use Rattle.schedule_model.specs.declared.held.HeldAttempt.{HeldAttempt}
 use Rattle.schedule_model.specs.First.{with_first}
 use Rattle.schedule_model.specs.Held.{is_held, held_of}
 use Rattle.schedule_model.specs.Schedule.{Advances}
-use Rattle.following_laws.specs.Following.{IsCovered, given_of, IsServed, Flies, FollowsBegun}
+use Rattle.following_laws.specs.Following.{ReplaysInLine, given_of, IsServed, Flies, FollowsBegun}
 use Rattle.fitting_laws.proofs.Fits.{may_come}
 use Rattle.following_laws.proofs.Following.{IsFlown, flown}
 use Rattle.following_laws.proofs.Serving.{ServingLaws, may_all}
@@ -226,7 +226,7 @@ module _ {H : Type 0} (function : H → Handler) (next : Handler) (options : VMO
 
     -- ---- it makes a turn
 
-    module _ (turn : Turn) (changed : Attempt H) (accepted : IsAccepted events) (covered : IsCovered options) (turns : Turns function one.attempt turn changed) where
+    module _ (turn : Turn) (changed : Attempt H) (accepted : IsAccepted events) (in_line : ReplaysInLine options) (turns : Turns function one.attempt turn changed) where
       flown_turned : IsFlown function next options id events held new output waits (record one { attempt = changed }) → FollowsBegun function next options id events output (changed_to changed) new
       flown_turned it = flown function next options id events held new output waits n one (record one { attempt = changed }) f.typed f.numbered live there refl refl it
 
@@ -258,7 +258,7 @@ module _ {H : Type 0} (function : H → Handler) (next : Handler) (options : VMO
           let before : FollowsSo next s.live.start.given id events s.live.coming =
           subst (λ (run : Invocation). FollowsSo next run id events s.live.coming) (sym given_is)
           (subst (λ (frames : List Frame). FollowsSo next (given_of options id events new) id events frames) (sym s.coming_are) f.follows) in
-          let k = laws.turns f.version id events s.live one.attempt turn changed covered.queued before s.lives s.serves turns in
+          let k = laws.turns f.version id events s.live one.attempt turn changed in_line.queued before s.lives s.serves turns in
           record {
             version = f.version;
             coming = f.coming ++ k.sent;

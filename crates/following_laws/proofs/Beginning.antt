@@ -37,7 +37,7 @@ use Rattle.schedule_model.specs.Schedule.{HoldsBegun}
 use Rattle.schedule_model.proofs.Firsts.{first_push_none, first_push_other}
 use Rattle.schedule_model.proofs.Holding.{some_is, some_none, is_held_by, not_held_number, not_held_invocation}
 use Rattle.fitting_events.specs.Fitting.{InvocationFits}
-use Rattle.following_laws.specs.Following.{IsCovered, HoldsOf, given_of, IsServed, Flies, FollowsBegun, FollowsWhere, Follows, FollowsByText}
+use Rattle.following_laws.specs.Following.{ReplaysInLine, HoldsOf, given_of, IsServed, Flies, FollowsBegun, FollowsWhere, Follows, FollowsByText}
 use Rattle.fitting_laws.proofs.Fits.{apart, unborn_fits}
 use Rattle.fitting_laws.specs.Laws.{CanStart, IsFedWell}
 use Rattle.fitting_laws.proofs.Beginnings.{can_start, fed_begun}
@@ -171,7 +171,7 @@ module _ {H : Type 0} (function : H → Handler) (next : Handler) (options : VMO
             some_none (sym found ∙ f.numbered m (omega (arith, one_more, same)));
       }
 
-      module _ (handler : H) (answer : BegunAttempt) (held more : List (HeldAttempt H)) (covered : IsCovered options) (brings : asking_by_text (function handler) ≡ next)
+      module _ (handler : H) (answer : BegunAttempt) (held more : List (HeldAttempt H)) (in_line : ReplaysInLine options) (brings : asking_by_text (function handler) ≡ next)
           (number_is : answer.number ≡ 1 + attempts_begun s.events id) (speaks : answer.version ≡ version_of s.events id) (told : answer.start ≡ start.frame)
           (h : HoldsBegun options id handler answer held more) (f : FollowsBegun function next options id s.events (s.outputs id) held new) where
         speaks_version : new.version ≡ version_number h.version
@@ -184,7 +184,7 @@ module _ {H : Type 0} (function : H → Handler) (next : Handler) (options : VMO
         starts = can_start next (run_options options) options.fallback_random_seed id now s.events new accepted is f.typed moment lives_first.begun
 
         is_run : IsRunOf start h.version options
-        is_run = record { state = starting_state s.events id; given_is = refl; version_is = speaks_version; replays = covered.replays }
+        is_run = record { state = starting_state s.events id; given_is = refl; version_is = speaks_version; replays = in_line.replays }
 
         fed_well : IsFedWell start
         fed_well = fed_begun (run_options options) options.fallback_random_seed id now s.events new accepted is f.typed
@@ -258,11 +258,11 @@ module _ {H : Type 0} (function : H → Handler) (next : Handler) (options : VMO
           let (new, is) = own_begun b in
           into_own held new is b (begun_alone now moment s new is (own_accepted b) (Some []) held (follows_own new is))
 
-      pub held_own : (handler : H) (more : List (HeldAttempt H)) → IsCovered options → asking_by_text (function handler) ≡ next → Begins id now answer s t → HoldsBegun options id handler answer held more
+      pub held_own : (handler : H) (more : List (HeldAttempt H)) → ReplaysInLine options → asking_by_text (function handler) ≡ next → Begins id now answer s t → HoldsBegun options id handler answer held more
           → Follows function next options id t more
-      held_own handler more covered brings b h =
+      held_own handler more in_line brings b h =
           let (new, is) = own_begun b in
-          into_own more new is b (begun_held now moment s new is (own_accepted b) handler answer held more covered brings b.number b.version b.start h (follows_own new is))
+          into_own more new is b (begun_held now moment s new is (own_accepted b) handler answer held more in_line brings b.number b.version b.start h (follows_own new is))
 
     pub unheld : (other : Text) (now : ℕ) (answer : BegunAttempt) (s t : Standing) (held : List (HeldAttempt H)) → now < 2 ^ 64 → Begins other now answer s t
         → Follows function next options id s held → Follows function next options id t held
@@ -272,15 +272,15 @@ module _ {H : Type 0} (function : H → Handler) (next : Handler) (options : VMO
         by_id true e = unheld_own now moment answer s t held f (subst (λ (x : Text). Begins x now answer s t) ((bytes_eq-Decides other id).0 e) b)
         by_id false e = other_on function next options id laws (Event.Begin other now) s t held e b.leaves.events (b.leaves.others id e) f
 
-    pub begun : (other : Text) (handler : H) (now : ℕ) (answer : BegunAttempt) (s t : Standing) (held more : List (HeldAttempt H)) → now < 2 ^ 64 → IsCovered options
+    pub begun : (other : Text) (handler : H) (now : ℕ) (answer : BegunAttempt) (s t : Standing) (held more : List (HeldAttempt H)) → now < 2 ^ 64 → ReplaysInLine options
         → (other ≡ id → asking_by_text (function handler) ≡ next) → Begins other now answer s t → HoldsBegun options other handler answer held more
         → Follows function next options id s held → Follows function next options id t more
-    begun other handler now answer s t held more moment covered brings b h f = by_id (bytes_eq other id) refl
+    begun other handler now answer s t held more moment in_line brings b h f = by_id (bytes_eq other id) refl
       where
         by_id : (x : Bool) → bytes_eq other id ≡ x → Follows function next options id t more
         by_id true e =
             let same : other ≡ id = (bytes_eq-Decides other id).0 e in
-            held_own now moment answer s t held f handler more covered (brings same) (subst (λ (x : Text). Begins x now answer s t) same b)
+            held_own now moment answer s t held f handler more in_line (brings same) (subst (λ (x : Text). Begins x now answer s t) same b)
             (subst (λ (x : Text). HoldsBegun options x handler answer held more) same h)
         by_id false e =
             let one : HeldAttempt H = record { invocation = other; number = answer.number; attempt = h.attempt } in

@@ -65,7 +65,7 @@ module _ {H : Type 0} (function : H → Handler) (next : Handler) (options : VMO
   attempts_same = rw plain.going (zero-add (attempts_begun events id))
 
   -- what is on its way, behind the event
-  pub record GoesOn (version : Version) (coming : List Sent) (before after : Option Bytes) : Type 0 where
+  pub record StillFlies (version : Version) (coming : List Sent) (before after : Option Bytes) : Type 0 where
     pub left : List Sent
     pub fit : sent.AllFit version left
     pub of_store : AllByRecursion IsOfStore left
@@ -74,7 +74,7 @@ module _ {H : Type 0} (function : H → Handler) (next : Handler) (options : VMO
         → (waited : Bytes) × (before ≡ Some waited) × ((more : Bytes) → waited ++ more ≡ sent_stream version coming → now ++ more ≡ sent_stream version left)
 
   pub begun_on : (before after : Option Bytes) (held : List (HeldAttempt H)) (new : NewInvocation) (f : FollowsBegun function next options id events before held new)
-      → GoesOn f.version f.coming before after → FollowsBegun function next options id (event ∷ events) after held new
+      → StillFlies f.version f.coming before after → FollowsBegun function next options id (event ∷ events) after held new
   begun_on before after held new f g = record {
     version = f.version;
     coming = g.left;
@@ -104,7 +104,7 @@ module _ {H : Type 0} (function : H → Handler) (next : Handler) (options : VMO
 
   -- the same of any invocation, where the frames on their way stay
   pub on_their_way : (before after : Option Bytes) (held : List (HeldAttempt H)) (new : NewInvocation) (f : FollowsBegun function next options id events before held new)
-      → ((frames : List Frame) → PassesOn id event frames frames) → ((now : Bytes) → after ≡ Some now → before ≡ Some now) → GoesOn f.version f.coming before after
+      → ((frames : List Frame) → PassesOn id event frames frames) → ((now : Bytes) → after ≡ Some now → before ≡ Some now) → StillFlies f.version f.coming before after
   on_their_way before after held new f passes same = record {
     left = f.coming;
     fit = f.fit;
@@ -115,7 +115,7 @@ module _ {H : Type 0} (function : H → Handler) (next : Handler) (options : VMO
 
   -- the same where the invocation was not begun
   pub where_with : (before after : Option Bytes) (held : List (HeldAttempt H))
-      → ((new : NewInvocation) (f : FollowsBegun function next options id events before held new) → GoesOn f.version f.coming before after)
+      → ((new : NewInvocation) (f : FollowsBegun function next options id events before held new) → StillFlies f.version f.coming before after)
       → FollowsIn function next options id events before held → FollowsIn function next options id (event ∷ events) after held
   where_with before after held goes f =
       subst (λ (o : Option NewInvocation). FollowsWhere function next options id (event ∷ events) after held o) (sym (begun_same event events id plain.old)) (by_begun (invocation_begun events id) f)

@@ -29,7 +29,7 @@ use Rattle.fitting_laws.specs.Fitting.{AllFit}
 
 -- What is asked of the options: the journal is replayed, and signals wait in line. Nothing is asked of a handler: a call that is not
 -- carried out fails its attempt.
-pub record IsCovered (options : VMOptions) : Type 0 where
+pub record ReplaysInLine (options : VMOptions) : Type 0 where
   pub replays : options.journal_replay ≡ Enabled
   pub queued : options.signal_delivery ≡ Queued
 

@@ -4,10 +4,5 @@ pub mod Fields
 pub mod GetInvocationOutputCommand
 pub mod InvocationTarget
 pub mod ReadBack
-pub mod ReadBackAttachInvocationCommand
-pub mod ReadBackCompleteAwakeableCommand
-pub mod ReadBackGetInvocationOutputCommand
-pub mod ReadBackInvocationTarget
-pub mod ReadBackSendSignalCommand
 pub mod SendSignalCommand
 pub mod Texts

@@ -19,7 +19,7 @@ pub struct AttachInvocationCommandMessage {
 impl Record for AttachInvocationCommandMessage {
     ghost use Rattle.protocol_table.specs.declared.table.RecordType.TheVariants.{AttachInvocationCommand as attach_invocation_command_type};
     ghost use Rattle.protocol_calls.specs.AttachInvocationCommand.{attach_invocation_command_of, attach_invocation_command_parts, AttachInvocationCommandFits};
-    ghost use Rattle.protocol_calls.specs.ReadBackAttachInvocationCommand.{attach_invocation_command_reads};
+    ghost use Rattle.protocol_calls.specs.ReadBack.{attach_invocation_command_reads};
 
     ghost record_type = { attach_invocation_command_type };
 
@@ -33,11 +33,7 @@ impl Record for AttachInvocationCommandMessage {
         RecordType::AttachInvocationCommand
     }
 
-    fn select(
-        alloc: Global,
-        payload: &Payload<'_>,
-        levels: u32,
-    ) -> Result<AttachInvocationCommandMessage, AllocError> {
+    fn select(alloc: Global, payload: &Payload<'_>, levels: u32) -> Result<Self, AllocError> {
         let (target, name) = both(
             target_at(alloc, payload, levels),
             text_at(alloc, payload, NAME),

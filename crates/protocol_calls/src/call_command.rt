@@ -48,11 +48,7 @@ impl Record for CallCommandMessage {
         RecordType::CallCommand
     }
 
-    fn select(
-        alloc: Global,
-        payload: &Payload<'_>,
-        levels: u32,
-    ) -> Result<CallCommandMessage, AllocError> {
+    fn select(alloc: Global, payload: &Payload<'_>, levels: u32) -> Result<Self, AllocError> {
         let names = all_three(
             text_at(alloc, payload, SERVICE_NAME),
             text_at(alloc, payload, HANDLER_NAME),

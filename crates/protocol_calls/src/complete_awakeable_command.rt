@@ -79,7 +79,7 @@ fn len_result(before: u64, one: &Option<CompleteAwakeableCommandResult>) -> u64
 
 impl Record for CompleteAwakeableCommandMessage {
     ghost use Rattle.protocol_calls.specs.CompleteAwakeableCommand.{complete_awakeable_command_of, complete_awakeable_command_parts, CompleteAwakeableCommandFits};
-    ghost use Rattle.protocol_calls.specs.ReadBackCompleteAwakeableCommand.{complete_awakeable_command_reads};
+    ghost use Rattle.protocol_calls.specs.ReadBack.{complete_awakeable_command_reads};
 
     ghost record_type = { complete_awakeable_command_type };
 
@@ -93,11 +93,7 @@ impl Record for CompleteAwakeableCommandMessage {
         RecordType::CompleteAwakeableCommand
     }
 
-    fn select(
-        alloc: Global,
-        payload: &Payload<'_>,
-        levels: u32,
-    ) -> Result<CompleteAwakeableCommandMessage, AllocError> {
+    fn select(alloc: Global, payload: &Payload<'_>, levels: u32) -> Result<Self, AllocError> {
         let (awakeable_id, result, name) = all_three(
             text_at(alloc, payload, AWAKEABLE_ID),
             result_at(alloc, payload, levels),

@@ -19,7 +19,7 @@ pub struct GetInvocationOutputCommandMessage {
 impl Record for GetInvocationOutputCommandMessage {
     ghost use Rattle.protocol_table.specs.declared.table.RecordType.TheVariants.{GetInvocationOutputCommand as get_invocation_output_command_type};
     ghost use Rattle.protocol_calls.specs.GetInvocationOutputCommand.{get_invocation_output_command_of, get_invocation_output_command_parts, GetInvocationOutputCommandFits};
-    ghost use Rattle.protocol_calls.specs.ReadBackGetInvocationOutputCommand.{get_invocation_output_command_reads};
+    ghost use Rattle.protocol_calls.specs.ReadBack.{get_invocation_output_command_reads};
 
     ghost record_type = { get_invocation_output_command_type };
 
@@ -33,11 +33,7 @@ impl Record for GetInvocationOutputCommandMessage {
         RecordType::GetInvocationOutputCommand
     }
 
-    fn select(
-        alloc: Global,
-        payload: &Payload<'_>,
-        levels: u32,
-    ) -> Result<GetInvocationOutputCommandMessage, AllocError> {
+    fn select(alloc: Global, payload: &Payload<'_>, levels: u32) -> Result<Self, AllocError> {
         let (target, name) = both(
             target_at(alloc, payload, levels),
             text_at(alloc, payload, NAME),

@@ -36,11 +36,7 @@ impl Record for IdempotentRequestTarget {
         RecordType::IdempotentRequestTarget
     }
 
-    fn select(
-        alloc: Global,
-        payload: &Payload<'_>,
-        levels: u32,
-    ) -> Result<IdempotentRequestTarget, AllocError> {
+    fn select(alloc: Global, payload: &Payload<'_>, levels: u32) -> Result<Self, AllocError> {
         let names = all_three(
             text_at(alloc, payload, SERVICE_NAME),
             text_at(alloc, payload, HANDLER_NAME),

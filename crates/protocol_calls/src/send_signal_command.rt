@@ -130,7 +130,7 @@ fn len_result(before: u64, one: &Option<SendSignalCommandResult>) -> u64
 
 impl Record for SendSignalCommandMessage {
     ghost use Rattle.protocol_calls.specs.SendSignalCommand.{send_signal_command_of, send_signal_command_parts, SendSignalCommandFits};
-    ghost use Rattle.protocol_calls.specs.ReadBackSendSignalCommand.{send_signal_command_reads};
+    ghost use Rattle.protocol_calls.specs.ReadBack.{send_signal_command_reads};
 
     ghost record_type = { send_signal_command_type };
 
@@ -144,11 +144,7 @@ impl Record for SendSignalCommandMessage {
         RecordType::SendSignalCommand
     }
 
-    fn select(
-        alloc: Global,
-        payload: &Payload<'_>,
-        levels: u32,
-    ) -> Result<SendSignalCommandMessage, AllocError> {
+    fn select(alloc: Global, payload: &Payload<'_>, levels: u32) -> Result<Self, AllocError> {
         let names = both(
             text_at(alloc, payload, TARGET_INVOCATION_ID),
             text_at(alloc, payload, ENTRY_NAME),

@@ -32,11 +32,7 @@ impl Record for WorkflowTarget {
         RecordType::WorkflowTarget
     }
 
-    fn select(
-        alloc: Global,
-        payload: &Payload<'_>,
-        levels: u32,
-    ) -> Result<WorkflowTarget, AllocError> {
+    fn select(alloc: Global, payload: &Payload<'_>, levels: u32) -> Result<Self, AllocError> {
         let (workflow_name, workflow_key, scope) = all_three(
             text_at(alloc, payload, WORKFLOW_NAME),
             text_at(alloc, payload, WORKFLOW_KEY),

@@ -2,6 +2,4 @@ pub mod CompletePromiseCommand
 pub mod Fields
 pub mod GetEagerStateCommand
 pub mod ReadBack
-pub mod ReadBackCompletePromiseCommand
-pub mod ReadBackGetEagerStateCommand
 pub mod Texts

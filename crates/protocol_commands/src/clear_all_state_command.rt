@@ -26,11 +26,7 @@ impl Record for ClearAllStateCommandMessage {
         RecordType::ClearAllStateCommand
     }
 
-    fn select(
-        alloc: Global,
-        payload: &Payload<'_>,
-        levels: u32,
-    ) -> Result<ClearAllStateCommandMessage, AllocError> {
+    fn select(alloc: Global, payload: &Payload<'_>, levels: u32) -> Result<Self, AllocError> {
         Ok(ClearAllStateCommandMessage {
             name: text_at(alloc, payload, NAME)?,
         })

@@ -29,11 +29,7 @@ impl Record for ClearStateCommandMessage {
         RecordType::ClearStateCommand
     }
 
-    fn select(
-        alloc: Global,
-        payload: &Payload<'_>,
-        levels: u32,
-    ) -> Result<ClearStateCommandMessage, AllocError> {
+    fn select(alloc: Global, payload: &Payload<'_>, levels: u32) -> Result<Self, AllocError> {
         Ok(ClearStateCommandMessage {
             key: bytes_at(alloc, payload, KEY)?,
             name: text_at(alloc, payload, NAME)?,

@@ -107,7 +107,7 @@ fn len_completion(before: u64, one: &Option<CompletePromiseCommandCompletion>) -
 
 impl Record for CompletePromiseCommandMessage {
     ghost use Rattle.protocol_commands.specs.CompletePromiseCommand.{complete_promise_command_of, complete_promise_command_parts, CompletePromiseCommandFits};
-    ghost use Rattle.protocol_commands.specs.ReadBackCompletePromiseCommand.{complete_promise_command_reads};
+    ghost use Rattle.protocol_commands.specs.ReadBack.{complete_promise_command_reads};
 
     ghost record_type = { complete_promise_command_type };
 
@@ -121,11 +121,7 @@ impl Record for CompletePromiseCommandMessage {
         RecordType::CompletePromiseCommand
     }
 
-    fn select(
-        alloc: Global,
-        payload: &Payload<'_>,
-        levels: u32,
-    ) -> Result<CompletePromiseCommandMessage, AllocError> {
+    fn select(alloc: Global, payload: &Payload<'_>, levels: u32) -> Result<Self, AllocError> {
         let (key, completion, name) = all_three(
             text_at(alloc, payload, KEY),
             completion_at(alloc, payload, levels),

@@ -73,7 +73,7 @@ fn len_result(before: u64, one: &Option<GetEagerStateCommandResult>) -> u64
 
 impl Record for GetEagerStateCommandMessage {
     ghost use Rattle.protocol_commands.specs.GetEagerStateCommand.{get_eager_state_command_of, get_eager_state_command_parts, GetEagerStateCommandFits};
-    ghost use Rattle.protocol_commands.specs.ReadBackGetEagerStateCommand.{get_eager_state_command_reads};
+    ghost use Rattle.protocol_commands.specs.ReadBack.{get_eager_state_command_reads};
 
     ghost record_type = { get_eager_state_command_type };
 
@@ -87,11 +87,7 @@ impl Record for GetEagerStateCommandMessage {
         RecordType::GetEagerStateCommand
     }
 
-    fn select(
-        alloc: Global,
-        payload: &Payload<'_>,
-        levels: u32,
-    ) -> Result<GetEagerStateCommandMessage, AllocError> {
+    fn select(alloc: Global, payload: &Payload<'_>, levels: u32) -> Result<Self, AllocError> {
         let (key, name, result) = all_three(
             bytes_at(alloc, payload, KEY),
             text_at(alloc, payload, NAME),

@@ -31,11 +31,7 @@ impl Record for GetEagerStateKeysCommandMessage {
         RecordType::GetEagerStateKeysCommand
     }
 
-    fn select(
-        alloc: Global,
-        payload: &Payload<'_>,
-        levels: u32,
-    ) -> Result<GetEagerStateKeysCommandMessage, AllocError> {
+    fn select(alloc: Global, payload: &Payload<'_>, levels: u32) -> Result<Self, AllocError> {
         let (name, value) = both(
             text_at(alloc, payload, NAME),
             optional_record_at(alloc, payload, VALUE, levels),

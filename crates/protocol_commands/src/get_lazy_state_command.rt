@@ -32,11 +32,7 @@ impl Record for GetLazyStateCommandMessage {
         RecordType::GetLazyStateCommand
     }
 
-    fn select(
-        alloc: Global,
-        payload: &Payload<'_>,
-        levels: u32,
-    ) -> Result<GetLazyStateCommandMessage, AllocError> {
+    fn select(alloc: Global, payload: &Payload<'_>, levels: u32) -> Result<Self, AllocError> {
         Ok(GetLazyStateCommandMessage {
             key: bytes_at(alloc, payload, KEY)?,
             result_completion_id: u32_at(payload, RESULT_COMPLETION_ID),

@@ -30,11 +30,7 @@ impl Record for GetLazyStateKeysCommandMessage {
         RecordType::GetLazyStateKeysCommand
     }
 
-    fn select(
-        alloc: Global,
-        payload: &Payload<'_>,
-        levels: u32,
-    ) -> Result<GetLazyStateKeysCommandMessage, AllocError> {
+    fn select(alloc: Global, payload: &Payload<'_>, levels: u32) -> Result<Self, AllocError> {
         Ok(GetLazyStateKeysCommandMessage {
             result_completion_id: u32_at(payload, RESULT_COMPLETION_ID),
             name: text_at(alloc, payload, NAME)?,

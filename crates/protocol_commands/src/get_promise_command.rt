@@ -31,11 +31,7 @@ impl Record for GetPromiseCommandMessage {
         RecordType::GetPromiseCommand
     }
 
-    fn select(
-        alloc: Global,
-        payload: &Payload<'_>,
-        levels: u32,
-    ) -> Result<GetPromiseCommandMessage, AllocError> {
+    fn select(alloc: Global, payload: &Payload<'_>, levels: u32) -> Result<Self, AllocError> {
         Ok(GetPromiseCommandMessage {
             key: text_at(alloc, payload, KEY)?,
             result_completion_id: u32_at(payload, RESULT_COMPLETION_ID),

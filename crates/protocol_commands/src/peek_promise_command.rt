@@ -31,11 +31,7 @@ impl Record for PeekPromiseCommandMessage {
         RecordType::PeekPromiseCommand
     }
 
-    fn select(
-        alloc: Global,
-        payload: &Payload<'_>,
-        levels: u32,
-    ) -> Result<PeekPromiseCommandMessage, AllocError> {
+    fn select(alloc: Global, payload: &Payload<'_>, levels: u32) -> Result<Self, AllocError> {
         Ok(PeekPromiseCommandMessage {
             key: text_at(alloc, payload, KEY)?,
             result_completion_id: u32_at(payload, RESULT_COMPLETION_ID),

@@ -30,11 +30,7 @@ impl Record for RunCommandMessage {
         RecordType::RunCommand
     }
 
-    fn select(
-        alloc: Global,
-        payload: &Payload<'_>,
-        levels: u32,
-    ) -> Result<RunCommandMessage, AllocError> {
+    fn select(alloc: Global, payload: &Payload<'_>, levels: u32) -> Result<Self, AllocError> {
         Ok(RunCommandMessage {
             result_completion_id: u32_at(payload, RESULT_COMPLETION_ID),
             name: text_at(alloc, payload, NAME)?,

@@ -32,11 +32,7 @@ impl Record for SetStateCommandMessage {
         RecordType::SetStateCommand
     }
 
-    fn select(
-        alloc: Global,
-        payload: &Payload<'_>,
-        levels: u32,
-    ) -> Result<SetStateCommandMessage, AllocError> {
+    fn select(alloc: Global, payload: &Payload<'_>, levels: u32) -> Result<Self, AllocError> {
         let (key, value, name) = all_three(
             bytes_at(alloc, payload, KEY),
             optional_record_at(alloc, payload, VALUE, levels),

@@ -5,6 +5,3 @@ pub mod Notification
 pub mod ProposeRunCompletion
 pub mod ProposeRunCompletionAck
 pub mod ReadBack
-pub mod ReadBackGetStateEphemeralNotification
-pub mod ReadBackNotification
-pub mod ReadBackProposeRunCompletion

@@ -1,3 +1,9 @@
+ghost use Rattle.std.specs.Prelude.{◌≡◌, ◌++◌, OnOk};
+ghost use Rattle.protocol_wire.specs.Fields.{fields};
+ghost use Rattle.protocol_wire.specs.Selection.{optional_u32 as the_optional_u32};
+ghost use Rattle.protocol_wire.specs.Parts.{part_spelling, optional_number};
+ghost use Rattle.protocol_wire.specs.Lengths.{counted};
+
 use bytes::ByteStr;
 use protocol_records::both;
 use protocol_wire::table::error::{
@@ -5,9 +11,9 @@ use protocol_wire::table::error::{
     RELATED_COMMAND_TYPE,
 };
 use protocol_wire::{
-    Payload, Record, RecordType, len_enum, len_optional_text, len_optional_u32, len_optional_u64,
-    len_text, len_u32, optional_text_at, optional_u32_at, optional_u64_at, put_enum,
-    put_optional_text, put_optional_u32, put_optional_u64, put_text, put_u32, text_at, u32_at,
+    FieldDescriptor, Payload, Record, RecordType, len_enum, len_optional_text, len_optional_u64,
+    len_present_u32, len_text, len_u32, optional_text_at, optional_u64_at, put_enum,
+    put_optional_text, put_optional_u64, put_present_u32, put_text, put_u32, text_at, u32_at,
 };
 use std::alloc::{AllocError, Global};
 
@@ -44,11 +50,7 @@ impl Record for ErrorMessage {
         RecordType::Error
     }
 
-    fn select(
-        alloc: Global,
-        payload: &Payload<'_>,
-        levels: u32,
-    ) -> Result<ErrorMessage, AllocError> {
+    fn select(alloc: Global, payload: &Payload<'_>, levels: u32) -> Result<Self, AllocError> {
         let (message, related_command_name) = both(
             text_at(alloc, payload, MESSAGE),
             optional_text_at(alloc, payload, RELATED_COMMAND_NAME),
@@ -86,4 +88,36 @@ impl Record for ErrorMessage {
     }
 
     ghost reads = { error_reads };
+}
+
+/// The low 32 bits of the last number of this field, if there is one.
+fn optional_u32_at(payload: &Payload<'_>, field: FieldDescriptor) -> Option<u32>
+    ensures { result ≡ the_optional_u32 field.number (fields payload.now) }
+{
+    let number = optional_u64_at(payload, field)?;
+    Some((number % (1 << 32)) as u32)
+}
+
+/// Written where it is present, also when zero.
+fn put_optional_u32(
+    out: &mut Vec<u8>,
+    field: FieldDescriptor,
+    value: Option<u32>,
+) -> Result<(), AllocError>
+    ensures { OnOk result (out.new.items ≡ out.old.items ++ part_spelling (optional_number field.number value)) }
+{
+    match value {
+        None => Ok(()),
+        Some(value) => put_present_u32(out, field, value),
+    }
+}
+
+/// Counted where it is present, also when zero.
+fn len_optional_u32(before: u64, field: FieldDescriptor, value: Option<u32>) -> u64
+    ensures { result ≡ counted before (part_spelling (optional_number field.number value)) }
+{
+    match value {
+        None => before,
+        Some(value) => len_present_u32(before, field, value),
+    }
 }

@@ -30,11 +30,7 @@ impl Record for GetStateEphemeralCommandMessage {
         RecordType::GetStateEphemeralCommand
     }
 
-    fn select(
-        alloc: Global,
-        payload: &Payload<'_>,
-        levels: u32,
-    ) -> Result<GetStateEphemeralCommandMessage, AllocError> {
+    fn select(alloc: Global, payload: &Payload<'_>, levels: u32) -> Result<Self, AllocError> {
         Ok(GetStateEphemeralCommandMessage {
             ephemeral_completion_id: u32_at(payload, EPHEMERAL_COMPLETION_ID),
             key: bytes_at(alloc, payload, KEY)?,

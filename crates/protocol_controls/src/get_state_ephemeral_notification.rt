@@ -74,7 +74,7 @@ fn len_result(before: u64, one: &Option<GetStateEphemeralNotificationResult>) ->
 
 impl Record for GetStateEphemeralNotificationMessage {
     ghost use Rattle.protocol_controls.specs.GetStateEphemeralNotification.{get_state_ephemeral_notification_of, get_state_ephemeral_notification_parts, GetStateEphemeralNotificationFits};
-    ghost use Rattle.protocol_controls.specs.ReadBackGetStateEphemeralNotification.{get_state_ephemeral_notification_reads};
+    ghost use Rattle.protocol_controls.specs.ReadBack.{get_state_ephemeral_notification_reads};
 
     ghost record_type = { get_state_ephemeral_notification_type };
 
@@ -88,11 +88,7 @@ impl Record for GetStateEphemeralNotificationMessage {
         RecordType::GetStateEphemeralNotification
     }
 
-    fn select(
-        alloc: Global,
-        payload: &Payload<'_>,
-        levels: u32,
-    ) -> Result<GetStateEphemeralNotificationMessage, AllocError> {
+    fn select(alloc: Global, payload: &Payload<'_>, levels: u32) -> Result<Self, AllocError> {
         Ok(GetStateEphemeralNotificationMessage {
             ephemeral_completion_id: u32_at(payload, EPHEMERAL_COMPLETION_ID),
             result: result_at(alloc, payload, levels)?,

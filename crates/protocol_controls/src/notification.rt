@@ -177,7 +177,7 @@ fn len_result(before: u64, one: &Option<NotificationMessageResult>) -> u64
 
 impl Record for NotificationMessage {
     ghost use Rattle.protocol_controls.specs.Notification.{notification_of, notification_parts, NotificationFits};
-    ghost use Rattle.protocol_controls.specs.ReadBackNotification.{notification_reads};
+    ghost use Rattle.protocol_controls.specs.ReadBack.{notification_reads};
 
     ghost record_type = { notification_type };
 
@@ -191,11 +191,7 @@ impl Record for NotificationMessage {
         RecordType::Notification
     }
 
-    fn select(
-        alloc: Global,
-        payload: &Payload<'_>,
-        levels: u32,
-    ) -> Result<NotificationMessage, AllocError> {
+    fn select(alloc: Global, payload: &Payload<'_>, levels: u32) -> Result<Self, AllocError> {
         let (id, result) = both(
             id_at(alloc, payload, levels),
             result_at(alloc, payload, levels),

@@ -74,7 +74,7 @@ fn len_result(before: u64, one: &Option<ProposeRunCompletionResult>) -> u64
 
 impl Record for ProposeRunCompletionMessage {
     ghost use Rattle.protocol_controls.specs.ProposeRunCompletion.{propose_run_completion_of, propose_run_completion_parts, ProposeRunCompletionFits};
-    ghost use Rattle.protocol_controls.specs.ReadBackProposeRunCompletion.{propose_run_completion_reads};
+    ghost use Rattle.protocol_controls.specs.ReadBack.{propose_run_completion_reads};
 
     ghost record_type = { propose_run_completion_type };
 
@@ -88,11 +88,7 @@ impl Record for ProposeRunCompletionMessage {
         RecordType::ProposeRunCompletion
     }
 
-    fn select(
-        alloc: Global,
-        payload: &Payload<'_>,
-        levels: u32,
-    ) -> Result<ProposeRunCompletionMessage, AllocError> {
+    fn select(alloc: Global, payload: &Payload<'_>, levels: u32) -> Result<Self, AllocError> {
         Ok(ProposeRunCompletionMessage {
             result_completion_id: u32_at(payload, RESULT_COMPLETION_ID),
             result: result_at(alloc, payload, levels)?,

@@ -25,11 +25,7 @@ impl Record for ProposeRunCompletionAckMessage {
         RecordType::ProposeRunCompletionAck
     }
 
-    fn select(
-        alloc: Global,
-        payload: &Payload<'_>,
-        levels: u32,
-    ) -> Result<ProposeRunCompletionAckMessage, AllocError> {
+    fn select(alloc: Global, payload: &Payload<'_>, levels: u32) -> Result<Self, AllocError> {
         Ok(ProposeRunCompletionAckMessage {
             completion_id: u32_at(payload, COMPLETION_ID),
         })

@@ -8,6 +8,7 @@ mod metadata;
 mod mismatch;
 mod typed;
 mod uncompleted;
+mod writing;
 
 pub use code::{InvocationErrorCode, codes};
 pub use error::{Error, ErrorBehavior, WithInvocationErrorCode, to_error};

@@ -1,18 +1,21 @@
 // Errors with types of their own.
-ghost use Rattle.std.specs.Prelude.{◌≡◌, ℕ, List, Some};
+ghost use Rattle.std.specs.Prelude.{◌≡◌, ◌++◌, ℕ, List, Some};
 ghost use Rattle.std.specs.Fmt.{WritesOnOk};
 ghost use Rattle.protocol_errors.specs.Code.{internal, journal_mismatch, protocol_violation, unsupported_feature, closed};
+ghost use Rattle.protocol_errors.specs.Texts.{unavailable_text, unexpected_state_text, invoking_text, bad_state_key_text, feature_text, bad_ack_text, unanswered_read_text, out_of_bounds_text};
 
+use crate::writing::{
+    write_bad_key, write_feature, write_from_index, write_invoking, write_unavailable,
+    write_unexpected_state,
+};
 use crate::{InvocationErrorCode, WithInvocationErrorCode, codes};
 use bytes::{ByteStr, FromUtf8Error};
 use protocol_stream::{MessageType, Version};
 use std::fmt;
 use std::num::TryFromIntError;
-use thiserror::Error;
 
 /// The journal has no more commands, but the handler makes one while it is replayed.
-#[derive(Debug, Drop, Error)]
-#[error("The execution replay ended unexpectedly. Expecting to read '{expected}' from the recorded journal, but the buffered messages were already drained.")]
+#[derive(Debug, Drop)]
 pub struct UnavailableEntryError {
     expected: MessageType,
 }
@@ -26,9 +29,18 @@ impl UnavailableEntryError {
     }
 }
 
+impl fmt::Display for UnavailableEntryError {
+    ghost output = { λ error. Some (unavailable_text error.expected) };
+
+    fn fmt<W: fmt::Write>(&self, f: &mut fmt::Formatter<W>) -> fmt::Result {
+        write_unavailable(self.expected, f)
+    }
+}
+
+impl std::error::Error for UnavailableEntryError {}
+
 /// A call that the state of the machine does not allow.
-#[derive(Debug, Drop, Error)]
-#[error("Unexpected state '{state}' when invoking '{event}'")]
+#[derive(Debug, Drop)]
 pub struct UnexpectedStateError {
     state: &'static str,
     event: ByteStr,
@@ -44,14 +56,35 @@ impl UnexpectedStateError {
     }
 }
 
+impl fmt::Display for UnexpectedStateError {
+    ghost output = { λ error. Some (unexpected_state_text error.state.now ++ invoking_text error.event) };
+
+    fn fmt<W: fmt::Write>(&self, f: &mut fmt::Formatter<W>) -> fmt::Result {
+        write_unexpected_state(self.state, f)?;
+        write_invoking(self.event.as_str(), f)
+    }
+}
+
+impl std::error::Error for UnexpectedStateError {}
+
 /// State bytes whose key is no UTF-8.
-#[derive(Debug, Drop, Error)]
-#[error("Cannot convert an eager state key into UTF-8 String: {}", .0.error)]
+#[derive(Debug, Drop)]
 pub struct BadEagerStateKeyError(pub FromUtf8Error);
 
+impl fmt::Display for BadEagerStateKeyError {
+    ghost output = { λ error. Some (bad_state_key_text error) };
+
+    fn fmt<W: fmt::Write>(&self, f: &mut fmt::Formatter<W>) -> fmt::Result {
+        let error = &self.0.error;
+        write_bad_key(error.error_len(), f)?;
+        write_from_index(error.valid_up_to(), f)
+    }
+}
+
+impl std::error::Error for BadEagerStateKeyError {}
+
 /// What later versions of the protocol have.
-#[derive(Clone, Copy, Debug, Error)]
-#[error("Feature '{feature}' is not supported by the negotiated protocol version '{current_version}', the minimum required version is '{minimum_required_version}'")]
+#[derive(Clone, Copy, Debug)]
 pub struct UnsupportedFeatureForNegotiatedVersion {
     feature: &'static str,
     current_version: Version,
@@ -77,9 +110,23 @@ impl UnsupportedFeatureForNegotiatedVersion {
     }
 }
 
+impl fmt::Display for UnsupportedFeatureForNegotiatedVersion {
+    ghost output = { λ error. Some (feature_text error.feature.now error.current_version error.minimum_required_version) };
+
+    fn fmt<W: fmt::Write>(&self, f: &mut fmt::Formatter<W>) -> fmt::Result {
+        write_feature(
+            self.feature,
+            self.current_version,
+            self.minimum_required_version,
+            f,
+        )
+    }
+}
+
+impl std::error::Error for UnsupportedFeatureForNegotiatedVersion {}
+
 /// An acknowledgement of a run's outcome that was not proposed.
-#[derive(Clone, Copy, Debug, Error)]
-#[error("Got an acknowledgement for a run proposal that was not sent, completion id {completion_id}")]
+#[derive(Clone, Copy, Debug)]
 pub struct BadProposeRunCompletionAck {
     completion_id: u32,
 }
@@ -93,9 +140,22 @@ impl BadProposeRunCompletionAck {
     }
 }
 
+impl fmt::Display for BadProposeRunCompletionAck {
+    ghost output = { λ error. Some (bad_ack_text error.completion_id) };
+
+    fn fmt<W: fmt::Write>(&self, f: &mut fmt::Formatter<W>) -> fmt::Result {
+        let id = self.completion_id;
+        write!(
+            f,
+            "Got an acknowledgement for a run proposal that was not sent, completion id {id}"
+        )
+    }
+}
+
+impl std::error::Error for BadProposeRunCompletionAck {}
+
 /// An ephemeral read that no one can answer.
-#[derive(Debug, Drop, Error)]
-#[error("Cannot get the state of key '{key}' ephemerally, the input is closed")]
+#[derive(Debug, Drop)]
 pub struct EphemeralStateGetWithClosedInput {
     key: ByteStr,
 }
@@ -109,10 +169,37 @@ impl EphemeralStateGetWithClosedInput {
     }
 }
 
+impl fmt::Display for EphemeralStateGetWithClosedInput {
+    ghost output = { λ error. Some (unanswered_read_text error.key) };
+
+    fn fmt<W: fmt::Write>(&self, f: &mut fmt::Formatter<W>) -> fmt::Result {
+        let key = &self.key;
+        write!(
+            f,
+            "Cannot get the state of key '{key}' ephemerally, the input is closed"
+        )
+    }
+}
+
+impl std::error::Error for EphemeralStateGetWithClosedInput {}
+
 /// A moment past the milliseconds that 64 bits hold.
-#[derive(Debug, Drop, Error)]
-#[error("Duration for '{0}' is out of bounds: {1}")]
+#[derive(Debug, Drop)]
 pub struct OutOfBoundsDuration(pub &'static str, pub TryFromIntError);
+
+impl fmt::Display for OutOfBoundsDuration {
+    ghost output = { λ error. Some (out_of_bounds_text error.0.now) };
+
+    fn fmt<W: fmt::Write>(&self, f: &mut fmt::Formatter<W>) -> fmt::Result {
+        let event = self.0;
+        write!(
+            f,
+            "Duration for '{event}' is out of bounds: out of range integral type conversion attempted"
+        )
+    }
+}
+
+impl std::error::Error for OutOfBoundsDuration {}
 
 /// Prints what was called behind the end.
 pub trait ErrorFormatter: fmt::Debug {

@@ -42,17 +42,17 @@ or_none (Some x) = refl
 
 module _ {E : Type 0} (number_of : E → ℕ) where
   -- Of these variants this one is there, where it is the one that stands.
-  abbrev pub Stands : List ℕ → Option ℕ → Option E → Type 0
-  Stands variants n None = (k : ℕ) → n ≡ Some k → is_among variants k ≡ false
-  Stands variants n (Some e) = (n ≡ Some (number_of e)) × (is_among variants (number_of e) ≡ true)
+  abbrev pub VariantStands : List ℕ → Option ℕ → Option E → Type 0
+  VariantStands variants n None = (k : ℕ) → n ≡ Some k → is_among variants k ≡ false
+  VariantStands variants n (Some e) = (n ≡ Some (number_of e)) × (is_among variants (number_of e) ≡ true)
 
-  told : (variants : List ℕ) (n : Option ℕ) (o : Option E) → Stands variants n o → ((k : ℕ) → n ≡ Some k → is_among variants k ≡ true) → n ≡ option_map number_of o
+  told : (variants : List ℕ) (n : Option ℕ) (o : Option E) → VariantStands variants n o → ((k : ℕ) → n ≡ Some k → is_among variants k ≡ true) → n ≡ option_map number_of o
   told variants n (Some e) s among = s.0
   told variants None None s among = refl
   told variants (Some k) None s among = never (sym (among k refl) ∙ s k refl)
 
   module _ {A : Type 0} (make : A → E) (number : ℕ) (is : (x : A) → number_of (make x) ≡ number) (variants : List ℕ) where
-    stands_first : (n : Option ℕ) (s : Option A) (o : Option E) → is_there s ≡ stands n number → Stands variants n o → Stands (number ∷ variants) n (first_of (option_map make s) o)
+    stands_first : (n : Option ℕ) (s : Option A) (o : Option E) → is_there s ≡ stands n number → VariantStands variants n o → VariantStands (number ∷ variants) n (first_of (option_map make s) o)
     stands_first n (Some x) o h k =
         (stands_is n number (sym h) ∙ ap some (sym (is x)), ap (λ (m : ℕ). is_among (number ∷ variants) m) (is x) ∙ ap (λ (t : Bool). t || is_among variants number) (eq-eqb number number refl))
     stands_first n None None h k = λ m e.
@@ -64,7 +64,7 @@ module _ {E : Type 0} (number_of : E → ℕ) where
         go false i = i
 
     module _ (other : is_among variants number ≡ false) where
-      others_absent : (n : Option ℕ) (x : A) (o : Option E) → is_there (Some x) ≡ stands n number → Stands variants n o → o ≡ None
+      others_absent : (n : Option ℕ) (x : A) (o : Option E) → is_there (Some x) ≡ stands n number → VariantStands variants n o → o ≡ None
       others_absent n x None h k = refl
       others_absent n x (Some e) h k =
           let same : number ≡ number_of e = ap number_in (sym (stands_is n number (sym h)) ∙ k.0) in
@@ -74,10 +74,10 @@ module _ {E : Type 0} (number_of : E → ℕ) where
           number_in None = 0
           number_in (Some k) = k
 
-      not_this : (n : Option ℕ) (e : E) (x : A) → Stands variants n (Some e) → make x ≡ e → ⊥
+      not_this : (n : Option ℕ) (e : E) (x : A) → VariantStands variants n (Some e) → make x ≡ e → ⊥
       not_this n e x k same = never (sym k.1 ∙ ap (is_among variants) (sym (ap number_of same) ∙ is x) ∙ other)
 
-      same_parts : (one : (x y : A) → make x ≡ make y → x ≡ y) (n m : Option ℕ) (s t : Option A) (o p : Option E) → is_there s ≡ stands n number → is_there t ≡ stands m number → Stands variants n o → Stands variants m p
+      same_parts : (one : (x y : A) → make x ≡ make y → x ≡ y) (n m : Option ℕ) (s t : Option A) (o p : Option E) → is_there s ≡ stands n number → is_there t ≡ stands m number → VariantStands variants n o → VariantStands variants m p
           → first_of (option_map make s) o ≡ first_of (option_map make t) p → (s ≡ t) × (o ≡ p)
       same_parts one n m (Some x) (Some y) o p h i k l same =
           (ap there (one x y (made same)), others_absent n x o h k ∙ sym (others_absent m y p i l))
@@ -121,7 +121,7 @@ pub record Variant (levels : ℕ) (t : RecordType) (variants : List ℕ) {A : Ty
 
 -- The same of what is read of some of the variants.
 pub record Choice (levels : ℕ) (t : RecordType) (variants : List ℕ) {E : Type 0} (number_of : E → ℕ) (some : List ℕ) (view : List Field → Option E) : Type 0 where
-  pub there : (a : List ℕ) → IsFine levels t a → Stands number_of some (variant_of (Last variants a)) (view (Last variants a))
+  pub there : (a : List ℕ) → IsFine levels t a → VariantStands number_of some (variant_of (Last variants a)) (view (Last variants a))
   pub joins : JoinsBehind levels t variants view
 
 module _ (levels : ℕ) (t : RecordType) (variants : List ℕ) (number : ℕ) (member : is_among variants number ≡ true) where
@@ -171,7 +171,7 @@ module _ {levels : ℕ} {t : RecordType} {variants : List ℕ} {A E : Type 0} {n
   only =
       let whole = either none refl in
       record {
-        there = λ a p. subst (Stands number_of (number ∷ []) (variant_of (Last variants a))) (or_none (option_map make (read (Last variants a)))) (whole.there a p);
+        there = λ a p. subst (VariantStands number_of (number ∷ []) (variant_of (Last variants a))) (or_none (option_map make (read (Last variants a)))) (whole.there a p);
         joins = λ a b z p q h.
             sym (or_none (option_map make (read (Last variants a ++ z))))
             ∙ whole.joins a b z p q (or_none (option_map make (read (Last variants a))) ∙ h ∙ sym (or_none (option_map make (read (Last variants b)))))

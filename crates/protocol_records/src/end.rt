@@ -22,7 +22,7 @@ impl Record for EndMessage {
         RecordType::End
     }
 
-    fn select(alloc: Global, payload: &Payload<'_>, levels: u32) -> Result<EndMessage, AllocError> {
+    fn select(alloc: Global, payload: &Payload<'_>, levels: u32) -> Result<Self, AllocError> {
         Ok(EndMessage {})
     }
 

@@ -32,11 +32,7 @@ impl Record for FailureMetadata {
         RecordType::FailureMetadata
     }
 
-    fn select(
-        alloc: Global,
-        payload: &Payload<'_>,
-        levels: u32,
-    ) -> Result<FailureMetadata, AllocError> {
+    fn select(alloc: Global, payload: &Payload<'_>, levels: u32) -> Result<Self, AllocError> {
         Ok(FailureMetadata {
             key: text_at(alloc, payload, failure_metadata::KEY)?,
             value: text_at(alloc, payload, failure_metadata::VALUE)?,
@@ -82,7 +78,7 @@ impl Record for Failure {
         RecordType::Failure
     }
 
-    fn select(alloc: Global, payload: &Payload<'_>, levels: u32) -> Result<Failure, AllocError> {
+    fn select(alloc: Global, payload: &Payload<'_>, levels: u32) -> Result<Self, AllocError> {
         let (message, metadata) = both(
             text_at(alloc, payload, failure::MESSAGE),
             records_at(alloc, payload, failure::METADATA, levels),

@@ -27,7 +27,7 @@ impl Record for Header {
         RecordType::Header
     }
 
-    fn select(alloc: Global, payload: &Payload<'_>, levels: u32) -> Result<Header, AllocError> {
+    fn select(alloc: Global, payload: &Payload<'_>, levels: u32) -> Result<Self, AllocError> {
         Ok(Header {
             key: text_at(alloc, payload, KEY)?,
             value: text_at(alloc, payload, VALUE)?,

@@ -35,11 +35,7 @@ impl Record for InputCommandMessage {
         RecordType::InputCommand
     }
 
-    fn select(
-        alloc: Global,
-        payload: &Payload<'_>,
-        levels: u32,
-    ) -> Result<InputCommandMessage, AllocError> {
+    fn select(alloc: Global, payload: &Payload<'_>, levels: u32) -> Result<Self, AllocError> {
         let (headers, name, value) = all_three(
             records_at(alloc, payload, HEADERS, levels),
             text_at(alloc, payload, NAME),

@@ -74,7 +74,7 @@ fn len_result(before: u64, one: &Option<OutputCommandResult>) -> u64
 
 impl Record for OutputCommandMessage {
     ghost use Rattle.protocol_records.specs.OutputCommand.{output_command_of, output_command_parts, OutputCommandFits};
-    ghost use Rattle.protocol_records.specs.ReadBackOutput.{output_command_reads};
+    ghost use Rattle.protocol_records.specs.ReadBack.{output_command_reads};
 
     ghost record_type = { output_command_type };
 
@@ -88,11 +88,7 @@ impl Record for OutputCommandMessage {
         RecordType::OutputCommand
     }
 
-    fn select(
-        alloc: Global,
-        payload: &Payload<'_>,
-        levels: u32,
-    ) -> Result<OutputCommandMessage, AllocError> {
+    fn select(alloc: Global, payload: &Payload<'_>, levels: u32) -> Result<Self, AllocError> {
         let (name, result) = both(
             text_at(alloc, payload, NAME),
             result_at(alloc, payload, levels),

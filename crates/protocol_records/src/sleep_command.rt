@@ -33,11 +33,7 @@ impl Record for SleepCommandMessage {
         RecordType::SleepCommand
     }
 
-    fn select(
-        alloc: Global,
-        payload: &Payload<'_>,
-        levels: u32,
-    ) -> Result<SleepCommandMessage, AllocError> {
+    fn select(alloc: Global, payload: &Payload<'_>, levels: u32) -> Result<Self, AllocError> {
         Ok(SleepCommandMessage {
             wake_up_time: u64_at(payload, WAKE_UP_TIME),
             result_completion_id: u32_at(payload, RESULT_COMPLETION_ID),

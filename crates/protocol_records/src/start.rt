@@ -34,7 +34,7 @@ impl Record for StateEntry {
         RecordType::StateEntry
     }
 
-    fn select(alloc: Global, payload: &Payload<'_>, levels: u32) -> Result<StateEntry, AllocError> {
+    fn select(alloc: Global, payload: &Payload<'_>, levels: u32) -> Result<Self, AllocError> {
         Ok(StateEntry {
             key: bytes_at(alloc, payload, state_entry::KEY)?,
             value: bytes_at(alloc, payload, state_entry::VALUE)?,
@@ -95,11 +95,7 @@ impl Record for StartMessage {
         RecordType::Start
     }
 
-    fn select(
-        alloc: Global,
-        payload: &Payload<'_>,
-        levels: u32,
-    ) -> Result<StartMessage, AllocError> {
+    fn select(alloc: Global, payload: &Payload<'_>, levels: u32) -> Result<Self, AllocError> {
         let names = all_three(
             bytes_at(alloc, payload, start::ID),
             text_at(alloc, payload, start::DEBUG_ID),

@@ -1,7 +1,13 @@
+ghost use Rattle.std.specs.Prelude.{◌≡◌, ◌++◌, OnOk, IfOk};
+ghost use Rattle.protocol_wire.specs.Fields.{fields};
+ghost use Rattle.protocol_wire.specs.Selection.{texts as the_texts};
+ghost use Rattle.protocol_wire.specs.Parts.{part_spelling, repeated_bytes};
+ghost use Rattle.protocol_wire.specs.Lengths.{counted};
+
 use bytes::Bytes;
 use protocol_wire::table::state_keys::KEYS;
 use protocol_wire::{
-    Payload, Record, RecordType, len_repeated_bytes, put_repeated_bytes, repeated_bytes_at,
+    FieldDescriptor, Payload, Record, RecordType, Scanned, len_present_bytes, put_tagged_bytes,
 };
 use sequence::Sequence;
 use std::alloc::{AllocError, Global};
@@ -29,7 +35,7 @@ impl Record for StateKeys {
         RecordType::StateKeys
     }
 
-    fn select(alloc: Global, payload: &Payload<'_>, levels: u32) -> Result<StateKeys, AllocError> {
+    fn select(alloc: Global, payload: &Payload<'_>, levels: u32) -> Result<Self, AllocError> {
         Ok(StateKeys {
             keys: repeated_bytes_at(alloc, payload, KEYS)?,
         })
@@ -45,4 +51,50 @@ impl Record for StateKeys {
     }
 
     ghost reads = { state_keys_reads };
+}
+
+/// A copy of the bytes of each field with this number, in their order.
+#[tactic(auto, unfolding(protocol_wire::specs::Selection::texts))]
+fn repeated_bytes_at(
+    alloc: Global,
+    payload: &Payload<'_>,
+    field: FieldDescriptor,
+) -> Result<Sequence<Bytes>, AllocError>
+    ensures { IfOk result (λ b. b ≡ the_texts field.number (fields payload.now)) }
+{
+    let mut all = Sequence::new(alloc);
+    for found in payload.fields() {
+        if found.number == field.number {
+            if let Scanned::Bytes(bytes) = found.value {
+                all.push(Bytes::copy_from_slice(alloc, bytes)?)?;
+            }
+        }
+    }
+    Ok(all)
+}
+
+/// Each of them a field.
+fn put_repeated_bytes(
+    out: &mut Vec<u8>,
+    field: FieldDescriptor,
+    all: &Sequence<Bytes>,
+) -> Result<(), AllocError>
+    ensures { OnOk result (out.new.items ≡ out.old.items ++ part_spelling (repeated_bytes field.number all.now)) }
+{
+    for bytes in all.as_slice() {
+        put_tagged_bytes(out, field, bytes.as_slice())?;
+    }
+    Ok(())
+}
+
+/// Each of them a field.
+#[tactic(auto, using(protocol_wire::proofs::Lengths::counted_more))]
+fn len_repeated_bytes(before: u64, field: FieldDescriptor, all: &Sequence<Bytes>) -> u64
+    ensures { result ≡ counted before (part_spelling (repeated_bytes field.number all.now)) }
+{
+    let mut len = before;
+    for bytes in all.as_slice() {
+        len = len_present_bytes(len, field, bytes);
+    }
+    len
 }

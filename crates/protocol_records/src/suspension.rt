@@ -29,11 +29,7 @@ impl Record for SuspensionMessage {
         RecordType::Suspension
     }
 
-    fn select(
-        alloc: Global,
-        payload: &Payload<'_>,
-        levels: u32,
-    ) -> Result<SuspensionMessage, AllocError> {
+    fn select(alloc: Global, payload: &Payload<'_>, levels: u32) -> Result<Self, AllocError> {
         Ok(SuspensionMessage {
             awaiting_on: optional_record_at(alloc, payload, AWAITING_ON, levels)?,
         })

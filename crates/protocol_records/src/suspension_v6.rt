@@ -38,11 +38,7 @@ impl Record for SuspensionMessageV6 {
         RecordType::SuspensionV6
     }
 
-    fn select(
-        alloc: Global,
-        payload: &Payload<'_>,
-        levels: u32,
-    ) -> Result<SuspensionMessageV6, AllocError> {
+    fn select(alloc: Global, payload: &Payload<'_>, levels: u32) -> Result<Self, AllocError> {
         let (waiting_completions, waiting_signals, waiting_named_signals) = all_three(
             numbers_at(alloc, payload, WAITING_COMPLETIONS),
             numbers_at(alloc, payload, WAITING_SIGNALS),

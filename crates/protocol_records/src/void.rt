@@ -22,7 +22,7 @@ impl Record for Void {
         RecordType::Void
     }
 
-    fn select(alloc: Global, payload: &Payload<'_>, levels: u32) -> Result<Void, AllocError> {
+    fn select(alloc: Global, payload: &Payload<'_>, levels: u32) -> Result<Self, AllocError> {
         Ok(Void {})
     }
 

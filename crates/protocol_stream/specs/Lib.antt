@@ -1,6 +1,7 @@
 pub mod CommandFacts
 pub mod CommandType
 pub mod Decoder
+pub mod ErrorText
 pub mod FieldText
 pub mod First
 pub mod Frame

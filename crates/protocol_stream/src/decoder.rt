@@ -10,7 +10,6 @@ use protocol_wire::Fault;
 use std::alloc::{AllocError, Global};
 use std::fmt;
 use std::marker::Model;
-use thiserror::Error;
 
 /// A header with its payload, which is not read yet.
 #[derive(Debug, Drop)]
@@ -62,37 +61,25 @@ impl fmt::Display for NotificationField {
     }
 }
 
-fn fault_text(fault: &Fault) -> &'static str {
-    match fault {
-        Fault::BadPayload => "its bytes are no fields of that message",
-        Fault::TooDeep => "it is nested more than a hundred levels deep",
-    }
-}
-
 /// Why bytes are no message, or not the one that was asked for.
-#[derive(Debug, Drop, Error)]
+#[derive(Debug, Drop)]
 pub enum DecodingError {
     /// P1: the header has a type that is not known. The decoder stands behind the header's eight bytes.
-    #[error(transparent)]
-    UnknownMessageType(#[from] UnknownMessageType),
+    UnknownMessageType(UnknownMessageType),
     /// P2, or P5 where the fault is the depth alone: the payload of a message of this type is none of its record.
-    #[error("the payload of {ty} cannot be read: {}", fault_text(.fault))]
     DecodeMessage {
         ty: MessageType,
         fault: Fault,
     },
     /// P3: a message of another type stands where one was asked for, at the command with this index.
-    #[error("{expected} was asked for at command {command_index}, and {actual} is there")]
     UnexpectedMessageType {
         expected: MessageType,
         actual: MessageType,
         command_index: i64,
     },
     /// P4: the payload of a notification can be read, and lacks what each notification has.
-    #[error("a notification without {0}")]
     MissingField(NotificationField),
     /// P7: memory was refused. Nothing changed.
-    #[error("out of memory")]
     OutOfMemory,
 }
 

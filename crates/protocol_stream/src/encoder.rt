@@ -6,16 +6,13 @@ use crate::frame::HEADER_LEN;
 use crate::{MessageHeader, MessageType};
 use bytes::BytesMut;
 use std::alloc::AllocError;
-use thiserror::Error;
 
 /// Why a message was not written.
-#[derive(Clone, Copy, Debug, PartialEq, Eq, Error)]
+#[derive(Clone, Copy, Debug, PartialEq, Eq)]
 pub enum EncodingError {
     /// P6: the length of the payload does not fit the 32 bits that the header has for it.
-    #[error("a payload of more than 4294967295 bytes")]
     PayloadTooLong,
     /// P7: memory was refused.
-    #[error("out of memory")]
     OutOfMemory,
 }
 

@@ -6,6 +6,7 @@ mod command_type;
 mod conversion;
 mod decoder;
 mod encoder;
+mod error_text;
 mod first;
 mod frame;
 mod header;

@@ -164,14 +164,10 @@ pub fn fields_of(record_type: RecordType) -> &'static [FieldDescriptor]
 pub fn kind_of(fields: &[FieldDescriptor], number: u32) -> Option<Kind>
     ensures { result ≡ kind_in fields.now number }
 {
-    match fields {
-        [] => None,
-        [field, others @ ..] => {
-            if field.number == number {
-                Some(field.kind)
-            } else {
-                kind_of(others, number)
-            }
+    for field in fields {
+        if field.number == number {
+            return Some(field.kind);
         }
     }
+    None
 }

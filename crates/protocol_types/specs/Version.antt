@@ -15,6 +15,16 @@ version_number V6 = 6
 version_number V7 = 7
 version_number V8 = 8
 
+abbrev pub version_name : Version → List ℕ
+version_name V1 = codes "V1"
+version_name V2 = codes "V2"
+version_name V3 = codes "V3"
+version_name V4 = codes "V4"
+version_name V5 = codes "V5"
+version_name V6 = codes "V6"
+version_name V7 = codes "V7"
+version_name V8 = codes "V8"
+
 abbrev pub version_content_type : Version → List ℕ
 version_content_type V1 = codes "application/vnd.restate.invocation.v1"
 version_content_type V2 = codes "application/vnd.restate.invocation.v2"

@@ -1,6 +1,6 @@
 // Versions of the protocol, and the content types that name them.
 ghost use Rattle.std.specs.Prelude.{◌≡◌, ◌≤◌, ◌↔◌, IsTrue, Some};
-ghost use Rattle.protocol_types.specs.Version.{version_number, version_content_type, has_content_type, version_at, version_with, content_type_read, has_restate_prefix, is_unsupported, version_spoken, newest_version, oldest_version};
+ghost use Rattle.protocol_types.specs.Version.{version_number, version_name, version_content_type, has_content_type, version_at, version_with, content_type_read, has_restate_prefix, is_unsupported, version_spoken, newest_version, oldest_version};
 
 use bytes::ByteStr;
 use std::fmt;
@@ -56,6 +56,22 @@ impl Version {
         ensures { result ≡ has_content_type text.now self.now }
     {
         self.content_type() == text
+    }
+
+    /// The version's name.
+    pub fn name(self) -> &'static str
+        ensures { result.now ≡ version_name self }
+    {
+        match self {
+            Version::V1 => "V1",
+            Version::V2 => "V2",
+            Version::V3 => "V3",
+            Version::V4 => "V4",
+            Version::V5 => "V5",
+            Version::V6 => "V6",
+            Version::V7 => "V7",
+            Version::V8 => "V8",
+        }
     }
 
     /// The number that stands behind the `v`.

@@ -1,13 +1,14 @@
 -- The fields that are listed, and those behind them.
-use Rattle.std.proofs.Common.{◌≡◌, ℕ, ◌+◌, ◌<◌, List, [], ◌∷◌, ◌++◌, map, take, set, length, Bor, Some, None, refl, sym, append_assoc, arith}
+use Rattle.std.proofs.Common.{◌≡◌, ℕ, ◌+◌, ◌<◌, true, eqb, List, [], ◌∷◌, ◌++◌, map, take, set, length, Bor, Some, None, refl, sym, append_assoc, arith}
 use Rattle.std.proofs.lemmas.List.{take_more_set, map-append}
+use Rattle.std.proofs.lemmas.Bool.{eqb-true}
 use Rattle.protocol_wire.specs.Wire.{field_at}
 use Rattle.protocol_wire.specs.Fields.{fields}
 use Rattle.protocol_wire.specs.Seen.{field}
 use Rattle.protocol_wire.specs.declared.field.ScannedField.{ScannedField}
 use Rattle.protocol_wire.specs.declared.listed.Fields.{Fields}
 use Rattle.protocol_wire.specs.Listed.{coming, are_all}
-use Rattle.protocol_wire.proofs.Steps.{fields_read, fields_ended, are_fields-some}
+use Rattle.protocol_wire.proofs.Steps.{fields_read, fields_ended, fields-none, field_at_nil, are_fields-some}
 
 empty : {A : Type 0} (xs : List A) → length xs ≡ 0 → xs ≡ []
 empty [] e = refl
@@ -18,6 +19,10 @@ empty (x ∷ xs) e = absurd (omega (arith, e))
 pub coming_none : (f : Fields) → length f.listed.now ≡ 0 → None ≡ field_at f.rest.now → coming f ≡ []
 unfolding coming
 coming_none f l e = rw (empty f.listed.now l, fields_ended f.rest.now e) refl
+
+pub coming_nothing : (f : Fields) → length f.listed.now ≡ 0 → eqb (length f.rest.now) 0 ≡ true → coming f ≡ []
+unfolding coming
+coming_nothing f l e = rw (empty f.listed.now l, empty f.rest.now (eqb-true (length f.rest.now) 0 e)) (fields-none [] field_at_nil)
 
 pub coming_listed : (f : Fields) (one : ScannedField) (others : Bor (List ScannedField)) → f.listed.now ≡ one ∷ others.now → coming f ≡ field one ∷ coming (record { listed = others; rest = f.rest })
 unfolding coming

@@ -52,10 +52,15 @@ fn are_varints(bytes: &[u8]) -> bool
 fn is_text(bytes: &[u8]) -> bool
     ensures { result ≡ is_utf8 bytes.now }
 {
-    match str::from_utf8(bytes) {
-        Ok(_) => true,
-        Err(_) => false,
+    for byte in bytes {
+        if *byte >= 128 {
+            return match str::from_utf8(bytes) {
+                Ok(_) => true,
+                Err(_) => false,
+            };
+        }
     }
+    true
 }
 
 #[cycle(check)]
@@ -93,11 +98,4 @@ pub fn fault_in(of: RecordType, payload: &Payload<'_>, levels: u32) -> Option<Fa
         left = after;
     }
     worse(fault, bad_unless(left.rest.is_empty()))
-}
-
-/// The same of bytes.
-pub fn fault_of(of: RecordType, payload: &[u8], levels: u32) -> Option<Fault>
-    ensures { result ≡ payload_fault levels of payload.now }
-{
-    fault_in(of, &Payload::new(payload), levels)
 }

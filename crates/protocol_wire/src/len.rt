@@ -99,16 +99,6 @@ pub fn len_present_u32(before: u64, field: FieldDescriptor, value: u32) -> u64
 }
 
 /// Counted where it is present, also when zero.
-pub fn len_optional_u32(before: u64, field: FieldDescriptor, value: Option<u32>) -> u64
-    ensures { result ≡ counted before (part_spelling (optional_number field.number value)) }
-{
-    match value {
-        None => before,
-        Some(value) => len_present_u32(before, field, value),
-    }
-}
-
-/// Counted where it is present, also when zero.
 pub fn len_optional_u64(before: u64, field: FieldDescriptor, value: Option<u64>) -> u64
     ensures { result ≡ counted before (part_spelling (optional_number field.number value)) }
 {
@@ -179,18 +169,6 @@ pub fn len_texts(before: u64, field: FieldDescriptor, texts: &Sequence<ByteStr>)
     let mut len = before;
     for text in texts.as_slice() {
         len = len_present_text(len, field, text);
-    }
-    len
-}
-
-/// Each of them a field.
-#[tactic(auto, using(crate::proofs::Lengths::counted_more))]
-pub fn len_repeated_bytes(before: u64, field: FieldDescriptor, all: &Sequence<Bytes>) -> u64
-    ensures { result ≡ counted before (part_spelling (repeated_bytes field.number all.now)) }
-{
-    let mut len = before;
-    for bytes in all.as_slice() {
-        len = len_present_bytes(len, field, bytes);
     }
     len
 }

@@ -5,12 +5,12 @@ ghost use Rattle.protocol_wire.specs.Fields.{fields, are_fields};
 ghost use Rattle.protocol_wire.specs.Seen.{field as seen};
 ghost use Rattle.protocol_wire.specs.Listed.{coming, are_all};
 
+use crate::ScannedField;
 use crate::field::field_at;
-use crate::{Scanned, ScannedField};
 use std::marker::Model;
 
 /// So many fields of a payload are listed. Those behind them are read anew each time, so no payload makes the list grow.
-const LISTED: usize = 16;
+pub(crate) const LISTED: usize = 16;
 
 type Room<'a> = [ScannedField<'a>; LISTED];
 
@@ -37,6 +37,9 @@ impl<'a> Fields<'a> {
                 },
             )),
             None => {
+                if self.rest.is_empty() {
+                    return None;
+                }
                 let (field, rest) = field_at(self.rest)?;
                 Some((
                     field,
@@ -110,14 +113,6 @@ impl<'a> Payload<'a> {
             rest: self.rest,
         }
     }
-}
-
-/// Room for the list, with nothing in it.
-pub(crate) fn room<'a>() -> Room<'a> {
-    [ScannedField {
-        number: 0,
-        value: Scanned::Fixed,
-    }; LISTED]
 }
 
 /// Lists the first fields. Tells how many they are, and the bytes behind them.

@@ -116,20 +116,6 @@ pub fn put_present_u32(
 }
 
 /// Written where it is present, also when zero.
-pub fn put_optional_u32(
-    out: &mut Vec<u8>,
-    field: FieldDescriptor,
-    value: Option<u32>,
-) -> Result<(), AllocError>
-    ensures { OnOk result (out.new.items ≡ out.old.items ++ part_spelling (optional_number field.number value)) }
-{
-    match value {
-        None => Ok(()),
-        Some(value) => put_present_u32(out, field, value),
-    }
-}
-
-/// Written where it is present, also when zero.
 pub fn put_optional_u64(
     out: &mut Vec<u8>,
     field: FieldDescriptor,
@@ -212,20 +198,6 @@ pub fn put_texts(
 {
     for text in texts.as_slice() {
         put_tagged_bytes(out, field, text.as_bytes().as_slice())?;
-    }
-    Ok(())
-}
-
-/// Each of them a field.
-pub fn put_repeated_bytes(
-    out: &mut Vec<u8>,
-    field: FieldDescriptor,
-    all: &Sequence<Bytes>,
-) -> Result<(), AllocError>
-    ensures { OnOk result (out.new.items ≡ out.old.items ++ part_spelling (repeated_bytes field.number all.now)) }
-{
-    for bytes in all.as_slice() {
-        put_tagged_bytes(out, field, bytes.as_slice())?;
     }
     Ok(())
 }

@@ -12,8 +12,8 @@ ghost use Rattle.protocol_wire.specs.Selection.{values, texts, joined_bytes as t
 ghost use Rattle.protocol_wire.specs.Decodes.{Decodes, IsRead, ErrIs};
 ghost use Rattle.protocol_table.specs.declared.table.RecordType.{RecordType as RecordTypes};
 
-use crate::listed::{list_fields, room};
-use crate::{Fault, FieldDescriptor, Fields, Payload, Scanned, fault_in};
+use crate::listed::{LISTED, list_fields};
+use crate::{Fault, FieldDescriptor, Fields, Payload, Scanned, ScannedField, fault_in};
 use protocol_table::table::RecordType;
 use sequence::Sequence;
 use std::alloc::{AllocError, Global};
@@ -188,7 +188,10 @@ pub fn decode<R: Record>(alloc: Global, payload: &[u8]) -> Result<R, DecodeError
     // Accepted are the payloads with which nothing is wrong, to their meaning.
     ensures { Decodes R.record_type R.of payload.now result }
 {
-    let mut room = room();
+    let mut room = [ScannedField {
+        number: 0,
+        value: Scanned::Fixed,
+    }; LISTED];
     let (count, rest) = list_fields(payload, &mut room);
     let listed = Payload {
         bytes: payload,

@@ -4,7 +4,7 @@ ghost use Rattle.std.specs.Prelude.{◌≡◌, [], Some, IfNone, ◌++◌, ◌%�
 ghost use Rattle.protocol_wire.specs.Fields.{fields, varints};
 ghost use Rattle.protocol_wire.specs.Listed.{coming};
 ghost use Rattle.protocol_wire.specs.Sound.{AreTexts};
-ghost use Rattle.protocol_wire.specs.Selection.{run, is_run as the_is_run, variant_of, among, last_number as the_last_number, last_bytes as the_last_bytes, values, u64 as the_u64, u32 as the_u32, bool as the_bool, text as the_text, numbers as the_numbers, texts as the_texts, optional_text as the_optional_text, optional_u32 as the_optional_u32, optional_u64 as the_optional_u64};
+ghost use Rattle.protocol_wire.specs.Selection.{run, is_run as the_is_run, variant_of, is_among, among, last_number as the_last_number, last_bytes as the_last_bytes, values, u64 as the_u64, u32 as the_u32, bool as the_bool, text as the_text, numbers as the_numbers, texts as the_texts, optional_text as the_optional_text, optional_u32 as the_optional_u32, optional_u64 as the_optional_u64};
 
 use crate::varint::varint_at;
 use crate::{FieldDescriptor, Fields, Payload, Scanned};
@@ -103,13 +103,6 @@ pub fn optional_u64_at(payload: &Payload<'_>, field: FieldDescriptor) -> Option<
     last_number(payload.fields(), field)
 }
 
-/// The low 32 bits of the last number of this field, if there is one.
-pub fn optional_u32_at(payload: &Payload<'_>, field: FieldDescriptor) -> Option<u32>
-    ensures { result ≡ the_optional_u32 field.number (fields payload.now) }
-{
-    low_number(payload.fields(), field)
-}
-
 /// Whether the last number of this field isn't 0; false where there is none.
 pub fn bool_at(payload: &Payload<'_>, field: FieldDescriptor) -> bool
     ensures { result ≡ the_bool field.number (fields payload.now) }
@@ -179,26 +172,6 @@ pub fn texts_at(
     Ok(texts)
 }
 
-/// A copy of the bytes of each field with this number, in their order.
-#[tactic(auto, unfolding(crate::specs::Selection::texts))]
-pub fn repeated_bytes_at(
-    alloc: Global,
-    payload: &Payload<'_>,
-    field: FieldDescriptor,
-) -> Result<Sequence<Bytes>, AllocError>
-    ensures { IfOk result (λ b. b ≡ the_texts field.number (fields payload.now)) }
-{
-    let mut all = Sequence::new(alloc);
-    for found in payload.fields() {
-        if found.number == field.number {
-            if let Scanned::Bytes(bytes) = found.value {
-                all.push(Bytes::copy_from_slice(alloc, bytes)?)?;
-            }
-        }
-    }
-    Ok(all)
-}
-
 fn push_varints(numbers: &mut Sequence<u32>, bytes: &[u8]) -> Result<(), AllocError>
     ensures { OnOk result (numbers.new ≡ numbers.old ++ map (λ n. n % 2 ^ 32) (varints bytes.now)) }
 {
@@ -241,6 +214,17 @@ fn is_run(found: Option<(u32, Fields<'_>)>, number: u32) -> bool
     }
 }
 
+fn is_variant(variants: &[u32], number: u32) -> bool
+    ensures { result ≡ is_among variants.now number }
+{
+    for variant in variants {
+        if *variant == number {
+            return true;
+        }
+    }
+    false
+}
+
 /// Which of the variants of a oneof stands, and the fields from its last run on.
 pub(crate) fn run_at<'a>(all: Fields<'a>, variants: &[u32]) -> Option<(u32, Fields<'a>)>
     ensures none { IfNone result (run variants.now (coming all.entry) ≡ []) }
@@ -250,7 +234,7 @@ pub(crate) fn run_at<'a>(all: Fields<'a>, variants: &[u32]) -> Option<(u32, Fiel
     let mut found: Option<(u32, Fields<'a>)> = None;
     let mut rest = all;
     while let Some((field, after)) = rest.split_first() {
-        if variants.contains(&field.number) && !is_run(found, field.number) {
+        if is_variant(variants, field.number) && !is_run(found, field.number) {
             found = Some((field.number, rest));
         }
         rest = after;

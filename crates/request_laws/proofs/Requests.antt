@@ -11,24 +11,19 @@ use Rattle.journal_model.specs.Request.{Request}
 use Rattle.journal_model.specs.Spelling.{request_type, request_payload}
 use Rattle.protocol_records.specs.OutputCommand.{output_command_parts}
 use Rattle.protocol_records.specs.SleepCommand.{sleep_command_parts}
-use Rattle.protocol_records.specs.ReadBack.{sleep_command_reads}
-use Rattle.protocol_records.specs.ReadBackOutput.{output_command_reads}
+use Rattle.protocol_records.specs.ReadBack.{sleep_command_reads, output_command_reads}
 use Rattle.protocol_commands.specs.Fields as commands
 use Rattle.protocol_commands.specs.GetEagerStateCommand as eager
 use Rattle.protocol_commands.specs.CompletePromiseCommand as promises
 use Rattle.protocol_commands.specs.ReadBack as command_reads
-use Rattle.protocol_commands.specs.ReadBackGetEagerStateCommand.{get_eager_state_command_reads}
-use Rattle.protocol_commands.specs.ReadBackCompletePromiseCommand.{complete_promise_command_reads}
+use Rattle.protocol_commands.specs.ReadBack.{get_eager_state_command_reads, complete_promise_command_reads}
 use Rattle.protocol_calls.specs.Fields as calls
 use Rattle.protocol_calls.specs.SendSignalCommand.{send_signal_command_parts}
 use Rattle.protocol_calls.specs.AttachInvocationCommand.{attach_invocation_command_parts}
 use Rattle.protocol_calls.specs.GetInvocationOutputCommand.{get_invocation_output_command_parts}
 use Rattle.protocol_calls.specs.CompleteAwakeableCommand.{complete_awakeable_command_parts}
 use Rattle.protocol_calls.specs.ReadBack as call_reads
-use Rattle.protocol_calls.specs.ReadBackSendSignalCommand.{send_signal_command_reads}
-use Rattle.protocol_calls.specs.ReadBackAttachInvocationCommand.{attach_invocation_command_reads}
-use Rattle.protocol_calls.specs.ReadBackGetInvocationOutputCommand.{get_invocation_output_command_reads}
-use Rattle.protocol_calls.specs.ReadBackCompleteAwakeableCommand.{complete_awakeable_command_reads}
+use Rattle.protocol_calls.specs.ReadBack.{send_signal_command_reads, attach_invocation_command_reads, get_invocation_output_command_reads, complete_awakeable_command_reads}
 use Rattle.protocol_stream.specs.Frame.{message_of}
 use Rattle.protocol_stream.proofs.Frames.{item_at-frame_bytes}
 use Rattle.protocol_spellings.specs.Requests.{request_of_output, request_of_get_lazy_state, request_of_get_eager_state, request_of_get_lazy_state_keys, request_of_get_eager_state_keys, request_of_set_state, request_of_clear_state, request_of_clear_all_state, request_of_get_promise, request_of_peek_promise, request_of_complete_promise, request_of_sleep, request_of_call, request_of_one_way_call, request_of_send_signal, request_of_run, request_of_attach_invocation, request_of_get_invocation_output, request_of_complete_awakeable}

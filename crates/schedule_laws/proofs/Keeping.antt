@@ -17,7 +17,7 @@ use Rattle.store_calls.specs.Calls.{Invokes, Completes, Ticks, Stops}
 use Rattle.store_calls.proofs.Live.{live_when}
 use Rattle.store_calls.proofs.Taking.{bytes_stay}
 use Rattle.fitting_events.specs.Fitting.{ResultFits}
-use Rattle.following_laws.specs.Following.{asking_by_text, IsCovered, FollowsBegun, FollowsWhere, Follows}
+use Rattle.following_laws.specs.Following.{asking_by_text, ReplaysInLine, FollowsBegun, FollowsWhere, Follows}
 use Rattle.following_laws.proofs.Acting.{fed, closed, turned, advanced}
 use Rattle.following_laws.proofs.Beginning.{made, unheld, begun}
 use Rattle.following_laws.proofs.Events.{IsPlain, where_on}
@@ -154,9 +154,9 @@ module _ {H : Type 0} (function : H → Handler) (next : Handler) (options : VMO
         by_live None is = not_live None is (λ m so. some_none (sym so))
         by_live (Some m) is = by_number m is (m == one.number) refl
 
-    turned_begun : (turn : Turn) → IsCovered options → Turns function one.attempt turn changed → Changed
-    turned_begun turn covered turns =
-        if_live (λ waits live is. turned function next options id laws s.events (s.outputs id) held new one.number one waits live is there f turn changed s.accepted covered turns)
+    turned_begun : (turn : Turn) → ReplaysInLine options → Turns function one.attempt turn changed → Changed
+    turned_begun turn in_line turns =
+        if_live (λ waits live is. turned function next options id laws s.events (s.outputs id) held new one.number one waits live is there f turn changed s.accepted in_line turns)
 
     gathered_begun : Gathers one.attempt changed → Changed
     gathered_begun gathers =
@@ -215,15 +215,15 @@ module _ {H : Type 0} (function : H → Handler) (next : Handler) (options : VMO
   kept_stop other n (reply.Refused (refusal.Store why)) s t held d f = stands_still function next options id s t held d.stays f
   kept_stop other n _ s t held d f = absurd d
 
-  kept_begin : (other : Text) (handler : H) (now : ℕ) (answer : Reply) (s t : Standing) (held more : List (HeldAttempt H)) → IsCovered options → now < 2 ^ 64 → (other ≡ id → asking_by_text (function handler) ≡ next)
+  kept_begin : (other : Text) (handler : H) (now : ℕ) (answer : Reply) (s t : Standing) (held more : List (HeldAttempt H)) → ReplaysInLine options → now < 2 ^ 64 → (other ≡ id → asking_by_text (function handler) ≡ next)
       → BeginDoes options other handler now s held answer t more → In s held → In t more
-  kept_begin other handler now (reply.Begun n) s t held more covered moment brings d f = begun function next options id laws other handler now d.0 s t held more moment covered brings d.2 d.3 f
-  kept_begin other handler now (reply.Refused (refusal.Store why)) s t held more covered moment brings d f =
+  kept_begin other handler now (reply.Begun n) s t held more in_line moment brings d f = begun function next options id laws other handler now d.0 s t held more moment in_line brings d.2 d.3 f
+  kept_begin other handler now (reply.Refused (refusal.Store why)) s t held more in_line moment brings d f =
       elim d [
         | inl r ↦ same_state s t held more r.0.stays r.1 f
         | inr u ↦ subst (λ (hs : List (HeldAttempt H)). In t hs) (sym u.3) (unheld function next options id laws other now u.0 s t held moment u.2 f)
       ]
-  kept_begin other handler now _ s t held more covered moment brings d f = absurd d
+  kept_begin other handler now _ s t held more in_line moment brings d f = absurd d
 
   kept_feed : (count : ℕ) (one : HeldAttempt H) (answer : Reply) (s t : Standing) (held : List (HeldAttempt H)) (changed : Attempt H) → held_of held one.invocation one.number ≡ Some one
       → FeedsOne count one s answer t changed → In s held → In t (with_attempt held one changed)
@@ -244,11 +244,11 @@ module _ {H : Type 0} (function : H → Handler) (next : Handler) (options : VMO
   kept_close one (reply.Refused (refusal.Store why)) s t held changed there d f = unchanged one changed s t held there d.1 d.0.stays f
   kept_close one _ s t held changed there d f = absurd d
 
-  kept_turn : (one : HeldAttempt H) (answer : Reply) (s t : Standing) (held : List (HeldAttempt H)) (changed : Attempt H) → IsCovered options
+  kept_turn : (one : HeldAttempt H) (answer : Reply) (s t : Standing) (held : List (HeldAttempt H)) (changed : Attempt H) → ReplaysInLine options
       → held_of held one.invocation one.number ≡ Some one → TurnsOne function one s answer t changed → In s held → In t (with_attempt held one changed)
-  kept_turn one (reply.Turned turn) s t held changed covered there d f =
-      by_invocation one changed s t held there (λ same. changed_own one changed s t held d.1 (λ own new g. turned_begun one changed s held own new g turn covered d.0) f) (λ far. stands_still function next options id s t held d.1 f)
-  kept_turn one _ s t held changed covered there d f = absurd d
+  kept_turn one (reply.Turned turn) s t held changed in_line there d f =
+      by_invocation one changed s t held there (λ same. changed_own one changed s t held d.1 (λ own new g. turned_begun one changed s held own new g turn in_line d.0) f) (λ far. stands_still function next options id s t held d.1 f)
+  kept_turn one _ s t held changed in_line there d f = absurd d
 
   kept_move : (count : ℕ) (one : HeldAttempt H) (answer : Reply) (s t : Standing) (held : List (HeldAttempt H)) (changed : Attempt H) → held_of held one.invocation one.number ≡ Some one
       → MovesOne count one s answer t changed → In s held → In t (with_attempt held one changed)
@@ -280,22 +280,22 @@ module _ {H : Type 0} (function : H → Handler) (next : Handler) (options : VMO
           (own one d.0 (ap (λ (i : Text). held_of held i one.number) is.0 ∙ ap (λ (m : ℕ). held_of held other m) is.1 ∙ there) is.0 is.1 d.2 d.1 f)
 
   -- what an event does keeps the invocation in its run
-  pub keeps : (one : Event H) (answer : Reply) (s t : Standing) (held more : List (HeldAttempt H)) → IsCovered options → FitsEvent one → Brings (λ handler. asking_by_text (function handler)) id next one
+  pub keeps : (one : Event H) (answer : Reply) (s t : Standing) (held more : List (HeldAttempt H)) → ReplaysInLine options → FitsEvent one → Brings (λ handler. asking_by_text (function handler)) id next one
       → Does function options one s held answer t more → In s held → In t more
-  keeps (event.Invoke one) answer s t held more covered fits brings d f = subst (λ (hs : List (HeldAttempt H)). In t hs) (sym d.1) (kept_invoke one answer s t held fits d.0 f)
-  keeps (event.Result other n value) answer s t held more covered fits brings d f = subst (λ (hs : List (HeldAttempt H)). In t hs) (sym d.1) (kept_result other n value answer s t held fits d.0 f)
-  keeps (event.Tick now) answer s t held more covered fits brings d f = subst (λ (hs : List (HeldAttempt H)). In t hs) (sym d.1) (kept_tick now answer s t held d.0 f)
-  keeps (event.Begin other handler now) answer s t held more covered fits brings d f = kept_begin other handler now answer s t held more covered fits brings d f
-  keeps (event.Feed other n count) answer s t held more covered fits brings d f =
+  keeps (event.Invoke one) answer s t held more in_line fits brings d f = subst (λ (hs : List (HeldAttempt H)). In t hs) (sym d.1) (kept_invoke one answer s t held fits d.0 f)
+  keeps (event.Result other n value) answer s t held more in_line fits brings d f = subst (λ (hs : List (HeldAttempt H)). In t hs) (sym d.1) (kept_result other n value answer s t held fits d.0 f)
+  keeps (event.Tick now) answer s t held more in_line fits brings d f = subst (λ (hs : List (HeldAttempt H)). In t hs) (sym d.1) (kept_tick now answer s t held d.0 f)
+  keeps (event.Begin other handler now) answer s t held more in_line fits brings d f = kept_begin other handler now answer s t held more in_line fits brings d f
+  keeps (event.Feed other n count) answer s t held more in_line fits brings d f =
       kept_held (FeedsOne count) other n answer s t held more (λ one changed there i m is c g. kept_feed count one answer s t held changed there c g) d f
-  keeps (event.Close other n) answer s t held more covered fits brings d f =
+  keeps (event.Close other n) answer s t held more in_line fits brings d f =
       kept_held ClosesOne other n answer s t held more (λ one changed there i m is c g. kept_close one answer s t held changed there c g) d f
-  keeps (event.Turn other n) answer s t held more covered fits brings d f =
+  keeps (event.Turn other n) answer s t held more in_line fits brings d f =
       kept_held (TurnsOne function) other n answer s t held more
-      (λ one changed there i m is c g. kept_turn one answer s t held changed covered there c g) d f
-  keeps (event.Move other n count) answer s t held more covered fits brings d f =
+      (λ one changed there i m is c g. kept_turn one answer s t held changed in_line there c g) d f
+  keeps (event.Move other n count) answer s t held more in_line fits brings d f =
       kept_held (MovesOne count) other n answer s t held more (λ one changed there i m is c g. kept_move count one answer s t held changed there c g) d f
-  keeps (event.Stop other n) answer s t held more covered fits brings d f = subst (λ (hs : List (HeldAttempt H)). In t hs) (sym d.1) (kept_stop other n answer s t held d.0 f)
+  keeps (event.Stop other n) answer s t held more in_line fits brings d f = subst (λ (hs : List (HeldAttempt H)). In t hs) (sym d.1) (kept_stop other n answer s t held d.0 f)
 
 -- a begin that brings a function brings it as it asks by text
 pub brings_by_text : {H : Type 0} (function : H → Handler) (id : Text) (next : Handler) (one : Event H) → Brings function id next one

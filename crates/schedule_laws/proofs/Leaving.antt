@@ -11,7 +11,7 @@ use Rattle.store_refusals.specs.declared.refusal.Refusal.{Refusal}
 use Rattle.store_refusals.specs.declared.refusal.Refusal.TheVariants.{OutOfMemory}
 use Rattle.store_steps.specs.Taken.{lies_in_frame}
 use Rattle.store_calls.specs.Frames.{Rests}
-use Rattle.following_laws.specs.Following.{IsCovered, HoldsOf, given_of, Follows, FollowsByText}
+use Rattle.following_laws.specs.Following.{ReplaysInLine, HoldsOf, given_of, Follows, FollowsByText}
 use Rattle.schedule_laws.specs.Laws.{KeptByEach, HoldsHeadline, HoldsNeverLate, HoldsWakesExactly}
 use Rattle.following_laws.proofs.Beginning.{holds_follows, follows_holds}
 use Rattle.following_laws.proofs.Schedules.{held_with}
@@ -22,14 +22,14 @@ use Rattle.following_laws.specs.Attempts.{Attempt}
 use Rattle.following_laws.specs.Schedules.reply
 use Rattle.following_laws.specs.Schedules.{Event, Reply, HeldAttempt, held_of, with_attempt, MovesOne, Scheduled, Brings, AppliesAll, FitsEvent}
 
-module _ {H : Type 0} (function : H → Handler) (next : Handler) (options : VMOptions) (id : Text) (each : KeptByEach function) (covered : IsCovered options) where
+module _ {H : Type 0} (function : H → Handler) (next : Handler) (options : VMOptions) (id : Text) (each : KeptByEach function) (in_line : ReplaysInLine options) where
   -- a list of events keeps an invocation in its run
   pub keeps_all : (events : List (Event H)) (replies : List Reply) (old new : Scheduled H) → AppliesAll function options events replies old new → AllByRecursion FitsEvent events
       → AllByRecursion (Brings function id next) events → FollowsByText function next options id old.standing old.held → FollowsByText function next options id new.standing new.held
   keeps_all [] [] old new same fit brings f = subst (λ (s : Scheduled H). FollowsByText function next options id s.standing s.held) (sym same) f
   keeps_all (one ∷ events) (answer ∷ replies) old new applies fit brings f =
       keeps_all events replies applies.0 new applies.2 fit.1 brings.1
-      (each next options id one answer old.standing applies.0.standing old.held applies.0.held covered fit.0 brings.0 applies.1 f)
+      (each next options id one answer old.standing applies.0.standing old.held applies.0.held in_line fit.0 brings.0 applies.1 f)
   keeps_all [] (answer ∷ replies) old new applies fit brings f = absurd applies
   keeps_all (one ∷ events) [] old new applies fit brings f = absurd applies
 

@@ -14,7 +14,7 @@ use Rattle.store_calls.specs.Standing.{Standing}
 use Rattle.store_refusals.specs.declared.refusal.Refusal.{Refusal}
 use Rattle.store_steps.specs.Taken.{lies_in_frame}
 use Rattle.following_laws.specs.Attempts.{Attempt}
-use Rattle.following_laws.specs.Following.{IsCovered, HoldsOf, given_of, FollowsByText}
+use Rattle.following_laws.specs.Following.{ReplaysInLine, HoldsOf, given_of, FollowsByText}
 use Rattle.following_laws.specs.Schedules.reply
 use Rattle.following_laws.specs.Schedules.{Event, Reply, HeldAttempt, held_of, MovesOne, Does, Scheduled, AppliesAll, Brings, FitsEvent}
 
@@ -27,7 +27,7 @@ module _ {H : Type 0} (function : H → Handler) where
 
   -- what an event does keeps an invocation in its run, if begins of it bring the run's function
   abbrev pub KeptByEach : Type 0
-  KeptByEach = (next : Handler) (options : VMOptions) (id : Text) (one : Event H) (answer : Reply) (old new : Standing) (held more : List (HeldAttempt H)) → IsCovered options
+  KeptByEach = (next : Handler) (options : VMOptions) (id : Text) (one : Event H) (answer : Reply) (old new : Standing) (held more : List (HeldAttempt H)) → ReplaysInLine options
       → FitsEvent one → Brings function id next one → Does function options one old held answer new more → FollowsByText function next options id old held
       → FollowsByText function next options id new more
 
@@ -38,7 +38,7 @@ module _ {H : Type 0} (function : H → Handler) where
   -- no frame of an invocation in its run is refused for a cause that lies in it
   abbrev pub NoneRefused : Type 0
   NoneRefused = (next : Handler) (options : VMOptions) (old new : Standing) (held : List (HeldAttempt H)) (count bytes frames : ℕ) (why : Refusal) (one : HeldAttempt H) (changed : Attempt H)
-      → IsCovered options → held_of held one.invocation one.number ≡ Some one → MovesOne count one old (reply.Moved bytes frames (Some why)) new changed
+      → ReplaysInLine options → held_of held one.invocation one.number ≡ Some one → MovesOne count one old (reply.Moved bytes frames (Some why)) new changed
       → FollowsByText function next options one.invocation old held → lies_in_frame why ≡ false
 
   -- ---- what a schedule leaves
@@ -46,7 +46,7 @@ module _ {H : Type 0} (function : H → Handler) where
   -- of each invocation whose begins all bring one function, what is needed to go on
   abbrev pub LeavesHolds : Type 0
   LeavesHolds = (options : VMOptions) (events : List (Event H)) (replies : List Reply) (old new : Scheduled H) → old.held ≡ [] → AppliesAll function options events replies old new
-      → AllByRecursion FitsEvent events → (next : Handler) (id : Text) → IsCovered options → AllByRecursion (Brings function id next) events
+      → AllByRecursion FitsEvent events → (next : Handler) (id : Text) → ReplaysInLine options → AllByRecursion (Brings function id next) events
       → HoldsOf next options id old.standing.events → HoldsOf next options id new.standing.events
 
 -- ---- what that gives

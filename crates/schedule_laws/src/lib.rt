@@ -5,6 +5,7 @@
 
 ghost use Rattle.schedule_laws.specs.Laws.{FollowsHolds, HoldsFollows, HoldsHeadline, HoldsNeverLate, HoldsWakesExactly, KeptByEach, LeavesHolds, NoneRefused};
 
+pub use following_laws::inputs_are_handed_out;
 use following_laws::{
     attempts_begin, closes_keep, events_keep, feeds_keep, notes_follow, overs_stay, takes_keep,
     turns_keep,

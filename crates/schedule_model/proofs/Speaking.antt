@@ -1,7 +1,5 @@
 -- An invocation that was accepted speaks a version that there is.
-use Rattle.std.proofs.Common.{◌≡◌, ◌≢◌, refl, sym, ap, subst, ◌∙◌, ℕ, ◌==◌, ◌<◌, ◌≤◌, arith, Bool, true, false, true≢false, nat_lt, ◌||◌, if◌then◌else◌, List, [], ◌∷◌, Option, Some, None, is_some, find, option_map, unwrap_or, bytes_eq}
-use Rattle.std.specs.List.{AllByRecursion}
-use Rattle.std.proofs.lemmas.Bool.Decides.{nat_tests, Decides-eqb}
+use Rattle.std.proofs.Common.{◌≡◌, refl, sym, ap, subst, ◌∙◌, ℕ, Bool, true, false, true≢false, if◌then◌else◌, List, [], ◌∷◌, Option, Some, None, is_some, option_map, unwrap_or, bytes_eq}
 use Rattle.journal_model.specs.declared.invocation.NewInvocation.{NewInvocation}
 use Rattle.journal_model.specs.Notification.{Text}
 use Rattle.journal_model.specs.Event.{Event}
@@ -13,8 +11,8 @@ use Rattle.store_calls.specs.Calls.{Begins}
 use Rattle.input_laws.proofs.Events.{itself}
 use Rattle.input_laws.proofs.Handed.{begun_is}
 use Rattle.journal_laws.proofs.ObjectState.{tail_of, holds-head, holds-tail, begun_before}
-use Rattle.protocol_types.specs.Version.{version_number, version_at, versions, is_unsupported}
-use Rattle.protocol_types.specs.declared.version.Version.{Version}
+use Rattle.protocol_types.specs.Version.{version_at, is_unsupported}
+use Rattle.protocol_types.proofs.Versions.{spoken_versions_have_numbers}
 
 spoken : (events : List Event) → IsAccepted events → (id : Text) (new : NewInvocation) → invocation_begun events id ≡ Some new → is_unsupported new.version ≡ false
 spoken [] accepted id new e = absurd cc
@@ -30,51 +28,11 @@ spoken (Event.Invoke one ∷ earlier) accepted id new e = by_name (bytes_eq one.
     by_name false is later = later is
 spoken (event ∷ earlier) accepted id new e = spoken earlier accepted.1 id new (sym (begun_before event earlier id refl) ∙ e)
 
-abbrev IsNot : ℕ → Version → Type 0
-IsNot number version = (number == version_number version) ≡ false
-
-none_found : (number : ℕ) (all : List Version) → find (λ (one : Version). number == version_number one) all ≡ None → AllByRecursion (IsNot number) all
-none_found number [] e = tt
-none_found number (one ∷ all) e = by_test (number == version_number one) refl e (none_found number all)
-  where
-    by_test : (b : Bool) → (number == version_number one) ≡ b → (if b then Some one else find (λ (other : Version). number == version_number other) all) ≡ None
-        → (find (λ (other : Version). number == version_number other) all ≡ None → AllByRecursion (IsNot number) all) → AllByRecursion (IsNot number) (one ∷ all)
-    by_test true is e later = cc
-    by_test false is e later = (is, later e)
-
-not_number : (number other : ℕ) → (number == other) ≡ false → number ≢ other
-not_number number other e same = true≢false (sym ((Decides-eqb number other).1 same) ∙ e)
-
--- beyond a number that it is not
-beyond : (number other : ℕ) → other ≤ number → (number == other) ≡ false → other < number
-beyond number other least not = by_test (nat_lt other number) refl
-  where
-    by_test : (b : Bool) → nat_lt other number ≡ b → other < number
-    by_test true e = grind (arith, nat_tests)
-    by_test false e =
-        let same : number ≡ other = (let most : number ≤ other = grind (arith, nat_tests) in omega (arith, least, most)) in
-        absurd (not_number number other not same)
-
-neither : (a b : Bool) → (a || b) ≡ false → (a ≡ false) × (b ≡ false)
-neither true b e = absurd (true≢false e)
-neither false b e = (refl, e)
-
 never_unspoken : (number : ℕ) → is_unsupported number ≡ false → version_at number ≡ None → ⊥
 never_unspoken number supported none =
-    let all = none_found number versions none in
-    let both = neither (nat_lt number 5) (nat_lt 8 number) supported in
-    let most : number ≤ 8 = at_most (nat_lt 8 number) refl both.1 in
-    let five = beyond number 5 (at_least (nat_lt number 5) refl both.0) all.1.1.1.1.0 in
-    let six = beyond number 6 (omega (arith, five)) all.1.1.1.1.1.0 in
-    let seven = beyond number 7 (omega (arith, six)) all.1.1.1.1.1.1.0 in
-    let eight = beyond number 8 (omega (arith, seven)) all.1.1.1.1.1.1.1.0 in
-    absurd (omega (arith, most, eight))
-  where
-    at_most : (b : Bool) → nat_lt 8 number ≡ b → b ≡ false → number ≤ 8
-    at_most b e not = let off : nat_lt 8 number ≡ false = e ∙ not in grind (arith, nat_tests)
-
-    at_least : (b : Bool) → nat_lt number 5 ≡ b → b ≡ false → 5 ≤ number
-    at_least b e not = let off : nat_lt number 5 ≡ false = e ∙ not in grind (arith, nat_tests)
+    let it = spoken_versions_have_numbers number supported in
+    let clash : Some it.0 ≡ None = sym it.1 ∙ none in
+    absurd cc
 
 -- so none of a store that stands is refused for its version
 pub never_foreign : (events : List Event) → IsAccepted events → (id : Text) (new : NewInvocation) → invocation_begun events id ≡ Some new → version_at (version_of events id) ≡ None → ⊥

@@ -43,8 +43,8 @@ module _ {H : Type 0} (function : H → Handler) (options : VMOptions) where
     -- what a schedule leaves, from the law of schedules
     pub runs_leave : (events : List (Event H)) (replies : List Reply) (s : Standing) (new : Scheduled H)
         → AllByRecursion FitsEvent events → AppliesAll function options events replies (at_first s) new → RunsLeave function options events Left s.events new.standing.events
-    runs_leave events replies s new fits applies id next covered brings holds =
-        gives next id new.standing.events new.standing.accepted (law options events replies (at_first s) new refl applies fits next id covered brings holds)
+    runs_leave events replies s new fits applies id next in_line brings holds =
+        gives next id new.standing.events new.standing.accepted (law options events replies (at_first s) new refl applies fits next id in_line brings holds)
 
     -- of the store that they are applied to
     pub runs_more : {S : Type 0} (g : Ghosts S) (events : List (Event H)) (replies : List Reply) → AllByRecursion FitsEvent events → (first : Stored S) (new : Scheduler H S)
@@ -62,10 +62,10 @@ module _ {H : Type 0} (function : H → Handler) (options : VMOptions) where
 
     -- of the first events
     first_leave : (events : List (Event H)) (s t : Standing) → AllByRecursion FitsEvent events → AppliesFirst function options events s t → RunsLeave function options events Left s.events t.events
-    first_leave events s t fits it id next covered brings holds =
+    first_leave events s t fits it id next in_line brings holds =
         let first : (P : Event H → Type 0) → AllByRecursion P events → AllByRecursion P it.first =
         λ P all. first_all P it.first it.rest (subst (λ (es : List (Event H)). AllByRecursion P es) it.beginning all) in
-        runs_leave it.first it.answers s (record { standing = t; held = it.held }) (first FitsEvent fits) it.applies id next covered (first (Brings function id next) brings) holds
+        runs_leave it.first it.answers s (record { standing = t; held = it.held }) (first FitsEvent fits) it.applies id next in_line (first (Brings function id next) brings) holds
 
     -- what a crash leaves
     pub runs_kept : {S : Type 0} (g : Ghosts S) (events : List (Event H)) → AllByRecursion FitsEvent events → (old new : Stored S) → Endures g (AppliesFirst function options events) old new

@@ -3,4 +3,4 @@ pub use Rattle.durable_schedule.specs.Scheduled.{AppliesWith, IsScheduled}
 pub use Rattle.durable_schedule.specs.declared.scheduler.Scheduler.{Scheduler}
 pub use Rattle.schedule_laws.specs.Laws as laws
 pub use Rattle.schedule_laws.specs.Laws.{LeavesHolds}
-pub use Rattle.schedule_laws.specs.Words.{HoldsOf, IsCovered}
+pub use Rattle.schedule_laws.specs.Words.{HoldsOf, ReplaysInLine}

@@ -19,7 +19,7 @@ use Rattle.journal_store.specs.Stands.{Stands, KeepsAll}
 use Rattle.store_calls.specs.Standing.{Standing}
 use Rattle.schedule_laws.specs.Schedules.scheduled
 use Rattle.schedule_laws.specs.Schedules.{Reply, HeldAttempt, Scheduled, AppliesAll, Brings}
-use Rattle.schedule_laws.specs.Words.{IsCovered, HoldsOf, given_of}
+use Rattle.schedule_laws.specs.Words.{ReplaysInLine, HoldsOf, given_of}
 
 -- ---- its events, one after another
 
@@ -65,7 +65,7 @@ Extends g Relation old new =
 -- holds of what is recorded behind it.
 abbrev pub RunsLeave : {H : Type 0} → (H → Handler) → VMOptions → List (scheduled.Event H) → (Handler → Text → List Event → Type 0) → (before after : List Event) → Type 0
 RunsLeave function options events Left before after =
-    (id : Text) (next : Handler) → IsCovered options → AllByRecursion (Brings function id next) events → HoldsOf next options id before → Left next id after
+    (id : Text) (next : Handler) → ReplaysInLine options → AllByRecursion (Brings function id next) events → HoldsOf next options id before → Left next id after
 
 -- that it is of the run too, with which the next schedule can begin
 abbrev pub HoldsAfter : VMOptions → Handler → Text → List Event → Type 0

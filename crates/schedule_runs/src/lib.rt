@@ -2,11 +2,12 @@
 #![tactic(auto)]
 
 ghost use Rattle.std.specs.Prelude.{◌≡◌, ◌<◌, ◌≤◌, ◌+◌, List, [], ◌∷◌, ◌++◌, IfOk, IfErr, vec_len, vec_capacity};
+ghost use Rattle.std.specs.List.{AllByRecursion};
 ghost use Rattle.sqlite.specs.Held.{state};
 ghost use Rattle.sqlite.specs.State.{HasCleanDisk};
 ghost use Rattle.store_calls.specs.Standing.{Standing};
 ghost use Rattle.journal_store.specs.Stands.{Endures, IsStanding};
-ghost use Rattle.schedule_laws.specs.Schedules.{AppliesAll, Scheduled};
+ghost use Rattle.schedule_laws.specs.Schedules.{AppliesAll, FitsEvent, Scheduled};
 ghost use Rattle.durable_schedule.specs.Scheduled.{IsScheduled};
 ghost use Rattle.schedule_runs.specs.Runs.{AppliesFirst, Extends, HeadlineAfter, HoldsAfter, LeavesMore, NeverLateAfter, RunsLeave, WakesExactlyAfter, at_first};
 
@@ -16,7 +17,7 @@ pub use durable_schedule::{Event, HeldAttempt, Refusal, Reply, Scheduler, Turn};
 use journal_model::Handler;
 use journal_store::Store;
 pub use laws::reopened_stores_hold;
-pub use schedule_laws::{records_of_runs, schedules_keep, schedules_leave};
+pub use schedule_laws::{inputs_are_handed_out, records_of_runs, schedules_keep, schedules_leave};
 use sqlite::Alter;
 use std::alloc::Global;
 use vm_types::VMOptions;
@@ -61,6 +62,8 @@ pub fn run_schedule<H: Handler + Drop, S: Alter + Drop>(
     ensures applies { IfOk result (λ done. HasCleanDisk (state S.Store done.0.store.connection) → (s : Standing) → IsStanding S.Store s store →
         (new : Scheduled H) × IsScheduled S.Store new done.0 × AppliesAll H.next_call options events.items done.1.items (at_first s) new) }
     ensures options { IfOk result (λ done. done.0.options ≡ options) }
+    // What each event brings is within its types, which `schedules_keep` asks of each.
+    ensures fits { IfOk result (λ done. AllByRecursion FitsEvent events.items) }
     // What a crash anywhere in it leaves is what it could leave before, or what the first of the events leave.
     ensures crash { IfOk result (λ done. Endures S.Store (AppliesFirst H.next_call options events.items) store done.0.store) }
     // So all of that holds of what a crash leaves too.

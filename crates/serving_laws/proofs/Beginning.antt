@@ -6,8 +6,7 @@ use Rattle.std.specs.List.{AllByRecursion}
 use Rattle.protocol_stream.specs.Frame.{message_of}
 use Rattle.protocol_types.specs.declared.message_type.MessageType.TheVariants.{Start}
 use Rattle.protocol_types.specs.declared.version.ContentTypeError.{ContentTypeError}
-use Rattle.protocol_types.specs.declared.version.Version.TheVariants.{V1, V2, V3, V4, V5, V6, V7, V8}
-use Rattle.protocol_types.specs.Version.{has_content_type, version_with}
+use Rattle.protocol_types.proofs.Versions.{content_types_read_back}
 use Rattle.journal_model.specs.declared.options.SignalDelivery.{SignalDelivery}
 use Rattle.journal_model.specs.Start.{start_payload_of}
 use Rattle.vm_entries.specs.Starting.{IsFresh}
@@ -20,20 +19,9 @@ use Rattle.serving_laws.specs.Serving.{asking_by_text, kind_where, IsFedBy, Serv
 use Rattle.serving_laws.specs.Keeping.{attempt_started, LacksMemory, BeginsServing}
 use Rattle.serving_laws.specs.Machine.{Written, MachineState, IsFed, IsNew, BeginsAs}
 use Rattle.serving_laws.specs.Reading.{FailsForMemory, raw_of, MessageFits, bytes_of, start_told, CanBegin, IsRunOf, kind_of, HasStarted, HoldsStart, ReadsOn, StartsAreRead}
-use Rattle.serving_laws.specs.Words.{item_at, message, Version, version_content_type, content_type_read, input_bytes, Bytes, Handler, Invocation, InputMessage, CarriesInput, piece_of, AttemptStart, ShowsStart, attempt_begun, VMOptions}
+use Rattle.serving_laws.specs.Words.{item_at, message, Version, version_content_type, input_bytes, Bytes, Handler, Invocation, InputMessage, CarriesInput, piece_of, AttemptStart, ShowsStart, attempt_begun, VMOptions}
 
 -- ---- the version
-
-read_of : (version : Version) → content_type_read (version_content_type version) ≡ Ok version
-unfolding has_content_type version_with
-read_of V1 = refl
-read_of V2 = refl
-read_of V3 = refl
-read_of V4 = refl
-read_of V5 = refl
-read_of V6 = refl
-read_of V7 = refl
-read_of V8 = refl
 
 same_version : (version other : Version) → ◌≡◌ {A = Result Version ContentTypeError} (Ok other) (Ok version) → other ≡ version
 same_version version other e = cc
@@ -41,7 +29,7 @@ same_version version other e = cc
 begins_new : (version : Version) (options : VMOptions) (vm : MachineState) (negotiated : Result Version (NegotiationError Infallible)) → Negotiates (λ error. ⊥) (Some (version_content_type version)) negotiated
     → BeginsAs negotiated options (Ok vm) → IsNew version options vm
 begins_new version options vm (Ok other) negotiates begins =
-    subst (λ (v : Version). IsNew v options vm) (same_version version other (sym negotiates.0 ∙ read_of version)) begins
+    subst (λ (v : Version). IsNew v options vm) (same_version version other (sym negotiates.0 ∙ content_types_read_back version)) begins
 begins_new version options vm (Err refused) negotiates begins = absurd begins
 
 -- ---- the bytes

@@ -8,14 +8,14 @@ use Rattle.machine_laws.specs.Laws.{MachinesStayLive}
 use Rattle.beginning_laws.proofs.Messages.{arrivals_waited_for, arrivals_gathered, all_in_front}
 use Rattle.beginning_laws.proofs.Passed.{stays_active}
 use Rattle.serving_laws.specs.Serving.{asking_by_text, IsFedBy, kind_where, HasNotRead, HasRead, Serves}
-use Rattle.serving_laws.specs.Keeping.{IsLiveAt, StaysServing, ReadsOn, LacksMemory, WritesNothing, FeedsServing}
+use Rattle.serving_laws.specs.Keeping.{IsLiveAt, StaysServing, ServesOn, LacksMemory, WritesNothing, FeedsServing}
 use Rattle.serving_laws.proofs.Beginning.{bytes_append, feeds_new}
 use Rattle.serving_laws.proofs.Driven.{messages_number}
 use Rattle.serving_laws.proofs.Messages.{messages_append, messages_childless, unread_arrive, unread_fit, journal_more, fed_same, fed_more}
 use Rattle.serving_laws.proofs.Over.{waits_same}
 use Rattle.serving_laws.specs.Attempts.{Attempt}
 use Rattle.serving_laws.specs.Machine.{Sees, Written, Phase, MachineState, has_failed, IsFed, IsDriven}
-use Rattle.serving_laws.specs.Reading.{bytes_of, IsFedEach, AreWaitedFor, phase_behind, TakesFirst, InputsAreKept, FailsForMemory, IsInputOf, start_told, Kind, kind_of, ReadsOn as MachineReadsOn, JournalsAreRead, IsArrival}
+use Rattle.serving_laws.specs.Reading.{bytes_of, IsFedEach, AreWaitedFor, phase_behind, TakesFirst, InputsAreKept, FailsForMemory, IsInputOf, start_told, Kind, kind_of, ReadsOn, JournalsAreRead, IsArrival}
 use Rattle.serving_laws.specs.Words.{item_at, version_number, Version, AwaitTree, NotificationId, input_bytes, input_left, ends_awaits, IsAccepted, Event, answers_of, Bytes, Text, Arrival, Handler, Invocation, Progress, Ending, GoesOn, Waits, run, InputMessage, piece_of, arrivals_carried, Machine, machine_at_start, with_messages, IsMachineAt, LiveAttempt, handed_bytes, after_reading, untracked, childless, is_cancellation, id_of, run_options, VMOptions}
 
 -- a run that goes on does not wait
@@ -32,7 +32,7 @@ module _ {H : Type 0} (function : H → Handler) (next : Handler) (version : Ver
     (before after : Attempt H) (accepted : IsAccepted events) (l : IsLiveAt function next version options id events (handed_bytes live bytes)) (s : Serves function next version options live is_closed before)
     (does : IsFed bytes before.vm.state after.vm.state × (after ≡ record before { vm = after.vm })) where
   abbrev Outcome : Type 0
-  Outcome = WritesNothing before after × (ReadsOn function next version options id events live is_closed bytes after ⊎ LacksMemory after)
+  Outcome = WritesNothing before after × (ServesOn function next version options id events live is_closed bytes after ⊎ LacksMemory after)
 
   same_output : after.vm.state.active.output.bytes ≡ before.vm.state.active.output.bytes → WritesNothing before after
   same_output same = waits_same before after does.1 same
@@ -70,7 +70,7 @@ module _ {H : Type 0} (function : H → Handler) (next : Handler) (version : Ver
     reads_on : kind_of after.vm.state ≡ kind_where version options is_closed → item_at after.vm.state.decoder ≡ None
         → HasNotRead function next version options (after_reading (handed_bytes live bytes) some still after.vm.state.decoder) is_closed after
         ⊎ HasRead function next version options (after_reading (handed_bytes live bytes) some still after.vm.state.decoder) after
-        → ReadsOn function next version options id events live is_closed bytes after
+        → ServesOn function next version options id events live is_closed bytes after
     reads_on kind whole stands = record {
       some = some;
       still = still;
@@ -99,7 +99,7 @@ module _ {H : Type 0} (function : H → Handler) (next : Handler) (version : Ver
       go (journals live.start (start_told live.start n.shows) (kind_where version options is_closed) live.read live.unread (bytes ∷ []) (input_left events id) before.vm.state after.vm.state
       s.fed.input n.started s.whole all_bytes fed)
     where
-      go : MachineReadsOn live.start (start_told live.start n.shows) (kind_where version options is_closed) live.read live.unread (input_left events id) after.vm.state
+      go : ReadsOn live.start (start_told live.start n.shows) (kind_where version options is_closed) live.read live.unread (input_left events id) after.vm.state
           ⊎ FailsForMemory before.vm.state after.vm.state → Outcome
       go (inr failed) = lacks failed
       go (inl on) = (

@@ -63,7 +63,7 @@ module _ {H : Type 0} (function : H → Handler) (next : Handler) (version : Ver
   -- ---- its input
 
   -- it has read messages of which it holds all bytes, and is live with those
-  pub record ReadsOn (id : Text) (events : List Event) (live : LiveAttempt) (is_closed : Bool) (bytes : Bytes) (after : Attempt H) : Type 0 where
+  pub record ServesOn (id : Text) (events : List Event) (live : LiveAttempt) (is_closed : Bool) (bytes : Bytes) (after : Attempt H) : Type 0 where
     pub some : List InputMessage
     pub still : List InputMessage
     pub kept : Bytes
@@ -73,7 +73,7 @@ module _ {H : Type 0} (function : H → Handler) (next : Handler) (version : Ver
   abbrev pub FeedsServing : Type 0
   FeedsServing = (id : Text) (events : List Event) (live : LiveAttempt) (is_closed : Bool) (bytes : Bytes) (before after : Attempt H) → IsAccepted events → IsLiveAt id events (handed_bytes live bytes)
       → Serves function next version options live is_closed before → Feeds bytes before after
-      → WritesNothing before after × (ReadsOn id events live is_closed bytes after ⊎ LacksMemory after)
+      → WritesNothing before after × (ServesOn id events live is_closed bytes after ⊎ LacksMemory after)
 
   -- it goes on with its journal read
   pub record StaysClosed (live : LiveAttempt) (before after : Attempt H) : Type 0 where

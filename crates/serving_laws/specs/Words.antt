@@ -27,7 +27,7 @@ pub use Rattle.position_laws.specs.Beginning.{AttemptStart, ShowsStart}
 pub use Rattle.position_laws.specs.Reading.{entries_carried, with_messages, IsMachineAt, IsInRun}
 pub use Rattle.protocol_errors.specs.declared.error.Error.{Error}
 pub use Rattle.protocol_stream.specs.Item.{item_at, message}
-pub use Rattle.protocol_types.specs.Version.{version_content_type, content_type_read, version_number}
+pub use Rattle.protocol_types.specs.Version.{version_content_type, version_number}
 pub use Rattle.protocol_types.specs.declared.version.Version.{Version}
 pub use Rattle.protocol_wire.specs.declared.record.TheConstants.{LEVELS}
 pub use Rattle.turn_laws.specs.Sending.{requests_sent, FollowsSo}

@@ -7,6 +7,7 @@ use Rattle.sqlite.specs.Kind.{Kind}
 use Rattle.sqlite.specs.Schema.{Schema}
 use Rattle.sqlite.specs.Table.{Table}
 use Rattle.sqlite_schema.specs.declared.schema.Column.{Column}
+use Rattle.sqlite_schema.specs.declared.schema.Index.{Index}
 use Rattle.sqlite_value.specs.declared.keys.Order.{Order}
 use Rattle.sqlite_value.specs.Keys.{plain}
 use Rattle.sql_tables.specs.declared.layout.Wanted.{Wanted}
@@ -48,6 +49,10 @@ plain_orders (key ∷ keys) = plain ∷ plain_orders keys
 -- a table with these keys
 abbrev pub table_of : ℕ → List ℕ → List Column → List (List ℕ) → Table
 table_of tree name columns uniques = table_at tree name columns uniques (plain_orders uniques)
+
+-- an index by which rows are only looked up: no row is tested by it
+abbrev pub plain_index : List ℕ → ℕ → ℕ → List ℕ → Index
+plain_index name tree table columns = record { name = name; tree = tree; table = table; columns = columns; order = plain; is_unique = false }
 
 abbrev pub no_schema : Schema
 no_schema = record { tables = []; indexes = []; views = [] }

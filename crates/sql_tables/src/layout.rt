@@ -107,17 +107,24 @@ pub fn is_table(table: &Table, tree: u32, name: &str, wanted: &[Wanted], keys: &
         && !table.is_counted
 }
 
-/// Whether an index is the one of a key of that table.
-pub fn is_index(index: &Index, name: &str, tree: u32, table: u32, columns: &[usize]) -> bool
-    ensures exact { IsTrue result → index.now ≡ record { name = name.now; tree = tree; table = table; columns = columns.now; order = plain; is_unique = true } }
-    ensures complete { index.now ≡ record { name = name.now; tree = tree; table = table; columns = columns.now; order = plain; is_unique = true } → IsTrue result }
+/// Whether an index is the one wanted of these columns of that table: a key's, or one by which rows are only looked up.
+pub fn is_index(
+    index: &Index,
+    name: &str,
+    tree: u32,
+    table: u32,
+    columns: &[usize],
+    is_unique: bool,
+) -> bool
+    ensures exact { IsTrue result → index.now ≡ record { name = name.now; tree = tree; table = table; columns = columns.now; order = plain; is_unique = is_unique } }
+    ensures complete { index.now ≡ record { name = name.now; tree = tree; table = table; columns = columns.now; order = plain; is_unique = is_unique } → IsTrue result }
 {
     index.tree == tree
         && index.table == table
         && index.name.as_slice() == name.as_bytes()
         && index.columns.as_slice() == columns
         && index.order.digits == 0
-        && index.is_unique
+        && index.is_unique == is_unique
 }
 
 /// A column that is never null.

@@ -1,5 +1,5 @@
 -- What is kept of a message says which frame it is.
-use Rattle.std.proofs.Common.{◌≡◌, ℕ, nat_lt, ◌==◌, Bool, true, false, List, Option, Some, None, Result, Ok, Err, refl, sym, ap, subst, ◌∙◌}
+use Rattle.std.proofs.Common.{◌≡◌, ℕ, ◌==◌, Bool, true, false, List, Option, Some, None, Result, Ok, Err, refl, sym, ap, subst, ◌∙◌}
 use Rattle.std.specs.Prelude.{if◌then◌else◌, IfOk}
 use Rattle.protocol_table.specs.declared.table.RecordType.{RecordType}
 use Rattle.protocol_table.specs.declared.table.RecordType.TheVariants as records
@@ -23,6 +23,8 @@ use Rattle.protocol_calls.specs.declared.call_command.CallCommandMessage.{CallCo
 use Rattle.protocol_controls.specs.Error.{error_of}
 use Rattle.protocol_controls.specs.declared.error.ErrorMessage.{ErrorMessage}
 use Rattle.protocol_types.specs.declared.message_type.MessageType.{MessageType}
+use Rattle.protocol_types.specs.declared.feature.Feature.TheVariants as features
+use Rattle.protocol_types.specs.Feature.{lacks_feature}
 use Rattle.protocol_stream.specs.declared.decoder.RawMessage.{RawMessage}
 use Rattle.protocol_stream.specs.Header.{message_type}
 use Rattle.protocol_stream.proofs.RecordSpellings.{sleeps_spelled}
@@ -69,7 +71,7 @@ behavior_by true number = refl
 behavior_by false number = named_by (number == 1) (number == 2)
 
 error_is : (version : ℕ) (one : ErrorMessage) → IsFrame (error_frame version one) (told_error version one)
-error_is version one = record { code_is = refl; message_is = refl; behavior_is = behavior_by (nat_lt version 7) one.behavior; delay_is = refl }
+error_is version one = record { code_is = refl; message_is = refl; behavior_is = behavior_by (lacks_feature version features.ErrorBehavior) one.behavior; delay_is = refl }
 
 -- ---- payloads
 
@@ -101,7 +103,7 @@ told_is version kinds.Output ty payload =
     read_is records.OutputCommand payload (λ fs. command_or_broken (request_of_output (output_command_of LEVELS fs))) (λ fs. told_output (output_command_of LEVELS fs))
     (λ fs. output_is (output_command_of LEVELS fs).name (output_command_of LEVELS fs).result)
 told_is version kinds.AwaitingOn ty payload = read_is records.AwaitingOn payload (λ fs. Frame.AwaitingOn) (λ fs. answers.AwaitingOn) (λ fs. tt)
-told_is version kinds.Suspension ty payload = suspension_is (nat_lt version 7) payload
+told_is version kinds.Suspension ty payload = suspension_is (lacks_feature version features.AwaitTree) payload
 told_is version kinds.Error ty payload =
     read_is records.Error payload (λ fs. error_frame version (error_of LEVELS fs)) (λ fs. told_error version (error_of LEVELS fs)) (λ fs. error_is version (error_of LEVELS fs))
 told_is version kinds.End ty payload = read_is records.End payload (λ fs. Frame.End) (λ fs. answers.End) (λ fs. tt)

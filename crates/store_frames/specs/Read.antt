@@ -6,11 +6,11 @@ use Rattle.protocol_stream.specs.declared.decoder.RawMessage.{RawMessage}
 use Rattle.store_frames.specs.Meaning.{frame_of}
 
 -- the frame of a message from an attempt of some version
-abbrev pub IsRead : Frame → Type 0
-IsRead frame = (version : ℕ) × (m : RawMessage) × (frame ≡ frame_of version m)
+abbrev pub IsFrameRead : Frame → Type 0
+IsFrameRead frame = (version : ℕ) × (m : RawMessage) × (frame ≡ frame_of version m)
 
 abbrev pub IsReadIn : Event → Type 0
-IsReadIn (Event.Take id attempt frame) = IsRead frame
+IsReadIn (Event.Take id attempt frame) = IsFrameRead frame
 IsReadIn _ = Unit {0}
 
 -- each frame that was taken is that of a message

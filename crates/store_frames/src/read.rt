@@ -18,7 +18,7 @@ use protocol_records::{
     OutputCommandMessage, SleepCommandMessage, SuspensionMessage, SuspensionMessageV6,
 };
 use protocol_stream::{Feature, MessageHeader, MessageType, RawMessage};
-use protocol_wire::{DecodeError, Fault, LEVELS, RecordType, decode, fault_of};
+use protocol_wire::{DecodeError, Fault, LEVELS, Payload, RecordType, decode, fault_in};
 use std::alloc::{AllocError, Global};
 
 fn faulty(fault: Fault) -> AttemptFrame
@@ -34,7 +34,7 @@ fn faulty(fault: Fault) -> AttemptFrame
 fn unless_faulty(of: RecordType, payload: &[u8], frame: AttemptFrame) -> AttemptFrame
     ensures { result ≡ told_unless_faulty (payload_fault the_levels of payload.now) frame }
 {
-    match fault_of(of, payload, LEVELS) {
+    match fault_in(of, &Payload::new(payload), LEVELS) {
         None => frame,
         Some(fault) => {
             drop(frame);

@@ -1,5 +1,5 @@
 -- The frames of an attempt's input and their places, one by one.
-use Rattle.std.proofs.Common.{ℕ, suc, ◌+◌, nat_le, ◌≡◌, refl, sym, ap, ap₂, ◌∙◌, Bool, true, false, ◌||◌, ◌&&◌, if◌then◌else◌, List, [], ◌∷◌, ◌++◌, length, length-append, map, Option, Some, None, bytes_eq}
+use Rattle.std.proofs.Common.{ℕ, suc, ◌+◌, ◌≡◌, refl, sym, ap, ap₂, ◌∙◌, Bool, true, false, ◌||◌, ◌&&◌, if◌then◌else◌, List, [], ◌∷◌, ◌++◌, length, length-append, map, Option, Some, None, bytes_eq}
 use Rattle.journal_model.specs.Notification.{Text, Arrival}
 use Rattle.journal_model.specs.Value.{result_of_value}
 use Rattle.journal_model.specs.State.{StateMap}
@@ -7,6 +7,8 @@ use Rattle.journal_model.specs.declared.invocation.NewInvocation.{NewInvocation}
 use Rattle.journal_model.specs.Event.{Frame, Event}
 use Rattle.journal_model.specs.Journal.{Entry, Recorded, Arrived, completion, invocation_begun, version_of, starting_state, arrivals_in, entries_from, entries_added, entries_after}
 use Rattle.journal_model.specs.Attempt.{begins_attempt, entry_piece, arrival_piece, journal_pieces, later_pieces, event_pieces, input_from, input_pieces}
+use Rattle.protocol_types.specs.declared.feature.Feature.TheVariants.{Acknowledgement}
+use Rattle.protocol_types.specs.Feature.{has_feature}
 use Rattle.store_model.specs.Places.{places_of, places_of_arrivals, journal_places, places_from, input_places}
 
 -- ---- each frame has its place
@@ -20,7 +22,7 @@ event_count : (start : StateMap) (earlier : List Event) (id : Text) (event : Eve
     → length (event_pieces start earlier id event entries) ≡ length (places_of_arrivals (1 + length entries) (entries_added start earlier id event entries))
 event_count start earlier id (Event.Take other attempt (Frame.RunOutcome n value true)) entries =
     by_tests (entries_after start earlier id (Event.Take other attempt (Frame.RunOutcome n value true)) entries) (1 + length entries) (completion n (result_of_value value))
-    (nat_le 7 (version_of earlier id)) (bytes_eq other id)
+    (has_feature (version_of earlier id) Acknowledgement) (bytes_eq other id)
   where
     by_tests : (all : List Entry) (place : ℕ) (arrival : Arrival) (a b : Bool)
         → length (later_pieces all (if a && b then Some n else None) (arrivals_in (if b || false then Arrived arrival ∷ [] else [])))

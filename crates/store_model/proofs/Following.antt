@@ -1,5 +1,5 @@
 -- What an event makes of how far its invocation is.
-use Rattle.std.proofs.Common.{ℕ, suc, ◌+◌, max, zero-add, arith, ◌==◌, nat_le, ◌≡◌, refl, sym, ap, subst, ◌∙◌, inr, Bool, true, false, ◌&&◌, not, if◌then◌else◌, List, [], ◌∷◌, ◌++◌, append-nil, length, length-append, map, filter, filter_map, Option, Some, None, is_some, option_map, bytes_eq}
+use Rattle.std.proofs.Common.{ℕ, suc, ◌+◌, max, zero-add, arith, ◌==◌, ◌≡◌, refl, sym, ap, subst, ◌∙◌, inr, Bool, true, false, ◌&&◌, not, if◌then◌else◌, List, [], ◌∷◌, ◌++◌, append-nil, length, length-append, map, filter, filter_map, Option, Some, None, is_some, option_map, bytes_eq}
 use Rattle.std.specs.List.{cons_option}
 use Rattle.std.proofs.lemmas.List.Elements.{filter_map-append}
 use Rattle.std.proofs.lemmas.Bool.{ne_eqb}
@@ -16,6 +16,8 @@ use Rattle.journal_model.specs.Attempt.{attempts_begun, or_before, suspension_of
 use Rattle.journal_model.specs.Start.{is_some_entry, moment_begun, begun_since_entry, attempts_since_entry}
 use Rattle.journal_model.specs.Cause.{is_empty, greatest, last_completion}
 use Rattle.journal_laws.proofs.ObjectState.{begun_before, requests_in-append}
+use Rattle.protocol_types.specs.declared.feature.Feature.TheVariants as features
+use Rattle.protocol_types.specs.Feature.{has_feature}
 use Rattle.store_tables.specs.declared.row.Closing.{Closing}
 use Rattle.store_tables.specs.declared.row.LastError.{LastError}
 use Rattle.store_tables.specs.declared.row.Progress.{Progress}
@@ -237,7 +239,7 @@ suspended_here events id None = ap (λ (o : Option Suspension). option_map paylo
 suspended_here events id (Some suspension) =
     ap (λ (b : Bool). option_map payload_of_suspension (or_before (if b then Some suspension else None) (suspension_of events id))) (itself id)
 
-follows_failure : (events : List Event) (id : Text) (attempt code : ℕ) (message : Text) (delay : Option ℕ) (b : Bool) → nat_le 7 (version_of events id) ≡ b
+follows_failure : (events : List Event) (id : Text) (attempt code : ℕ) (message : Text) (delay : Option ℕ) (b : Bool) → has_feature (version_of events id) features.ErrorBehavior ≡ b
     → progress_of (Event.Take id attempt (Frame.Error code message Fail delay) ∷ events) id
     ≡ record (progress_of events id) {
       last_error = Some (record { code = code; behavior = 2; delay = delay; message = message });
@@ -251,13 +253,13 @@ follows_failure events id attempt code message delay b e =
     (option_map payload_of_suspension (suspension_of events id)) (handed_of events id) refl (object b e) (closing b e) refl refl
     (handed_here events id attempt None)
   where
-    object : (b : Bool) → nat_le 7 (version_of events id) ≡ b
+    object : (b : Bool) → has_feature (version_of events id) features.ErrorBehavior ≡ b
         → object_if (invocation_begun events id) (Frame.Error code message Fail delay ∷ frames_of events id)
         ≡ (if b then None else object_if (invocation_begun events id) (frames_of events id))
     object true e = rw e (and_false (is_some (invocation_begun events id)) (option_map (λ (new : NewInvocation). new.object) (invocation_begun events id)))
     object false e = rw e refl
 
-    closing : (b : Bool) → nat_le 7 (version_of events id) ≡ b
+    closing : (b : Bool) → has_feature (version_of events id) features.ErrorBehavior ≡ b
         → way (invocation_begun events id) (Frame.Error code message Fail delay ∷ frames_of events id)
         ≡ (if b then Some Failed else way (invocation_begun events id) (frames_of events id))
     closing true e = rw e refl
@@ -281,7 +283,7 @@ follows_frame events id attempt Frame.End =
     follows_end events id attempt Frame.End None (Some Ended) (error_of (frames_of events id)) (option_map payload_of_suspension (suspension_of events id)) (Some (handed_place events id))
     refl (and_false (is_some (invocation_begun events id)) (option_map (λ (new : NewInvocation). new.object) (invocation_begun events id))) refl refl refl
     (handed_here events id attempt (Some (handed_place events id)))
-follows_frame events id attempt (Frame.Error code message Fail delay) = follows_failure events id attempt code message delay (nat_le 7 (version_of events id)) refl
+follows_frame events id attempt (Frame.Error code message Fail delay) = follows_failure events id attempt code message delay (has_feature (version_of events id) features.ErrorBehavior) refl
 follows_frame events id attempt (Frame.Error code message Retry delay) =
     follows_end events id attempt (Frame.Error code message Retry delay) (object_if (invocation_begun events id) (frames_of events id)) (way (invocation_begun events id) (frames_of events id))
     (Some (record { code = code; behavior = 0; delay = delay; message = message })) (option_map payload_of_suspension (suspension_of events id)) (handed_of events id)

@@ -18,7 +18,7 @@ use Rattle.protocol_wire.specs.Decodes.{IsRead}
 use Rattle.protocol_records.specs.declared.output_command.OutputCommandMessage.{OutputCommandMessage}
 use Rattle.protocol_records.specs.declared.output_command.OutputCommandResult.{OutputCommandResult}
 use Rattle.protocol_records.specs.OutputCommand.{OutputCommandFits, output_command_of, output_command_parts}
-use Rattle.protocol_records.specs.ReadBackOutput.{output_command_reads}
+use Rattle.protocol_records.specs.ReadBack.{output_command_reads}
 use Rattle.protocol_stream.specs.Records.{output_record, pair_record, pair_told, result_record, result_told}
 use Rattle.protocol_stream.proofs.RecordSpellings.{outputs_spelled}
 use Rattle.store_tables.specs.declared.row.LastError.{LastError}

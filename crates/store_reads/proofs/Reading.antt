@@ -1,5 +1,5 @@
 -- An output that was read of a message is one that a message can hold.
-use Rattle.std.proofs.Common.{◌≡◌, refl, sym, ap, subst, ◌∙◌, ℕ, nat_lt, Bool, true, false, List, Option, Some, None, option_map}
+use Rattle.std.proofs.Common.{◌≡◌, refl, sym, ap, subst, ◌∙◌, ℕ, Bool, true, false, List, Option, Some, None, option_map}
 use Rattle.journal_model.specs.Notification.{Text}
 use Rattle.journal_model.specs.declared.value.NonEmptyValue.{NonEmptyValue}
 use Rattle.journal_model.specs.Request.{Request}
@@ -22,6 +22,8 @@ use Rattle.protocol_controls.specs.Error.{error_of}
 use Rattle.protocol_stream.specs.Header.{message_type}
 use Rattle.protocol_stream.specs.Records.{output_record}
 use Rattle.protocol_types.specs.declared.message_type.MessageType.{MessageType}
+use Rattle.protocol_types.specs.declared.feature.Feature.TheVariants as features
+use Rattle.protocol_types.specs.Feature.{lacks_feature}
 use Rattle.store_frames.specs.declared.kind.FrameKind.{FrameKind}
 use Rattle.store_frames.specs.declared.kind.FrameKind.TheVariants as kinds
 use Rattle.store_frames.specs.Kind.{kind_of, record_of}
@@ -29,7 +31,7 @@ use Rattle.store_frames.specs.Meaning.{command_or_broken, error_frame, frame_by,
 use Rattle.protocol_spellings.specs.Requests.{request_of_call, request_of_output, request_of_sleep, value_put_out}
 use Rattle.protocol_spellings.proofs.Back.{result_back}
 use Rattle.store_frames.specs.Requests.{suspension_of_lists, suspension_of_tree}
-use Rattle.store_frames.specs.Read.{IsRead}
+use Rattle.store_frames.specs.Read.{IsFrameRead}
 use Rattle.protocol_laws.specs.Fits.{output_command_fits}
 
 -- an output that a message can hold: its texts are UTF-8, and a code has at most 32 bits
@@ -82,12 +84,12 @@ module _ (value : NonEmptyValue) (name : Text) where
       let it = no_fault (payload_fault LEVELS records.OutputCommand payload) (command_or_broken (request_of_output one)) e in
       held_output one one.result value name (output_command_fits LEVELS payload it.0) refl it.1
   held_by version kinds.AwaitingOn ty payload e = absurd (never records.AwaitingOn payload Frame.AwaitingOn (λ is. cc) e)
-  held_by version kinds.Suspension ty payload e = absurd (no_suspension (nat_lt version 7) payload e)
+  held_by version kinds.Suspension ty payload e = absurd (no_suspension (lacks_feature version features.AwaitTree) payload e)
   held_by version kinds.Error ty payload e = absurd (never records.Error payload (error_frame version (error_of LEVELS (fields payload))) (λ is. cc) e)
   held_by version kinds.End ty payload e = absurd (never records.End payload Frame.End (λ is. cc) e)
   held_by version kinds.Other ty payload e = absurd (no_other (record_of ty) payload e)
 
-pub request_held : (request : Request) → IsRead (Frame.Command request) → IsHeld request
+pub request_held : (request : Request) → IsFrameRead (Frame.Command request) → IsHeld request
 request_held (Request.Output value name) (version, m, e) =
     held_by value name version (kind_of (message_type m.header)) (message_type m.header) m.payload (sym e)
 request_held _ read = tt

@@ -24,7 +24,8 @@ use Rattle.store_lookups.specs.Lookups.{due_sleeps, ended_sleeps}
 use Rattle.store_lookups.proofs.Asking.{ascends}
 use Rattle.store_lookups.proofs.DueSleeps.{all_sorted, ended_found, sleep_cmp_total}
 use Rattle.store_lookups.proofs.Opening.{any-filter, is_some_of}
-use Rattle.store_lookups.proofs.OpenSleeps.{all_alone, asked_asleep, is_sleep}
+use Rattle.store_lookups.proofs.AwaitedSleeps.{asked_asleep, is_sleep}
+use Rattle.store_lookups.proofs.OpenSleeps.{all_alone}
 use Rattle.store_lookups.proofs.Sleeping.{answer_of_sleep, ends_at}
 use Rattle.store_lookups.proofs.Sorting.{sorted_rises}
 use Rattle.store_sleeps.specs.Groups.{AllEndingGrouped, AllRowsEnded, Group, group_of, those_ended}

@@ -1,5 +1,5 @@
 -- Requests that leave the state as it is, and that messages are read as no others.
-use Rattle.std.proofs.Common.{◌≡◌, refl, ap, ℕ, Bool, true, false, nat_lt, List, [], ◌∷◌, ◌++◌, Option, Some, None}
+use Rattle.std.proofs.Common.{◌≡◌, refl, ap, ℕ, Bool, true, false, List, [], ◌∷◌, ◌++◌, Option, Some, None}
 use Rattle.protocol_table.specs.declared.table.RecordType.{RecordType}
 use Rattle.protocol_table.specs.declared.table.RecordType.TheVariants as records
 use Rattle.protocol_wire.specs.Wire.{Field}
@@ -22,6 +22,8 @@ use Rattle.protocol_records.specs.SuspensionV6.{suspension_v6_of}
 use Rattle.protocol_calls.specs.Fields.{call_command_of}
 use Rattle.protocol_controls.specs.Error.{error_of}
 use Rattle.protocol_types.specs.declared.message_type.MessageType.{MessageType}
+use Rattle.protocol_types.specs.declared.feature.Feature.TheVariants as features
+use Rattle.protocol_types.specs.Feature.{lacks_feature}
 use Rattle.protocol_stream.specs.Header.{message_type}
 use Rattle.store_frames.specs.declared.kind.FrameKind.{FrameKind}
 use Rattle.store_frames.specs.declared.kind.FrameKind.TheVariants as kinds
@@ -101,7 +103,7 @@ leaves version kinds.Output ty payload =
     read_leaves records.OutputCommand payload (λ fs. command_or_broken (request_of_output (output_command_of LEVELS fs)))
     (λ fs. output_leaves (output_command_of LEVELS fs).name (output_command_of LEVELS fs).result)
 leaves version kinds.AwaitingOn ty payload = read_leaves records.AwaitingOn payload (λ fs. Frame.AwaitingOn) (λ fs. tt)
-leaves version kinds.Suspension ty payload = suspension_leaves (nat_lt version 7) payload
+leaves version kinds.Suspension ty payload = suspension_leaves (lacks_feature version features.AwaitTree) payload
 leaves version kinds.Error ty payload = read_leaves records.Error payload (λ fs. error_frame version (error_of LEVELS fs)) (λ fs. tt)
 leaves version kinds.End ty payload = read_leaves records.End payload (λ fs. Frame.End) (λ fs. tt)
 leaves version kinds.Other ty payload = other_leaves (record_of ty) payload

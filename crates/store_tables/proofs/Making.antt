@@ -1,19 +1,27 @@
 -- What the tables' texts make, and the row that marks them.
-use Rattle.std.proofs.Common.{◌≡◌, pos, List, [], ◌∷◌, refl, ◌∙◌, arith, codes}
+use Rattle.std.proofs.Common.{◌≡◌, ◌++◌, pos, ℕ, List, [], ◌∷◌, refl, ◌∙◌, arith, codes}
+use Rattle.std.specs.List.{AllByRecursion}
 use Rattle.sqlite.specs.declared.types.Value.TheVariants.{Null, Int, Text}
 use Rattle.sqlite.specs.Term.{Term, lit}
 use Rattle.sqlite.specs.Cast.{cast_all}
+use Rattle.sqlite.specs.Schema.{Schema}
 use Rattle.sqlite.specs.State.{State}
+use Rattle.sqlite.specs.Table.{Table}
+use Rattle.sqlite_catalog.specs.Change.{KeepsRows, created, indexed, next_tree}
+use Rattle.sqlite_schema.specs.declared.schema.Index.{Index}
+use Rattle.sqlite_trees.specs.Tree.{Trees}
 use Rattle.sql_tables.specs.Asking.{HasRun}
 use Rattle.sqlite.specs.Listing.{understood}
 use Rattle.sqlite_tied.specs.Compute.{everything}
 use Rattle.sql_tables.specs.Columns.{no_schema}
-use Rattle.sql_tables.proofs.Making.{IsMaking, table_made, has_none}
+use Rattle.sql_tables.proofs.Making.{IsIndexing, IsMaking, index_made, table_made, has_none}
 use Rattle.sql_tables.proofs.Writes.{cast_int}
-use Rattle.store_tables.specs.Tables.{meta, invocation, entry, state_table, meta_columns, with_meta, with_invocation, with_entry, with_state, store_schema, sleep_table, meta_text, invocation_text, entry_text, state_text, sleep_text}
+use Rattle.store_tables.specs.Tables.{meta, invocation, entry, state_table, sleep_table, meta_columns, by_open_object, by_completion, by_second_completion, by_answered, by_moment}
+use Rattle.store_tables.specs.Tables.{with_meta, with_invocation, with_open_object, with_entry, with_completion, with_second_completion, with_answered, with_state, with_sleep, store_schema}
+use Rattle.store_tables.specs.Tables.{meta_text, invocation_text, by_open_object_text, entry_text, by_completion_text, by_second_completion_text, by_answered_text, state_text, sleep_text, by_moment_text}
 use Rattle.store_tables.specs.Statements.{mark_text}
 use Rattle.store_tables.specs.Records.{Holds, mark_cells, no_records}
-use Rattle.store_tables.specs.Steps.{AreBare}
+use Rattle.store_tables.specs.Steps.{IsMade}
 use Rattle.store_tables.proofs.Moves.{IsInsert, inserted}
 
 makes_meta : IsMaking no_schema meta_text (record meta { tree = 0 })
@@ -24,11 +32,27 @@ makes_invocation : IsMaking with_meta invocation_text (record invocation { tree 
 unfolding understood everything
 makes_invocation = record { command = refl; text = refl; plain = (refl, refl); defined = refl; uncounted = refl }
 
-makes_entry : IsMaking with_invocation entry_text (record entry { tree = 0 })
+makes_by_open_object : IsIndexing with_invocation by_open_object_text 1 invocation by_open_object
+unfolding understood everything
+makes_by_open_object = record { command = refl; text = refl; plain = (refl, refl); found = refl; defined = refl }
+
+makes_entry : IsMaking with_open_object entry_text (record entry { tree = 0 })
 unfolding understood everything
 makes_entry = record { command = refl; text = refl; plain = (refl, refl); defined = refl; uncounted = refl }
 
-makes_state : IsMaking with_entry state_text (record state_table { tree = 0 })
+makes_by_completion : IsIndexing with_entry by_completion_text 2 entry by_completion
+unfolding understood everything
+makes_by_completion = record { command = refl; text = refl; plain = (refl, refl); found = refl; defined = refl }
+
+makes_by_second_completion : IsIndexing with_completion by_second_completion_text 2 entry by_second_completion
+unfolding understood everything
+makes_by_second_completion = record { command = refl; text = refl; plain = (refl, refl); found = refl; defined = refl }
+
+makes_by_answered : IsIndexing with_second_completion by_answered_text 2 entry by_answered
+unfolding understood everything
+makes_by_answered = record { command = refl; text = refl; plain = (refl, refl); found = refl; defined = refl }
+
+makes_state : IsMaking with_answered state_text (record state_table { tree = 0 })
 unfolding understood everything
 makes_state = record { command = refl; text = refl; plain = (refl, refl); defined = refl; uncounted = refl }
 
@@ -36,24 +60,60 @@ makes_sleep : IsMaking with_state sleep_text (record sleep_table { tree = 0 })
 unfolding understood everything
 makes_sleep = record { command = refl; text = refl; plain = (refl, refl); defined = refl; uncounted = refl }
 
--- the five in turn
-pub all_made : (a b c d e f : State) → a.now.schema ≡ no_schema → HasRun meta_text [] a b → HasRun invocation_text [] b c → HasRun entry_text [] c d → HasRun state_text [] d e → HasRun sleep_text [] e f
-    → (f.now.schema ≡ store_schema) × AreBare f.now.trees
-all_made a b c d e f has p q r s t =
-    let first = table_made no_schema meta_text (record meta { tree = 0 }) makes_meta a b p.count has p.ran in
-    let second = table_made with_meta invocation_text (record invocation { tree = 0 }) makes_invocation b c q.count first.0 q.ran in
-    let third = table_made with_invocation entry_text (record entry { tree = 0 }) makes_entry c d r.count second.0 r.ran in
-    let fourth = table_made with_entry state_text (record state_table { tree = 0 }) makes_state d e s.count third.0 s.ran in
-    let fifth = table_made with_state sleep_text (record sleep_table { tree = 0 }) makes_sleep e f t.count fourth.0 t.ran in (
-      fifth.0,
-      record {
-        meta = fifth.2.0 ∙ fourth.2.0 ∙ third.2.0 ∙ second.2.0 ∙ first.1;
-        invocations = fifth.2.1.0 ∙ fourth.2.1.0 ∙ third.2.1.0 ∙ second.1;
-        entries = fifth.2.1.1.0 ∙ fourth.2.1.1.0 ∙ third.1;
-        states = fifth.2.1.1.1.0 ∙ fourth.1;
-        sleeps = fifth.1;
-      },
-    )
+makes_by_moment : IsIndexing with_sleep by_moment_text 4 sleep_table by_moment
+unfolding understood everything
+makes_by_moment = record { command = refl; text = refl; plain = (refl, refl); found = refl; defined = refl }
+
+-- tables that were bare are so still
+still_bare : (tables : List Table) (old new : Trees) → KeepsRows tables old new → AllByRecursion (λ t. old t.tree ≡ []) tables → AllByRecursion (λ t. new t.tree ≡ []) tables
+still_bare [] old new kept bare = tt
+still_bare (t ∷ tables) old new kept bare = (kept.0 ∙ bare.0, still_bare tables old new kept.1 bare.1)
+
+one_more : (tables : List Table) (db : Trees) (table : Table) → AllByRecursion (λ t. db t.tree ≡ []) tables → db table.tree ≡ [] → AllByRecursion (λ t. db t.tree ≡ []) (tables ++ table ∷ [])
+one_more [] db table bare it = (it, tt)
+one_more (t ∷ tables) db table bare it = (bare.0, one_more tables db table bare.1 it)
+
+abbrev AreBare : Schema → State → Type 0
+AreBare schema s = AllByRecursion (λ t. s.now.trees t.tree ≡ []) schema.tables
+
+-- one table more
+with_table : (schema : Schema) (sql : List ℕ) (table : Table) → IsMaking schema sql table → (old new : State) → old.now.schema ≡ schema → AreBare schema old → HasRun sql [] old new → IsMade (created schema table) new
+with_table schema sql table it old new has bare run =
+    let made = table_made schema sql table it old new run.count has run.ran in
+    record {
+      schema = made.0;
+      inside = run.inside;
+      bare = one_more schema.tables new.now.trees (record table { tree = next_tree schema }) (still_bare schema.tables old.now.trees new.now.trees made.2 bare) made.1;
+    }
+
+-- one index more
+with_index : (schema : Schema) (sql : List ℕ) (at : ℕ) (table : Table) (index : Index) → IsIndexing schema sql at table index → (old new : State) → IsMade schema old → HasRun sql [] old new → IsMade (indexed schema table index) new
+with_index schema sql at table index it old new has run =
+    let made = index_made schema sql at table index it old new run.count has.schema run.ran in
+    record { schema = made.0; inside = run.inside; bare = still_bare schema.tables old.now.trees new.now.trees made.1 has.bare }
+
+pub meta_made : (a b : State) → a.now.schema ≡ no_schema → HasRun meta_text [] a b → IsMade with_meta b
+meta_made a b has run = with_table no_schema meta_text (record meta { tree = 0 }) makes_meta a b has tt run
+
+pub invocations_made : (a b c : State) → IsMade with_meta a → HasRun invocation_text [] a b → HasRun by_open_object_text [] b c → IsMade with_open_object c
+invocations_made a b c has p q =
+    with_index with_invocation by_open_object_text 1 invocation by_open_object makes_by_open_object b c
+    (with_table with_meta invocation_text (record invocation { tree = 0 }) makes_invocation a b has.schema has.bare p) q
+
+pub entries_made : (a b c d e : State) → IsMade with_open_object a → HasRun entry_text [] a b → HasRun by_completion_text [] b c → HasRun by_second_completion_text [] c d → HasRun by_answered_text [] d e → IsMade with_answered e
+entries_made a b c d e has p q r s =
+    let first = with_table with_open_object entry_text (record entry { tree = 0 }) makes_entry a b has.schema has.bare p in
+    let second = with_index with_entry by_completion_text 2 entry by_completion makes_by_completion b c first q in
+    let third = with_index with_completion by_second_completion_text 2 entry by_second_completion makes_by_second_completion c d second r in
+    with_index with_second_completion by_answered_text 2 entry by_answered makes_by_answered d e third s
+
+pub states_made : (a b : State) → IsMade with_answered a → HasRun state_text [] a b → IsMade with_state b
+states_made a b has run = with_table with_answered state_text (record state_table { tree = 0 }) makes_state a b has.schema has.bare run
+
+pub sleeps_made : (a b c : State) → IsMade with_state a → HasRun sleep_text [] a b → HasRun by_moment_text [] b c → IsMade store_schema c
+sleeps_made a b c has p q =
+    with_index with_sleep by_moment_text 4 sleep_table by_moment makes_by_moment b c
+    (with_table with_state sleep_text (record sleep_table { tree = 0 }) makes_sleep a b has.schema has.bare p) q
 
 mark_terms : List Term
 mark_terms = lit Null ∷ lit (Text (codes "journal_store")) ∷ lit (Int (pos 1)) ∷ []
@@ -65,16 +125,16 @@ adds = record { command = refl; plain = (refl, refl); values = refl }
 mark_casts : cast_all meta_columns mark_cells ≡ mark_cells
 mark_casts = rw (cast_int (pos 1)) refl
 
-pub marked : (old new : State) → old.now.schema ≡ store_schema → AreBare old.now.trees → HasRun mark_text [] old new → (new.now.schema ≡ store_schema) × Holds new.now.trees no_records
-marked old new has bare run =
-    let change = inserted mark_text [] mark_cells 0 mark_terms 3 adds 0 (codes "meta") meta_columns [] refl mark_casts old new has run in (
+pub marked : (old new : State) → IsMade store_schema old → HasRun mark_text [] old new → (new.now.schema ≡ store_schema) × Holds new.now.trees no_records
+marked old new has run =
+    let change = inserted mark_text [] mark_cells 0 mark_terms 3 adds 0 (codes "meta") meta_columns [] refl mark_casts old new has.schema run in (
       change.schema,
       record {
-        mark = change.rows [] (has_none (old.now.trees 0) bare.meta);
-        invocations = has_none (new.now.trees 1) (change.others.1.0 (λ e. omega arith) ∙ bare.invocations);
-        entries = has_none (new.now.trees 4) (change.others.1.1.0 (λ e. omega arith) ∙ bare.entries);
-        states = has_none (new.now.trees 9) (change.others.1.1.1.0 (λ e. omega arith) ∙ bare.states);
-        sleeps = has_none (new.now.trees 11) (change.others.1.1.1.1.0 (λ e. omega arith) ∙ bare.sleeps);
+        mark = change.rows [] (has_none (old.now.trees 0) has.bare.0);
+        invocations = has_none (new.now.trees 1) (change.others.1.0 (λ e. omega arith) ∙ has.bare.1.0);
+        entries = has_none (new.now.trees 4) (change.others.1.1.0 (λ e. omega arith) ∙ has.bare.1.1.0);
+        states = has_none (new.now.trees 9) (change.others.1.1.1.0 (λ e. omega arith) ∙ has.bare.1.1.1.0);
+        sleeps = has_none (new.now.trees 11) (change.others.1.1.1.1.0 (λ e. omega arith) ∙ has.bare.1.1.1.1.0);
         fit_invocations = tt;
         fit_entries = tt;
         fit_states = tt;

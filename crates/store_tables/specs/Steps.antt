@@ -1,5 +1,7 @@
 -- What a call does to the records.
 use Rattle.std.specs.Prelude.{◌≡◌, ◌⊎◌, List, [], Result, Ok, Err, OnOk, IsTrue}
+use Rattle.std.specs.List.{AllByRecursion}
+use Rattle.sqlite.specs.Schema.{Schema}
 use Rattle.sqlite_trees.specs.Tree.{Trees}
 use Rattle.sqlite_trees.specs.declared.store.Store.{Ghosts}
 use Rattle.sqlite.specs.Held.{Held, state}
@@ -30,19 +32,11 @@ pub record Alters {S E : Type 0} (g : Ghosts S) (change : Records → Records) (
 abbrev pub IsStore : State → Type 0
 IsStore s = HasCleanDisk s → IsTrue s.is_open → s.now.schema ≡ store_schema
 
--- the tables have no rows
-pub record AreBare (db : Trees) : Type 0 where
-  pub meta : db 0 ≡ []
-  pub invocations : db 1 ≡ []
-  pub entries : db 4 ≡ []
-  pub states : db 9 ≡ []
-  pub sleeps : db 11 ≡ []
-
--- they are just made, inside a transaction
-pub record IsMade (s : State) : Type 0 where
-  pub schema : s.now.schema ≡ store_schema
+-- these tables are just made, inside a transaction: they have no rows
+pub record IsMade (whole : Schema) (s : State) : Type 0 where
+  pub schema : s.now.schema ≡ whole
   pub inside : IsTrue s.in_transaction
-  pub bare : AreBare s.now.trees
+  pub bare : AllByRecursion (λ t. s.now.trees t.tree ≡ []) whole.tables
 
 -- the connection was open, unless nothing was to be written, and the records are changed so
 abbrev pub WasOpen : List Write → State → Type 0

@@ -1,6 +1,6 @@
 //! Whether a schema is the store's.
 
-ghost use Rattle.std.specs.Prelude.{◌≡◌, map, IsTrue};
+ghost use Rattle.std.specs.Prelude.{◌≡◌, false, true, map, IsTrue};
 ghost use Rattle.sql_tables.specs.Columns.{no_schema};
 ghost use Rattle.store_tables.specs.Indexes.{wanted_index};
 ghost use Rattle.store_tables.specs.Tables.{store_schema};
@@ -54,7 +54,7 @@ fn is_invocation(table: &Table) -> bool
             required("last_completion", Kind::Integer),
             required("entries", Kind::Integer),
         ],
-        &[&[1], &[6, 1]],
+        &[&[1]],
     )
 }
 
@@ -76,7 +76,7 @@ fn is_entry(table: &Table) -> bool
             optional("answered", Kind::Integer),
             required("moment", Kind::Integer),
         ],
-        &[&[1, 2], &[1, 5, 2], &[1, 6, 2], &[1, 7, 2]],
+        &[&[1, 2]],
     )
 }
 
@@ -110,7 +110,7 @@ fn is_sleep(table: &Table) -> bool
             required("invocation", Kind::Text),
             required("completion", Kind::Integer),
         ],
-        &[&[1, 2, 3], &[2, 3]],
+        &[&[2, 3]],
     )
 }
 
@@ -141,37 +141,64 @@ fn are_tables(tables: &[Table]) -> bool
         && is_sleep(sleep)
 }
 
-/// The index that a table must have for a key.
+/// An index that a store must have.
 #[derive(Clone, Copy)]
-pub struct KeyIndex {
+pub struct WantedIndex {
     pub name: &'static str,
     pub tree: u32,
     pub table: u32,
     pub columns: &'static [usize],
+    pub is_unique: bool,
 }
 
-fn have_indexes(indexes: &[Index], wanted: &[KeyIndex]) -> bool
+fn have_indexes(indexes: &[Index], wanted: &[WantedIndex]) -> bool
     ensures exact { IsTrue result → indexes.now ≡ map wanted_index wanted.now }
     ensures complete { indexes.now ≡ map wanted_index wanted.now → IsTrue result }
 {
     match (indexes, wanted) {
         ([], []) => true,
         ([first, rest @ ..], [want, wants @ ..]) => {
-            is_index(first, want.name, want.tree, want.table, want.columns)
-                && have_indexes(rest, wants)
+            is_index(
+                first,
+                want.name,
+                want.tree,
+                want.table,
+                want.columns,
+                want.is_unique,
+            ) && have_indexes(rest, wants)
         }
         _ => false,
     }
 }
 
-const fn key_index(name: &'static str, tree: u32, table: u32, columns: &'static [usize]) -> KeyIndex
-    ensures { result ≡ record { name = name.entry; tree = tree; table = table; columns = columns.entry } }
+/// The index of a key.
+const fn of_key(name: &'static str, tree: u32, table: u32, columns: &'static [usize]) -> WantedIndex
+    ensures { result ≡ record { name = name.entry; tree = tree; table = table; columns = columns.entry; is_unique = true } }
 {
-    KeyIndex {
+    WantedIndex {
         name,
         tree,
         table,
         columns,
+        is_unique: true,
+    }
+}
+
+/// An index by which rows are only looked up.
+const fn to_look_up(
+    name: &'static str,
+    tree: u32,
+    table: u32,
+    columns: &'static [usize],
+) -> WantedIndex
+    ensures { result ≡ record { name = name.entry; tree = tree; table = table; columns = columns.entry; is_unique = false } }
+{
+    WantedIndex {
+        name,
+        tree,
+        table,
+        columns,
+        is_unique: false,
     }
 }
 
@@ -182,15 +209,15 @@ fn are_indexes(indexes: &[Index]) -> bool
     have_indexes(
         indexes,
         &[
-            key_index("sqlite_autoindex_invocation_1", 2, 1, &[1]),
-            key_index("sqlite_autoindex_invocation_2", 3, 1, &[6, 1]),
-            key_index("sqlite_autoindex_entry_1", 5, 4, &[1, 2]),
-            key_index("sqlite_autoindex_entry_2", 6, 4, &[1, 5, 2]),
-            key_index("sqlite_autoindex_entry_3", 7, 4, &[1, 6, 2]),
-            key_index("sqlite_autoindex_entry_4", 8, 4, &[1, 7, 2]),
-            key_index("sqlite_autoindex_state_1", 10, 9, &[1, 2]),
-            key_index("sqlite_autoindex_sleep_1", 12, 11, &[1, 2, 3]),
-            key_index("sqlite_autoindex_sleep_2", 13, 11, &[2, 3]),
+            of_key("sqlite_autoindex_invocation_1", 2, 1, &[1]),
+            to_look_up("invocation_by_open_object", 3, 1, &[6]),
+            of_key("sqlite_autoindex_entry_1", 5, 4, &[1, 2]),
+            to_look_up("entry_by_completion", 6, 4, &[1, 5]),
+            to_look_up("entry_by_second_completion", 7, 4, &[1, 6]),
+            to_look_up("entry_by_answered", 8, 4, &[1, 7]),
+            of_key("sqlite_autoindex_state_1", 10, 9, &[1, 2]),
+            of_key("sqlite_autoindex_sleep_1", 12, 11, &[2, 3]),
+            to_look_up("sleep_by_moment", 13, 11, &[1]),
         ],
     )
 }

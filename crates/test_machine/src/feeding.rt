@@ -1,7 +1,7 @@
 //! What a machine is told, and what is asked of itself. `new REQUEST WORD ..` with the options that are not as they are by default:
 //! `overwrite` for signals, `fresh` for a journal that is not replayed, `stays` where a cancellation ends no await, `silent` where it
-//! is not told what is waited for, `unchecked` where payloads are not compared, `pauses` where a journal that does not match asks for
-//! a pause; any other word changes nothing. `in HEX`, `close`, `fail CODE`, `out`, `head`, `state`, `index`, `ready`.
+//! is not told what is waited for, `always` where it is told that also beside a run, `unchecked` where payloads are not compared,
+//! `pauses` and `fails` where a journal that does not match asks for a pause and for the end; any other word changes nothing. `in HEX`, `close`, `fail CODE`, `out`, `head`, `state`, `index`, `ready`.
 use crate::answers::{debug, done, failed};
 use crate::operands::{byte_str, bytes};
 use crate::requests::{Unreadable, headers};
@@ -21,6 +21,9 @@ fn choose_journal(options: &mut VMOptions, word: &str) {
             options.non_determinism_checks = NonDeterministicChecksOption::PayloadChecksDisabled;
         }
         "pauses" => options.journal_mismatch_retry_behavior = JournalMismatchRetryBehavior::Pause,
+        "fails" => {
+            options.journal_mismatch_retry_behavior = JournalMismatchRetryBehavior::FailTerminally;
+        }
         _ => {}
     }
 }
@@ -30,6 +33,7 @@ fn choose_waiting(options: &mut VMOptions, word: &str) {
         "overwrite" => options.signal_delivery = SignalDelivery::Overwrite,
         "stays" => options.implicit_cancellation = ImplicitCancellationOption::Disabled,
         "silent" => options.awaiting_on_policy = AwaitingOnPolicy::DontSend,
+        "always" => options.awaiting_on_policy = AwaitingOnPolicy::SendAlways,
         _ => {}
     }
 }

@@ -4,12 +4,12 @@ use Rattle.serving_laws.specs.Serving.{asking_by_text, HasNumbers, HasRead, Serv
 use Rattle.serving_laws.specs.Keeping.{IsLiveAt}
 use Rattle.serving_laws.proofs.Notes.{notes_follow, waits_more}
 use Rattle.serving_laws.specs.Attempts.finishes
-use Rattle.serving_laws.specs.Attempts.{output_of, IsOver as IsOverBy, TakesAnswer, Attempt, Turn}
+use Rattle.serving_laws.specs.Attempts.{output_of, FinishesBy, TakesAnswer, Attempt, Turn}
 use Rattle.serving_laws.specs.Machine.{MachineState, Written, out_of_memory, CoreVM, Answers, Waits, Suspends, Ends, Fails, NoMemory, IsDriven}
 use Rattle.serving_laws.specs.Reading.{Kind, kind_of}
 use Rattle.serving_laws.specs.Sending.{sent_stream, frame_meant}
 use Rattle.serving_laws.specs.Words.{item_at, Error, Version, Answer, Input, NotificationId, is_input_closed, AwaitTree, Event, answers_of, Text, Request, Handler, Progress, Waits as WaitsFor, run, arrivals_carried, requests_carried, Machine, AwaitsTree, LiveAttempt, after_turn, untracked, childless, VMOptions}
-use Rattle.turning_laws.specs.Turning.{ComesTo, turns_answered, GoesOnWith, FailsBy, TurnsBehind, TurnKeeps}
+use Rattle.turning_laws.specs.Turning.{RunComesTo, turns_answered, GoesOnWith, FailsBy, TurnsBehind, TurnKeeps}
 use Rattle.turning_laws.proofs.Failing.{fails_so}
 use Rattle.turning_laws.proofs.Now.{Now, call_of, reply_at}
 use Rattle.turning_laws.proofs.Stored.{sent_of_store, notes_of_store}
@@ -88,7 +88,7 @@ module _ {H : Type 0} (function : H → Handler) (next : Handler) (version : Ver
         next_one : AnswersNext next live.start.given (requests_carried live.read) (arrivals_carried live.read) live.calls answer so.whole
         next_one = subst (RepliesAsRun next live.start.given (requests_carried live.read) (arrivals_carried live.read) live.calls) so.replies n.as_run
 
-        taken : ((turn ≡ Turn.Answered) × (after ≡ record (record before { vm = vm }) { answers = before.answers ++ answer ∷ [] })) ⊎ IsOverBy finishes.OutOfMemory (record before { vm = vm }) turn after → Keeps turn after
+        taken : ((turn ≡ Turn.Answered) × (after ≡ record (record before { vm = vm }) { answers = before.answers ++ answer ∷ [] })) ⊎ FinishesBy finishes.OutOfMemory (record before { vm = vm }) turn after → Keeps turn after
         taken (inl one) =
             let is = one.1 in
             let front = ap (λ (a : Attempt H). a.front ++ a.behind) is in
@@ -111,7 +111,7 @@ module _ {H : Type 0} (function : H → Handler) (next : Handler) (version : Ver
 
     -- what the run waits for
     run_waits : (tree : AwaitTree ℕ) (whole : Machine) → reply_at next live before.vm.state n.at ≡ AwaitsTree tree whole → whole.written ≡ live.machine.written
-        → (ids : AwaitTree (Option NotificationId)) × ComesTo next live.start.given (arrivals_carried live.read) live.calls (requests_carried live.read ++ live.machine.written) (WaitsFor ids)
+        → (ids : AwaitTree (Option NotificationId)) × RunComesTo next live.start.given (arrivals_carried live.read) live.calls (requests_carried live.read ++ live.machine.written) (WaitsFor ids)
     run_waits tree whole e same =
         let waits = subst (RepliesAsRun next live.start.given (requests_carried live.read) (arrivals_carried live.read) live.calls) e n.as_run in
         (waits.ids, record { over = waits.waits; exactly = waits.exactly ∙ ap (λ (written : List Request). requests_carried live.read ++ written) same })
@@ -137,7 +137,7 @@ module _ {H : Type 0} (function : H → Handler) (next : Handler) (version : Ver
           ),
         ))
 
-    pub suspended : Suspends (untracked live.start.given) (childless live.machine) (call_of next live n.at) before.vm.state vm.state → IsOverBy finishes.Suspended (record before { vm = vm }) turn after → Keeps turn after
+    pub suspended : Suspends (untracked live.start.given) (childless live.machine) (call_of next live n.at) before.vm.state vm.state → FinishesBy finishes.Suspended (record before { vm = vm }) turn after → Keeps turn after
     suspended p over =
         let is = over.1 in
         let whole = waits_behind next version options id events live before.vm.state n p.tree p.machine p.replies in
@@ -148,7 +148,7 @@ module _ {H : Type 0} (function : H → Handler) (next : Handler) (version : Ver
           finished finishes.Suspended (ap (λ (a : Attempt H). a.over) is),
         ))
 
-    pub ended : Ends (untracked live.start.given) (childless live.machine) (call_of next live n.at) before.vm.state vm.state → IsOverBy finishes.Ended (record before { vm = vm }) turn after → Keeps turn after
+    pub ended : Ends (untracked live.start.given) (childless live.machine) (call_of next live n.at) before.vm.state vm.state → FinishesBy finishes.Ended (record before { vm = vm }) turn after → Keeps turn after
     ended e over =
         let is = over.1 in
         let sends = ends_send next version options id events live before.vm.state n vm.state e in

@@ -7,7 +7,7 @@ use Rattle.serving_laws.proofs.Messages.{read_input}
 use Rattle.serving_laws.proofs.Over.{waits_same}
 use Rattle.serving_laws.proofs.Phases.{stage}
 use Rattle.serving_laws.specs.Attempts.finishes
-use Rattle.serving_laws.specs.Attempts.{output_of, IsOver as IsOverBy, ComesTo as ComesToTurn, CarriesCall, GivesInput, ReadsInput, GoesOn, TurnsWhere, TurnsOn, TurnsUnless, Attempt, Finish, Turn, is_covered, CarriesWhere, AnswersCall}
+use Rattle.serving_laws.specs.Attempts.{output_of, FinishesBy, TakesOutcome, CarriesCall, GivesInput, ReadsInput, ReadsOrAsks, TurnsWhere, TurnsOn, TurnsUnless, Attempt, Finish, Turn, is_covered, CarriesWhere, AnswersCall}
 use Rattle.serving_laws.specs.Machine.phases
 use Rattle.serving_laws.specs.Machine.outcomes
 use Rattle.serving_laws.specs.Machine.{MachineState, Written, out_of_memory, Phase, Comes, NoMemory, IsDriven, CallOutcome, IsReady}
@@ -138,7 +138,7 @@ module _ {H : Type 0} (function : H → Handler) (next : Handler) (version : Ver
       go : (HasReadJournal live × (before.vm.state.phase ≡ phases.Active)) ⊎ ((HasReadJournal live → ⊥) × ((left : ℕ) × (before.vm.state.phase ≡ phases.WaitingReplayEntries left))) → Keeps turn
       go (inl read) =
           input_read n read.0
-          (subst (λ (input : Option Input). GoesOn function input before turn after) n.input
+          (subst (λ (input : Option Input). ReadsOrAsks function input before turn after) n.input
           (subst (λ (ready : Result Bool Error). TurnsWhere function ready before turn after) (ready_where before.vm.state.phase turns.ready read.1 turns.is_ready) turns.turns)) answers
       go (inr waits) =
           unread waits.0
@@ -153,7 +153,7 @@ module _ {H : Type 0} (function : H → Handler) (next : Handler) (version : Ver
 
     by_outcome : (here : Now next version options id events live before.vm.state) (outcome : CallOutcome)
         → Comes (untracked live.start.given) (childless live.machine) (call_of next live here.at) before.vm.state outcome after.vm.state
-        → ComesToTurn outcome (record before { vm = after.vm }) turn after → Keeps turn
+        → TakesOutcome outcome (record before { vm = after.vm }) turn after → Keeps turn
     by_outcome here (outcomes.Answered answer) comes to = answered function next version options id events live before l s r here after.vm turn after answer comes to
     by_outcome here outcomes.Waiting comes to = waiting function next version options id events live before l s r here after.vm turn after comes to.0 to.1
     by_outcome here outcomes.Suspended comes to = suspended function next version options id events live before l s r here after.vm turn after comes to
@@ -171,14 +171,14 @@ module _ {H : Type 0} (function : H → Handler) (next : Handler) (version : Ver
     by_covered true is c = carried is (now function next version options stand keep_on id events live before queued f l s r c.typed is) c
     by_covered false is c = refused function next version options id events live before f s r turn after c is
 
-    carries : AnswersCall asked before turn after ⊎ IsOverBy finishes.OutOfMemory before turn after → Keeps turn
+    carries : AnswersCall asked before turn after ⊎ FinishesBy finishes.OutOfMemory before turn after → Keeps turn
     carries (inl c) = by_covered (is_covered before.cancellation asked) refl c
     carries (inr over) =
         subst Keeps (sym over.0) (silent (ap output_of over.1) (Turn.Failed out_of_memory) (inl lacks_memory, finished finishes.OutOfMemory (ap (λ (a : Attempt H). a.over) over.1)))
 
     has_read : TurnsOn function before turn after → Keeps turn
     has_read turns =
-        carries (subst (λ (input : Option Input). GoesOn function input before turn after) r.input
+        carries (subst (λ (input : Option Input). ReadsOrAsks function input before turn after) r.input
         (subst (λ (ready : Result Bool Error). TurnsWhere function ready before turn after) (ready_where before.vm.state.phase turns.ready r.driven.phase turns.is_ready) turns.turns))
 
 pub turn_keeps : {H : Type 0} (function : H → Handler) (next : Handler) (version : Version) (options : VMOptions) → JournalsStand → MachinesKeepOn → InputsAreAnswered → TurnServes function next version options

@@ -11,7 +11,7 @@ use Rattle.serving_laws.specs.Words.{Version, Input, NotificationId, AwaitTree, 
 use Rattle.turning_laws.specs.Words.{Queued}
 
 -- the run over these arrivals comes to this with one more call, with exactly these requests
-pub record ComesTo (next : Handler) (given : Invocation) (arrivals : List Arrival) (calls : ℕ) (requests : List Request) (ending : Ending) : Type 0 where
+pub record RunComesTo (next : Handler) (given : Invocation) (arrivals : List Arrival) (calls : ℕ) (requests : List Request) (ending : Ending) : Type 0 where
   pub over : (run next given arrivals (suc calls)).ending ≡ ending
   pub exactly : run_requests next given arrivals (suc calls) ≡ requests
 
@@ -37,7 +37,7 @@ module _ {H : Type 0} (function : H → Handler) (next : Handler) (version : Ver
 
   module _ (live : LiveAttempt) (before : Attempt H) where
     abbrev pub RunComes : Ending → Type 0
-    RunComes ending = ComesTo next live.start.given (arrivals_carried live.read) live.calls (requests_carried live.read ++ live.machine.written) ending
+    RunComes ending = RunComesTo next live.start.given (arrivals_carried live.read) live.calls (requests_carried live.read ++ live.machine.written) ending
 
     -- there is a cause for which its machine does not carry out the call that the handler makes next
     pub record FailsBy : Type 0 where

@@ -3,7 +3,7 @@ use Rattle.std.proofs.Common.{◌≡◌, ◌≤◌, ℕ, ◌++◌, length, drop,
 use Rattle.std.proofs.lemmas.List.{drop-append-le}
 use Rattle.journal_model.specs.Notification.{Bytes}
 use Rattle.vm_driving.specs.Machine.{CoreVM}
-use Rattle.vm_attempt.specs.Output.{taken_of, output_of, OnlyTaken, ShowsFirst, LetsGo, HandsOut}
+use Rattle.vm_attempt.specs.Output.{taken_of, output_of, OnlyTaken, ShowsFirst, LetsGo, HandsOutFirst}
 use Rattle.vm_attempt.proofs.Pieces.{left_behind}
 use Rattle.vm_attempt.specs.declared.attempt.Attempt.{Attempt}
 
@@ -15,7 +15,7 @@ module _ {H : Type 0} where
       ∙ ap (λ (a : Attempt H). drop count (taken_of before) ++ a.vm.state.active.output.bytes) goes.others
       ∙ sym (drop-append-le count (taken_of before) before.vm.state.active.output.bytes within)
 
-  pub hands_out : (max : ℕ) (bytes : Bytes) (before between after : Attempt H) → ShowsFirst max bytes before between → LetsGo (length bytes) between after → HandsOut max bytes before after
+  pub hands_out : (max : ℕ) (bytes : Bytes) (before between after : Attempt H) → ShowsFirst max bytes before between → LetsGo (length bytes) between after → HandsOutFirst max bytes before after
   hands_out max bytes before between after shows goes =
       let machine : between.vm ≡ after.vm = sym (ap (λ (a : Attempt H). a.vm) goes.others) in
       record {

@@ -52,12 +52,12 @@ module _ {H : Type 0} where
     pub taken : taken_of after ≡ drop count (taken_of before)
     pub others : after ≡ record before { front = after.front; behind = after.behind }
 
-  pub record HandsOut (max : ℕ) (bytes : Bytes) (before after : Attempt H) : Type 0 where
+  pub record HandsOutFirst (max : ℕ) (bytes : Bytes) (before after : Attempt H) : Type 0 where
     pub moves : OnlyMoves before after
     pub front : bytes ≡ take max (output_of before)
     pub rest : output_of after ≡ drop max (output_of before)
 
   -- so many of the first bytes are handed out, or all there are; where memory is refused they all stay
   abbrev pub TakesOutput : ℕ → (before : Attempt H) → Result Bytes AllocError → (after : Attempt H) → Type 0
-  TakesOutput max before (Ok bytes) after = HandsOut max bytes before after
+  TakesOutput max before (Ok bytes) after = HandsOutFirst max bytes before after
   TakesOutput max before (Err refused) after = Gathers before after

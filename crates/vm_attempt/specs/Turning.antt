@@ -32,30 +32,30 @@ not_carried_out = plain_error unsupported_feature (codes "the call is not carrie
 
 module _ {H : Type 0} where
   -- the attempt is over, and answers that in each turn
-  abbrev pub IsOver : Finish → (between : Attempt H) → Turn → (after : Attempt H) → Type 0
-  IsOver finish between turn after = (turn ≡ again finish) × (after ≡ record between { over = Some finish })
+  abbrev pub FinishesBy : Finish → (between : Attempt H) → Turn → (after : Attempt H) → Type 0
+  FinishesBy finish between turn after = (turn ≡ again finish) × (after ≡ record between { over = Some finish })
 
   -- ---- a call of the handler
 
   -- the handler is told the answer the next time, or there is no memory for it
   abbrev pub TakesAnswer : Answer → (between : Attempt H) → Turn → (after : Attempt H) → Type 0
   TakesAnswer answer between turn after =
-      ((turn ≡ Turn.Answered) × (after ≡ record between { answers = between.answers ++ answer ∷ [] })) ⊎ IsOver finishes.OutOfMemory between turn after
+      ((turn ≡ Turn.Answered) × (after ≡ record between { answers = between.answers ++ answer ∷ [] })) ⊎ FinishesBy finishes.OutOfMemory between turn after
 
   -- how the attempt goes on by what the call has come to; what its machine has failed with this keeps
-  abbrev pub ComesTo : CallOutcome → (between : Attempt H) → Turn → (after : Attempt H) → Type 0
-  ComesTo (outcomes.Answered answer) between turn after = TakesAnswer answer between turn after
-  ComesTo outcomes.Waiting between turn after = (turn ≡ Turn.Waiting) × (after ≡ between)
-  ComesTo outcomes.Suspended between turn after = IsOver finishes.Suspended between turn after
-  ComesTo outcomes.Ended between turn after = IsOver finishes.Ended between turn after
-  ComesTo (outcomes.Failed error) between turn after = (turn ≡ Turn.Failed error) × (after ≡ between)
+  abbrev pub TakesOutcome : CallOutcome → (between : Attempt H) → Turn → (after : Attempt H) → Type 0
+  TakesOutcome (outcomes.Answered answer) between turn after = TakesAnswer answer between turn after
+  TakesOutcome outcomes.Waiting between turn after = (turn ≡ Turn.Waiting) × (after ≡ between)
+  TakesOutcome outcomes.Suspended between turn after = FinishesBy finishes.Suspended between turn after
+  TakesOutcome outcomes.Ended between turn after = FinishesBy finishes.Ended between turn after
+  TakesOutcome (outcomes.Failed error) between turn after = (turn ≡ Turn.Failed error) × (after ≡ between)
 
   -- the machine carries the call out, which is of its type
   pub record CarriesCall (call : Call) (before : Attempt H) (turn : Turn) (after : Attempt H) : Type 0 where
     pub typed : IsTypedCall call
     pub outcome : CallOutcome
     pub carries : CarriesOut call before.vm.state outcome after.vm.state
-    pub comes : ComesTo outcome (record before { vm = after.vm }) turn after
+    pub comes : TakesOutcome outcome (record before { vm = after.vm }) turn after
 
   -- the machine is told that the call is not carried out, and fails with that; nothing of the call is done
   pub record RefusesCall (before : Attempt H) (turn : Turn) (after : Attempt H) : Type 0 where
@@ -87,13 +87,13 @@ module _ {H : Type 0} where
 
   module _ (function : H → Handler) where
     -- the input is read first, which no call is; then the handler's next call is carried out or refused, if there is memory for it
-    abbrev pub GoesOn : Option Input → (before : Attempt H) → Turn → (after : Attempt H) → Type 0
-    GoesOn None before turn after = ReadsInput before turn after
-    GoesOn (Some input) before turn after = AnswersCall (function before.handler input before.answers) before turn after ⊎ IsOver finishes.OutOfMemory before turn after
+    abbrev pub ReadsOrAsks : Option Input → (before : Attempt H) → Turn → (after : Attempt H) → Type 0
+    ReadsOrAsks None before turn after = ReadsInput before turn after
+    ReadsOrAsks (Some input) before turn after = AnswersCall (function before.handler input before.answers) before turn after ⊎ FinishesBy finishes.OutOfMemory before turn after
 
     -- calls are made of the machine, or more has to come, or it has failed
     abbrev pub TurnsWhere : Result Bool Error → (before : Attempt H) → Turn → (after : Attempt H) → Type 0
-    TurnsWhere (Ok true) before turn after = GoesOn before.input before turn after
+    TurnsWhere (Ok true) before turn after = ReadsOrAsks before.input before turn after
     TurnsWhere (Ok false) before turn after = (turn ≡ Turn.Waiting) × (after ≡ before)
     TurnsWhere (Err error) before turn after = (turn ≡ Turn.Failed error) × (after ≡ before)
 

@@ -2,7 +2,7 @@
 ghost use Rattle.std.specs.Prelude.{OnOk};
 ghost use Rattle.vm_attempt.specs.Attempt.{IsBegun, Feeds, ClosesInput};
 ghost use Rattle.vm_attempt.specs.Output.{Gathers, HasFront, Shows, LetsGo, TakesOutput};
-ghost use Rattle.vm_attempt.specs.Turning.{IsOver, TakesAnswer, ComesTo, CarriesCall, RefusesCall, AnswersCall, ReadsInput, GoesOn, TurnsOn, Turns};
+ghost use Rattle.vm_attempt.specs.Turning.{FinishesBy, TakesAnswer, TakesOutcome, CarriesCall, RefusesCall, AnswersCall, ReadsInput, ReadsOrAsks, TurnsOn, Turns};
 
 use crate::covered::is_covered;
 use crate::header::ContentType;
@@ -93,7 +93,7 @@ impl<H: Handler> Attempt<H> {
 
     // The attempt is over.
     fn finish(&mut self, finish: Finish) -> Turn
-        ensures { IsOver finish self.old result self.new }
+        ensures { FinishesBy finish self.old result self.new }
     {
         self.over = Some(finish);
         turn_again(finish)
@@ -111,7 +111,7 @@ impl<H: Handler> Attempt<H> {
 
     // A call has come to this.
     fn come_to(&mut self, outcome: CallOutcome) -> Turn
-        ensures { ComesTo outcome self.old result self.new }
+        ensures { TakesOutcome outcome self.old result self.new }
     {
         match outcome {
             CallOutcome::Answered(answer) => self.take_answer(answer),
@@ -165,7 +165,7 @@ impl<H: Handler> Attempt<H> {
 
     // The handler is asked for its next call, once the input was read.
     fn go_on(&mut self) -> Turn
-        ensures { GoesOn H.next_call self.old.input self.old result self.new }
+        ensures { ReadsOrAsks H.next_call self.old.input self.old result self.new }
     {
         let next = match &self.input {
             None => return self.read_input(),

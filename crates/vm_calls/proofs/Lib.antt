@@ -7,3 +7,4 @@ pub mod Doing
 pub mod DoneCalls
 pub mod PromiseCalls
 pub mod Spending
+pub mod Finding

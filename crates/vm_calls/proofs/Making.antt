@@ -31,6 +31,7 @@ use Rattle.vm_calls.specs.declared.put_error.PutError.{PutError}
 use Rattle.vm_calls.specs.declared.put_error.PutError.TheVariants.{Replay, Encoding}
 use Rattle.vm_calls.specs.declared.call_error.CallError.TheVariants.{Put}
 use Rattle.vm_calls.specs.Active.{Sees, IsSettled, left_of, has_left, writes_frames, HasCompletions, PutsOne, PutsIn}
+use Rattle.vm_commands.specs.Popping.{IsNextUnread}
 use Rattle.vm_calls.specs.Making.{Replies, FailsAs, PutFailsAs, AsksOne, IsReady, CompletesOne, HasBegun}
 
 -- ---- the abstract machine, where one request is put
@@ -80,7 +81,7 @@ module _ (checks_off ignoring : Bool) (given : Invocation) (m : Machine) (call :
 
   fails_as : {M : Type 0} (error : PutError M) (new : Active) → PutsIn ignoring request m.written mid (Err error) new → PutFailsAs checks_off given m call error × (new.output ≡ old.output)
   fails_as (Replay (unmatched.Unavailable error)) new puts = absurd puts.0
-  fails_as (Replay (unmatched.Decoding error)) new puts = (mismatches puts.0, puts.1 ∙ ready.output)
+  fails_as (Replay (unmatched.Decoding error)) new puts = ((mismatches puts.0.0, subst (λ (l : Commands). IsNextUnread error l) ready.left puts.0.1), puts.1 ∙ ready.output)
   fails_as (Replay (unmatched.Mismatch error)) new puts = (mismatches puts.0, puts.1 ∙ ready.output)
   fails_as (Replay unmatched.OutOfMemory) new puts = (tt, puts.1 ∙ ready.output)
   fails_as (Encoding unsent.PayloadTooLong) new puts = ((sym ready.left ∙ puts.0.0, record { request = request; requests = asks.requests; long = puts.0.1 }), puts.1 ∙ ready.output)

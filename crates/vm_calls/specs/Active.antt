@@ -18,6 +18,7 @@ use Rattle.vm_context.specs.Following.{KnowsState}
 use Rattle.vm_context.specs.Output.{Written}
 use Rattle.vm_commands.specs.declared.replay_error.ReplayError.TheVariants as unmatched
 use Rattle.vm_commands.specs.HeaderEquality.{header_equal}
+use Rattle.vm_commands.specs.Popping.{IsNextUnread}
 use Rattle.vm_commands.specs.Recorded.{commands_of}
 use Rattle.vm_calls.specs.declared.active.Active.{Active}
 use Rattle.vm_calls.specs.declared.put_error.PutError.{PutError}
@@ -114,7 +115,7 @@ pub record PutsOne (ignoring : Bool) (request : Request) (written : List Request
 -- why it is not: by the abstract machine, exactly for its length, or for want of memory
 abbrev pub PutFails : {M : Type 0} → (ignoring : Bool) → Request → (written : List Request) → (old : Active) → PutError M → Type 0
 PutFails ignoring request written old (Replay (unmatched.Unavailable error)) = ⊥
-PutFails ignoring request written old (Replay (unmatched.Decoding error)) = put_one (header_equal ignoring) request (left_of old) written ≡ None
+PutFails ignoring request written old (Replay (unmatched.Decoding error)) = (put_one (header_equal ignoring) request (left_of old) written ≡ None) × IsNextUnread error (left_of old)
 PutFails ignoring request written old (Replay (unmatched.Mismatch error)) = put_one (header_equal ignoring) request (left_of old) written ≡ None
 PutFails ignoring request written old (Replay unmatched.OutOfMemory) = Unit {0}
 PutFails ignoring request written old (Encoding unsent.PayloadTooLong) = (left_of old ≡ []) × (2 ^ 32 ≤ length (request_payload request))

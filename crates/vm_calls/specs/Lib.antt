@@ -5,4 +5,5 @@ pub mod Making
 pub mod Handles
 pub mod Doing
 pub mod Spent
+pub mod Finding
 pub mod Passed

@@ -20,6 +20,7 @@ use Rattle.protocol_stream.specs.declared.encoder.EncodingError.TheVariants as u
 use Rattle.vm_awaits.specs.Views.{results_of}
 use Rattle.vm_context.specs.Following.{KnowsState, changes_state}
 use Rattle.vm_commands.specs.HeaderEquality.{same_header}
+use Rattle.vm_commands.specs.Popping.{IsNextUnread}
 use Rattle.vm_commands.specs.declared.replay_error.ReplayError.TheVariants as unmatched
 use Rattle.vm_calls.specs.declared.active.Active.{Active}
 use Rattle.vm_calls.specs.declared.call_error.CallError.{CallError}
@@ -54,11 +55,11 @@ module _ (checks_off : Bool) (given : Invocation) (m : Machine) (call : Call) wh
     pub requests : requests_by m.start m.done m.left m.completions call ≡ request ∷ []
     pub fits : Fits request
 
-  -- Why its request is not put: the abstract machine fails; the request would be written, and is too long, or memory was refused
-  -- for its frame; or memory was refused for what is recorded.
+  -- Why its request is not put: the abstract machine fails, by what is recorded next; the request would be written, and is too long,
+  -- or memory was refused for its frame; or memory was refused for what is recorded.
   abbrev pub PutFailsAs : {M : Type 0} → PutError M → Type 0
   PutFailsAs (Replay (unmatched.Unavailable error)) = ⊥
-  PutFailsAs (Replay (unmatched.Decoding error)) = reply_to (same_header checks_off) given m call ≡ FailedBy Mismatch
+  PutFailsAs (Replay (unmatched.Decoding error)) = (reply_to (same_header checks_off) given m call ≡ FailedBy Mismatch) × IsNextUnread error m.left
   PutFailsAs (Replay (unmatched.Mismatch error)) = reply_to (same_header checks_off) given m call ≡ FailedBy Mismatch
   PutFailsAs (Replay unmatched.OutOfMemory) = Unit {0}
   PutFailsAs (Encoding unsent.PayloadTooLong) = (m.left ≡ []) × IsLong

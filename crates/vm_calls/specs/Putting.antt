@@ -1,17 +1,18 @@
 -- One request is matched with the next recorded command, or its frame is written.
-use Rattle.std.specs.Prelude.{◌≡◌, ◌≤◌, ◌^◌, ℕ, ℤ, Bool, true, false, List, [], length, Option, Some, None, Result, Ok, Err}
+use Rattle.std.specs.Prelude.{◌≡◌, ◌≤◌, ◌^◌, ℕ, ℤ, Bool, true, false, List, [], length, Some, None, Result, Ok, Err}
 use Rattle.protocol_table.specs.declared.table.RecordType.{RecordType}
 use Rattle.protocol_wire.specs.Wire.{Field}
 use Rattle.journal_model.specs.Request.{Request}
 use Rattle.journal_model.specs.Spelling.{request_frame, request_payload}
 use Rattle.attempt_model.specs.Requests.{put_one}
+use Rattle.protocol_stream.specs.ErrorText.{encoding_text}
 use Rattle.protocol_stream.specs.declared.decoder.RawMessage.{RawMessage}
 use Rattle.protocol_stream.specs.declared.encoder.EncodingError.TheVariants as unsent
 use Rattle.protocol_errors.specs.Code.{internal}
 use Rattle.vm_context.specs.Output.{Written, with_frame}
 use Rattle.vm_commands.specs.declared.replay_error.ReplayError.TheVariants as unmatched
 use Rattle.vm_commands.specs.HeaderEquality.{header_equal}
-use Rattle.vm_commands.specs.Popping.{next_of, TakesAs, replay_code, difference_text}
+use Rattle.vm_commands.specs.Popping.{next_of, TakesAs, IsNextUnread, replay_code, replay_text}
 use Rattle.vm_commands.specs.Recorded.{commands_of}
 use Rattle.vm_calls.specs.declared.put_error.PutError.{PutError}
 use Rattle.vm_calls.specs.declared.put_error.PutError.TheVariants.{Replay, Encoding}
@@ -39,7 +40,7 @@ IsTooLong request output = (output.is_closed ≡ false) × (2 ^ 32 ≤ length (r
 abbrev pub Replays : {M : Type 0} → (ignoring : Bool) → Request → (written : List Request) → (old : List RawMessage) → Result M (PutError M) → (new : List RawMessage) → Type 0
 Replays ignoring request written old (Ok recorded) new = put_one (header_equal ignoring) request (commands_of old) written ≡ Some (record { left = commands_of new; written = written })
 Replays ignoring request written old (Err (Replay (unmatched.Unavailable error))) new = commands_of old ≡ []
-Replays ignoring request written old (Err (Replay (unmatched.Decoding error))) new = put_one (header_equal ignoring) request (commands_of old) written ≡ None
+Replays ignoring request written old (Err (Replay (unmatched.Decoding error))) new = (put_one (header_equal ignoring) request (commands_of old) written ≡ None) × IsNextUnread error (commands_of old)
 Replays ignoring request written old (Err (Replay (unmatched.Mismatch error))) new = put_one (header_equal ignoring) request (commands_of old) written ≡ None
 Replays ignoring request written old (Err (Replay unmatched.OutOfMemory)) new = Unit {0}
 Replays ignoring request written old (Err (Encoding error)) new = ⊥
@@ -68,7 +69,7 @@ abbrev pub put_code : {M : Type 0} → PutError M → ℕ
 put_code (Replay error) = replay_code error
 put_code (Encoding error) = internal
 
--- of the frame that could not be made nothing is told here
-abbrev pub put_error_text : {M : Type 0} → (difference : M → M → List ℕ) → PutError M → Option (List ℕ)
-put_error_text difference (Replay error) = difference_text difference error
-put_error_text difference (Encoding error) = None
+-- what is printed of it
+abbrev pub put_error_text : {M : Type 0} → (difference : M → M → List ℕ) → PutError M → List ℕ
+put_error_text difference (Replay error) = replay_text difference error
+put_error_text difference (Encoding error) = encoding_text error

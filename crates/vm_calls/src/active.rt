@@ -5,6 +5,8 @@ ghost use Rattle.vm_commands.specs.HeaderEquality.{is_unstable};
 ghost use Rattle.vm_calls.specs.Active.{left_of, still_replays, asking, TellsSame, IsAtCommand, IsSettled, TakesCompletion, LacksCompletions, HasCompletions, PutsIn};
 ghost use Rattle.vm_calls.specs.Making.{CompletesOne, HasBegun, Makes};
 ghost use Rattle.vm_calls.specs.Spent.{IsSpent, FindsNone, FailsSpent, KeepsRest};
+ghost use Rattle.vm_calls.specs.Finding.{command_place, TellsPut, FindsAs};
+ghost use Rattle.vm_commands.specs.Passed.{type_of_record};
 ghost use Rattle.vm_awaits.specs.Views.{results_of, slots_of};
 ghost use Rattle.vm_awaits.specs.Calls.{with_handle};
 ghost use Rattle.vm_awaits.specs.declared.state.CreateHandleError.TheVariants.{HandlesExhausted};
@@ -123,6 +125,8 @@ impl Active {
         ensures put { (request : Request) (written : List Request) → M.request_of command ≡ Some request → IsSettled self.old
             → PutsIn ignore_payload_equality request written self.old result self.new }
         ensures spent { (request : Request) → M.request_of command ≡ Some request → IsSpent self.old → FindsNone result × (self.new.output ≡ self.old.output) }
+        ensures found { (ty : MessageType) → type_of_record M.record_type ≡ Some ty
+            → IfErr result (λ error. TellsPut ty (command_place self.new.journal) self.old.commands.items error) }
         ensures journal { self.new.journal ≡ self.old.journal }
     {
         let index = self.journal.command_index();
@@ -156,6 +160,7 @@ impl Active {
             → Makes checks_off given m call (λ handle. Answer.Handle handle) old result self.new }
         ensures spent { (request : Request) (taken : ℕ) (old : Active) → M.request_of command ≡ Some request → KeepsRest old self.old → HasCompletions taken old
             → IsSpent old → FailsSpent taken old result self.new }
+        ensures found { (ty : MessageType) (old : Active) → type_of_record M.record_type ≡ Some ty → KeepsRest old self.old → FindsAs ty old result self.new }
         ensures journal { self.new.journal ≡ self.old.journal }
     {
         match self.put(alloc, command, ignore_payload_equality) {

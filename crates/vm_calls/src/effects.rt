@@ -6,6 +6,9 @@ ghost use Rattle.vm_calls.specs.Active.{HasCompletions};
 ghost use Rattle.vm_calls.specs.Making.{Makes};
 ghost use Rattle.vm_calls.specs.Doing.{DoesOne, HasAsked};
 ghost use Rattle.vm_calls.specs.Spent.{IsSpent, FailsSpent, KeepsRest};
+ghost use Rattle.vm_calls.specs.Finding.{FindsAs};
+ghost use Rattle.vm_commands.specs.Passed.{type_of_record};
+ghost use Rattle.protocol_types.specs.declared.message_type.MessageType.{MessageType};
 
 use crate::{Active, CallError};
 use std::alloc::Global;
@@ -24,6 +27,7 @@ impl Active {
             → Makes checks_off given m call (λ done. Answer.Done) old result self.new }
         ensures spent { (request : Request) (taken : ℕ) (old : Active) → M.request_of command ≡ Some request → KeepsRest old self.old → HasCompletions taken old
             → IsSpent old → FailsSpent taken old result self.new }
+        ensures found { (ty : MessageType) (old : Active) → type_of_record M.record_type ≡ Some ty → KeepsRest old self.old → FindsAs ty old result self.new }
         ensures journal { self.new.journal ≡ self.old.journal }
     {
         match self.put(alloc, command, ignore_payload_equality) {

@@ -2,6 +2,7 @@
 ghost use Rattle.std.specs.Prelude.{◌≡◌, [], Some, None, IfOk};
 ghost use Rattle.vm_calls.specs.Making.{Makes};
 ghost use Rattle.vm_calls.specs.Spent.{IsSpent, FailsSpent};
+ghost use Rattle.vm_calls.specs.Finding.{FindsAs};
 ghost use Rattle.vm_calls.specs.Words.{Call, Answer, Request, Invocation, Machine};
 ghost use Rattle.journal_model.specs.Refusal.{refusal_of};
 ghost use Rattle.protocol_types.specs.declared.message_type.MessageType.TheVariants.{GetPromiseCommand, PeekPromiseCommand, CompletePromiseCommand};
@@ -48,6 +49,7 @@ impl Active {
         ensures made { (given : Invocation) (m : Machine) → Sees given self.old m
             → Makes checks_off given m (Call.GetPromise key) (λ handle. Answer.Handle handle) self.old result self.new }
         ensures spent { IsSpent self.old → FailsSpent 1 self.old result self.new }
+        ensures found { FindsAs GetPromiseCommand self.old result self.new }
         ensures told { IsAtCommand GetPromiseCommand [] self.old.journal self.new.journal }
     {
         let (name, id, handle) = self.begin(MessageType::GetPromiseCommand, ByteStr::new())?;
@@ -70,6 +72,7 @@ impl Active {
         ensures made { (given : Invocation) (m : Machine) → Sees given self.old m
             → Makes checks_off given m (Call.PeekPromise key) (λ handle. Answer.Handle handle) self.old result self.new }
         ensures spent { IsSpent self.old → FailsSpent 1 self.old result self.new }
+        ensures found { FindsAs PeekPromiseCommand self.old result self.new }
     {
         let (name, result_completion_id, handle) = self.begin(
             MessageType::PeekPromiseCommand,
@@ -99,6 +102,7 @@ impl Active {
         ensures made { (given : Invocation) (m : Machine) → refusal_of given.version (Call.CompletePromise key value options) ≡ None → Sees given self.old m
             → Makes checks_off given m (Call.CompletePromise key value options) (λ handle. Answer.Handle handle) self.old result self.new }
         ensures spent { IsSpent self.old → FailsSpent 1 self.old result self.new }
+        ensures found { FindsAs CompletePromiseCommand self.old result self.new }
         ensures told { IsAtCommand CompletePromiseCommand [] self.old.journal self.new.journal }
     {
         let (name, id, handle) = self.begin(MessageType::CompletePromiseCommand, ByteStr::new())?;

@@ -15,9 +15,10 @@ pub enum PutError<M> {
 
 /// Prints the error that it holds.
 impl<M: CommandMessageHeaderDiff> fmt::Display for PutError<M> {
+    ghost use Rattle.std.specs.Prelude.{Some};
     ghost use Rattle.vm_calls.specs.Putting.{put_error_text};
 
-    ghost output = { λ error. put_error_text M.difference error };
+    ghost output = { λ error. Some (put_error_text M.difference error) };
 
     fn fmt<W: fmt::Write>(&self, f: &mut fmt::Formatter<W>) -> fmt::Result {
         match self {

@@ -7,6 +7,7 @@ ghost use Rattle.protocol_types.specs.declared.message_type.MessageType.TheVaria
 ghost use Rattle.vm_calls.specs.Active.{Sees, IsAtCommand};
 ghost use Rattle.vm_calls.specs.Making.{Makes};
 ghost use Rattle.vm_calls.specs.Spent.{IsSpent, FailsSpent};
+ghost use Rattle.vm_calls.specs.Finding.{FindsAs};
 
 use crate::{Active, CallError};
 use bytes::ByteStr;
@@ -28,6 +29,7 @@ impl Active {
             → refusal_of given.version (Call.Sleep name wake_up now) ≡ None → Sees given self.old m
             → Makes checks_off given m (Call.Sleep name wake_up now) (λ handle. Answer.Handle handle) self.old result self.new }
         ensures spent { IsSpent self.old → FailsSpent 1 self.old result self.new }
+        ensures found { FindsAs SleepCommand self.old result self.new }
         ensures told { IsAtCommand SleepCommand name self.old.journal self.new.journal }
     {
         let (name, result_completion_id, handle) = self.begin(MessageType::SleepCommand, name)?;

@@ -7,6 +7,7 @@ ghost use Rattle.vm_context.specs.Following.{Follows};
 ghost use Rattle.vm_calls.specs.Active.{Sees, IsAtCommand};
 ghost use Rattle.vm_calls.specs.Making.{Makes};
 ghost use Rattle.vm_calls.specs.Spent.{IsSpent, FailsSpent};
+ghost use Rattle.vm_calls.specs.Finding.{FindsAs};
 
 use crate::{Active, CallError, ignores, or_empty};
 use bytes::{ByteStr, Bytes};
@@ -47,6 +48,7 @@ impl Active {
         ensures made { (given : Invocation) (m : Machine) → Sees given self.old m
             → Makes checks_off given m (Call.StateSet key value name options) (λ done. Answer.Done) self.old result self.new }
         ensures spent { IsSpent self.old → FailsSpent 0 self.old result self.new }
+        ensures found { FindsAs SetStateCommand self.old result self.new }
         ensures told { IsAtCommand SetStateCommand (name_or_empty name) self.old.journal self.new.journal }
     {
         let name = self.ask(MessageType::SetStateCommand, or_empty(name))?;
@@ -70,6 +72,7 @@ impl Active {
         ensures made { (given : Invocation) (m : Machine) → Sees given self.old m
             → Makes checks_off given m (Call.StateClear key name) (λ done. Answer.Done) self.old result self.new }
         ensures spent { IsSpent self.old → FailsSpent 0 self.old result self.new }
+        ensures found { FindsAs ClearStateCommand self.old result self.new }
         ensures told { IsAtCommand ClearStateCommand (name_or_empty name) self.old.journal self.new.journal }
     {
         let name = self.ask(MessageType::ClearStateCommand, or_empty(name))?;
@@ -91,6 +94,7 @@ impl Active {
         ensures made { (given : Invocation) (m : Machine) → Sees given self.old m
             → Makes checks_off given m (Call.StateClearAll name) (λ done. Answer.Done) self.old result self.new }
         ensures spent { IsSpent self.old → FailsSpent 0 self.old result self.new }
+        ensures found { FindsAs ClearAllStateCommand self.old result self.new }
         ensures told { IsAtCommand ClearAllStateCommand (name_or_empty name) self.old.journal self.new.journal }
     {
         let name = self.ask(MessageType::ClearAllStateCommand, or_empty(name))?;

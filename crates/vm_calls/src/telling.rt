@@ -6,6 +6,7 @@ ghost use Rattle.protocol_types.specs.declared.message_type.MessageType.TheVaria
 ghost use Rattle.vm_calls.specs.Active.{Sees, IsAtCommand};
 ghost use Rattle.vm_calls.specs.Making.{Makes};
 ghost use Rattle.vm_calls.specs.Spent.{IsSpent, FailsSpent};
+ghost use Rattle.vm_calls.specs.Finding.{FindsAs};
 
 use crate::{Active, CallError, ignores};
 use bytes::ByteStr;
@@ -34,6 +35,7 @@ impl Active {
         ensures made { (given : Invocation) (m : Machine) → Sees given self.old m
             → Makes checks_off given m (Call.Cancel target_id) (λ done. Answer.Done) self.old result self.new }
         ensures spent { IsSpent self.old → FailsSpent 0 self.old result self.new }
+        ensures found { FindsAs SendSignalCommand self.old result self.new }
         ensures told { IsAtCommand SendSignalCommand [] self.old.journal self.new.journal }
     {
         let entry_name = self.ask(MessageType::SendSignalCommand, ByteStr::new())?;
@@ -58,6 +60,7 @@ impl Active {
         ensures made { (given : Invocation) (m : Machine) → refusal_of given.version (Call.CompleteSignal target_id name value) ≡ None
             → Sees given self.old m → Makes checks_off given m (Call.CompleteSignal target_id name value) (λ done. Answer.Done) self.old result self.new }
         ensures spent { IsSpent self.old → FailsSpent 0 self.old result self.new }
+        ensures found { FindsAs SendSignalCommand self.old result self.new }
         ensures told { IsAtCommand SendSignalCommand [] self.old.journal self.new.journal }
     {
         let entry_name = self.ask(MessageType::SendSignalCommand, ByteStr::new())?;
@@ -82,6 +85,7 @@ impl Active {
         ensures made { (given : Invocation) (m : Machine) → refusal_of given.version (Call.Output value options) ≡ None
             → Sees given self.old m → Makes checks_off given m (Call.Output value options) (λ done. Answer.Done) self.old result self.new }
         ensures spent { IsSpent self.old → FailsSpent 0 self.old result self.new }
+        ensures found { FindsAs OutputCommand self.old result self.new }
         ensures told { IsAtCommand OutputCommand [] self.old.journal self.new.journal }
     {
         let name = self.ask(MessageType::OutputCommand, ByteStr::new())?;
@@ -106,6 +110,7 @@ impl Active {
         ensures made { (given : Invocation) (m : Machine) → refusal_of given.version (Call.CompleteAwakeable id value options) ≡ None
             → Sees given self.old m → Makes checks_off given m (Call.CompleteAwakeable id value options) (λ done. Answer.Done) self.old result self.new }
         ensures spent { IsSpent self.old → FailsSpent 0 self.old result self.new }
+        ensures found { FindsAs CompleteAwakeableCommand self.old result self.new }
     {
         let name = self.ask(MessageType::CompleteAwakeableCommand, ByteStr::new())?;
         let carried = to_awakeable_result(alloc, value)?;

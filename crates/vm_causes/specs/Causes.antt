@@ -5,7 +5,9 @@ use Rattle.protocol_differences.specs.declared.relationship.CommandRelationship.
 use Rattle.protocol_errors.specs.Code.{internal, journal_mismatch, protocol_violation}
 use Rattle.protocol_errors.specs.Error.{plain_error, decoding_code}
 use Rattle.protocol_errors.specs.Fixed.{fixed_code, fixed_text}
+use Rattle.protocol_errors.specs.Texts.{bad_ack_text, unavailable_text}
 use Rattle.protocol_errors.specs.declared.error.Error.{Error}
+use Rattle.protocol_stream.specs.ErrorText.{decoding_text}
 use Rattle.protocol_stream.specs.declared.encoder.EncodingError.TheVariants as unsent
 use Rattle.vm_entries.specs.Passed.calls
 use Rattle.vm_entries.specs.Passed.numbers
@@ -46,7 +48,7 @@ put_lacks_memory (Encoding unsent.OutOfMemory) = true
 put_lacks_memory (Encoding unsent.PayloadTooLong) = false
 
 abbrev pub PutCauses : {M : Type 0} → (M → M → List ℕ) → JournalCounts → PutError M → Result Error AllocError → Type 0
-PutCauses difference journal error result = Unless (put_lacks_memory error) (TellsLast journal (put_code error) (put_error_text difference error)) result
+PutCauses difference journal error result = Unless (put_lacks_memory error) (TellsLast journal (put_code error) (Some (put_error_text difference error))) result
 
 -- where a number is lacking, and where the command is neither matched nor written, the command is told
 abbrev pub CallCauses : {M : Type 0} → (M → M → List ℕ) → JournalCounts → CallError M → Result Error AllocError → Type 0
@@ -61,8 +63,8 @@ NumberCauses numbers.OutOfMemory result = Unless true (Tells internal None) resu
 
 -- the input's command is the one that was asked for last
 abbrev pub InputCauses : JournalCounts → InputError → Result Error AllocError → Type 0
-InputCauses journal (inputs.Unavailable error) result = Unless false (TellsLast journal journal_mismatch None) result
-InputCauses journal (inputs.Decoding error) result = Unless false (TellsLast journal (decoding_code error) None) result
+InputCauses journal (inputs.Unavailable error) result = Unless false (TellsLast journal journal_mismatch (Some (unavailable_text error.expected))) result
+InputCauses journal (inputs.Decoding error) result = Unless false (TellsLast journal (decoding_code error) (Some (decoding_text error))) result
 InputCauses journal inputs.OutOfMemory result = Unless true (Tells internal None) result
 
 -- ---- messages that come
@@ -79,8 +81,8 @@ event_of incoming.Other = codes "NewMessage"
 abbrev pub EntryCauses : Phase → (is_replaying : Bool) → EntryError → Result Error AllocError → Type 0
 EntryCauses phase is_replaying (entries.Fixed error) result = result ≡ Ok (plain_error (fixed_code error) (fixed_text error))
 EntryCauses phase is_replaying (entries.Unexpected kind) result = Unless false (λ told. told ≡ unexpected_error phase is_replaying (event_of kind)) result
-EntryCauses phase is_replaying (entries.Decoding error) result = Unless false (Tells (decoding_code error) None) result
+EntryCauses phase is_replaying (entries.Decoding error) result = Unless false (Tells (decoding_code error) (Some (decoding_text error))) result
 EntryCauses phase is_replaying (entries.Start starts.OutOfMemory) result = Unless true (Tells internal None) result
-EntryCauses phase is_replaying (entries.Start error) result = Unless false (Tells (start_code error) (start_text error)) result
-EntryCauses phase is_replaying (entries.UnknownRun error) result = Unless false (Tells protocol_violation None) result
+EntryCauses phase is_replaying (entries.Start error) result = Unless false (Tells (start_code error) (Some (start_text error))) result
+EntryCauses phase is_replaying (entries.UnknownRun error) result = Unless false (Tells protocol_violation (Some (bad_ack_text error.completion_id))) result
 EntryCauses phase is_replaying entries.OutOfMemory result = Unless true (Tells internal None) result

@@ -23,7 +23,7 @@ use Rattle.vm_commands.specs.declared.replay_error.ReplayError.TheVariants.{Unav
 use Rattle.vm_commands.specs.HeaderEquality.{header_equal, is_recorded}
 use Rattle.vm_commands.specs.Recorded.{unless_wrong, command_of, commands_of}
 use Rattle.vm_commands.specs.Meant.{MeansRequests}
-use Rattle.vm_commands.specs.Popping.{next_of, unread_as, both_told, Compares, TakesAs, Matches}
+use Rattle.vm_commands.specs.Popping.{next_of, unread_as, both_told, Compares, TakesAs, IsNoRequest, Matches}
 use Rattle.vm_commands.proofs.Comparing.{compares_types}
 use Rattle.vm_commands.proofs.Recording.{keeps_types}
 
@@ -91,6 +91,11 @@ pub never_read : {M : Type 0} {t : RecordType} {of : ℕ → List Field → M} {
     → MeansRequests t of parts erased request_of → (m : RawMessage) (fault : Fault) → HasItsType t m → payload_fault LEVELS t m.payload ≡ Some fault → command_of m ≡ None
 never_read {of = of} {request_of = request_of} means m fault its wrong = means.meant m its ∙ ap (λ (o : Option Fault). unless_wrong o (request_of (of LEVELS (fields m.payload)))) wrong
 
+-- so what is next is none
+pub no_request : (found : Option Request) (left : Commands) → found ≡ None → IsNoRequest (found ∷ left)
+no_request None left none = tt
+no_request (Some request) left none = cc
+
 -- a message of another type is no request of this one's
 other_differs : {M : Type 0} {t : RecordType} {of : ℕ → List Field → M} {parts : M → List Part} {erased : Bool → M → M} {request_of : M → Option Request}
     → MeansRequests t of parts erased request_of → (index : ℤ) (ignoring : Bool) (expected : M) (m : RawMessage) (wanted actual : MessageType) (told : ℤ) → IsOther t m index wanted actual told
@@ -115,10 +120,10 @@ matches_first means index ignoring expected m left (Err (Mismatch error)) takes 
     (ap (λ (found : Option Request). is_recorded ignoring found made) (read_as means m error.actual takes.0.0 takes.0.1)
     ∙ not_true _ (λ h. takes.1.1 ((means.compared ignoring error.actual expected made e).1 h)))
 matches_first means index ignoring expected m left (Err (Decoding (unread.UnexpectedMessageType wanted actual told))) takes made written e =
-    put_differs ignoring (command_of m) made (commands_of left) written (other_differs means index ignoring expected m wanted actual told takes.0 made e (command_of m) refl)
+    (put_differs ignoring (command_of m) made (commands_of left) written (other_differs means index ignoring expected m wanted actual told takes.0 made e (command_of m) refl), tt)
 matches_first means index ignoring expected m left (Err (Decoding (unread.DecodeMessage ty fault))) takes made written e =
-    put_differs ignoring (command_of m) made (commands_of left) written
-    (ap (λ (found : Option Request). is_recorded ignoring found made) (never_read means m fault takes.0.0 takes.0.1.is_wrong))
+    let none = never_read means m fault takes.0.0 takes.0.1.is_wrong in
+    (put_differs ignoring (command_of m) made (commands_of left) written (ap (λ (found : Option Request). is_recorded ignoring found made) none), no_request (command_of m) (commands_of left) none)
 matches_first means index ignoring expected m left (Err (Decoding unread.OutOfMemory)) takes made written e = absurd (takes.1 refl)
 matches_first means index ignoring expected m left (Err (Decoding _)) takes made written e = absurd takes.0
 matches_first means index ignoring expected m left (Err (Unavailable error)) takes made written e = absurd takes

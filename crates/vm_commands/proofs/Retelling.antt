@@ -4,7 +4,7 @@ use Rattle.protocol_table.specs.declared.table.RecordType.{RecordType}
 use Rattle.protocol_wire.specs.Wire.{Field}
 use Rattle.protocol_wire.specs.Parts.{Part}
 use Rattle.journal_model.specs.Request.{Request}
-use Rattle.attempt_model.specs.Requests.{put_one}
+use Rattle.attempt_model.specs.Requests.{Commands, put_one}
 use Rattle.protocol_stream.specs.declared.decoder.RawMessage.{RawMessage}
 use Rattle.protocol_stream.specs.declared.decoder.DecodingError.{DecodingError}
 use Rattle.protocol_stream.specs.declared.decoder.DecodingError.TheVariants as unread
@@ -23,10 +23,10 @@ use Rattle.vm_commands.specs.declared.state_read.StateReadError.TheVariants as e
 use Rattle.vm_commands.specs.HeaderEquality.{header_equal, is_recorded}
 use Rattle.vm_commands.specs.Recorded.{command_of, commands_of, as_recorded}
 use Rattle.vm_commands.specs.Meant.{MeansRequests}
-use Rattle.vm_commands.specs.Popping.{next_of, unread_as}
+use Rattle.vm_commands.specs.Popping.{next_of, unread_as, IsNextUnread}
 use Rattle.vm_commands.specs.StateReads.{tells_type, IsNoRead, ReadsAs, MatchesRead, IsRetold}
 use Rattle.vm_commands.proofs.Recording.{keeps_types}
-use Rattle.vm_commands.proofs.Popping.{not_true, put_matches, put_differs, read_as, never_read, matches_first}
+use Rattle.vm_commands.proofs.Popping.{not_true, put_matches, put_differs, read_as, never_read, no_request, matches_first}
 
 -- ---- what is taken
 
@@ -153,6 +153,14 @@ eager_unread means lazy_means retells index m (unread.DecodeMessage ty fault) it
 eager_unread means lazy_means retells index m unread.OutOfMemory its decodes kept = absurd (kept refl)
 eager_unread means lazy_means retells index m _ its decodes kept = absurd decodes
 
+-- what is wrong with it is told
+eager_told : {R : Type 0} (t : RecordType) (of : ℕ → List Field → R) (index : ℤ) (m : RawMessage) (error : DecodingError) (found : Option Request) (left : Commands) → found ≡ None
+    → DecodesTo t of index m (Err error) → (error ≢ unread.OutOfMemory) → IsNextUnread error (found ∷ left)
+eager_told t of index m (unread.UnexpectedMessageType wanted actual told) found left none decodes kept = tt
+eager_told t of index m (unread.DecodeMessage ty fault) found left none decodes kept = no_request found left none
+eager_told t of index m unread.OutOfMemory found left none decodes kept = absurd (kept refl)
+eager_told t of index m _ found left none decodes kept = absurd decodes
+
 -- what is neither is another message than the call's read
 no_read : {eager lazy : RecordType} {index : ℤ} (m : RawMessage) (error : CommandTypeMismatchError) → IsNoRead eager lazy index m error → IsOther lazy m index error.expected error.actual error.command_index
 no_read m error none = record {
@@ -175,25 +183,35 @@ matches_first_read means lazy_means retells index ignoring expected m left (Ok (
     put_matches ignoring (command_of m) (as_recorded (command_of m ∷ commands_of left) made) (commands_of left) written
     (eager_matches means lazy_means retells ignoring expected made m left takes.recorded found asks (read_as means m takes.recorded takes.is_read.0 takes.is_read.1) takes.is_known takes.is_asked _ refl)
 matches_first_read means lazy_means retells index ignoring expected m left (Err errors.Empty) takes made written asks =
-    put_differs ignoring (command_of m) (as_recorded (command_of m ∷ commands_of left) made) (commands_of left) written
-    (none_differs ignoring made m left (read_as means m takes.recorded takes.is_read.0 takes.is_read.1 ∙ (retells.unknown takes.recorded).0 takes.is_known))
-matches_first_read means lazy_means retells index ignoring expected m left (Err (errors.OtherType error)) takes made written asks =
-    put_as means lazy_means retells ignoring expected made written m left takes.not_eager asks
-    ∙ matches_first lazy_means index ignoring expected m left (Err (Decoding (unread.UnexpectedMessageType error.expected error.actual error.command_index))) (no_read m error takes, λ e. cc) made written asks
-matches_first_read means lazy_means retells index ignoring expected m left (Err (errors.Eager (Mismatch error))) takes made written asks =
-    put_differs ignoring (command_of m) (as_recorded (command_of m ∷ commands_of left) made) (commands_of left) written
-    (eager_differs means lazy_means retells ignoring expected made m left takes.recorded asks (read_as means m takes.recorded takes.is_read.0 takes.is_read.1) takes.differs _ refl)
-matches_first_read means lazy_means retells index ignoring expected m left (Err (errors.Eager (Decoding error))) takes made written asks =
-    put_differs ignoring (command_of m) (as_recorded (command_of m ∷ commands_of left) made) (commands_of left) written
-    (none_differs ignoring made m left (eager_unread means lazy_means retells index m error takes.0 takes.1.0 takes.1.1))
+    let none = read_as means m takes.recorded takes.is_read.0 takes.is_read.1 ∙ (retells.unknown takes.recorded).0 takes.is_known in (
+      put_differs ignoring (command_of m) (as_recorded (command_of m ∷ commands_of left) made) (commands_of left) written (none_differs ignoring made m left none),
+      no_request (command_of m) (commands_of left) none,
+    )
+matches_first_read means lazy_means retells index ignoring expected m left (Err (errors.OtherType error)) takes made written asks = (
+  put_as means lazy_means retells ignoring expected made written m left takes.not_eager asks
+      ∙ (matches_first lazy_means index ignoring expected m left (Err (Decoding (unread.UnexpectedMessageType error.expected error.actual error.command_index))) (no_read m error takes, λ e. cc) made written asks).0,
+  tt,
+)
+matches_first_read means lazy_means retells index ignoring expected m left (Err (errors.Eager (Mismatch error))) takes made written asks = (
+  put_differs ignoring (command_of m) (as_recorded (command_of m ∷ commands_of left) made) (commands_of left) written
+      (eager_differs means lazy_means retells ignoring expected made m left takes.recorded asks (read_as means m takes.recorded takes.is_read.0 takes.is_read.1) takes.differs _ refl),
+  tt,
+)
+matches_first_read {eager = eager} {of_eager = of_eager} means lazy_means retells index ignoring expected m left (Err (errors.Eager (Decoding error))) takes made written asks =
+    let none = eager_unread means lazy_means retells index m error takes.0 takes.1.0 takes.1.1 in (
+      put_differs ignoring (command_of m) (as_recorded (command_of m ∷ commands_of left) made) (commands_of left) written (none_differs ignoring made m left none),
+      eager_told eager of_eager index m error (command_of m) (commands_of left) none takes.1.0 takes.1.1,
+    )
 matches_first_read means lazy_means retells index ignoring expected m left (Err (errors.Eager (Unavailable error))) takes made written asks = absurd takes
 matches_first_read means lazy_means retells index ignoring expected m left (Err (errors.Eager OutOfMemory)) takes made written asks = tt
 matches_first_read means lazy_means retells index ignoring expected m left (Err (errors.Lazy (Decoding error))) takes made written asks =
-    put_as means lazy_means retells ignoring expected made written m left (never_both means lazy_means retells m takes.0) asks
-    ∙ matches_first lazy_means index ignoring expected m left (Err (Decoding error)) takes.1 made written asks
-matches_first_read means lazy_means retells index ignoring expected m left (Err (errors.Lazy (Mismatch error))) takes made written asks =
-    put_as means lazy_means retells ignoring expected made written m left (never_both means lazy_means retells m takes.0.0) asks
-    ∙ matches_first lazy_means index ignoring expected m left (Err (Mismatch error)) takes made written asks
+    let matched = matches_first lazy_means index ignoring expected m left (Err (Decoding error)) takes.1 made written asks in
+    (put_as means lazy_means retells ignoring expected made written m left (never_both means lazy_means retells m takes.0) asks ∙ matched.0, matched.1)
+matches_first_read means lazy_means retells index ignoring expected m left (Err (errors.Lazy (Mismatch error))) takes made written asks = (
+  put_as means lazy_means retells ignoring expected made written m left (never_both means lazy_means retells m takes.0.0) asks
+      ∙ matches_first lazy_means index ignoring expected m left (Err (Mismatch error)) takes made written asks,
+  tt,
+)
 matches_first_read means lazy_means retells index ignoring expected m left (Err (errors.Lazy (Unavailable error))) takes made written asks = absurd takes
 matches_first_read means lazy_means retells index ignoring expected m left (Err (errors.Lazy OutOfMemory)) takes made written asks = tt
 

@@ -3,7 +3,8 @@ use Rattle.std.specs.Prelude.{◌≡◌, ◌≢◌, ℕ, ℤ, Bool, List, [], �
 use Rattle.protocol_table.specs.declared.table.RecordType.{RecordType}
 use Rattle.protocol_wire.specs.Wire.{Field}
 use Rattle.journal_model.specs.Request.{Request}
-use Rattle.attempt_model.specs.Requests.{put_one}
+use Rattle.attempt_model.specs.Requests.{Commands, put_one}
+use Rattle.protocol_stream.specs.ErrorText.{decoding_text, no_memory_text}
 use Rattle.protocol_stream.specs.declared.decoder.RawMessage.{RawMessage}
 use Rattle.protocol_stream.specs.declared.decoder.DecodingError.{DecodingError}
 use Rattle.protocol_stream.specs.declared.decoder.DecodingError.TheVariants as unread
@@ -11,7 +12,7 @@ use Rattle.protocol_messages.specs.RecordMessage.{type_of_record}
 use Rattle.protocol_messages.specs.Decoded.{DecodesTo}
 use Rattle.protocol_errors.specs.Code.{journal_mismatch, internal}
 use Rattle.protocol_errors.specs.Error.{decoding_code}
-use Rattle.protocol_errors.specs.Texts.{mismatch_text}
+use Rattle.protocol_errors.specs.Texts.{mismatch_text, unavailable_text}
 use Rattle.protocol_differences.specs.declared.mismatch.CommandMismatchError.{CommandMismatchError}
 use Rattle.protocol_differences.specs.Mismatch.{place_text}
 use Rattle.protocol_differences.specs.Passed.{AreHeaderEqual}
@@ -57,13 +58,24 @@ TakesAs t of erased index ignoring made (Some m) (Err OutOfMemory) = Unit {0}
 
 -- ---- what it says of requests
 
+-- what is next is no request: it cannot be read, or lacks what each request of its kind has
+abbrev pub IsNoRequest : Commands → Type 0
+IsNoRequest (None ∷ left) = Unit {0}
+IsNoRequest _ = ⊥
+
+-- What is wrong with what is next: it is of another type; or it is of the type, and no request, since its payload cannot be read.
+abbrev pub IsNextUnread : DecodingError → Commands → Type 0
+IsNextUnread (unread.UnexpectedMessageType expected actual index) left = Unit {0}
+IsNextUnread (unread.DecodeMessage ty fault) left = IsNoRequest left
+IsNextUnread _ left = ⊥
+
 -- The request that a call makes is matched with the next that is left, and nothing is written; an error says that they differ, but
 -- where nothing was left or memory was refused.
 abbrev pub Matches : {M : Type 0} → (ignoring : Bool) → (made : Request) → (written : List Request) → (old : List RawMessage) → Result M (ReplayError M) → (new : List RawMessage) → Type 0
 Matches ignoring made written old (Ok recorded) new = put_one (header_equal ignoring) made (commands_of old) written ≡ Some (record { left = commands_of new; written = written })
 Matches ignoring made written old (Err (Unavailable error)) new = commands_of old ≡ []
 Matches ignoring made written old (Err OutOfMemory) new = Unit {0}
-Matches ignoring made written old (Err (Decoding error)) new = put_one (header_equal ignoring) made (commands_of old) written ≡ None
+Matches ignoring made written old (Err (Decoding error)) new = (put_one (header_equal ignoring) made (commands_of old) written ≡ None) × IsNextUnread error (commands_of old)
 Matches ignoring made written old (Err (Mismatch error)) new = put_one (header_equal ignoring) made (commands_of old) written ≡ None
 
 -- ---- what an error tells
@@ -74,7 +86,9 @@ replay_code (Decoding error) = decoding_code error
 replay_code (Mismatch error) = journal_mismatch
 replay_code OutOfMemory = internal
 
--- what is printed of two commands that differ
-abbrev pub difference_text : {M : Type 0} → (difference : M → M → List ℕ) → ReplayError M → Option (List ℕ)
-difference_text difference (Mismatch error) = Some (mismatch_text ++ place_text error.command_index ++ difference error.actual error.expected)
-difference_text difference _ = None
+-- what is printed of it; of two commands that differ, where they do
+abbrev pub replay_text : {M : Type 0} → (difference : M → M → List ℕ) → ReplayError M → List ℕ
+replay_text difference (Unavailable error) = unavailable_text error.expected
+replay_text difference (Decoding error) = decoding_text error
+replay_text difference (Mismatch error) = mismatch_text ++ place_text error.command_index ++ difference error.actual error.expected
+replay_text difference OutOfMemory = no_memory_text

@@ -21,7 +21,7 @@ use Rattle.vm_commands.specs.declared.state_read.StateReadError.{StateReadError}
 use Rattle.vm_commands.specs.declared.state_read.StateReadError.TheVariants as errors
 use Rattle.vm_commands.specs.HeaderEquality.{header_equal}
 use Rattle.vm_commands.specs.Recorded.{commands_of, as_recorded}
-use Rattle.vm_commands.specs.Popping.{both_told, TakesAs}
+use Rattle.vm_commands.specs.Popping.{both_told, TakesAs, IsNoRequest, IsNextUnread}
 
 -- ---- the answer, exactly
 
@@ -83,6 +83,15 @@ ReadsAs eager lazy of_eager of_lazy erased_eager erased_lazy known bare asked in
 
 -- ---- what it says of requests
 
+-- why what is next is not the read: it is another request, or of another type; or it is no request
+abbrev pub IsNotRead : {L E : Type 0} → StateReadError L E → Commands → Type 0
+IsNotRead (errors.OtherType error) left = Unit {0}
+IsNotRead (errors.Lazy (Decoding error)) left = IsNextUnread error left
+IsNotRead (errors.Lazy _) left = Unit {0}
+IsNotRead (errors.Eager (Decoding error)) left = IsNextUnread error left
+IsNotRead (errors.Eager _) left = Unit {0}
+IsNotRead errors.Empty left = IsNoRequest left
+
 -- The read that a call makes, as it is recorded, is matched with the next that is left, and nothing is written; an error says that it is another, but
 -- where nothing was left or memory was refused.
 abbrev pub MatchesRead : {K L E : Type 0} → (ignoring : Bool) → (made : Request) → (written : List Request) → (old : List RawMessage) → Result (StateRead K) (StateReadError L E) → (new : List RawMessage) → Type 0
@@ -90,7 +99,7 @@ MatchesRead ignoring made written old (Ok read) new = put_one (header_equal igno
 MatchesRead ignoring made written old (Err (errors.Lazy (Unavailable error))) new = commands_of old ≡ []
 MatchesRead ignoring made written old (Err (errors.Lazy OutOfMemory)) new = Unit {0}
 MatchesRead ignoring made written old (Err (errors.Eager OutOfMemory)) new = Unit {0}
-MatchesRead ignoring made written old (Err _) new = put_one (header_equal ignoring) (as_recorded (commands_of old) made) (commands_of old) written ≡ None
+MatchesRead ignoring made written old (Err error) new = (put_one (header_equal ignoring) (as_recorded (commands_of old) made) (commands_of old) written ≡ None) × IsNotRead error (commands_of old)
 
 -- How a read whose answer was known stands to the same read whose answer is to come: `retold read lazy` asks what `lazy` asks, with what `read` knew.
 pub record IsRetold {L E K : Type 0} (eager lazy : RecordType) (known : E → Option K) (bare : E → E) (asked : L → E) (retold : E → L → E) (erased : Bool → E → E)

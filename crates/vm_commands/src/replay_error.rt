@@ -1,5 +1,6 @@
 // Why the next recorded command is not the one that a call makes.
-ghost use Rattle.vm_commands.specs.Popping.{replay_code, difference_text};
+ghost use Rattle.std.specs.Prelude.{Some};
+ghost use Rattle.vm_commands.specs.Popping.{replay_code, replay_text};
 
 use protocol_differences::{CommandMessageHeaderDiff, CommandMismatchError};
 use protocol_errors::{InvocationErrorCode, UnavailableEntryError, WithInvocationErrorCode, codes};
@@ -21,7 +22,7 @@ pub enum ReplayError<M> {
 
 /// Prints the error that it holds.
 impl<M: CommandMessageHeaderDiff> fmt::Display for ReplayError<M> {
-    ghost output = { λ error. difference_text M.difference error };
+    ghost output = { λ error. Some (replay_text M.difference error) };
 
     fn fmt<W: fmt::Write>(&self, f: &mut fmt::Formatter<W>) -> fmt::Result {
         match self {

@@ -11,6 +11,7 @@ use Rattle.protocol_errors.specs.Fixed.{fixed_code, fixed_text}
 use Rattle.protocol_errors.specs.declared.error.Error.{Error}
 use Rattle.protocol_errors.specs.declared.fixed.FixedError.TheVariants as fixed
 use Rattle.protocol_messages.specs.Encoded.{record_message}
+use Rattle.protocol_stream.specs.ErrorText.{too_long_text}
 use Rattle.protocol_stream.specs.Frame.{spelled}
 use Rattle.protocol_stream.specs.declared.decoder.RawMessage.{RawMessage}
 use Rattle.protocol_stream.specs.declared.encoder.EncodingError.{EncodingError}
@@ -55,7 +56,7 @@ RegisterCauses unregistered.IdsExhausted cause = Unless false (Tells internal (S
 RegisterCauses unregistered.OutOfMemory cause = Unless true (Tells internal None) cause
 
 abbrev pub SendCauses : EncodingError → Result Error AllocError → Type 0
-SendCauses unsent.PayloadTooLong cause = Unless false (Tells internal None) cause
+SendCauses unsent.PayloadTooLong cause = Unless false (Tells internal (Some too_long_text)) cause
 SendCauses unsent.OutOfMemory cause = Unless true (Tells internal None) cause
 
 -- no number is left, which is told, or memory was refused
@@ -72,7 +73,7 @@ Registers value old (Err answer) new = LacksNumber old answer new
 -- the runtime is asked for the key, or its frame is not written: it is longer than one can be, or memory was refused
 abbrev pub Sends : EphemeralCompletionId → (key : Text) → (old : MachineState) → Result EphemeralCompletionId Error → (new : MachineState) → Type 0
 Sends id key old (Ok taken) new = (IsTooLong id.number key old.active.output → ⊥) × (taken ≡ id) × (new ≡ with_read id.number key old)
-Sends id key old (Err answer) new = FailsBy (λ error. IsTooLong id.number key old.active.output × Tells internal None error) old answer new
+Sends id key old (Err answer) new = FailsBy (λ error. IsTooLong id.number key old.active.output × Tells internal (Some too_long_text) error) old answer new
 
 -- the read takes the next number
 pub record AsksNext (key : Text) (old : MachineState) (result : Result EphemeralCompletionId Error) (new : MachineState) : Type 0 where
@@ -92,7 +93,7 @@ Refuses refusal old (Err answer) new = FailsBy (Tells (refusal_code refusal) (So
 
 -- the runtime is asked for what is not known, while it can answer
 abbrev pub AsksWhere : (is_input_closed : Bool) → (key : Text) → (old : MachineState) → Result EphemeralCompletionId Error → (new : MachineState) → Type 0
-AsksWhere true key old result new = Refuses (InputClosed key) old result new
+AsksWhere true key old result new = Refuses (InputClosed (record { key = key })) old result new
 AsksWhere false key old result new = Asks key old result new
 
 -- by what is known of the key

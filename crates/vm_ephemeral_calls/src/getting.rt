@@ -8,7 +8,7 @@ use crate::refusal::{ReadRefusal, lacks_reads};
 use crate::registering::{ask, register};
 use bytes::ByteStr;
 use journal_model::Value;
-use protocol_errors::{EPHEMERAL_COMMAND_DURING_REPLAY, Error};
+use protocol_errors::{EPHEMERAL_COMMAND_DURING_REPLAY, EphemeralStateGetWithClosedInput, Error};
 use vm_context::EagerGetState;
 use vm_machine::{Admission, MachineState, about_nothing};
 use vm_types::EphemeralCompletionId;
@@ -27,7 +27,8 @@ fn get_unknown(vm: &mut MachineState, key: ByteStr) -> Result<EphemeralCompletio
     ensures { AsksWhere vm.old.is_input_closed key vm.old result vm.new }
 {
     if vm.is_input_closed {
-        return Err(refuse(vm, ReadRefusal::InputClosed(key)));
+        let error = EphemeralStateGetWithClosedInput::new(key);
+        return Err(refuse(vm, ReadRefusal::InputClosed(error)));
     }
     ask(vm, key)
 }

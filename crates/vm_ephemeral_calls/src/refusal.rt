@@ -1,10 +1,11 @@
 // Why an ephemeral read is not made.
 ghost use Rattle.std.specs.Prelude.{◌≡◌, Some};
-ghost use Rattle.std.specs.Fmt.{WritesOnOk};
-ghost use Rattle.vm_ephemeral_calls.specs.Refusals.{lacks_reads, unsupported_text, closed_input_text, refusal_code, refusal_text};
+ghost use Rattle.vm_ephemeral_calls.specs.Refusals.{lacks_reads, refusal_code, refusal_text};
 
-use bytes::ByteStr;
-use protocol_errors::{InvocationErrorCode, WithInvocationErrorCode, codes};
+use protocol_errors::{
+    EphemeralStateGetWithClosedInput, InvocationErrorCode, UnsupportedFeatureForNegotiatedVersion,
+    WithInvocationErrorCode, codes,
+};
 use protocol_types::{Feature, Version};
 use std::fmt;
 
@@ -15,39 +16,13 @@ pub(crate) fn lacks_reads(version: Version) -> bool
     Feature::EphemeralState.is_later_than(version.number())
 }
 
-/// Why an ephemeral read is not made. It prints what the error of `protocol_errors` prints that is of its kind.
+/// Why an ephemeral read is not made. It prints what the error of its kind prints.
 #[derive(Debug, Drop)]
 pub(crate) enum ReadRefusal {
     /// The version that is spoken has none.
     Unsupported(Version),
     /// The key has to be asked for, and no answer can come.
-    InputClosed(ByteStr),
-}
-
-// Writes that ephemeral reads came with a later version.
-#[tactic(auto, unfolding(crate::specs::Refusals::unsupported_text))]
-fn write_unsupported<W: fmt::Write>(
-    version: Version,
-    minimum: Version,
-    f: &mut fmt::Formatter<W>,
-) -> fmt::Result
-    ensures { WritesOnOk W.write_str_gives f.old result (unsupported_text version minimum) f.new }
-{
-    write!(
-        f,
-        "Feature 'ephemeral state get' is not supported by the negotiated protocol version '{version}', the minimum required version is '{minimum}'"
-    )
-}
-
-// Writes that nobody can tell the key's value any more.
-#[tactic(auto, unfolding(crate::specs::Refusals::closed_input_text))]
-fn write_closed_input<W: fmt::Write>(key: &str, f: &mut fmt::Formatter<W>) -> fmt::Result
-    ensures { WritesOnOk W.write_str_gives f.old result (closed_input_text key.now) f.new }
-{
-    write!(
-        f,
-        "Cannot get the state of key '{key}' ephemerally, the input is closed"
-    )
+    InputClosed(EphemeralStateGetWithClosedInput),
 }
 
 impl fmt::Display for ReadRefusal {
@@ -56,9 +31,15 @@ impl fmt::Display for ReadRefusal {
     fn fmt<W: fmt::Write>(&self, f: &mut fmt::Formatter<W>) -> fmt::Result {
         match self {
             ReadRefusal::Unsupported(version) => {
-                write_unsupported(*version, Feature::EphemeralState.first_version(), f)
+                let minimum = Feature::EphemeralState.first_version();
+                let lack = UnsupportedFeatureForNegotiatedVersion::new(
+                    "ephemeral state get",
+                    *version,
+                    minimum,
+                );
+                fmt::Display::fmt(&lack, f)
             }
-            ReadRefusal::InputClosed(key) => write_closed_input(key.as_str(), f),
+            ReadRefusal::InputClosed(error) => fmt::Display::fmt(error, f),
         }
     }
 }
@@ -70,7 +51,7 @@ impl WithInvocationErrorCode for ReadRefusal {
     fn code(&self) -> InvocationErrorCode {
         match self {
             ReadRefusal::Unsupported(_) => codes::UNSUPPORTED_FEATURE,
-            ReadRefusal::InputClosed(_) => codes::INTERNAL,
+            ReadRefusal::InputClosed(error) => error.code(),
         }
     }
 }

@@ -2,7 +2,7 @@
 use Rattle.std.specs.Prelude.{ℕ, ◌-◌, Bool, true, false, nat_lt, if◌then◌else◌, List, ◌++◌, Option, Some, None, codes}
 use Rattle.protocol_errors.specs.Code.{protocol_violation, closed}
 use Rattle.protocol_errors.specs.Error.{plain_error}
-use Rattle.protocol_errors.specs.Texts.{closed_text}
+use Rattle.protocol_errors.specs.Texts.{closed_text, unexpected_state_text, invoking_text}
 use Rattle.protocol_errors.specs.declared.error.Error.{Error}
 use Rattle.vm_errors.specs.declared.phase.Phase.{Phase}
 use Rattle.vm_errors.specs.declared.phase.Phase.TheVariants.{WaitingStart, WaitingReplayEntries, Active, Closed, Failed}
@@ -19,14 +19,8 @@ state_name Active is_replaying = active_name is_replaying
 state_name Closed is_replaying = codes "Closed"
 state_name (Failed error) is_replaying = codes "Failed"
 
-unfoldable pub state_text : List ℕ → List ℕ
-state_text state = codes "Unexpected state '" ++ state ++ codes "'"
-
-unfoldable pub event_text : List ℕ → List ℕ
-event_text event = codes " when invoking '" ++ event ++ codes "'"
-
 abbrev pub state_error : (state event : List ℕ) → Error
-state_error state event = plain_error protocol_violation (state_text state ++ event_text event)
+state_error state event = plain_error protocol_violation (unexpected_state_text state ++ invoking_text event)
 
 abbrev pub closed_error : (event : List ℕ) → Error
 closed_error event = plain_error closed (closed_text event)

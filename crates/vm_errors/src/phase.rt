@@ -1,15 +1,10 @@
 // How far a machine has come.
-ghost use Rattle.std.specs.Prelude.{◌≡◌, ◌++◌, Some, IfOk};
-ghost use Rattle.std.specs.Fmt.{WritesOnOk};
-ghost use Rattle.protocol_errors.specs.Code.{protocol_violation};
-ghost use Rattle.vm_errors.specs.Phases.{state_text, event_text, state_name, is_closed, state_error, closed_error, unexpected_error};
+ghost use Rattle.std.specs.Prelude.{◌≡◌, IfOk};
+ghost use Rattle.vm_errors.specs.Phases.{state_name, is_closed, state_error, closed_error, unexpected_error};
 
 use bytes::ByteStr;
-use protocol_errors::{
-    ClosedError, Error, InvocationErrorCode, WithInvocationErrorCode, codes, to_error,
-};
+use protocol_errors::{ClosedError, Error, UnexpectedStateError, to_error};
 use std::alloc::{AllocError, Global};
-use std::fmt;
 
 /// How far a machine has come. While calls are made of it, its attempt tells whether it replays.
 #[derive(Debug, Drop)]
@@ -52,51 +47,11 @@ fn is_closed(phase: &Phase) -> bool
     matches!(phase, Phase::Closed)
 }
 
-// Writes in which state the machine is.
-#[tactic(auto, unfolding(crate::specs::Phases::state_text))]
-fn write_state<W: fmt::Write>(state: &str, f: &mut fmt::Formatter<W>) -> fmt::Result
-    ensures { WritesOnOk W.write_str_gives f.old result (state_text state.now) f.new }
-{
-    write!(f, "Unexpected state '{state}'")
-}
-
-// Writes which call was made.
-#[tactic(auto, unfolding(crate::specs::Phases::event_text))]
-fn write_event<W: fmt::Write>(event: &str, f: &mut fmt::Formatter<W>) -> fmt::Result
-    ensures { WritesOnOk W.write_str_gives f.old result (event_text event.now) f.new }
-{
-    write!(f, " when invoking '{event}'")
-}
-
-// A call that the state of the machine does not allow. It prints what `protocol_errors::UnexpectedStateError` prints.
-#[derive(Debug, Drop)]
-struct StateError {
-    state: &'static str,
-    event: ByteStr,
-}
-
-impl fmt::Display for StateError {
-    ghost output = { λ error. Some (state_text error.state.now ++ event_text error.event) };
-
-    fn fmt<W: fmt::Write>(&self, f: &mut fmt::Formatter<W>) -> fmt::Result {
-        write_state(self.state, f)?;
-        write_event(self.event.as_str(), f)
-    }
-}
-
-impl WithInvocationErrorCode for StateError {
-    ghost code_of = { λ _. protocol_violation };
-
-    fn code(&self) -> InvocationErrorCode {
-        codes::PROTOCOL_VIOLATION
-    }
-}
-
 // The machine is in this state, which is none for it.
 fn state_error(alloc: Global, state: &'static str, event: ByteStr) -> Result<Error, AllocError>
     ensures { IfOk result (λ error. error ≡ state_error state.now event) }
 {
-    to_error(alloc, &StateError { state, event })
+    to_error(alloc, &UnexpectedStateError::new(state, event))
 }
 
 // The machine is behind the end.

@@ -4,6 +4,7 @@ use Rattle.std.specs.declared.alloc.AllocError.{AllocError}
 use Rattle.protocol_errors.specs.Error.{decoding_code}
 use Rattle.protocol_errors.specs.declared.error.Error.{Error}
 use Rattle.protocol_stream.specs.Decoder.{ConsumesNext}
+use Rattle.protocol_stream.specs.ErrorText.{decoding_text}
 use Rattle.protocol_stream.specs.declared.decoder.DecodingError.{DecodingError}
 use Rattle.protocol_stream.specs.declared.decoder.DecodingError.TheVariants.{OutOfMemory}
 use Rattle.protocol_stream.specs.declared.decoder.RawMessage.{RawMessage}
@@ -44,7 +45,7 @@ lacks_memory _ = false
 
 -- what the machine fails with; an error is about no command
 abbrev pub DecodingCauses : DecodingError → Result Error AllocError → Type 0
-DecodingCauses error cause = Unless (lacks_memory error) (Tells (decoding_code error) None) cause
+DecodingCauses error cause = Unless (lacks_memory error) (Tells (decoding_code error) (Some (decoding_text error))) cause
 
 -- the machine fails with why what has come cannot be read
 pub record IsUnread (error : DecodingError) (old new : MachineState) : Type 0 where

@@ -1,4 +1,5 @@
 -- Names of crates below, passed on, so that crates above name this one alone.
+pub use Rattle.protocol_differences.specs.Mismatch.{place_text}
 pub use Rattle.vm_machine.specs.Admitting.{IsElsewhere, IsRefused, is_active, AdmitsWhere}
 pub use Rattle.vm_machine.specs.Calls.{checks_off, IsOf, IsRefusalOf, IsMade, Calls}
 pub use Rattle.vm_machine.specs.Failing.{MachineFails}

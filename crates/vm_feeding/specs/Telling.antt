@@ -3,6 +3,7 @@ use Rattle.std.specs.Prelude.{◌≡◌, ℕ, Bool, true, false, List, codes, Op
 use Rattle.std.specs.declared.alloc.AllocError.{AllocError}
 use Rattle.protocol_differences.specs.declared.relationship.CommandRelationship.{CommandRelationship}
 use Rattle.protocol_errors.specs.Code.{unsupported_feature}
+use Rattle.protocol_errors.specs.Texts.{feature_text}
 use Rattle.protocol_errors.specs.declared.error.Error.{Error}
 use Rattle.protocol_errors.specs.declared.error.ErrorBehavior.{ErrorBehavior}
 use Rattle.protocol_types.specs.Feature.{first_version, lacks_feature}
@@ -13,7 +14,6 @@ use Rattle.vm_context.specs.Journal.{JournalCounts, command_told, copies_name}
 use Rattle.vm_feeding.specs.Failing.{HasFailed}
 use Rattle.vm_machine.specs.Passed.{Tells}
 use Rattle.vm_machine.specs.declared.machine_state.MachineState.{MachineState}
-use Rattle.vm_refusals.specs.Refusals.{unsupported_text}
 
 -- whether an error has a behaviour that the version cannot tell: that of being retried is what one has where none is told
 abbrev pub lacks_behavior : Version → ErrorBehavior → Bool
@@ -21,7 +21,7 @@ lacks_behavior version ErrorBehavior.Retry = false
 lacks_behavior version _ = lacks_feature (version_number version) features.ErrorBehavior
 
 abbrev pub behavior_text : Version → List ℕ
-behavior_text version = unsupported_text (codes "error behavior") version (first_version features.ErrorBehavior)
+behavior_text version = feature_text (codes "error behavior") version (first_version features.ErrorBehavior)
 
 -- the error, about the command that is named, if one is; memory is asked for the copy of a name alone
 abbrev pub RelatedCauses : JournalCounts → Error → Option CommandRelationship → Result Error AllocError → Type 0

@@ -1,62 +1,14 @@
 // An error of the host.
 ghost use Rattle.std.specs.Prelude.{◌≡◌};
-ghost use Rattle.std.specs.Fmt.{WritesOnOk};
-ghost use Rattle.vm_refusals.specs.Refusals.{unsupported_text};
 ghost use Rattle.vm_feeding.specs.Telling.{lacks_behavior, HostCauses, RelatedCauses, IsTold};
 
 use crate::failing::let_fail;
 use protocol_differences::CommandRelationship;
-use protocol_errors::{Error, ErrorBehavior, InvocationErrorCode, WithInvocationErrorCode, codes};
+use protocol_errors::{Error, ErrorBehavior, UnsupportedFeatureForNegotiatedVersion};
 use protocol_types::{Feature, Version};
 use std::alloc::{AllocError, Global};
-use std::fmt;
 use vm_context::Journal;
 use vm_machine::{MachineState, about_nothing};
-
-// Writes that a feature came with a later version.
-#[tactic(auto, unfolding(vm_refusals::specs::Refusals::unsupported_text))]
-fn write_lack<W: fmt::Write>(
-    name: &str,
-    version: Version,
-    minimum: Version,
-    f: &mut fmt::Formatter<W>,
-) -> fmt::Result
-    ensures { WritesOnOk W.write_str_gives f.old result (unsupported_text name.now version minimum) f.new }
-{
-    write!(
-        f,
-        "Feature '{name}' is not supported by the negotiated protocol version '{version}', the minimum required version is '{minimum}'"
-    )
-}
-
-// Errors have no behaviour in the version that is spoken. It prints what `protocol_errors::UnsupportedFeatureForNegotiatedVersion`
-// prints.
-#[derive(Debug, Drop)]
-struct BehaviorError {
-    version: Version,
-}
-
-impl fmt::Display for BehaviorError {
-    ghost use Rattle.std.specs.Prelude.{Some};
-    ghost use Rattle.vm_feeding.specs.Telling.{behavior_text};
-
-    ghost output = { λ error. Some (behavior_text error.version) };
-
-    fn fmt<W: fmt::Write>(&self, f: &mut fmt::Formatter<W>) -> fmt::Result {
-        let minimum = Feature::ErrorBehavior.first_version();
-        write_lack("error behavior", self.version, minimum, f)
-    }
-}
-
-impl WithInvocationErrorCode for BehaviorError {
-    ghost use Rattle.protocol_errors.specs.Code.{unsupported_feature};
-
-    ghost code_of = { λ _. unsupported_feature };
-
-    fn code(&self) -> InvocationErrorCode {
-        codes::UNSUPPORTED_FEATURE
-    }
-}
 
 // Whether an error has a behaviour that the version cannot tell.
 fn lacks_behavior(version: Version, behavior: ErrorBehavior) -> bool
@@ -103,7 +55,9 @@ fn host_cause(
     if lacks_behavior(version, error.behavior()) {
         drop(error);
         drop(relationship);
-        return about_nothing(alloc, &BehaviorError { version });
+        let minimum = Feature::ErrorBehavior.first_version();
+        let lack = UnsupportedFeatureForNegotiatedVersion::new("error behavior", version, minimum);
+        return about_nothing(alloc, &lack);
     }
     related_cause(journal, error, relationship)
 }

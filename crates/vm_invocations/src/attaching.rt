@@ -6,6 +6,7 @@ ghost use Rattle.vm_calls.specs.Words.{Call, Answer, Invocation, Machine};
 ghost use Rattle.vm_calls.specs.Active.{Sees, IsAtCommand};
 ghost use Rattle.vm_calls.specs.Making.{Makes};
 ghost use Rattle.vm_calls.specs.Spent.{IsSpent, FailsSpent};
+ghost use Rattle.vm_calls.specs.Finding.{FindsAs};
 
 use crate::targets::to_invocation_target;
 use bytes::ByteStr;
@@ -25,6 +26,7 @@ pub fn attach(
     ensures made { (given : Invocation) (m : Machine) → refusal_of given.version (Call.Attach target) ≡ None → Sees given active.old m
         → Makes checks_off given m (Call.Attach target) (λ handle. Answer.Handle handle) active.old result active.new }
     ensures spent { IsSpent active.old → FailsSpent 1 active.old result active.new }
+    ensures found { FindsAs AttachInvocationCommand active.old result active.new }
     ensures told { IsAtCommand AttachInvocationCommand [] active.old.journal active.new.journal }
 {
     let target = to_invocation_target(target);
@@ -51,6 +53,7 @@ pub fn get_output(
         → Sees given active.old m
         → Makes checks_off given m (Call.GetOutput target) (λ handle. Answer.Handle handle) active.old result active.new }
     ensures spent { IsSpent active.old → FailsSpent 1 active.old result active.new }
+    ensures found { FindsAs GetInvocationOutputCommand active.old result active.new }
     ensures told { IsAtCommand GetInvocationOutputCommand [] active.old.journal active.new.journal }
 {
     let (name, id, handle) = active.begin(MessageType::GetInvocationOutputCommand, ByteStr::new())?;

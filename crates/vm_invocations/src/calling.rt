@@ -5,10 +5,12 @@ ghost use Rattle.journal_model.specs.Refusal.{refusal_of};
 ghost use Rattle.journal_model.specs.Await.{child_of};
 ghost use Rattle.protocol_spellings.specs.Requests.{request_of_call};
 ghost use Rattle.vm_commands.specs.HeaderEquality.{is_unstable};
+ghost use Rattle.vm_commands.specs.Passed.{type_of_record};
 ghost use Rattle.vm_calls.specs.Words.{Call, Answer, Request, Invocation, Machine};
 ghost use Rattle.vm_calls.specs.Active.{Sees, asking, IsAtCommand, TellsSame, LacksCompletions, HasCompletions};
 ghost use Rattle.vm_calls.specs.Making.{Makes};
 ghost use Rattle.vm_calls.specs.Spent.{IsSpent, FailsSpent, KeepsRest};
+ghost use Rattle.vm_calls.specs.Finding.{FindsAs};
 ghost use Rattle.vm_calls.specs.declared.call_error.NumberError.TheVariants.{IdsExhausted};
 ghost use Rattle.vm_invocations.specs.Pairing.{TakesTwo, CompletesTwo, HasBegunTwo};
 
@@ -123,6 +125,7 @@ fn put_call<M: Command>(
         → Makes checks_off given m call (λ made. Answer.Handles made.invocation_id_notification_handle made.call_notification_handle) old result active.new }
     ensures spent { (request : Request) (taken : ℕ) (old : Active) → M.request_of command ≡ Some request → KeepsRest old active.old → HasCompletions taken old
         → IsSpent old → FailsSpent taken old result active.new }
+    ensures found { (ty : MessageType) (old : Active) → type_of_record M.record_type ≡ Some ty → KeepsRest old active.old → FindsAs ty old result active.new }
 {
     match active.put(alloc, command, ignore) {
         Err(error) => Err(CallError::Put(error)),
@@ -150,6 +153,7 @@ pub fn call(
         → Makes checks_off given m (Call.Call target parameter name options)
         (λ made. Answer.Handles made.invocation_id_notification_handle made.call_notification_handle) active.old result active.new }
     ensures spent { IsSpent active.old → FailsSpent 2 active.old result active.new }
+    ensures found { FindsAs MessageType.CallCommand active.old result active.new }
     ensures told { IsAtCommand MessageType.CallCommand (name_or_empty name) active.old.journal active.new.journal }
 {
     let (name, first, second, handles) = begin_two(

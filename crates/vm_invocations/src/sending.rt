@@ -10,6 +10,7 @@ ghost use Rattle.vm_calls.specs.Words.{Call, Answer, Request, Invocation, Machin
 ghost use Rattle.vm_calls.specs.Active.{Sees, IsAtCommand};
 ghost use Rattle.vm_calls.specs.Making.{Makes};
 ghost use Rattle.vm_calls.specs.Spent.{IsSpent, FailsSpent};
+ghost use Rattle.vm_calls.specs.Finding.{FindsAs};
 
 use bytes::{ByteStr, Bytes};
 use journal_model::{NotificationHandle, PayloadOptions, Target};
@@ -77,6 +78,7 @@ pub fn send(
         → child_of given.options.implicit_cancellation m.completions (Call.Send target parameter moment name options) ≡ [] → Sees given active.old m
         → Makes checks_off given m (Call.Send target parameter moment name options) (λ handle. Answer.Handle handle) active.old result active.new }
     ensures spent { IsSpent active.old → FailsSpent 1 active.old result active.new }
+    ensures found { FindsAs OneWayCallCommand active.old result active.new }
     ensures told { IsAtCommand OneWayCallCommand (name_or_empty name) active.old.journal active.new.journal }
 {
     let (name, id, handle) = active.begin(MessageType::OneWayCallCommand, or_empty(name))?;

@@ -12,7 +12,7 @@ use Rattle.protocol_errors.specs.declared.error.Error.{Error}
 use Rattle.protocol_types.specs.Version.{version_number}
 use Rattle.protocol_types.specs.declared.version.Version.{Version}
 use Rattle.protocol_types.specs.declared.message_type.MessageType.{MessageType}
-use Rattle.vm_causes.specs.Passed.{Sees, IsAtCommand, Makes, IsSpent, FailsSpent, Active, CallError, kept_error}
+use Rattle.vm_causes.specs.Passed.{Sees, IsAtCommand, Makes, IsSpent, FailsSpent, FindsAs, Active, CallError, kept_error}
 use Rattle.vm_refusals.specs.Refusals.{refusal_meant}
 use Rattle.vm_refusals.specs.declared.refusal.CallRefusal.{CallRefusal}
 use Rattle.vm_refusals.specs.declared.refusal_error.RefusalError.{RefusalError}
@@ -69,14 +69,15 @@ module _ {Taken : Type 0} (IsDone : MachineState → Result Taken Error → Mach
 pub made_by : {M Taken : Type 0} (difference : M → M → List ℕ) (call : Call) (answer : Taken → Answer) (ty : MessageType) (name : Text) (off : Bool) (old : MachineState)
     (made : Result Taken (CallError M)) (active : Active) (result : Result Taken Error) (new : MachineState) → off ≡ checks_off old.options.non_determinism_checks
     → ((given : Invocation) (m : Machine) → IsOf given old → child_of given.options.implicit_cancellation m.completions call ≡ [] → Sees given old.active m → Makes off given m call answer old.active made active)
-    → IsAtCommand ty name old.active.journal active.journal → (IsSpent old.active → FailsSpent (completions_of call) old.active made active)
+    → IsAtCommand ty name old.active.journal active.journal → (IsSpent old.active → FailsSpent (completions_of call) old.active made active) → FindsAs ty old.active made active
     → Settles difference made (record old { active = active }) result new → IsMade difference call answer ty name old result new
-made_by {M = M} {Taken = Taken} difference call answer ty name off old made active result new is makes told spent settles = record {
+made_by {M = M} {Taken = Taken} difference call answer ty name off old made active result new is makes told spent found settles = record {
   made = made;
   between = record old { active = active };
   others = refl;
   makes = λ given m is_of childless sees. subst (λ (off : Bool). Makes off given m call answer old.active made active) is (makes given m is_of childless sees);
   spent = spent;
+  found = found;
   told = told;
   settles = settles;
 }

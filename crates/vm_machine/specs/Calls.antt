@@ -13,7 +13,7 @@ use Rattle.protocol_errors.specs.declared.error.Error.{Error}
 use Rattle.protocol_types.specs.Version.{version_number}
 use Rattle.protocol_types.specs.declared.version.Version.{Version}
 use Rattle.protocol_types.specs.declared.message_type.MessageType.{MessageType}
-use Rattle.vm_causes.specs.Passed.{Sees, IsAtCommand, Makes, IsSpent, FailsSpent, CallError}
+use Rattle.vm_causes.specs.Passed.{Sees, IsAtCommand, Makes, IsSpent, FailsSpent, FindsAs, CallError}
 use Rattle.vm_refusals.specs.Refusals.{refusal_meant}
 use Rattle.vm_refusals.specs.declared.refusal_error.RefusalError.{RefusalError}
 use Rattle.vm_types.specs.declared.options.NonDeterministicChecksOption.{NonDeterministicChecksOption}
@@ -39,7 +39,8 @@ IsRefusalOf version call event (Some error) = (refusal_of (version_number versio
 
 module _ {M Taken : Type 0} (difference : M → M → List ℕ) (call : Call) (answer : Taken → Answer) (ty : MessageType) (name : Text) where
   -- The call is made as the abstract machine makes it, which was seen before; or the machine fails with why it is not. Where nothing
-  -- recorded is left although it still replays, it finds no entry. An error is about this command.
+  -- recorded is left although it still replays, it finds no entry. An error is about this command, and tells of what is recorded next
+  -- why it is not the call's.
   pub record IsMade (old : MachineState) (result : Result Taken Error) (new : MachineState) : Type 0 where
     pub made : Result Taken (CallError M)
     pub between : MachineState
@@ -48,6 +49,7 @@ module _ {M Taken : Type 0} (difference : M → M → List ℕ) (call : Call) (a
     pub makes : (given : Invocation) (m : Machine) → IsOf given old → child_of given.options.implicit_cancellation m.completions call ≡ [] → Sees given old.active m
         → Makes (checks_off old.options.non_determinism_checks) given m call answer old.active made between.active
     pub spent : IsSpent old.active → FailsSpent (completions_of call) old.active made between.active
+    pub found : FindsAs ty old.active made between.active
     pub told : IsAtCommand ty name old.active.journal between.active.journal
     pub settles : Settles difference made between result new
 

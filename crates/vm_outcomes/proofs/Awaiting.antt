@@ -1,5 +1,5 @@
 -- An await is carried out.
-use Rattle.std.proofs.Common.{◌≡◌, ◌≤◌, ◌<◌, ◌^◌, ◌==◌, inr, ℕ, Bool, true, false, length, codes, Option, None, Result, Ok, Err, IfOk, refl, sym, ap, subst, ◌∙◌, arith}
+use Rattle.std.proofs.Common.{◌≡◌, ◌≤◌, ◌<◌, ◌^◌, ◌==◌, inr, ℕ, Bool, true, false, length, codes, Option, Some, None, Result, Ok, Err, IfOk, refl, sym, ap, subst, ◌∙◌, arith}
 use Rattle.std.specs.declared.alloc.AllocError.{AllocError}
 use Rattle.journal_model.specs.AwaitTree.{AwaitTree}
 use Rattle.journal_model.specs.Future.{tree_of}
@@ -12,6 +12,7 @@ use Rattle.journal_model.specs.declared.notification.NotificationId.{Notificatio
 use Rattle.attempt_model.specs.Machine.{Machine, AwaitsTree, UncompletedInReplay}
 use Rattle.protocol_errors.specs.Code.{internal, journal_mismatch, suspended}
 use Rattle.protocol_errors.specs.declared.error.Error.{Error}
+use Rattle.protocol_stream.specs.ErrorText.{too_long_text}
 use Rattle.protocol_stream.specs.declared.encoder.EncodingError.{EncodingError}
 use Rattle.protocol_stream.specs.declared.encoder.EncodingError.TheVariants as unsent
 use Rattle.protocol_types.specs.declared.version.Version.{Version}
@@ -20,7 +21,7 @@ use Rattle.vm_context.specs.Output.{Written}
 use Rattle.vm_ephemeral.specs.Reads.{EphemeralReads, no_reads}
 use Rattle.vm_errors.specs.declared.phase.Phase.{Phase}
 use Rattle.vm_errors.specs.declared.phase.Phase.TheVariants as phases
-use Rattle.vm_feeding.specs.Passed.{checks_off, MachineFails, IsUnexpected, MachineState, Tells}
+use Rattle.vm_feeding.specs.Passed.{checks_off, MachineFails, IsUnexpected, MachineState}
 use Rattle.vm_progress.specs.Asleep.{LacksMemory, FailsUnwritten, SettlesStay, ClosesAs, SleepIs, SleepsAs}
 use Rattle.vm_progress.specs.Awaiting.{ready_read, GoesOnAs, IsAwaited, DoesAwaitWhere, DoesAwait}
 use Rattle.vm_progress.specs.Uncompleted.{started_id, TellsUncompleted}
@@ -49,9 +50,11 @@ uncompleted_code : (invocation : Bytes) (ids : AwaitTree NotificationId) (told :
 uncompleted_code invocation ids (Ok error) uncompleted = ap (λ (e : Error). e.code.0) uncompleted.tells.plain
 uncompleted_code invocation ids (Err refused) uncompleted = tt
 
-uncompleted_told : (invocation : Bytes) (ids : AwaitTree NotificationId) (told : Result Error AllocError) → IfOk told (TellsUncompleted invocation ids) → IfOk told (λ error. Tells journal_mismatch None error)
-uncompleted_told invocation ids (Ok error) uncompleted = uncompleted.tells
-uncompleted_told invocation ids (Err refused) uncompleted = tt
+-- the ids are those that the handles of what is left stand for
+uncompleted_told : (invocation : Bytes) (resolved : Active) (left : AwaitTree ℕ) (told : Result Error AllocError) → IfOk told (TellsUncompleted invocation (over_ids resolved left))
+    → IfOk told (λ error. (tree : AwaitTree ℕ) × TellsUncompleted invocation (over_ids resolved tree) error)
+uncompleted_told invocation resolved left (Ok error) uncompleted = (left, uncompleted)
+uncompleted_told invocation resolved left (Err refused) uncompleted = tt
 
 memory_code : (told : Result Error AllocError) → IfOk told (λ error. ⊥) → IfOk told (λ error. error.code.0 ≡ internal)
 memory_code (Ok error) none = absurd none
@@ -77,10 +80,10 @@ module _ (given : Invocation) (m : Machine) (tree : AwaitTree ℕ) (old : Machin
     fails_unwritten : (error : EncodingError) (answer : Error) (new : MachineState) → (error ≡ unsent.PayloadTooLong → 2 ^ 32 ≤ length (waiting_payload old.is_input_closed old.version (over_ids resolved left)))
         → FailsUnwritten error (record old { active = resolved }) answer new → Comes given m (Call.Await tree) old (awaited_as (Err answer)) new
     fails_unwritten unsent.PayloadTooLong answer new long fails =
-        fails_awaiting internal fails.cause resolved answer new refl (plain_code internal None fails.cause fails.causes) (record {
+        fails_awaiting internal fails.cause resolved answer new refl (plain_code internal (Some too_long_text) fails.cause fails.causes) (record {
           cause = TooLong;
           when = (refl, inr (record { tree = left; machine = becomes.machine; replies = becomes.replies; resolved = resolved; sees = becomes.sees; long = long refl }));
-          tells = told_plain resolved.journal internal None fails.cause fails.causes;
+          tells = told_plain resolved.journal internal (Some too_long_text) fails.cause fails.causes;
           leaves = looked_asked old.active resolved looked;
         }) unwritten fails.fails
     fails_unwritten unsent.OutOfMemory answer new long fails = lacks_memory resolved answer new looked unwritten fails
@@ -172,7 +175,7 @@ module _ (given : Invocation) (m : Machine) (tree : AwaitTree ℕ) (old : Machin
   goes_on_as (Err error) resolved (Ok response) new looked unwritten awaits goes_on = absurd goes_on
   goes_on_as (Err (unawaited.UncompletedInReplay left)) resolved (Err answer) new looked unwritten awaits goes_on =
       let code = uncompleted_code (started_id old.start) (over_ids resolved (tree_of left)) goes_on.cause goes_on.causes in
-      fails_awaiting journal_mismatch goes_on.cause resolved answer new refl code (record { cause = ByFault UncompletedInReplay; when = awaits; tells = uncompleted_told (started_id old.start) (over_ids resolved (tree_of left)) goes_on.cause goes_on.causes; leaves = looked }) unwritten goes_on.fails
+      fails_awaiting journal_mismatch goes_on.cause resolved answer new refl code (record { cause = ByFault UncompletedInReplay; when = awaits; tells = uncompleted_told (started_id old.start) resolved (tree_of left) goes_on.cause goes_on.causes; leaves = looked }) unwritten goes_on.fails
   goes_on_as (Err unawaited.OutOfMemory) resolved (Err answer) new looked unwritten awaits goes_on = lacks_memory resolved answer new looked unwritten goes_on
 
   await_made : (result : Result AwaitResponse Error) (new : MachineState) → IsAwaited tree old result new → Comes given m (Call.Await tree) old (awaited_as result) new

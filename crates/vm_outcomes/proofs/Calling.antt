@@ -9,9 +9,9 @@ use Rattle.journal_model.specs.declared.call.Answer.{Answer}
 use Rattle.journal_model.specs.declared.call.Call.{Call}
 use Rattle.attempt_model.specs.Machine.{Machine, next_slot}
 use Rattle.attempt_model.specs.Results.{Slots}
-use Rattle.protocol_errors.specs.Code.{internal, journal_mismatch}
-use Rattle.protocol_errors.specs.Error.{decoding_code}
+use Rattle.protocol_errors.specs.Code.{internal}
 use Rattle.protocol_errors.specs.declared.error.Error.{Error}
+use Rattle.protocol_stream.specs.ErrorText.{too_long_text}
 use Rattle.protocol_stream.specs.declared.encoder.EncodingError.TheVariants as unsent
 use Rattle.protocol_types.specs.declared.message_type.MessageType.{MessageType}
 use Rattle.vm_awaits.specs.Views.{AsyncResults}
@@ -27,12 +27,12 @@ use Rattle.vm_context.specs.Journal.{no_id_text}
 use Rattle.vm_refusals.specs.declared.refusal_error.RefusalError.{RefusalError}
 use Rattle.vm_feeding.specs.Passed.{IsElsewhere, IsRefused, checks_off, IsOf, IsRefusalOf, IsMade, Calls, Settles, MachineState, CallCauses}
 use Rattle.vm_outcomes.specs.Carrying.{Answers, Fails, Comes, CarriesOut}
-use Rattle.vm_outcomes.specs.Causes.{NoNumber, TooLong, LacksNumber, IsAsked, moment_event, HasCause}
+use Rattle.vm_outcomes.specs.Causes.{Unread, Differs, NoNumber, TooLong, LacksNumber, IsAsked, moment_event, HasCause}
 use Rattle.vm_outcomes.specs.Driven.{IsDriven, TracksNone}
 use Rattle.vm_outcomes.specs.Outcomes.{answered_as}
 use Rattle.vm_outcomes.specs.declared.outcome.CallOutcome.{CallOutcome}
 use Rattle.vm_outcomes.proofs.Answering.{no_signal, answered}
-use Rattle.vm_outcomes.proofs.Failing.{no_memory, told_last, decoding_fault, mismatches, failed, refused_call}
+use Rattle.vm_outcomes.proofs.Failing.{no_memory, told_last, mismatches, failed, refused_call}
 use Rattle.vm_outcomes.proofs.Steps.{steps_of}
 
 -- so many completions lack in what is kept exactly where they lack in the abstract machine
@@ -75,14 +75,14 @@ module _ (given : Invocation) (m : Machine) (call : Call) (old : MachineState) (
     call_cause difference active asked (Number numbers.OutOfMemory) told fails causes = no_memory given m call old active asked told causes
     call_cause difference active asked (Put (Replay (unmatched.Unavailable error))) told fails causes = absurd fails.0
     call_cause difference active asked (Put (Replay (unmatched.Decoding error))) told fails causes =
-        mismatches given m call old active asked (decoding_code error) _ told fails.0 (decoding_fault error) causes
+        mismatches given m call old active asked (Unread error) told fails.0.0 fails.0.1 causes
     call_cause difference active asked (Put (Replay (unmatched.Mismatch error))) told fails causes =
-        mismatches given m call old active asked journal_mismatch _ told fails.0 (inl refl) causes
+        mismatches given m call old active asked (Differs error.command_index (difference error.actual error.expected)) told fails.0 tt causes
     call_cause difference active asked (Put (Replay unmatched.OutOfMemory)) told fails causes = no_memory given m call old active asked told causes
     call_cause difference active asked (Put (Encoding unsent.PayloadTooLong)) told fails causes = record {
       cause = TooLong;
       when = (unrefused, inl fails.0);
-      tells = told_last active.journal internal None told causes;
+      tells = told_last active.journal internal (Some too_long_text) told causes;
       leaves = asked;
     }
     call_cause difference active asked (Put (Encoding unsent.OutOfMemory)) told fails causes = no_memory given m call old active asked told causes

@@ -1,15 +1,16 @@
 -- A call that is not carried out has a cause, and the machine fails with it.
 use Rattle.std.proofs.Common.{◌≡◌, inl, inr, ℕ, true, false, List, Option, Some, Result, Ok, Err, IfOk, refl, sym, ap, subst, ◌∙◌}
 use Rattle.std.specs.declared.alloc.AllocError.{AllocError}
+use Rattle.journal_model.specs.Notification.{Bytes}
 use Rattle.journal_model.specs.Refusal.{Refusal, refusal_of}
 use Rattle.journal_model.specs.Run.{Invocation}
 use Rattle.journal_model.specs.declared.call.Call.{Call}
 use Rattle.attempt_model.specs.Machine.{Machine, FailedBy, Mismatch, UncompletedInReplay, EndInReplay, KeysNotText, ChildNotId, Refused, reply_unless_refused}
-use Rattle.protocol_errors.specs.Error.{decoding_code}
+use Rattle.attempt_model.specs.Requests.{Commands}
+use Rattle.attempt_model.specs.Results.{Slots}
 use Rattle.protocol_errors.specs.declared.error.Error.{Error}
-use Rattle.protocol_stream.specs.declared.decoder.DecodingError.{DecodingError}
-use Rattle.protocol_stream.specs.declared.decoder.DecodingError.TheVariants as undecoded
 use Rattle.protocol_types.specs.declared.version.Version.{Version}
+use Rattle.vm_awaits.specs.Views.{slots_of}
 use Rattle.vm_calls.specs.declared.active.Active.{Active}
 use Rattle.vm_commands.specs.HeaderEquality.{same_header}
 use Rattle.vm_context.specs.Journal.{JournalCounts}
@@ -17,11 +18,12 @@ use Rattle.vm_context.specs.Output.{Written}
 use Rattle.vm_errors.specs.Failing.{FailsAs, FailsNow}
 use Rattle.vm_errors.specs.Phases.{kept_error}
 use Rattle.vm_errors.specs.declared.phase.Phase.TheVariants as phases
+use Rattle.vm_progress.specs.Uncompleted.{started_id}
 use Rattle.vm_refusals.specs.Refusals.{refusal_meant, refusal_code, refusal_text, text_of_refusal}
 use Rattle.vm_refusals.specs.declared.refusal_error.RefusalError.{RefusalError}
 use Rattle.vm_feeding.specs.Passed.{IsRefused, checks_off, MachineFails, MachineState, Tells, TellsLast, Unless}
 use Rattle.vm_outcomes.specs.Carrying.{Fails}
-use Rattle.vm_outcomes.specs.Causes.{Cause, ByFault, NoNumber, TooLong, NoReplay, NoRuns, NoMemory, IsAsked, IsAsBefore, IsLookedAt, Leaves, IsMismatchCode, TellsEither, FaultTells, CauseTells, moment_event, HasCause}
+use Rattle.vm_outcomes.specs.Causes.{Cause, ByFault, NoNumber, TooLong, NoReplay, NoRuns, NoMemory, IsAsked, IsAsBefore, IsLookedAt, Leaves, Unmatched, IsUnmatched, unmatched_code, unmatched_text, TellsEither, FaultTells, CauseTells, moment_event, HasCause}
 use Rattle.vm_outcomes.specs.Driven.{reply_of}
 
 -- ---- what is told
@@ -42,18 +44,11 @@ pub unless_plain : (journal : JournalCounts) (code : ℕ) (text : Option (List �
 unless_plain journal code text (Ok error) tells = inl tells
 unless_plain journal code text (Err refused) tells = tt
 
--- of a recorded command that cannot be read
-pub decoding_fault : (error : DecodingError) → IsMismatchCode (decoding_code error)
-decoding_fault (undecoded.UnexpectedMessageType expected actual index) = inl refl
-decoding_fault undecoded.OutOfMemory = inr (inr refl)
-decoding_fault (undecoded.UnknownMessageType error) = inr (inl refl)
-decoding_fault (undecoded.DecodeMessage ty fault) = inr (inl refl)
-decoding_fault (undecoded.MissingField field) = inr (inl refl)
-
-mismatch_told : (version : Version) (journal : JournalCounts) (call : Call) (code : ℕ) (text : Option (List ℕ)) (told : Result Error AllocError) → IsMismatchCode code
-    → Unless false (TellsLast journal code text) told → IfOk told (λ error. FaultTells version journal call Mismatch error)
-mismatch_told version journal call code text (Ok error) is tells = (code, (is, record { about = tells.about; message = tt }))
-mismatch_told version journal call code text (Err refused) is tells = tt
+-- of a recorded command that is not the call's
+mismatch_told : (version : Version) (invocation : Bytes) (left : Commands) (journal : JournalCounts) (slots : Slots) (call : Call) (why : Unmatched) (told : Result Error AllocError) → IsUnmatched left why
+    → Unless false (TellsLast journal (unmatched_code why) (Some (unmatched_text why))) told → IfOk told (λ error. FaultTells version invocation left journal slots call Mismatch error)
+mismatch_told version invocation left journal slots call why (Ok error) is tells = (why, (is, tells))
+mismatch_told version invocation left journal slots call why (Err refused) is tells = tt
 
 -- ---- what is left
 
@@ -104,9 +99,14 @@ module _ (given : Invocation) (m : Machine) (call : Call) (vm : MachineState) (a
   memory_cause (Ok error) none = absurd none
   memory_cause (Err refused) none = record { cause = NoMemory; when = tt; tells = tt; leaves = asked }
 
-  pub mismatches : (code : ℕ) (text : Option (List ℕ)) (told : Result Error AllocError) → reply_of vm given m call ≡ FailedBy Mismatch → IsMismatchCode code → Unless false (TellsLast after.journal code text) told
-      → HasCause given m call vm after told
-  mismatches code text told replies is tells = record { cause = ByFault Mismatch; when = replies; tells = mismatch_told vm.version after.journal call code text told is tells; leaves = asked }
+  pub mismatches : (why : Unmatched) (told : Result Error AllocError) → reply_of vm given m call ≡ FailedBy Mismatch → IsUnmatched m.left why
+      → Unless false (TellsLast after.journal (unmatched_code why) (Some (unmatched_text why))) told → HasCause given m call vm after told
+  mismatches why told replies is tells = record {
+    cause = ByFault Mismatch;
+    when = replies;
+    tells = mismatch_told vm.version (started_id vm.start) m.left after.journal (slots_of after.results) call why told is tells;
+    leaves = asked;
+  }
 
 -- ---- the machine fails
 
@@ -115,9 +115,9 @@ pub fails_of : (told : Result Error AllocError) (old : MachineState) (answer : E
 fails_of told old answer new is fails =
     subst (λ (kept : Option Error). FailsAs old.version old.options.journal_mismatch_retry_behavior told kept old.phase old.active.output answer new.phase new.active.output) (ap kept_error is) fails.fails
 
-refusal_tells : (version : Version) (journal : JournalCounts) (call : Call) (error : RefusalError) (told : Result Error AllocError) → error.version ≡ version → error.event.now ≡ moment_event call
-    → IfOk told (Tells (refusal_code error.refusal) (Some (refusal_text error))) → IfOk told (λ e. FaultTells version journal call (Refused (refusal_meant error.refusal)) e)
-refusal_tells version journal call error (Ok e) speaks names tells = (
+refusal_tells : (version : Version) (invocation : Bytes) (left : Commands) (journal : JournalCounts) (slots : Slots) (call : Call) (error : RefusalError) (told : Result Error AllocError) → error.version ≡ version → error.event.now ≡ moment_event call
+    → IfOk told (Tells (refusal_code error.refusal) (Some (refusal_text error))) → IfOk told (λ e. FaultTells version invocation left journal slots call (Refused (refusal_meant error.refusal)) e)
+refusal_tells version invocation left journal slots call error (Ok e) speaks names tells = (
   error.refusal,
   (
     refl,
@@ -125,7 +125,7 @@ refusal_tells version journal call error (Ok e) speaks names tells = (
         (subst (λ (event : List ℕ). Tells (refusal_code error.refusal) (Some (text_of_refusal error.refusal error.version event)) e) names tells),
   ),
 )
-refusal_tells version journal call error (Err refused) speaks names tells = tt
+refusal_tells version invocation left journal slots call error (Err refused) speaks names tells = tt
 
 module _ (given : Invocation) (m : Machine) (call : Call) (old : MachineState) (is : old.phase ≡ phases.Active) where
   -- what is written changes no cause
@@ -133,7 +133,7 @@ module _ (given : Invocation) (m : Machine) (call : Call) (old : MachineState) (
   written_on told active new others has = record {
     cause = has.cause;
     when = has.when;
-    tells = subst (λ (journal : JournalCounts). IfOk told (λ error. CauseTells old.version journal call has.cause error)) (sym (ap (λ (a : Active). a.journal) others)) has.tells;
+    tells = subst (λ (a : Active). IfOk told (λ error. CauseTells old.version (started_id old.start) m.left a.journal (slots_of a.results) call has.cause error)) (sym others) has.tells;
     leaves = leaves_on has.cause old.active active new others has.leaves;
   }
 
@@ -152,6 +152,6 @@ module _ (given : Invocation) (m : Machine) (call : Call) (old : MachineState) (
   refused_call error answer new refuses speaks names is_refused = failed is_refused.cause old.active answer new (record {
     cause = ByFault (Refused (refusal_meant error.refusal));
     when = ap (λ (r : Option Refusal). reply_unless_refused (same_header (checks_off old.options.non_determinism_checks) call) given m call r) refuses;
-    tells = refusal_tells old.version old.active.journal call error is_refused.cause speaks names is_refused.causes;
+    tells = refusal_tells old.version (started_id old.start) m.left old.active.journal (slots_of old.active.results) call error is_refused.cause speaks names is_refused.causes;
     leaves = refl;
   }) refl is_refused.fails

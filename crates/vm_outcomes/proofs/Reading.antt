@@ -8,11 +8,11 @@ use Rattle.journal_model.specs.Run.{Invocation}
 use Rattle.journal_model.specs.declared.call.Answer.{Answer}
 use Rattle.journal_model.specs.declared.call.Call.{Call}
 use Rattle.attempt_model.specs.Machine.{Machine}
-use Rattle.protocol_errors.specs.Code.{internal, journal_mismatch, protocol_violation}
-use Rattle.protocol_errors.specs.Error.{decoding_code}
+use Rattle.protocol_errors.specs.Code.{internal, protocol_violation}
 use Rattle.protocol_errors.specs.Fixed.{fixed_code}
 use Rattle.protocol_errors.specs.declared.error.Error.{Error}
 use Rattle.protocol_errors.specs.declared.fixed.FixedError.{FixedError}
+use Rattle.protocol_stream.specs.ErrorText.{too_long_text}
 use Rattle.protocol_stream.specs.declared.encoder.EncodingError.TheVariants as unsent
 use Rattle.protocol_types.specs.declared.message_type.MessageType.{MessageType}
 use Rattle.vm_calls.specs.declared.active.Active.{Active}
@@ -28,13 +28,13 @@ use Rattle.vm_state_reads.specs.declared.read_error.ReadError.{ReadError}
 use Rattle.vm_state_reads.specs.declared.read_error.ReadError.TheVariants.{Number, Replay, Encoding, OutOfMemory}
 use Rattle.vm_feeding.specs.Passed.{checks_off, MachineState}
 use Rattle.vm_outcomes.specs.Carrying.{Answers, Comes, CarriesOut}
-use Rattle.vm_outcomes.specs.Causes.{NoNumber, TooLong, IsAsked, HasCause}
+use Rattle.vm_outcomes.specs.Causes.{Unread, NoRead, Differs, Unanswered, NoNumber, TooLong, IsAsked, HasCause}
 use Rattle.vm_outcomes.specs.Driven.{IsDriven}
 use Rattle.vm_outcomes.specs.Outcomes.{answered_as}
 use Rattle.vm_outcomes.specs.declared.outcome.CallOutcome.{CallOutcome}
 use Rattle.vm_outcomes.proofs.Answering.{no_signal, answered}
 use Rattle.vm_outcomes.proofs.Calling.{lacks_completions}
-use Rattle.vm_outcomes.proofs.Failing.{no_memory, told_last, decoding_fault, mismatches, failed}
+use Rattle.vm_outcomes.proofs.Failing.{no_memory, told_last, mismatches, failed}
 use Rattle.vm_outcomes.proofs.Steps.{steps_of}
 
 -- a read is a command that was asked for
@@ -54,19 +54,21 @@ module _ (given : Invocation) (m : Machine) (call : Call) (old : MachineState) (
       leaves = asked;
     }
     read_cause active asked (Number numbers.OutOfMemory) told fails causes = no_memory given m call old active asked told causes
-    read_cause active asked (Replay (errors.OtherType error)) told fails causes = mismatches given m call old active asked journal_mismatch _ told fails.0 (inl refl) causes
-    read_cause active asked (Replay errors.Empty) told fails causes = mismatches given m call old active asked (fixed_code empty) _ told fails.0 (inr (inl violates)) causes
+    read_cause active asked (Replay (errors.OtherType error)) told fails causes = mismatches given m call old active asked (NoRead error) told fails.0 tt causes
+    read_cause active asked (Replay errors.Empty) told fails causes = mismatches given m call old active asked (Unanswered empty) told fails.0.0 (violates, fails.0.1) causes
     read_cause active asked (Replay (errors.Lazy (unmatched.Unavailable error))) told fails causes = absurd fails.0
     read_cause active asked (Replay (errors.Lazy (unmatched.Decoding error))) told fails causes =
-        mismatches given m call old active asked (decoding_code error) _ told fails.0 (decoding_fault error) causes
-    read_cause active asked (Replay (errors.Lazy (unmatched.Mismatch error))) told fails causes = mismatches given m call old active asked journal_mismatch _ told fails.0 (inl refl) causes
+        mismatches given m call old active asked (Unread error) told fails.0.0 fails.0.1 causes
+    read_cause active asked (Replay (errors.Lazy (unmatched.Mismatch error))) told fails causes =
+        mismatches given m call old active asked (Differs error.command_index (lazy_difference error.actual error.expected)) told fails.0 tt causes
     read_cause active asked (Replay (errors.Lazy unmatched.OutOfMemory)) told fails causes = no_memory given m call old active asked told causes
     read_cause active asked (Replay (errors.Eager (unmatched.Unavailable error))) told fails causes = absurd fails.0
     read_cause active asked (Replay (errors.Eager (unmatched.Decoding error))) told fails causes =
-        mismatches given m call old active asked (decoding_code error) _ told fails.0 (decoding_fault error) causes
-    read_cause active asked (Replay (errors.Eager (unmatched.Mismatch error))) told fails causes = mismatches given m call old active asked journal_mismatch _ told fails.0 (inl refl) causes
+        mismatches given m call old active asked (Unread error) told fails.0.0 fails.0.1 causes
+    read_cause active asked (Replay (errors.Eager (unmatched.Mismatch error))) told fails causes =
+        mismatches given m call old active asked (Differs error.command_index (eager_difference error.actual error.expected)) told fails.0 tt causes
     read_cause active asked (Replay (errors.Eager unmatched.OutOfMemory)) told fails causes = no_memory given m call old active asked told causes
-    read_cause active asked (Encoding unsent.PayloadTooLong) told fails causes = record { cause = TooLong; when = (unrefused, inl fails.0); tells = told_last active.journal internal None told causes; leaves = asked }
+    read_cause active asked (Encoding unsent.PayloadTooLong) told fails causes = record { cause = TooLong; when = (unrefused, inl fails.0); tells = told_last active.journal internal (Some too_long_text) told causes; leaves = asked }
     read_cause active asked (Encoding unsent.OutOfMemory) told fails causes = no_memory given m call old active asked told causes
     read_cause active asked OutOfMemory told fails causes = no_memory given m call old active asked told causes
 

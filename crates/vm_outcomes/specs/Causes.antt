@@ -1,5 +1,5 @@
 -- Why a handler's call is not carried out, and what the machine fails with then.
-use Rattle.std.specs.Prelude.{◌≡◌, ◌≤◌, ◌<◌, ◌+◌, ◌^◌, ◌⊎◌, ℕ, Bool, true, false, List, [], length, codes, Option, Some, None, Result, IfOk}
+use Rattle.std.specs.Prelude.{◌≡◌, ◌≤◌, ◌<◌, ◌+◌, ◌^◌, ◌⊎◌, ℕ, ℤ, Bool, true, false, List, [], ◌++◌, length, codes, Option, Some, None, Result, IfOk}
 use Rattle.std.specs.declared.alloc.AllocError.{AllocError}
 use Rattle.journal_model.specs.AwaitTree.{AwaitTree}
 use Rattle.journal_model.specs.History.{completions_of, signals_of, ids_of}
@@ -7,25 +7,37 @@ use Rattle.journal_model.specs.Notification.{Bytes, Text}
 use Rattle.journal_model.specs.Refusal.{refusal_of}
 use Rattle.journal_model.specs.Run.{Invocation}
 use Rattle.journal_model.specs.Spelling.{awaiting_on_payload}
+use Rattle.journal_model.specs.Waiting.{only_leaves}
 use Rattle.journal_model.specs.declared.call.Call.{Call}
 use Rattle.journal_model.specs.declared.notification.NotificationId.{NotificationId}
 use Rattle.attempt_model.specs.Machine.{Machine, AwaitsTree, FailedBy, Fault, Mismatch, UncompletedInReplay, EndInReplay, KeysNotText, ChildNotId, Refused, next_slot}
+use Rattle.attempt_model.specs.Requests.{Commands}
+use Rattle.attempt_model.specs.Results.{Slots, slot_of}
 use Rattle.protocol_errors.specs.Code.{internal, journal_mismatch, protocol_violation, unsupported_feature}
-use Rattle.protocol_errors.specs.Error.{plain_error}
+use Rattle.protocol_errors.specs.Error.{plain_error, decoding_code}
+use Rattle.protocol_errors.specs.Fixed.{fixed_code, fixed_text}
+use Rattle.protocol_errors.specs.Texts.{mismatch_text, type_mismatch_text}
 use Rattle.protocol_errors.specs.declared.error.Error.{Error}
+use Rattle.protocol_errors.specs.declared.fixed.FixedError.{FixedError}
+use Rattle.protocol_errors.specs.declared.mismatch.CommandTypeMismatchError.{CommandTypeMismatchError}
+use Rattle.protocol_stream.specs.ErrorText.{decoding_text, too_long_text}
+use Rattle.protocol_stream.specs.declared.decoder.DecodingError.{DecodingError}
 use Rattle.protocol_types.specs.declared.message_type.MessageType.{MessageType}
 use Rattle.protocol_types.specs.declared.version.Version.{Version}
+use Rattle.vm_awaits.specs.Views.{slots_of}
 use Rattle.vm_calls.specs.Active.{Sees, TellsSame, IsAtCommand}
 use Rattle.vm_calls.specs.Making.{IsLong}
 use Rattle.vm_calls.specs.declared.active.Active.{Active}
+use Rattle.vm_commands.specs.Popping.{IsNoRequest, IsNextUnread}
 use Rattle.vm_context.specs.Journal.{JournalCounts, no_id_text}
 use Rattle.vm_errors.specs.Phases.{unexpected_error}
 use Rattle.vm_errors.specs.declared.phase.Phase.TheVariants as phases
+use Rattle.vm_progress.specs.Uncompleted.{started_id, TellsUncompleted}
 use Rattle.vm_refusals.specs.Refusals.{refusal_meant, refusal_code, text_of_refusal}
 use Rattle.vm_refusals.specs.declared.refusal.CallRefusal.{CallRefusal}
 use Rattle.vm_types.specs.declared.options.JournalReplay.TheVariants.{Disabled}
 use Rattle.vm_waiting.specs.Suspending.{over_ids, suspension_payload_in}
-use Rattle.vm_feeding.specs.Passed.{checks_off, MachineState, Tells, TellsLast}
+use Rattle.vm_feeding.specs.Passed.{place_text, checks_off, MachineState, Tells, TellsLast}
 use Rattle.vm_outcomes.specs.Driven.{reply_of}
 
 -- why a call is not carried out
@@ -92,16 +104,43 @@ no_runs_error = plain_error unsupported_feature (codes "runs are not carried out
 abbrev pub TellsEither : JournalCounts → ℕ → Option (List ℕ) → Error → Type 0
 TellsEither journal code text told = Tells code text told ⊎ TellsLast journal code text told
 
--- of a recorded command that cannot be read the code says who is to blame
-abbrev pub IsMismatchCode : ℕ → Type 0
-IsMismatchCode code = (code ≡ journal_mismatch) ⊎ ((code ≡ protocol_violation) ⊎ (code ≡ internal))
+-- why the next recorded command is not the one that a call makes
+pub data Unmatched : Type 0 where
+  -- it is of another type, or its payload cannot be read
+  Unread : DecodingError → Unmatched
+  -- it is of neither type of a read of the state
+  NoRead : CommandTypeMismatchError → Unmatched
+  -- it is another command of the type, at this place; where they differ is told
+  Differs : (index : ℤ) → (difference : List ℕ) → Unmatched
+  -- it is a read of the state whose answer was known, and is not there
+  Unanswered : FixedError → Unmatched
 
--- What a call is told as that is not carried out, where this version is spoken, and where these commands were asked for in the end: the
--- code, the command that it is about, if one is, and the text, where the cause alone says which that is.
-module _ (version : Version) (journal : JournalCounts) (call : Call) where
+-- by what is recorded next: only what is no request is the other side's fault
+abbrev pub IsUnmatched : Commands → Unmatched → Type 0
+IsUnmatched left (Unread error) = IsNextUnread error left
+IsUnmatched left (NoRead error) = Unit {0}
+IsUnmatched left (Differs index difference) = Unit {0}
+IsUnmatched left (Unanswered empty) = (fixed_code empty ≡ protocol_violation) × IsNoRequest left
+
+abbrev pub unmatched_code : Unmatched → ℕ
+unmatched_code (Unread error) = decoding_code error
+unmatched_code (NoRead error) = journal_mismatch
+unmatched_code (Differs index difference) = journal_mismatch
+unmatched_code (Unanswered empty) = fixed_code empty
+
+abbrev pub unmatched_text : Unmatched → List ℕ
+unmatched_text (Unread error) = decoding_text error
+unmatched_text (NoRead error) = type_mismatch_text error
+unmatched_text (Differs index difference) = mismatch_text ++ place_text index ++ difference
+unmatched_text (Unanswered empty) = fixed_text empty
+
+-- What a call is told as that is not carried out, of this invocation and where this version is spoken, where these recorded commands were
+-- left, and in the end these were asked for and handles stand for these ids: the code, the text, and the command that it is about, if one is.
+module _ (version : Version) (invocation : Bytes) (left : Commands) (journal : JournalCounts) (slots : Slots) (call : Call) where
   abbrev pub FaultTells : Fault → Error → Type 0
-  FaultTells Mismatch told = (code : ℕ) × (IsMismatchCode code × TellsLast journal code None told)
-  FaultTells UncompletedInReplay told = Tells journal_mismatch None told
+  FaultTells Mismatch told = (why : Unmatched) × (IsUnmatched left why × TellsLast journal (unmatched_code why) (Some (unmatched_text why)) told)
+  -- the ids that are waited for are those of handles of a tree
+  FaultTells UncompletedInReplay told = (tree : AwaitTree ℕ) × TellsUncompleted invocation (only_leaves (slot_of slots) tree) told
   FaultTells EndInReplay told = told ≡ unexpected_error phases.Active true (codes "end invocation")
   FaultTells KeysNotText told = told ≡ plain_error internal (codes "Cannot convert an eager state key into UTF-8 String")
   -- no child is tracked
@@ -112,7 +151,7 @@ module _ (version : Version) (journal : JournalCounts) (call : Call) where
   abbrev pub CauseTells : Cause → Error → Type 0
   CauseTells (ByFault fault) told = FaultTells fault told
   CauseTells NoNumber told = TellsEither journal internal (Some no_id_text) told
-  CauseTells TooLong told = TellsEither journal internal None told
+  CauseTells TooLong told = TellsEither journal internal (Some too_long_text) told
   CauseTells NoReplay told = told ≡ plain_error unsupported_feature (codes "awakeables need journal replay")
   CauseTells NoRuns told = told ≡ no_runs_error
   -- no error is made where memory is refused
@@ -154,5 +193,5 @@ Leaves NoMemory old new = IsAsked old.journal new.journal
 pub record HasCause (given : Invocation) (m : Machine) (call : Call) (vm : MachineState) (after : Active) (told : Result Error AllocError) : Type 0 where
   pub cause : Cause
   pub when : FailsWhen given m call vm cause
-  pub tells : IfOk told (λ error. CauseTells vm.version after.journal call cause error)
+  pub tells : IfOk told (λ error. CauseTells vm.version (started_id vm.start) m.left after.journal (slots_of after.results) call cause error)
   pub leaves : Leaves cause vm.active after

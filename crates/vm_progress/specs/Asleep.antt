@@ -1,5 +1,5 @@
 -- How an await goes on that waits behind the journal: it fails, it is suspended, or it stays for more input.
-use Rattle.std.specs.Prelude.{◌≡◌, ◌<◌, ℕ, true, false, length, [], None, Result, Ok, Err}
+use Rattle.std.specs.Prelude.{◌≡◌, ◌<◌, ℕ, true, false, length, [], Some, Result, Ok, Err}
 use Rattle.journal_model.specs.AwaitTree.{AwaitTree}
 use Rattle.protocol_errors.specs.Code.{internal}
 use Rattle.protocol_errors.specs.Error.{plain_error}
@@ -7,6 +7,7 @@ use Rattle.protocol_errors.specs.Fixed.{fixed_code, fixed_text}
 use Rattle.protocol_errors.specs.declared.error.Error.{Error}
 use Rattle.protocol_errors.specs.declared.fixed.FixedError.{FixedError}
 use Rattle.protocol_errors.specs.declared.fixed.FixedError.TheVariants.{Suspended, InputClosedWhileWaitingEphemeralNotifications}
+use Rattle.protocol_stream.specs.ErrorText.{too_long_text}
 use Rattle.protocol_stream.specs.declared.encoder.EncodingError.{EncodingError}
 use Rattle.protocol_stream.specs.declared.encoder.EncodingError.TheVariants.{PayloadTooLong, OutOfMemory}
 use Rattle.vm_calls.specs.declared.active.Active.{Active}
@@ -35,7 +36,7 @@ LacksMemory old answer new = FailsBy (λ told. ⊥) old answer new
 
 -- the machine fails with why a frame is not written, about no command
 abbrev pub FailsUnwritten : EncodingError → (old : MachineState) → Error → (new : MachineState) → Type 0
-FailsUnwritten PayloadTooLong old answer new = FailsBy (Tells internal None) old answer new
+FailsUnwritten PayloadTooLong old answer new = FailsBy (Tells internal (Some too_long_text)) old answer new
 FailsUnwritten OutOfMemory old answer new = LacksMemory old answer new
 
 abbrev pub fixed_error : FixedError → Error

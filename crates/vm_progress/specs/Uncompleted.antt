@@ -1,11 +1,13 @@
 -- What is told of an await that stays asleep although the journal goes on behind it.
-use Rattle.std.specs.Prelude.{◌≡◌, ℕ, ◌==◌, nat_lt, if◌then◌else◌, List, [], ◌∷◌, ◌++◌, map, Option, Some, None, IsPermutation}
+use Rattle.std.specs.Prelude.{◌≡◌, ℕ, ◌==◌, nat_lt, if◌then◌else◌, List, [], ◌∷◌, ◌++◌, map, Option, Some, None, IsPermutation, IsSortedBy}
 use Rattle.std.specs.List.{flat_map}
 use Rattle.journal_model.specs.Awakeable.{awakeable_id}
 use Rattle.journal_model.specs.AwaitTree.{AwaitTree}
 use Rattle.journal_model.specs.Notification.{Bytes}
 use Rattle.journal_model.specs.declared.notification.NotificationId.{NotificationId}
+use Rattle.protocol_errors.specs.Awaited.{comes_before}
 use Rattle.protocol_errors.specs.Code.{journal_mismatch}
+use Rattle.protocol_errors.specs.Texts.{uncompleted_text}
 use Rattle.protocol_errors.specs.declared.error.Error.{Error}
 use Rattle.protocol_errors.specs.declared.metadata.NotificationMetadata.{NotificationMetadata}
 use Rattle.protocol_errors.specs.declared.metadata.NotificationMetadata.TheVariants.{Cancellation, Awakeable}
@@ -44,18 +46,19 @@ known_of invocation signal =
     if signal == 1 then (SignalId signal, Cancellation) ∷ []
     else (if nat_lt 16 signal then (SignalId signal, Awakeable (awakeable_id invocation signal)) ∷ [] else [])
 
--- an error over these ids, each as often as it stands there, and over what is known of the signals
+-- an error over these ids, each as often as it stands there, in order, and over what is known of the signals
 pub record NamesIn (invocation : Bytes) (lists : SuspensionMessageV6) (error : UncompletedDoProgressDuringReplay) : Type 0 where
   pub awaited : IsPermutation (ids_in lists) error.awaited.items
+  pub in_order : IsSortedBy comes_before error.awaited.items
   pub known : error.known.items ≡ flat_map (known_of invocation) lists.waiting_signals
 
 -- ---- the machine
 
--- the error over the ids of this tree, about no command
+-- what is told of the error over the ids of this tree, about no command
 pub record TellsUncompleted (invocation : Bytes) (tree : AwaitTree NotificationId) (told : Error) : Type 0 where
   pub error : UncompletedDoProgressDuringReplay
   pub names : NamesIn invocation (lists_over tree) error
-  pub tells : Tells journal_mismatch None told
+  pub tells : Tells journal_mismatch (Some (uncompleted_text error)) told
 
 -- the machine fails with the ids that this tree waits for; a handle that stands for nothing is left out
 abbrev pub IsUncompleted : AwaitTree ℕ → (old : MachineState) → Error → (new : MachineState) → Type 0

@@ -8,6 +8,7 @@ use Rattle.protocol_errors.specs.declared.error.Error.{Error}
 use Rattle.vm_calls.specs.Active.{Sees}
 use Rattle.vm_calls.specs.declared.active.Active.{Active}
 use Rattle.vm_calls.specs.Spent.{IsSpent}
+use Rattle.vm_state_reads.specs.Finding.{FindsRead}
 use Rattle.vm_state_reads.specs.Reading.{Reads}
 use Rattle.vm_state_reads.specs.Spent.{ReadFailsSpent}
 use Rattle.vm_state_reads.specs.Telling.{IsAtRead}
@@ -23,14 +24,15 @@ module _ {L E : Type 0} (kind : ReadKind L E) (call : Call) (known : Active → 
   pub read_made : (off : Bool) (made : Result ℕ (ReadError L E)) (active : Active) (result : Result ℕ Error) (new : MachineState) → Admits None old Admitted between
       → off ≡ checks_off between.options.non_determinism_checks → ((given : Invocation) (m : Machine) → Sees given between.active m → Reads off given m call between.active made active)
       → IsAtRead kind.eager kind.lazy between.active.is_replaying (known between.active) name between.active active
-      → (IsSpent between.active → ReadFailsSpent between.active made active)
+      → (IsSpent between.active → ReadFailsSpent between.active made active) → FindsRead kind.eager kind.lazy between.active made active
       → SettlesRead kind.lazy_difference kind.eager_difference kind.empty made (record between { active = active }) result new → StepsOfRead kind call known name old result new
-  read_made off made active result new admits is reads told spent settles = steps_made (IsRead kind call known name) (MissesNext kind.ty) None old between result new admits (record {
+  read_made off made active result new admits is reads told spent found settles = steps_made (IsRead kind call known name) (MissesNext kind.ty) None old between result new admits (record {
     made = made;
     between = record between { active = active };
     others = refl;
     reads = λ given m is_of sees. subst (λ (off : Bool). Reads off given m call between.active made active) is (reads given m sees);
     spent = spent;
+    found = found;
     told = told;
     settles = settles;
   })

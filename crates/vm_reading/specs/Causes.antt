@@ -4,14 +4,15 @@ use Rattle.std.specs.declared.alloc.AllocError.{AllocError}
 use Rattle.protocol_errors.specs.Code.{internal, journal_mismatch}
 use Rattle.protocol_errors.specs.Error.{decoding_code}
 use Rattle.protocol_errors.specs.Fixed.{fixed_code, fixed_text}
-use Rattle.protocol_errors.specs.Texts.{type_mismatch_text}
+use Rattle.protocol_errors.specs.Texts.{type_mismatch_text, unavailable_text}
 use Rattle.protocol_errors.specs.declared.error.Error.{Error}
 use Rattle.protocol_errors.specs.declared.fixed.FixedError.{FixedError}
+use Rattle.protocol_stream.specs.ErrorText.{decoding_text, too_long_text}
 use Rattle.protocol_stream.specs.declared.encoder.EncodingError.{EncodingError}
 use Rattle.protocol_stream.specs.declared.encoder.EncodingError.TheVariants as unsent
 use Rattle.vm_calls.specs.declared.call_error.NumberError.TheVariants as numbers
 use Rattle.vm_machine.specs.Passed.{Tells, TellsLast, Unless}
-use Rattle.vm_commands.specs.Popping.{difference_text}
+use Rattle.vm_commands.specs.Popping.{replay_text}
 use Rattle.vm_commands.specs.declared.replay_error.ReplayError.{ReplayError}
 use Rattle.vm_commands.specs.declared.replay_error.ReplayError.TheVariants as unmatched
 use Rattle.vm_commands.specs.declared.state_read.StateReadError.{StateReadError}
@@ -22,14 +23,14 @@ use Rattle.vm_state_reads.specs.declared.read_error.ReadError.TheVariants.{Numbe
 
 -- of a recorded command that is not the read; of one of the same type both are told where they differ
 abbrev pub ReplayCauses : {M : Type 0} → (M → M → List ℕ) → JournalCounts → ReplayError M → Result Error AllocError → Type 0
-ReplayCauses difference journal (unmatched.Unavailable error) result = Unless false (TellsLast journal journal_mismatch None) result
-ReplayCauses difference journal (unmatched.Decoding error) result = Unless false (TellsLast journal (decoding_code error) None) result
-ReplayCauses difference journal (unmatched.Mismatch error) result = Unless false (TellsLast journal journal_mismatch (difference_text difference (unmatched.Mismatch error))) result
+ReplayCauses difference journal (unmatched.Unavailable error) result = Unless false (TellsLast journal journal_mismatch (Some (unavailable_text error.expected))) result
+ReplayCauses difference journal (unmatched.Decoding error) result = Unless false (TellsLast journal (decoding_code error) (Some (decoding_text error))) result
+ReplayCauses difference journal (unmatched.Mismatch error) result = Unless false (TellsLast journal journal_mismatch (Some (replay_text difference (unmatched.Mismatch error)))) result
 ReplayCauses difference journal unmatched.OutOfMemory result = Unless true (Tells internal None) result
 
 -- of a frame that could not be made
 abbrev pub EncodingCauses : JournalCounts → EncodingError → Result Error AllocError → Type 0
-EncodingCauses journal unsent.PayloadTooLong result = Unless false (TellsLast journal internal None) result
+EncodingCauses journal unsent.PayloadTooLong result = Unless false (TellsLast journal internal (Some too_long_text)) result
 EncodingCauses journal unsent.OutOfMemory result = Unless true (Tells internal None) result
 
 module _ {L E : Type 0} (lazy_difference : L → L → List ℕ) (eager_difference : E → E → List ℕ) (empty : FixedError) (journal : JournalCounts) where

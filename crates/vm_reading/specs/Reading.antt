@@ -25,6 +25,7 @@ use Rattle.vm_context.specs.Journal.{JournalCounts, command_told}
 use Rattle.vm_errors.specs.Phases.{unexpected_error}
 use Rattle.vm_errors.specs.declared.phase.Phase.{Phase}
 use Rattle.vm_calls.specs.Spent.{IsSpent}
+use Rattle.vm_state_reads.specs.Finding.{FindsRead}
 use Rattle.vm_state_reads.specs.Reading.{Reads}
 use Rattle.vm_state_reads.specs.Spent.{ReadFailsSpent}
 use Rattle.vm_state_reads.specs.Telling.{IsAtRead}
@@ -92,7 +93,7 @@ keys_read = record {
 -- of this call; `known` says whether its answer is known behind the journal
 module _ {L E : Type 0} (kind : ReadKind L E) (call : Call) (known : Active → Bool) (name : Text) where
   -- The read is made as the abstract machine makes it, which was seen before; or the machine fails with why it is not. An error is
-  -- about this read.
+  -- about this read, and tells of what is recorded next why it is not.
   pub record IsRead (old : MachineState) (result : Result ℕ Error) (new : MachineState) : Type 0 where
     pub made : Result ℕ (ReadError L E)
     pub between : MachineState
@@ -101,6 +102,7 @@ module _ {L E : Type 0} (kind : ReadKind L E) (call : Call) (known : Active → 
         → Reads (checks_off old.options.non_determinism_checks) given m call old.active made between.active
     -- where nothing recorded is left although it still replays
     pub spent : IsSpent old.active → ReadFailsSpent old.active made between.active
+    pub found : FindsRead kind.eager kind.lazy old.active made between.active
     pub told : IsAtRead kind.eager kind.lazy old.active.is_replaying (known old.active) name old.active between.active
     pub settles : SettlesRead kind.lazy_difference kind.eager_difference kind.empty made between result new
 

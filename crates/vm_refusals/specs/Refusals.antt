@@ -1,12 +1,12 @@
 -- The refusals of calls, and what their errors tell.
-use Rattle.std.specs.Prelude.{ℕ, List, ◌++◌, codes}
+use Rattle.std.specs.Prelude.{ℕ, List, codes}
 use Rattle.journal_model.specs.Refusal.{Refusal}
 use Rattle.protocol_types.specs.declared.version.Version.{Version}
 use Rattle.protocol_types.specs.declared.feature.Feature.TheVariants as features
 use Rattle.protocol_types.specs.Feature.{first_version}
-use Rattle.protocol_types.specs.Version.{version_content_type}
 use Rattle.protocol_errors.specs.Code.{internal, unsupported_feature}
 use Rattle.protocol_errors.specs.Fixed.{fixed_code, fixed_text}
+use Rattle.protocol_errors.specs.Texts.{feature_text, out_of_bounds_text}
 use Rattle.protocol_errors.specs.declared.fixed.FixedError.TheVariants as fixed
 use Rattle.vm_refusals.specs.declared.refusal.CallRefusal.{CallRefusal}
 use Rattle.vm_refusals.specs.declared.refusal_error.RefusalError.{RefusalError}
@@ -37,23 +37,13 @@ refusal_code CallRefusal.OutOfBoundsDuration = internal
 
 -- ---- what the errors print
 
--- something with this name is not in the version that is spoken, and came with another
-unfoldable pub unsupported_text : List ℕ → Version → Version → List ℕ
-unsupported_text name version minimum =
-    codes "Feature '" ++ name
-    ++ codes "' is not supported by the negotiated protocol version '" ++ version_content_type version
-    ++ codes "', the minimum required version is '" ++ version_content_type minimum ++ codes "'"
-
-abbrev pub out_of_bounds_text : List ℕ → List ℕ
-out_of_bounds_text event = codes "Duration for '" ++ event ++ codes "' is out of bounds: out of range integral type conversion attempted"
-
 abbrev pub text_of_refusal : CallRefusal → Version → List ℕ → List ℕ
 text_of_refusal CallRefusal.EmptyIdempotencyKey version event = fixed_text fixed.EmptyIdempotencyKey
 text_of_refusal CallRefusal.EmptyScope version event = fixed_text fixed.EmptyScope
 text_of_refusal CallRefusal.EmptyLimitKey version event = fixed_text fixed.EmptyLimitKey
-text_of_refusal CallRefusal.UnsupportedScope version event = unsupported_text (codes "scope") version (first_version features.Scope)
-text_of_refusal CallRefusal.UnsupportedLimitKey version event = unsupported_text (codes "limit key") version (first_version features.Scope)
-text_of_refusal CallRefusal.UnsupportedFailureMetadata version event = unsupported_text (codes "terminal error metadata") version (first_version features.FailureMetadata)
+text_of_refusal CallRefusal.UnsupportedScope version event = feature_text (codes "scope") version (first_version features.Scope)
+text_of_refusal CallRefusal.UnsupportedLimitKey version event = feature_text (codes "limit key") version (first_version features.Scope)
+text_of_refusal CallRefusal.UnsupportedFailureMetadata version event = feature_text (codes "terminal error metadata") version (first_version features.FailureMetadata)
 text_of_refusal CallRefusal.OutOfBoundsDuration version event = out_of_bounds_text event
 
 abbrev pub refusal_text : RefusalError → List ℕ

@@ -1,11 +1,13 @@
 // The error of a refused call.
 ghost use Rattle.std.specs.Fmt.{WritesOnOk};
-ghost use Rattle.vm_refusals.specs.Refusals.{unsupported_text, out_of_bounds_text, text_of_refusal};
+ghost use Rattle.protocol_types.specs.Feature.{first_version};
+ghost use Rattle.protocol_errors.specs.Texts.{feature_text, out_of_bounds_text};
+ghost use Rattle.vm_refusals.specs.Refusals.{text_of_refusal};
 
 use crate::CallRefusal;
 use protocol_errors::{
     EMPTY_IDEMPOTENCY_KEY, EMPTY_LIMIT_KEY, EMPTY_SCOPE, InvocationErrorCode,
-    WithInvocationErrorCode,
+    UnsupportedFeatureForNegotiatedVersion, WithInvocationErrorCode,
 };
 use protocol_types::{Feature, Version};
 use std::fmt;
@@ -20,20 +22,18 @@ pub struct RefusalError {
     pub event: &'static str,
 }
 
-// Writes that a feature came with a later version.
-#[tactic(auto, unfolding(crate::specs::Refusals::unsupported_text))]
-fn write_unsupported<W: fmt::Write>(
-    name: &str,
+// Writes that something of this name came with a feature of a later version.
+fn write_lack<W: fmt::Write>(
+    name: &'static str,
     version: Version,
-    minimum: Version,
+    feature: Feature,
     f: &mut fmt::Formatter<W>,
 ) -> fmt::Result
-    ensures { WritesOnOk W.write_str_gives f.old result (unsupported_text name.now version minimum) f.new }
+    ensures { WritesOnOk W.write_str_gives f.old result (feature_text name.now version (first_version feature)) f.new }
 {
-    write!(
-        f,
-        "Feature '{name}' is not supported by the negotiated protocol version '{version}', the minimum required version is '{minimum}'"
-    )
+    let minimum = feature.first_version();
+    let lack = UnsupportedFeatureForNegotiatedVersion::new(name, version, minimum);
+    fmt::Display::fmt(&lack, f)
 }
 
 // Writes that a moment is past the milliseconds that 64 bits hold.
@@ -59,19 +59,12 @@ fn write_refusal<W: fmt::Write>(
         CallRefusal::EmptyIdempotencyKey => f.write_str(EMPTY_IDEMPOTENCY_KEY.message()),
         CallRefusal::EmptyScope => f.write_str(EMPTY_SCOPE.message()),
         CallRefusal::EmptyLimitKey => f.write_str(EMPTY_LIMIT_KEY.message()),
-        CallRefusal::UnsupportedScope => write_unsupported(
-            "scope",
-            version,
-            Feature::Scope.first_version(),
-            f,
-        ),
-        CallRefusal::UnsupportedLimitKey => {
-            write_unsupported("limit key", version, Feature::Scope.first_version(), f)
-        }
-        CallRefusal::UnsupportedFailureMetadata => write_unsupported(
+        CallRefusal::UnsupportedScope => write_lack("scope", version, Feature::Scope, f),
+        CallRefusal::UnsupportedLimitKey => write_lack("limit key", version, Feature::Scope, f),
+        CallRefusal::UnsupportedFailureMetadata => write_lack(
             "terminal error metadata",
             version,
-            Feature::FailureMetadata.first_version(),
+            Feature::FailureMetadata,
             f,
         ),
         CallRefusal::OutOfBoundsDuration => write_out_of_bounds(event, f),

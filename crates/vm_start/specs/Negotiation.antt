@@ -3,8 +3,7 @@ use Rattle.std.specs.Prelude.{◌≡◌, ◌++◌, ℕ, List, Option, Some, None
 use Rattle.protocol_types.specs.declared.version.ContentTypeError.{ContentTypeError}
 use Rattle.protocol_types.specs.declared.version.ContentTypeError.TheVariants.{RestateContentType, OtherContentType}
 use Rattle.protocol_types.specs.declared.version.Version.{Version}
-use Rattle.protocol_types.specs.declared.version.Version.TheVariants.{V1, V2, V3, V4, V5, V6, V7, V8}
-use Rattle.protocol_types.specs.Version.{version_number, version_spoken, content_type_read, oldest_version, newest_version}
+use Rattle.protocol_types.specs.Version.{version_name, version_number, version_spoken, content_type_read, oldest_version, newest_version}
 use Rattle.protocol_errors.specs.Code.{bad_request, internal, unsupported_media_type}
 use Rattle.protocol_errors.specs.Fixed.{fixed_text}
 use Rattle.protocol_errors.specs.declared.fixed.FixedError.TheVariants as fixed
@@ -36,16 +35,6 @@ negotiation_code OutOfMemory = internal
 negotiation_code _ = unsupported_media_type
 
 -- ---- what an error prints
-
-abbrev pub version_name : Version → List ℕ
-version_name V1 = codes "V1"
-version_name V2 = codes "V2"
-version_name V3 = codes "V3"
-version_name V4 = codes "V4"
-version_name V5 = codes "V5"
-version_name V6 = codes "V6"
-version_name V7 = codes "V7"
-version_name V8 = codes "V8"
 
 -- the version is none from the oldest to the newest
 unfoldable pub unsupported_version_text : (version oldest newest : Version) → List ℕ

@@ -1,7 +1,7 @@
 -- What a start tells of its attempt, and when an attempt does not begin with it.
-use Rattle.std.specs.Prelude.{◌≡◌, ◌<◌, ◌⊎◌, ℕ, List, [], ◌∷◌, map, Option, Some, None, codes, IsUtf8}
-use Rattle.std.specs.Str.{valid_up_to}
-use Rattle.std.specs.Str.Lossy.{utf8_valid_len}
+use Rattle.std.specs.Prelude.{◌≡◌, ◌<◌, ◌⊎◌, ℕ, List, [], ◌∷◌, map, drop, IsUtf8}
+use Rattle.std.specs.Str.{valid_up_to, error_len}
+use Rattle.std.specs.Str.Lossy.{utf8_valid_len, utf8_error_len}
 use Rattle.protocol_errors.specs.declared.typed.BadEagerStateKeyError.{BadEagerStateKeyError}
 use Rattle.journal_model.specs.Notification.{Bytes}
 use Rattle.protocol_records.specs.declared.start.StartMessage.{StartMessage}
@@ -9,6 +9,8 @@ use Rattle.protocol_records.specs.declared.start.StateEntry.{StateEntry}
 use Rattle.protocol_errors.specs.Code.{internal, protocol_violation}
 use Rattle.protocol_errors.specs.declared.fixed.FixedError.TheVariants as fixed
 use Rattle.protocol_errors.specs.Fixed.{fixed_text}
+use Rattle.protocol_errors.specs.Texts.{bad_state_key_text}
+use Rattle.protocol_stream.specs.ErrorText.{no_memory_text}
 use Rattle.vm_context.specs.Eager.{known_from}
 use Rattle.vm_context.specs.Following.{KnowsState, start_of}
 use Rattle.vm_start.specs.declared.start.Started.{Started}
@@ -33,9 +35,10 @@ abbrev pub AreText : List StateEntry → Type 0
 AreText [] = Unit {0}
 AreText (entry ∷ entries) = IsUtf8 entry.key × AreText entries
 
--- the key is no text: the error has it, and how much of it is text
+-- the key is no text: the error has it, how much of it is text, and how much behind that is none, where more follows
 abbrev pub IsNoText : Bytes → BadEagerStateKeyError → Type 0
-IsNoText key error = (IsUtf8 key → ⊥) × ((error.0.bytes ≡ key) × (valid_up_to error.0.error ≡ utf8_valid_len key))
+IsNoText key error =
+    (IsUtf8 key → ⊥) × ((error.0.bytes ≡ key) × ((valid_up_to error.0.error ≡ utf8_valid_len key) × (error_len error.0.error ≡ utf8_error_len (drop (valid_up_to error.0.error) key))))
 
 -- the first key that is no text
 abbrev pub FirstNotText : List StateEntry → BadEagerStateKeyError → Type 0
@@ -76,8 +79,8 @@ start_code (BadStateKey error) = internal
 start_code KnownEntriesIsZero = protocol_violation
 start_code OutOfMemory = internal
 
--- what is printed of it; of a key that is no text the printed fault is not told here
-abbrev pub start_text : StartError → Option (List ℕ)
-start_text (BadStateKey error) = None
-start_text KnownEntriesIsZero = Some (fixed_text fixed.KnownEntriesIsZero)
-start_text OutOfMemory = Some (codes "out of memory")
+-- what is printed of it
+abbrev pub start_text : StartError → List ℕ
+start_text (BadStateKey error) = bad_state_key_text error
+start_text KnownEntriesIsZero = fixed_text fixed.KnownEntriesIsZero
+start_text OutOfMemory = no_memory_text

@@ -1,5 +1,5 @@
 // Why an attempt does not begin.
-ghost use Rattle.std.specs.Prelude.{◌≡◌};
+ghost use Rattle.std.specs.Prelude.{◌≡◌, Some};
 ghost use Rattle.vm_start.specs.Starts.{start_code, start_text};
 ghost use Rattle.vm_start.specs.declared.error.StartError.TheVariants.{OutOfMemory};
 
@@ -23,7 +23,7 @@ pub enum StartError {
 
 /// Prints the error that it holds.
 impl fmt::Display for StartError {
-    ghost output = { start_text };
+    ghost output = { λ error. Some (start_text error) };
 
     fn fmt<W: fmt::Write>(&self, f: &mut fmt::Formatter<W>) -> fmt::Result {
         match self {

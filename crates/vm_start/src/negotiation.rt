@@ -2,7 +2,7 @@
 ghost use Rattle.std.specs.Prelude.{◌≡◌, ◌∷◌, [], IfOk};
 ghost use Rattle.protocol_types.specs.Version.{version_content_type};
 ghost use Rattle.std.specs.Fmt.{WritesOnOk};
-ghost use Rattle.vm_start.specs.Negotiation.{content_type, Negotiates, Speaks, negotiation_code, version_name, unsupported_version_text, restate_content_type_text, other_content_type_text, content_type_text, negotiation_text};
+ghost use Rattle.vm_start.specs.Negotiation.{content_type, Negotiates, Speaks, negotiation_code, unsupported_version_text, restate_content_type_text, other_content_type_text, content_type_text, negotiation_text};
 ghost use Rattle.vm_start.specs.declared.negotiation.NegotiationError.TheVariants.{OutOfMemory};
 
 use bytes::ByteStr;
@@ -40,22 +40,6 @@ impl<E> From<AllocError> for NegotiationError<E> {
     }
 }
 
-// The version's name.
-fn version_name(version: Version) -> &'static str
-    ensures { result.now ≡ version_name version }
-{
-    match version {
-        Version::V1 => "V1",
-        Version::V2 => "V2",
-        Version::V3 => "V3",
-        Version::V4 => "V4",
-        Version::V5 => "V5",
-        Version::V6 => "V6",
-        Version::V7 => "V7",
-        Version::V8 => "V8",
-    }
-}
-
 // Writes that the version is none from the oldest to the newest.
 #[tactic(auto, unfolding(crate::specs::Negotiation::unsupported_version_text))]
 fn write_unsupported_version<W: fmt::Write>(
@@ -66,9 +50,9 @@ fn write_unsupported_version<W: fmt::Write>(
 ) -> fmt::Result
     ensures { WritesOnOk W.write_str_gives f.old result (unsupported_version_text version oldest newest) f.new }
 {
-    let version = version_name(version);
-    let oldest = version_name(oldest);
-    let newest = version_name(newest);
+    let version = version.name();
+    let oldest = oldest.name();
+    let newest = newest.name();
     write!(
         f,
         "Unsupported protocol version {version}, not within [{oldest} to {newest}]"

@@ -14,11 +14,13 @@ use Rattle.attempt_model.specs.Requests.{Commands, put_one}
 use Rattle.attempt_model.specs.Machine.{Machine, FailedBy, Mismatch, reply_to}
 use Rattle.vm_awaits.specs.declared.state.AsyncResultsState.{AsyncResultsState}
 use Rattle.vm_awaits.specs.Views.{results_of}
+use Rattle.protocol_stream.specs.declared.decoder.DecodingError.{DecodingError}
 use Rattle.vm_commands.specs.HeaderEquality.{same_header, header_equal, is_unstable}
 use Rattle.vm_commands.specs.declared.replay_error.ReplayError.TheVariants as unmatched
 use Rattle.vm_commands.specs.declared.state_read.StateRead.{StateRead}
 use Rattle.vm_commands.specs.declared.state_read.StateReadError.{StateReadError}
 use Rattle.vm_commands.specs.declared.state_read.StateReadError.TheVariants as errors
+use Rattle.vm_commands.specs.Popping.{IsNoRequest, IsNextUnread}
 use Rattle.vm_commands.specs.Recorded.{as_recorded}
 use Rattle.vm_calls.specs.declared.active.Active.{Active}
 use Rattle.vm_calls.specs.Active.{Sees, asking, TakesCompletion, HasCompletions, left_of, IsSettled, PutsOne}
@@ -65,18 +67,23 @@ module _ (checks_off ignoring : Bool) (given : Invocation) (m : Machine) (call :
       → put_one (header_equal ignoring) request (left_of begun) m.written ≡ None
   none_then made is none = ap (λ (r : Request). put_one (header_equal ignoring) r (left_of begun) m.written) (sym is) ∙ none
 
+  -- what is wrong with what is next
+  unread_then : (error : DecodingError) → IsNextUnread error (left_of begun) → IsNextUnread error m.left
+  unread_then error is = subst (λ (l : Commands). IsNextUnread error l) (left_is given m call request one handle old begun begins) is
+
   pub unreplayed : {L E : Type 0} (made : Request) → as_recorded (left_of begun) made ≡ request → (error : StateReadError L E) → MatchFails ignoring made m.written (left_of begun) error
       → MatchFailsAs checks_off given m call error
   unreplayed made is (errors.Lazy (unmatched.Unavailable error)) fails = fails
   unreplayed made is (errors.Lazy unmatched.OutOfMemory) fails = tt
-  unreplayed made is (errors.Lazy (unmatched.Decoding error)) fails = mismatches (none_then made is fails)
-  unreplayed made is (errors.Lazy (unmatched.Mismatch error)) fails = mismatches (none_then made is fails)
+  unreplayed made is (errors.Lazy (unmatched.Decoding error)) fails = (mismatches (none_then made is fails.0), unread_then error fails.1)
+  unreplayed made is (errors.Lazy (unmatched.Mismatch error)) fails = mismatches (none_then made is fails.0)
   unreplayed made is (errors.Eager (unmatched.Unavailable error)) fails = fails
   unreplayed made is (errors.Eager unmatched.OutOfMemory) fails = tt
-  unreplayed made is (errors.Eager (unmatched.Decoding error)) fails = mismatches (none_then made is fails)
-  unreplayed made is (errors.Eager (unmatched.Mismatch error)) fails = mismatches (none_then made is fails)
-  unreplayed made is (errors.OtherType error) fails = mismatches (none_then made is fails)
-  unreplayed made is errors.Empty fails = mismatches (none_then made is fails)
+  unreplayed made is (errors.Eager (unmatched.Decoding error)) fails = (mismatches (none_then made is fails.0), unread_then error fails.1)
+  unreplayed made is (errors.Eager (unmatched.Mismatch error)) fails = mismatches (none_then made is fails.0)
+  unreplayed made is (errors.OtherType error) fails = mismatches (none_then made is fails.0)
+  unreplayed made is errors.Empty fails =
+      (mismatches (none_then made is fails.0), subst (λ (l : Commands). IsNoRequest l) (left_is given m call request one handle old begun begins) fails.1)
 
   -- so the read fails
   pub fails_unreplayed : {L E : Type 0} (made : Request) → as_recorded (left_of begun) made ≡ request → (error : StateReadError L E) → MatchFails ignoring made m.written (left_of begun) error

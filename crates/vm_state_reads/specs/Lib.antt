@@ -3,3 +3,4 @@ pub mod Telling
 pub mod Reading
 pub mod Replaying
 pub mod Spent
+pub mod Finding

@@ -15,6 +15,7 @@ use Rattle.attempt_model.specs.Machine.{Machine, FailedBy, Mismatch, reply_to}
 use Rattle.vm_awaits.specs.Views.{AsyncResults, results_of}
 use Rattle.vm_context.specs.Following.{changes_state}
 use Rattle.vm_commands.specs.HeaderEquality.{same_header, is_unstable}
+use Rattle.vm_commands.specs.Popping.{IsNoRequest}
 use Rattle.vm_commands.specs.declared.state_read.StateReadError.{StateReadError}
 use Rattle.vm_commands.specs.declared.state_read.StateReadError.TheVariants as errors
 use Rattle.vm_calls.specs.declared.active.Active.{Active}
@@ -28,11 +29,12 @@ use Rattle.vm_state_reads.specs.declared.read_error.ReadError.{ReadError}
 use Rattle.vm_state_reads.specs.declared.read_error.ReadError.TheVariants.{Number, Replay, Encoding, OutOfMemory}
 
 module _ (checks_off : Bool) (given : Invocation) (m : Machine) (call : Call) where
-  -- why the recorded command is not the read
+  -- why the recorded command is not the read; one whose answer was known, and is not there, is no request
   abbrev pub MatchFailsAs : {L E : Type 0} → StateReadError L E → Type 0
   MatchFailsAs (errors.Lazy error) = PutFailsAs checks_off given m call (puts.Replay error)
   MatchFailsAs (errors.Eager error) = PutFailsAs checks_off given m call (puts.Replay error)
-  MatchFailsAs _ = reply_to (same_header checks_off) given m call ≡ FailedBy Mismatch
+  MatchFailsAs (errors.OtherType error) = reply_to (same_header checks_off) given m call ≡ FailedBy Mismatch
+  MatchFailsAs errors.Empty = (reply_to (same_header checks_off) given m call ≡ FailedBy Mismatch) × IsNoRequest m.left
 
   -- Why it fails: a number is lacking; or none is, and it is not matched, or not written; or memory was refused.
   abbrev pub ReadFailsAs : {L E : Type 0} → (old : Active) → ReadError L E → Type 0
@@ -83,7 +85,7 @@ abbrev pub with_known : List Arrival → AsyncResults → AsyncResults
 with_known arrivals results = record results { ready = ready_after_all results.delivery results.ready arrivals }
 
 -- the machine's read has begun, and what is known of its result is ready
-pub record HasRead (given : Invocation) (m : Machine) (handle : ℕ) (request : Request) (old read : Active) : Type 0 where
+pub record HasReadyResult (given : Invocation) (m : Machine) (handle : ℕ) (request : Request) (old read : Active) : Type 0 where
   pub begun : Active
   pub begins : HasBegun given m handle old begun
   pub results : results_of read.results ≡ with_known (known_result m.completions (request ∷ [])) (results_of begun.results)
@@ -93,4 +95,4 @@ pub record HasRead (given : Invocation) (m : Machine) (handle : ℕ) (request : 
 abbrev pub PutsReadAs : {M : Type 0} → Option Request → (ignoring : Bool) → (handle : ℕ) → (begun : Active) → Result ℕ (PutError M) → (new : Active) → Type 0
 PutsReadAs made ignoring handle begun result new =
     (checks_off : Bool) (given : Invocation) (m : Machine) (call : Call) (request : Request) (old : Active) → made ≡ Some request → ReadsOne given m call request
-    → ignoring ≡ (checks_off || is_unstable call) → HasRead given m handle request old begun → PutsRead checks_off given m call old result new
+    → ignoring ≡ (checks_off || is_unstable call) → HasReadyResult given m handle request old begun → PutsRead checks_off given m call old result new

@@ -13,17 +13,18 @@ use Rattle.vm_commands.specs.declared.state_read.StateRead.TheVariants as reads
 use Rattle.vm_commands.specs.declared.state_read.StateReadError.{StateReadError}
 use Rattle.vm_commands.specs.declared.state_read.StateReadError.TheVariants as errors
 use Rattle.vm_commands.specs.HeaderEquality.{header_equal}
+use Rattle.vm_commands.specs.StateReads.{IsNotRead}
 use Rattle.vm_commands.specs.Recorded.{as_recorded}
 use Rattle.vm_calls.specs.declared.active.Active.{Active}
 use Rattle.vm_calls.specs.Active.{left_of, PutsOne}
 
--- why the read that a call makes, as it is recorded, is not matched: the abstract machine does not match it, or memory was refused
+-- why the read that a call makes, as it is recorded, is not matched: the abstract machine does not match it, by what is next, or memory was refused
 abbrev pub MatchFails : {L E : Type 0} → (ignoring : Bool) → (made : Request) → (written : List Request) → Commands → StateReadError L E → Type 0
 MatchFails ignoring made written left (errors.Lazy (unmatched.Unavailable error)) = ⊥
 MatchFails ignoring made written left (errors.Lazy unmatched.OutOfMemory) = Unit {0}
 MatchFails ignoring made written left (errors.Eager (unmatched.Unavailable error)) = ⊥
 MatchFails ignoring made written left (errors.Eager unmatched.OutOfMemory) = Unit {0}
-MatchFails ignoring made written left _ = put_one (header_equal ignoring) (as_recorded left made) left written ≡ None
+MatchFails ignoring made written left error = (put_one (header_equal ignoring) (as_recorded left made) left written ≡ None) × IsNotRead error left
 
 -- it is matched
 abbrev pub MatchesIn : {K L E : Type 0} → (ignoring : Bool) → (made : Request) → (written : List Request) → (old : Active) → Result (StateRead K) (StateReadError L E) → (new : Active) → Type 0

@@ -10,6 +10,7 @@ ghost use Rattle.vm_calls.specs.Spent.{IsSpent};
 ghost use Rattle.vm_state_reads.specs.Reading.{ReadsByCall, ReadsFor};
 ghost use Rattle.vm_state_reads.specs.Replaying.{keys_known};
 ghost use Rattle.vm_state_reads.specs.Spent.{ReadFailsSpent};
+ghost use Rattle.vm_state_reads.specs.Finding.{FindsRead};
 ghost use Rattle.vm_state_reads.specs.Telling.{type_in_replay, type_behind, IsAtRead};
 
 use crate::ReadError;
@@ -76,6 +77,7 @@ fn replay_keys(
 ) -> Result<NotificationHandle, KeysReadError>
     ensures made { active.old.is_replaying ≡ true → ReadsFor (λ m. as_recorded m.left (Request.GetLazyStateKeys m.completions name)) ignoring active.old result active.new }
     ensures spent { IsSpent active.old → ReadFailsSpent active.old result active.new }
+    ensures found { FindsRead GetEagerStateKeysCommand GetLazyStateKeysCommand active.old result active.new }
     ensures told { IsAtCommand (type_in_replay GetEagerStateKeysCommand GetLazyStateKeysCommand active.old.commands.items) [] active.old.journal active.new.journal }
 {
     let (id, handle) = begin_in_replay(
@@ -100,6 +102,7 @@ fn ask_keys(
     name: ByteStr,
 ) -> Result<NotificationHandle, KeysReadError>
     ensures made { ReadsFor (λ m. Request.GetLazyStateKeys m.completions name) ignoring active.old result active.new }
+    ensures found { FindsRead GetEagerStateKeysCommand GetLazyStateKeysCommand active.old result active.new }
     ensures told { IsAtCommand GetLazyStateKeysCommand name active.old.journal active.new.journal }
 {
     let (name, result_completion_id, handle) = active.begin(
@@ -122,6 +125,7 @@ fn tell_keys(
     keys: &Sequence<ByteStr>,
 ) -> Result<NotificationHandle, KeysReadError>
     ensures made { ReadsFor (λ _. Request.GetEagerStateKeys keys.now name) ignoring active.old result active.new }
+    ensures found { FindsRead GetEagerStateKeysCommand GetLazyStateKeysCommand active.old result active.new }
     ensures told { IsAtCommand GetEagerStateKeysCommand name active.old.journal active.new.journal }
 {
     let (name, id, handle) = active.begin(MessageType::GetEagerStateKeysCommand, name)?;
@@ -142,6 +146,7 @@ fn write_keys(
     name: ByteStr,
 ) -> Result<NotificationHandle, KeysReadError>
     ensures made { ReadsFor (λ m. fresh_keys m.start m.done m.completions name) ignoring active.old result active.new }
+    ensures found { FindsRead GetEagerStateKeysCommand GetLazyStateKeysCommand active.old result active.new }
     ensures told { IsAtCommand (type_behind GetEagerStateKeysCommand GetLazyStateKeysCommand (not active.old.state.is_partial)) name active.old.journal active.new.journal }
 {
     match active.state.get_keys(alloc) {
@@ -166,6 +171,7 @@ pub fn state_get_keys(
 ) -> Result<NotificationHandle, KeysReadError>
     ensures made { ReadsByCall checks_off (Call.StateGetKeys name) active.old result active.new }
     ensures spent { IsSpent active.old → ReadFailsSpent active.old result active.new }
+    ensures found { FindsRead GetEagerStateKeysCommand GetLazyStateKeysCommand active.old result active.new }
     ensures told { IsAtRead GetEagerStateKeysCommand GetLazyStateKeysCommand active.old.is_replaying (not active.old.state.is_partial) (name_or_empty name) active.old active.new }
 {
     let name = or_empty(name);

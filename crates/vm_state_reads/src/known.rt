@@ -1,5 +1,8 @@
 // What is left of a read once it has begun.
-ghost use Rattle.std.specs.Prelude.{◌≡◌, OnOk};
+ghost use Rattle.std.specs.Prelude.{◌≡◌, Some, OnOk, IfErr};
+ghost use Rattle.protocol_types.specs.declared.message_type.MessageType.{MessageType};
+ghost use Rattle.vm_commands.specs.Passed.{type_of_record};
+ghost use Rattle.vm_calls.specs.Finding.{command_place, TellsPut};
 ghost use Rattle.vm_awaits.specs.Views.{results_of};
 ghost use Rattle.vm_state_reads.specs.Reading.{PutsReadAs, arrivals_of, with_known};
 
@@ -35,6 +38,8 @@ pub(crate) fn put_read<M: Command>(
     handle: NotificationHandle,
 ) -> Result<NotificationHandle, PutError<M>>
     ensures put { PutsReadAs (M.request_of command) ignoring handle active.old result active.new }
+    ensures found { (ty : MessageType) → type_of_record M.record_type ≡ Some ty
+        → IfErr result (λ error. TellsPut ty (command_place active.new.journal) active.old.commands.items error) }
     ensures journal { active.new.journal ≡ active.old.journal }
 {
     match active.put(alloc, command, ignoring) {

@@ -1,5 +1,9 @@
 // Taking the recorded read.
-ghost use Rattle.std.specs.Prelude.{◌≡◌, true, List, [], Some, IfOk};
+ghost use Rattle.std.specs.Prelude.{◌≡◌, true, List, [], Some, IfOk, IfErr};
+ghost use Rattle.protocol_types.specs.declared.message_type.MessageType.{MessageType};
+ghost use Rattle.vm_commands.specs.Passed.{type_of_record};
+ghost use Rattle.vm_calls.specs.Finding.{command_place};
+ghost use Rattle.vm_state_reads.specs.Finding.{TellsUnread};
 ghost use Rattle.vm_calls.specs.Words.{Request};
 ghost use Rattle.vm_calls.specs.Active.{left_of, still_replays, IsSettled};
 ghost use Rattle.vm_state_reads.specs.Replaying.{MatchesIn, TellsNext};
@@ -30,6 +34,8 @@ pub(crate) fn match_read<E: EagerRead>(
         → MatchesIn ignoring made written active.old result active.new }
     ensures next { IfOk result (TellsNext E.Lazy.request_of E.request_of E.known (left_of active.old)) }
     ensures spent { active.old.commands.items ≡ [] → MatchFindsNone result }
+    ensures found { (eager : MessageType) (lazy : MessageType) → type_of_record E.record_type ≡ Some eager → type_of_record E.Lazy.record_type ≡ Some lazy
+        → IfErr result (λ error. TellsUnread eager lazy (command_place active.new.journal) active.old.commands.items error) }
     ensures output { active.new.output ≡ active.old.output }
     ensures journal { active.new.journal ≡ active.old.journal }
 {

@@ -13,6 +13,7 @@ ghost use Rattle.vm_calls.specs.Spent.{IsSpent};
 ghost use Rattle.vm_state_reads.specs.Reading.{ReadsByCall, ReadsFor};
 ghost use Rattle.vm_state_reads.specs.Replaying.{value_known};
 ghost use Rattle.vm_state_reads.specs.Spent.{ReadFailsSpent};
+ghost use Rattle.vm_state_reads.specs.Finding.{FindsRead};
 ghost use Rattle.vm_state_reads.specs.Telling.{type_in_replay, type_behind, IsAtRead};
 
 use crate::ReadError;
@@ -80,6 +81,7 @@ fn replay_value(
 ) -> Result<NotificationHandle, ValueReadError>
     ensures made { active.old.is_replaying ≡ true → ReadsFor (λ m. as_recorded m.left (Request.GetLazyState key m.completions name)) ignoring active.old result active.new }
     ensures spent { IsSpent active.old → ReadFailsSpent active.old result active.new }
+    ensures found { FindsRead GetEagerStateCommand GetLazyStateCommand active.old result active.new }
     ensures told { IsAtCommand (type_in_replay GetEagerStateCommand GetLazyStateCommand active.old.commands.items) [] active.old.journal active.new.journal }
 {
     let (id, handle) = begin_in_replay(
@@ -106,6 +108,7 @@ fn ask_value(
     name: ByteStr,
 ) -> Result<NotificationHandle, ValueReadError>
     ensures made { ReadsFor (λ m. Request.GetLazyState key m.completions name) ignoring active.old result active.new }
+    ensures found { FindsRead GetEagerStateCommand GetLazyStateCommand active.old result active.new }
     ensures told { IsAtCommand GetLazyStateCommand name active.old.journal active.new.journal }
 {
     let (name, result_completion_id, handle) = active.begin(
@@ -130,6 +133,7 @@ fn tell_value(
     known: Option<Bytes>,
 ) -> Result<NotificationHandle, ValueReadError>
     ensures made { ReadsFor (λ _. Request.GetEagerState key known name) ignoring active.old result active.new }
+    ensures found { FindsRead GetEagerStateCommand GetLazyStateCommand active.old result active.new }
     ensures told { IsAtCommand GetEagerStateCommand name active.old.journal active.new.journal }
 {
     let (name, id, handle) = active.begin(MessageType::GetEagerStateCommand, name)?;
@@ -152,6 +156,7 @@ fn write_value(
     name: ByteStr,
 ) -> Result<NotificationHandle, ValueReadError>
     ensures made { ReadsFor (λ m. fresh_value m.start m.done m.completions key name) ignoring active.old result active.new }
+    ensures found { FindsRead GetEagerStateCommand GetLazyStateCommand active.old result active.new }
     ensures told { IsAtCommand (type_behind GetEagerStateCommand GetLazyStateCommand (is_known active.old.state key)) name active.old.journal active.new.journal }
 {
     let known = active.state.get(&key);
@@ -183,6 +188,7 @@ pub fn state_get(
 ) -> Result<NotificationHandle, ValueReadError>
     ensures made { ReadsByCall checks_off (Call.StateGet key name options) active.old result active.new }
     ensures spent { IsSpent active.old → ReadFailsSpent active.old result active.new }
+    ensures found { FindsRead GetEagerStateCommand GetLazyStateCommand active.old result active.new }
     ensures told { IsAtRead GetEagerStateCommand GetLazyStateCommand active.old.is_replaying (is_known active.old.state key) (name_or_empty name) active.old active.new }
 {
     let ignoring = ignores(checks_off, options);

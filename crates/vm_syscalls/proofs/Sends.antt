@@ -9,8 +9,11 @@ use Rattle.journal_model.specs.declared.call.Target.{Target}
 use Rattle.vm_calls.specs.Words.{Machine}
 use Rattle.vm_calls.specs.Making.{Makes}
 use Rattle.vm_calls.specs.Spent.{FailsSpent}
+use Rattle.vm_calls.specs.Finding.{FindsAs}
+use Rattle.protocol_types.specs.declared.message_type.MessageType.{MessageType}
 use Rattle.vm_calls.specs.declared.active.Active.{Active}
 use Rattle.vm_calls.specs.declared.call_error.CallError.{CallError}
+use Rattle.vm_calls.specs.declared.call_error.CallError.TheVariants.{Number, Put, OutOfMemory}
 use Rattle.vm_types.specs.declared.handles.SendHandle.{SendHandle}
 use Rattle.vm_syscalls.specs.Sending.{sent}
 
@@ -43,3 +46,13 @@ spent_put old new (Err error) fails = fails
 
 pub spent_sent : {M : Type 0} (old new : Active) (put : Result ℕ (CallError M)) (made : Result SendHandle (CallError M)) → made ≡ sent put → FailsSpent 1 old put new → FailsSpent 1 old made new
 spent_sent {M} old new put made is fails = subst (λ (r : Result SendHandle (CallError M)). FailsSpent 1 old r new) (sym is) (spent_put old new put fails)
+
+found_put : {M : Type 0} (ty : MessageType) (old new : Active) (put : Result ℕ (CallError M)) → FindsAs ty old put new → FindsAs ty old (sent put) new
+found_put ty old new (Ok handle) found = tt
+found_put ty old new (Err (Number error)) found = tt
+found_put ty old new (Err (Put error)) found = found
+found_put ty old new (Err OutOfMemory) found = tt
+
+pub found_sent : {M : Type 0} (ty : MessageType) (old new : Active) (put : Result ℕ (CallError M)) (made : Result SendHandle (CallError M)) → made ≡ sent put → FindsAs ty old put new
+    → FindsAs ty old made new
+found_sent {M} ty old new put made is found = subst (λ (r : Result SendHandle (CallError M)). FindsAs ty old r new) (sym is) (found_put ty old new put found)

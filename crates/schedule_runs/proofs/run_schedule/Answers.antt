@@ -1,4 +1,5 @@
 use Rattle.std.proofs.Common.{◌≡◌, refl, List, [], ◌∷◌, ◌++◌, sym, subst, ◌∙◌, map-id, arith, length-append}
+use Rattle.std.specs.List.{AllByRecursion}
 use Rattle.std.proofs.lemmas.Iterator.Consumers.{YieldsList-end}
 use Rattle.std.proofs.lemmas.Iterator.Adapters.{YieldsList-from_vec}
 use Rattle.sqlite.specs.Held.{state}
@@ -104,6 +105,13 @@ returns-clause-wakes_exactly g c =
     let function = g.H.Handler.next_call in
     subst (λ (es : List (Event g.row.H.Denot)). LeavesMore g.S.Store (RunsLeave function c.args.options es (WakesExactlyAfter c.args.options)) c.args.store c.loop-event.scheduler.store) all
     (runs_more function c.args.options c.schedules_leave.ensures (WakesExactlyAfter c.args.options) (λ next id after accepted holds new is. c.records_of_runs.ensures.wakes_exactly next c.args.options id after new is holds) g.S.Store c.loop-event.yielded c.loop-event.replies.items c.loop-event.invariant.fits c.args.store c.loop-event.scheduler c.loop-event.invariant.applies)
+
+pub returns-clause-fits : goal.returns-clause-fits
+returns-clause-fits g c =
+    let h = c.into_iter-event-iterator.ensures.into_iter_gives in
+    let e = YieldsList-end (YieldsList-from_vec {s = c.into_iter-event-iterator.result} c.args.events.items h.0 (h.1 ∙ c.args.events.ok.0)) c.loop-event.yielded c.loop-event.event-iterator c.loop-event.yielded_by c.next.result c.next.new.self c.in-None.is c.next.ensures.steps in
+    let all : c.loop-event.yielded ≡ c.args.events.items = sym (map-id c.loop-event.yielded) ∙ e.0 in
+    subst (λ (es : List (Event g.row.H.Denot)). AllByRecursion FitsEvent es) all c.loop-event.invariant.fits
 
 pub returns-clause-crash : goal.returns-clause-crash
 returns-clause-crash g c =

@@ -8,7 +8,7 @@ use Rattle.protocol_wire.specs.Selection.{among, last_run, run, variant_of, is_r
 use Rattle.protocol_wire.proofs.Steps.{is_shorter}
 use Rattle.protocol_wire.proofs.Runs.{Running, onward, numbered, run_skips, run_goes_on, run_begins, run_none, run_found}
 use Rattle.protocol_wire.proofs.select.run_at.Goals as goal
-use Rattle.protocol_wire.proofs.select.run_at.Goals.{else-contains-via-then-contains+else-not-is_run, else-contains-via-else-contains}
+use Rattle.protocol_wire.proofs.select.run_at.Goals.{else-is_variant-via-then-is_variant+else-not-is_run, else-is_variant-via-else-is_variant}
 
 none_is : (variants : List ℕ) (found : Option (ℕ × Fields)) (fs whole : List Field) → Running variants (onward found) fs whole → fs ≡ [] → IfNone found (whole ≡ [])
 none_is variants None fs whole h e = run_none variants fs whole h e
@@ -37,18 +37,18 @@ pub loop-field-preserved-then-not-is_run : goal.loop-field-preserved-then-not-is
 loop-field-preserved-then-not-is_run c =
     run_begins c.args.variants.now (onward c.loop-field.found) (coming c.loop-field.rest) (coming c.in-Some.after) (last_run (among c.args.variants.now (coming c.args.all))) (field c.in-Some.field)
     c.loop-field.invariant c.in-Some.ensures.some
-    (sym c.contains.ensures.value ∙ c.if-contains.true) (numbers_alone c.loop-field.found c.in-Some.field.number ∙ sym c.is_run.ensures ∙ c.if-not-is_run.true)
+    (sym c.is_variant.ensures ∙ c.if-is_variant.true) (numbers_alone c.loop-field.found c.in-Some.field.number ∙ sym c.is_run.ensures ∙ c.if-not-is_run.true)
 
 pub loop-field-preserved : goal.loop-field-preserved
 loop-field-preserved c =
     let whole = last_run (among c.args.variants.now (coming c.args.all)) in
-    elim c.else-contains.branch [
-      | else-contains-via-then-contains+else-not-is_run w ↦
+    elim c.else-is_variant.branch [
+      | else-is_variant-via-then-is_variant+else-not-is_run w ↦
           run_goes_on c.args.variants.now (onward c.loop-field.found) (coming c.loop-field.rest) (coming c.in-Some.after) whole (field c.in-Some.field) c.loop-field.invariant c.in-Some.ensures.some
-          (sym c.contains.ensures.value ∙ w.if-contains.true) (numbers_alone c.loop-field.found c.in-Some.field.number ∙ sym w.is_run.ensures ∙ w.if-not-is_run.false)
-      | else-contains-via-else-contains w ↦
+          (sym c.is_variant.ensures ∙ w.if-is_variant.true) (numbers_alone c.loop-field.found c.in-Some.field.number ∙ sym w.is_run.ensures ∙ w.if-not-is_run.false)
+      | else-is_variant-via-else-is_variant w ↦
           run_skips c.args.variants.now (onward c.loop-field.found) (coming c.loop-field.rest) (coming c.in-Some.after) whole (field c.in-Some.field) c.loop-field.invariant c.in-Some.ensures.some
-          (sym c.contains.ensures.value ∙ w.if-contains.false)
+          (sym c.is_variant.ensures ∙ w.if-is_variant.false)
     ]
 
 pub returns-clause-none : goal.returns-clause-none

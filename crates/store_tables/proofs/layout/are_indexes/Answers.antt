@@ -3,8 +3,8 @@ use Rattle.store_tables.proofs.layout.are_indexes.Goals as goal
 
 pub returns-clause-exact : goal.returns-clause-exact
 unfolding digits
-returns-clause-exact c here = rw (c.key_index.ensures, c.key_index-2.ensures, c.key_index-3.ensures, c.key_index-4.ensures, c.key_index-5.ensures, c.key_index-6.ensures, c.key_index-7.ensures, c.key_index-8.ensures, c.key_index-9.ensures) at (c.have_indexes.ensures.exact here)
+returns-clause-exact c here = rw (c.of_key.ensures, c.of_key-2.ensures, c.of_key-3.ensures, c.of_key-4.ensures, c.to_look_up.ensures, c.to_look_up-2.ensures, c.to_look_up-3.ensures, c.to_look_up-4.ensures, c.to_look_up-5.ensures) at (c.have_indexes.ensures.exact here)
 
 pub returns-clause-complete : goal.returns-clause-complete
 unfolding digits
-returns-clause-complete c here = (rw (c.key_index.ensures, c.key_index-2.ensures, c.key_index-3.ensures, c.key_index-4.ensures, c.key_index-5.ensures, c.key_index-6.ensures, c.key_index-7.ensures, c.key_index-8.ensures, c.key_index-9.ensures) at c.have_indexes.ensures.complete) here
+returns-clause-complete c here = (rw (c.of_key.ensures, c.of_key-2.ensures, c.of_key-3.ensures, c.of_key-4.ensures, c.to_look_up.ensures, c.to_look_up-2.ensures, c.to_look_up-3.ensures, c.to_look_up-4.ensures, c.to_look_up-5.ensures) at c.have_indexes.ensures.complete) here

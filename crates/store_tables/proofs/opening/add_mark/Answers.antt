@@ -10,7 +10,6 @@ returns-clause-ok g c clean =
     let old : State = state g.S.Store c.args.tx.now.conn.now in
     let new : State = state g.S.Store c.run.new.tx.conn.now in
     let early : HasCleanDisk old = omega (arith, c.run.ensures.survives.clean) in
-    let made = c.requires early in
     on_ok c.run.result (c.run.ensures.ran clean) (λ ran.
-    let done = marked old new made.schema made.bare ran in
+    let done = marked old new (c.requires early) ran in
     (done.0, ran.inside, done.1))

@@ -1,4 +1,4 @@
-use Rattle.std.proofs.Common.{◌∙◌}
+use Rattle.std.proofs.Common.{refl, ◌∙◌}
 use Rattle.protocol_types.specs.declared.message_type.MessageType.TheVariants.{AttachInvocationCommand}
 use Rattle.vm_calls.proofs.Calls.{unchecked}
 use Rattle.vm_calls.proofs.Spending.{takes_rest}
@@ -19,3 +19,6 @@ pub returns-clause-spent : goal.returns-clause-spent
 returns-clause-spent c =
     c.put_completable.ensures.spent _ 1 c.args.active.now (attach_told c.args.target _ c.in_ok-name.result_completion_id c.in_ok-name.name c.to_invocation_target-target.ensures)
     (takes_rest AttachInvocationCommand c.new.result c.args.active.now c.in_ok-name.ensures.taken) c.in_ok-name.ensures.taken.has
+
+pub returns-clause-found : goal.returns-clause-found
+returns-clause-found c = c.put_completable.ensures.found AttachInvocationCommand c.args.active.now refl (takes_rest AttachInvocationCommand c.new.result c.args.active.now c.in_ok-name.ensures.taken)

@@ -1,4 +1,4 @@
-use Rattle.std.proofs.Common.{◌∙◌}
+use Rattle.std.proofs.Common.{refl, ◌∙◌}
 use Rattle.protocol_types.specs.declared.message_type.MessageType.TheVariants.{GetInvocationOutputCommand}
 use Rattle.vm_calls.proofs.Calls.{unchecked}
 use Rattle.vm_calls.proofs.Spending.{takes_rest}
@@ -18,3 +18,6 @@ pub returns-clause-spent : goal.returns-clause-spent
 returns-clause-spent c =
     c.put_completable.ensures.spent _ 1 c.args.active.now (get_output_told c.args.target _ c.in_ok-name.id c.in_ok-name.name c.to_invocation_target-target.ensures)
     (takes_rest GetInvocationOutputCommand c.new.result c.args.active.now c.in_ok-name.ensures.taken) c.in_ok-name.ensures.taken.has
+
+pub returns-clause-found : goal.returns-clause-found
+returns-clause-found c = c.put_completable.ensures.found GetInvocationOutputCommand c.args.active.now refl (takes_rest GetInvocationOutputCommand c.new.result c.args.active.now c.in_ok-name.ensures.taken)

@@ -2,6 +2,7 @@ use Rattle.std.proofs.Common.{Err, refl, ap, ◌+◌, ◌∙◌, ℕ}
 use Rattle.protocol_types.specs.declared.message_type.MessageType.TheVariants.{CallCommand}
 use Rattle.std.proofs.lemmas.Result.{err_from_is_err_and}
 use Rattle.vm_calls.proofs.Calls.{number_fails}
+use Rattle.vm_calls.proofs.Finding.{number_finds}
 use Rattle.vm_invocations.proofs.Calls.{call_completes}
 use Rattle.vm_invocations.proofs.Pairing.{two_rest}
 use Rattle.vm_calls.proofs.Spending.{number_spent}
@@ -33,3 +34,11 @@ returns-in_err-name-clause-spent c =
     λ spent.
     let told = err_from_is_err_and c.from_residual.result c.from_residual.ensures.1 in
     number_spent 2 c.args.active.now c.begin_two.new.active c.in_err-name.field-0.0 c.from_residual.result c.in_err-name.ensures.err c.begin_two.ensures.output (told.1 ∙ ap Err told.2)
+
+pub returns-clause-found : goal.returns-clause-found
+returns-clause-found c = c.put_call.ensures.found CallCommand c.args.active.now refl (two_rest CallCommand c.or_empty.result c.args.active.now c.in_ok-name.ensures.taken)
+
+pub returns-in_err-name-clause-found : goal.returns-in_err-name-clause-found
+returns-in_err-name-clause-found c =
+    let told = err_from_is_err_and c.from_residual.result c.from_residual.ensures.1 in
+    number_finds CallCommand c.args.active.now c.begin_two.new.active c.in_err-name.field-0.0 c.from_residual.result (told.1 ∙ ap Err told.2)

@@ -1,8 +1,9 @@
-use Rattle.std.proofs.Common.{Some, Err, ap, ◌∙◌}
+use Rattle.std.proofs.Common.{refl, Some, Err, ap, ◌∙◌}
 use Rattle.std.proofs.lemmas.Result.{err_from_is_err_and}
 use Rattle.journal_model.specs.Request.{Request}
 use Rattle.protocol_types.specs.declared.message_type.MessageType.TheVariants.{OneWayCallCommand}
 use Rattle.vm_calls.proofs.Calls.{number_fails}
+use Rattle.vm_calls.proofs.Finding.{number_finds}
 use Rattle.vm_invocations.proofs.Calls.{send_completes}
 use Rattle.vm_calls.proofs.Spending.{takes_rest, number_spent}
 use Rattle.vm_invocations.proofs.sending.send.Goals as goal
@@ -34,3 +35,11 @@ returns-in_err-name-clause-spent c =
     λ spent.
     let told = err_from_is_err_and c.from_residual.result c.from_residual.ensures.1 in
     number_spent 1 c.args.active.now c.begin.new.self c.in_err-name.field-0.0 c.from_residual.result c.in_err-name.ensures.err c.begin.ensures.output (told.1 ∙ ap Err told.2)
+
+pub returns-clause-found : goal.returns-clause-found
+returns-clause-found c = c.put_completable.ensures.found OneWayCallCommand c.args.active.now refl (takes_rest OneWayCallCommand c.or_empty.result c.args.active.now c.in_ok-name.ensures.taken)
+
+pub returns-in_err-name-clause-found : goal.returns-in_err-name-clause-found
+returns-in_err-name-clause-found c =
+    let told = err_from_is_err_and c.from_residual.result c.from_residual.ensures.1 in
+    number_finds OneWayCallCommand c.args.active.now c.begin.new.self c.in_err-name.field-0.0 c.from_residual.result (told.1 ∙ ap Err told.2)

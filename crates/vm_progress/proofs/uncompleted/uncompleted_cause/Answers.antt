@@ -8,5 +8,5 @@ use Rattle.vm_progress.proofs.uncompleted.uncompleted_cause.Goals as goal
 
 pub returns : goal.returns
 returns c =
-    told_by (started_id c.args.start.now) (only_leaves (slot_of (slots_of c.args.results.now)) (tree_of c.args.left.now)) c.in_ok-error.error _ c.about_nothing-told.result
+    told_by (started_id c.args.start.now) (only_leaves (slot_of (slots_of c.args.results.now)) (tree_of c.args.left.now)) c.in_ok-error.error c.about_nothing-told.result
     c.in_ok-error.ensures c.about_nothing-told.ensures

@@ -9,7 +9,7 @@ pub returns-in-Admitted : goal.returns-in-Admitted
 returns-in-Admitted c =
     read_made value_read (Call.StateGet c.args.key c.args.name c.args.options) (λ active. is_known active.state c.args.key) (name_or_empty c.args.name) c.args.vm.now c.admit.new.self c.checks_off-ignoring.result
     c.state_get-made.result c.state_get-made.new.active c.settle_read.result c.settle_read.new.vm c.in-Admitted.ensures c.checks_off-ignoring.ensures c.state_get-made.ensures.made
-    c.state_get-made.ensures.told c.state_get-made.ensures.spent c.settle_read.ensures
+    c.state_get-made.ensures.told c.state_get-made.ensures.spent c.state_get-made.ensures.found c.settle_read.ensures
 
 pub returns-in-Elsewhere : goal.returns-in-Elsewhere
 returns-in-Elsewhere c =

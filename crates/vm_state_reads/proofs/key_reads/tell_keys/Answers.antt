@@ -1,12 +1,14 @@
-use Rattle.std.proofs.Common.{[], ◌∷◌, List, ap, ◌∙◌}
+use Rattle.std.proofs.Common.{refl, [], ◌∷◌, List, ap, ◌∙◌}
 use Rattle.journal_model.specs.declared.notification.NotificationId.TheVariants.{CompletionId}
 use Rattle.journal_model.specs.Notification.{Arrival}
 use Rattle.journal_model.specs.Request.{Request}
 use Rattle.attempt_model.specs.Machine.{Machine}
-use Rattle.protocol_types.specs.declared.message_type.MessageType.TheVariants.{GetEagerStateKeysCommand}
+use Rattle.protocol_types.specs.declared.message_type.MessageType.TheVariants.{GetEagerStateKeysCommand, GetLazyStateKeysCommand}
 use Rattle.vm_awaits.specs.Views.{results_of}
 use Rattle.vm_state_reads.specs.Reading.{with_known}
 use Rattle.vm_state_reads.proofs.Answering.{reads_eagerly, number_fails}
+use Rattle.vm_calls.proofs.Spending.{takes_rest}
+use Rattle.vm_state_reads.proofs.Finding.{finds_eager, finds_no_number}
 use Rattle.vm_state_reads.proofs.key_reads.tell_keys.Goals as goal
 
 pub returns-clause-made : goal.returns-clause-made
@@ -21,3 +23,11 @@ pub returns-in_err-name-clause-made : goal.returns-in_err-name-clause-made
 returns-in_err-name-clause-made c =
     number_fails (λ (_ : Machine). Request.GetEagerStateKeys c.args.keys.now c.args.name) c.args.ignoring c.args.active.now c.begin.new.self
     c.in_err-name.field-0.0 c.from_residual.result c.in_err-name.ensures.err c.begin.ensures.output c.from_residual.ensures.1
+
+pub returns-clause-found : goal.returns-clause-found
+returns-clause-found c =
+    finds_eager GetEagerStateKeysCommand GetLazyStateKeysCommand c.args.active.now c.put_read.new.active _ (takes_rest GetEagerStateKeysCommand c.args.name c.args.active.now c.in_ok-name.ensures.taken).commands
+    c.put_read.result (c.put_read.ensures.found GetEagerStateKeysCommand refl) c.eager_read.result c.eager_read.ensures
+
+pub returns-in_err-name-clause-found : goal.returns-in_err-name-clause-found
+returns-in_err-name-clause-found c = finds_no_number GetEagerStateKeysCommand GetLazyStateKeysCommand c.args.active.now _ c.in_err-name.field-0.0 c.from_residual.result c.from_residual.ensures.1

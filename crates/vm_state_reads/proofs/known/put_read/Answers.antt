@@ -10,3 +10,6 @@ pub returns-in-Err-clause-put : goal.returns-in-Err-clause-put
 returns-in-Err-clause-put g c =
     λ checks_off given m call request old h one ignores has.
     read_fails given m call request one c.args.handle old has.begun has.begins checks_off c.args.ignoring ignores c.args.active.now has.results has.others c.put.new.self c.in-Err.error (c.in-Err.ensures.put request m.written h)
+
+pub returns-in-Err-clause-found : goal.returns-in-Err-clause-found
+returns-in-Err-clause-found g c = λ ty typed. c.in-Err.ensures.found ty typed

@@ -1,3 +1,5 @@
+use Rattle.std.proofs.Common.{refl}
+use Rattle.protocol_types.specs.declared.message_type.MessageType.TheVariants.{GetEagerStateCommand, GetLazyStateCommand}
 use Rattle.journal_model.specs.Request.{Request}
 use Rattle.attempt_model.specs.Machine.{Machine}
 use Rattle.protocol_commands.specs.declared.get_eager_state_command.GetEagerStateCommandResult.{GetEagerStateCommandResult}
@@ -7,6 +9,8 @@ use Rattle.vm_state_reads.proofs.Answering.{number_fails}
 use Rattle.vm_state_reads.proofs.Knowing.{value_is_known}
 use Rattle.vm_state_reads.proofs.Replayed.{reads_recorded, fails_unmatched, fails_unready}
 use Rattle.vm_state_reads.proofs.Spending.{none_then, spent_unmatched, spent_unready, spent_number}
+use Rattle.vm_calls.proofs.Spending.{takes_rest}
+use Rattle.vm_state_reads.proofs.Finding.{finds_unread, finds_unready, finds_no_number}
 use Rattle.vm_state_reads.proofs.value_reads.replay_value.Goals as goal
 
 pub returns-clause-made : goal.returns-clause-made
@@ -45,3 +49,15 @@ returns-in_err-ready_at_once-clause-spent c = λ spent.
 pub returns-in_err-id-clause-spent : goal.returns-in_err-id-clause-spent
 returns-in_err-id-clause-spent c = λ spent.
     spent_number c.args.active.now c.begin_in_replay.new.active c.in_err-id.field-0.0 c.from_residual.result c.in_err-id.ensures.err c.begin_in_replay.ensures.output c.from_residual.ensures.1
+
+pub returns-in_err-read-clause-found : goal.returns-in_err-read-clause-found
+returns-in_err-read-clause-found c =
+    finds_unread GetEagerStateCommand GetLazyStateCommand c.args.active.now c.match_read.new.active _ (takes_rest _ _ c.args.active.now c.in_ok-id.ensures.taken).commands
+    c.in_err-read.field-0.0 (c.in_err-read.ensures.found GetEagerStateCommand GetLazyStateCommand refl refl) c.from_residual-in_err-read.result c.from_residual-in_err-read.ensures.1
+
+pub returns-in_err-ready_at_once-clause-found : goal.returns-in_err-ready_at_once-clause-found
+returns-in_err-ready_at_once-clause-found c =
+    finds_unready GetEagerStateCommand GetLazyStateCommand c.args.active.now _ c.from_residual-in_err-ready_at_once.result c.from_residual-in_err-ready_at_once.ensures.1
+
+pub returns-in_err-id-clause-found : goal.returns-in_err-id-clause-found
+returns-in_err-id-clause-found c = finds_no_number GetEagerStateCommand GetLazyStateCommand c.args.active.now _ c.in_err-id.field-0.0 c.from_residual.result c.from_residual.ensures.1

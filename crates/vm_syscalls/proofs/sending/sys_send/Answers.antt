@@ -5,7 +5,7 @@ use Rattle.journal_model.specs.declared.call.Call.{Call}
 use Rattle.protocol_differences.specs.Calls.{one_way_call_command_difference}
 use Rattle.protocol_types.specs.declared.message_type.MessageType.TheVariants.{OneWayCallCommand}
 use Rattle.vm_machine.proofs.Admitted.{unrefused_of, refused_as, made_by, calls_made, calls_elsewhere, calls_stopped}
-use Rattle.vm_syscalls.proofs.Sends.{moment_passes, makes_sent, spent_sent}
+use Rattle.vm_syscalls.proofs.Sends.{moment_passes, makes_sent, spent_sent, found_sent}
 use Rattle.vm_syscalls.proofs.sending.sys_send.Goals as goal
 
 pub returns-in-Admitted : goal.returns-in-Admitted
@@ -23,7 +23,8 @@ returns-in-Admitted c =
     makes_sent c.checks_off-ignoring.result given m call c.admit.new.self.active c.send-put.new.active c.send-put.result c.sent-made.result c.sent-made.ensures
     (c.send-put.ensures.made given m c.args.execution_time (sym (c.invoke_time-time.ensures (moment_passes given.version c.args.target c.args.execution_time free))) free childless sees))
     c.send-put.ensures.told
-    (λ spent. spent_sent c.admit.new.self.active c.send-put.new.active c.send-put.result c.sent-made.result c.sent-made.ensures (c.send-put.ensures.spent spent)) c.settle.ensures)
+    (λ spent. spent_sent c.admit.new.self.active c.send-put.new.active c.send-put.result c.sent-made.result c.sent-made.ensures (c.send-put.ensures.spent spent))
+    (found_sent OneWayCallCommand c.admit.new.self.active c.send-put.new.active c.send-put.result c.sent-made.result c.sent-made.ensures c.send-put.ensures.found) c.settle.ensures)
 
 pub returns-in-Elsewhere : goal.returns-in-Elsewhere
 returns-in-Elsewhere c =

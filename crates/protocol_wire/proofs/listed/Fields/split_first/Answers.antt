@@ -1,7 +1,10 @@
-use Rattle.std.proofs.Common.{refl}
+use Rattle.std.proofs.Common.{◌∙◌, refl, sym}
 use Rattle.protocol_wire.specs.Listed.{are_all}
-use Rattle.protocol_wire.proofs.Listing.{coming_none, coming_listed, coming_read, all_read}
+use Rattle.protocol_wire.proofs.Listing.{coming_none, coming_nothing, coming_listed, coming_read, all_read}
 use Rattle.protocol_wire.proofs.listed.Fields.split_first.Goals as goal
+
+pub returns-then-is_empty-clause-none : goal.returns-then-is_empty-clause-none
+returns-then-is_empty-clause-none c = coming_nothing c.args.self c.in-None.ensures.cases (sym c.is_empty.ensures ∙ c.if-is_empty.true)
 
 pub returns-in_err-field-in-None-clause-none : goal.returns-in_err-field-in-None-clause-none
 returns-in_err-field-in-None-clause-none c = rw c.from_residual.ensures (coming_none c.args.self c.in-None.ensures.cases c.in_err-field-in-None.ensures)

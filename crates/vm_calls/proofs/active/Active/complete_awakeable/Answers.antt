@@ -16,3 +16,6 @@ returns-clause-made c =
 
 pub returns-clause-spent : goal.returns-clause-spent
 returns-clause-spent c = c.put_done.ensures.spent _ 0 c.args.self.now (awakeable_requested c.args.id c.args.value c.in_ok-carried.carried c.in_ok-name.name c.in_ok-carried.ensures) (asks_rest CompleteAwakeableCommand c.new.result c.args.self.now c.in_ok-name.ensures.journal) (λ lacks. lacks)
+
+pub returns-clause-found : goal.returns-clause-found
+returns-clause-found c = c.put_done.ensures.found CompleteAwakeableCommand c.args.self.now refl (asks_rest CompleteAwakeableCommand c.new.result c.args.self.now c.in_ok-name.ensures.journal)

@@ -1,4 +1,4 @@
-use Rattle.std.proofs.Common.{◌∙◌}
+use Rattle.std.proofs.Common.{refl, ◌∙◌}
 use Rattle.protocol_types.specs.declared.message_type.MessageType.TheVariants.{CompletePromiseCommand}
 use Rattle.vm_calls.proofs.PromiseCalls.{promise_completes}
 use Rattle.vm_calls.proofs.Spending.{takes_rest}
@@ -15,3 +15,6 @@ returns-clause-made c =
 
 pub returns-clause-spent : goal.returns-clause-spent
 returns-clause-spent c = c.put_completable.ensures.spent _ 1 c.args.self.now c.in_ok-command.ensures (takes_rest CompletePromiseCommand c.new.result c.args.self.now c.in_ok-name.ensures.taken) c.in_ok-name.ensures.taken.has
+
+pub returns-clause-found : goal.returns-clause-found
+returns-clause-found c = c.put_completable.ensures.found CompletePromiseCommand c.args.self.now refl (takes_rest CompletePromiseCommand c.new.result c.args.self.now c.in_ok-name.ensures.taken)

@@ -17,3 +17,6 @@ returns-clause-made c =
 
 pub returns-clause-spent : goal.returns-clause-spent
 returns-clause-spent c = c.put_done.ensures.spent _ 0 c.args.self.now (signal_requested c.args.target_id c.args.name c.args.value c.in_ok-carried.carried c.in_ok-entry_name.entry_name c.in_ok-carried.ensures) (asks_rest SendSignalCommand c.new.result c.args.self.now c.in_ok-entry_name.ensures.journal) (λ lacks. lacks)
+
+pub returns-clause-found : goal.returns-clause-found
+returns-clause-found c = c.put_done.ensures.found SendSignalCommand c.args.self.now refl (asks_rest SendSignalCommand c.new.result c.args.self.now c.in_ok-entry_name.ensures.journal)

@@ -15,3 +15,6 @@ returns-clause-made c =
 
 pub returns-clause-spent : goal.returns-clause-spent
 returns-clause-spent c = c.put_completable.ensures.spent _ 1 c.args.self.now refl (takes_rest PeekPromiseCommand c.new.result c.args.self.now c.in_ok-name.ensures.taken) c.in_ok-name.ensures.taken.has
+
+pub returns-clause-found : goal.returns-clause-found
+returns-clause-found c = c.put_completable.ensures.found PeekPromiseCommand c.args.self.now refl (takes_rest PeekPromiseCommand c.new.result c.args.self.now c.in_ok-name.ensures.taken)

@@ -1,4 +1,5 @@
-use Rattle.std.proofs.Common.{Ok, Err, [], refl}
+use Rattle.std.proofs.Common.{rules, Ok, Err, [], refl, ◌∙◌, FitsSigned, to_z-of_z, w64}
+use Rattle.vm_calls.proofs.Finding.{put_tells}
 use Rattle.vm_calls.proofs.Settling.{put_settles, put_fails}
 use Rattle.vm_calls.proofs.Spending.{finds_none, writes_none}
 use Rattle.vm_calls.proofs.active.Active.put.Goals as goal
@@ -25,3 +26,10 @@ returns-in-Err-clause-spent g c =
       writes_none c.args.ignore_payload_equality old.is_replaying old.commands.items (Err c.in-Err.error) spent.replaying request [] old.output c.put.new.commands.items c.put.new.output
           (c.in-Err.ensures.put request [] h),
     )
+
+pub returns-in-Err-clause-found : goal.returns-in-Err-clause-found
+returns-in-Err-clause-found g c =
+    λ ty typed.
+    let old = c.args.self.now in
+    let fits : FitsSigned w64 c.command_index-index.result = search rules in
+    put_tells g.M.Record.record_type ty typed g.M.Record.of g.M.CommandMessageHeaderEq.erased _ c.args.ignore_payload_equality c.args.command _ (to_z-of_z fits ∙ c.command_index-index.ensures) old.is_replaying old.commands.items c.in-Err.error c.in-Err.ensures.answer

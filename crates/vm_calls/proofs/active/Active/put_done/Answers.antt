@@ -1,3 +1,4 @@
+use Rattle.vm_calls.proofs.Finding.{tells_before}
 use Rattle.vm_calls.proofs.Doing.{does, does_fail}
 use Rattle.vm_calls.proofs.Spending.{none_for, none_stands}
 use Rattle.vm_calls.proofs.active.Active.put_done.Goals as goal
@@ -17,3 +18,6 @@ returns-in-Ok-clause-spent g c = λ request taken old h keeps has spent. none_st
 
 pub returns-in-Err-clause-spent : goal.returns-in-Err-clause-spent
 returns-in-Err-clause-spent g c = λ request taken old h keeps has spent. none_for taken old c.args.self.now c.put.new.self keeps has spent c.in-Err.error (c.in-Err.ensures.spent request h)
+
+pub returns-in-Err-clause-found : goal.returns-in-Err-clause-found
+returns-in-Err-clause-found g c = λ ty old typed keeps. tells_before ty old c.args.self.now keeps _ c.in-Err.error (c.in-Err.ensures.found ty typed)

@@ -21,3 +21,6 @@ returns-clause-made c =
 
 pub returns-clause-spent : goal.returns-clause-spent
 returns-clause-spent c = c.put_done.ensures.spent _ 0 c.args.self.now refl (changes_rest SetStateCommand c.or_empty.result c.args.self.now c.in_ok-name.ensures.journal c.set_known.new.state) (λ lacks. lacks)
+
+pub returns-clause-found : goal.returns-clause-found
+returns-clause-found c = c.put_done.ensures.found SetStateCommand c.args.self.now refl (changes_rest SetStateCommand c.or_empty.result c.args.self.now c.in_ok-name.ensures.journal c.set_known.new.state)

@@ -1,0 +1,8 @@
+use Rattle.std.proofs.Common.{◌≡◌, ◌++◌}
+use Rattle.protocol_wire.specs.Fields.{fields}
+use Rattle.protocol_wire.specs.Listed.{coming}
+use Rattle.protocol_wire.specs.Selection.{values, each_bytes}
+use Rattle.protocol_records.proofs.state_keys.repeated_bytes_at.Given as goal
+
+abbrev pub invariant-loop-found : goal.invariant-loop-found
+invariant-loop-found l = l.all ++ each_bytes (values l.field.number (coming l.found-iterator)) ≡ each_bytes (values l.field.number (fields l.payload))

@@ -1,6 +1,0 @@
-use Rattle.std.proofs.Common.{◌≡◌, ◌++◌, take}
-use Rattle.protocol_wire.specs.Parts.{part_spelling, repeated_bytes}
-use Rattle.protocol_wire.proofs.put.put_repeated_bytes.Given as goal
-
-abbrev pub invariant-loop-bytes : goal.invariant-loop-bytes
-invariant-loop-bytes l = l.out.items ≡ l.fn.out.items ++ part_spelling (repeated_bytes l.field.number (take l.bytes-index l.all))

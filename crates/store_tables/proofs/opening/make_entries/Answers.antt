@@ -1,0 +1,49 @@
+use Rattle.std.proofs.Common.{arith}
+use Rattle.sqlite.specs.State.{State, HasCleanDisk}
+use Rattle.sqlite.specs.Held.{state}
+use Rattle.sql_tables.proofs.Queries.{keeps_on, on_ok}
+use Rattle.store_tables.proofs.Making.{entries_made}
+use Rattle.store_tables.proofs.opening.make_entries.Goals as goal
+
+pub returns-in_err-run-2-clause-kept : goal.returns-in_err-run-2-clause-kept
+returns-in_err-run-2-clause-kept g c clean =
+    let a : State = state g.S.Store c.args.tx.now.conn.now in
+    let b : State = state g.S.Store c.run.new.tx.conn.now in
+    let d : State = state g.S.Store c.run-2.new.tx.conn.now in
+    let clean_b : HasCleanDisk b = omega (arith, c.run-2.ensures.survives.clean) in
+    keeps_on a b d (c.run.ensures.kept clean_b) (c.run-2.ensures.kept clean)
+
+pub returns-in_err-run-3-clause-kept : goal.returns-in_err-run-3-clause-kept
+returns-in_err-run-3-clause-kept g c clean =
+    let a : State = state g.S.Store c.args.tx.now.conn.now in
+    let b : State = state g.S.Store c.run.new.tx.conn.now in
+    let d : State = state g.S.Store c.run-2.new.tx.conn.now in
+    let e : State = state g.S.Store c.run-3.new.tx.conn.now in
+    let clean_d : HasCleanDisk d = omega (arith, c.run-3.ensures.survives.clean) in
+    let clean_b : HasCleanDisk b = omega (arith, c.run-2.ensures.survives.clean) in
+    keeps_on a d e (keeps_on a b d (c.run.ensures.kept clean_b) (c.run-2.ensures.kept clean_d)) (c.run-3.ensures.kept clean)
+
+pub returns-clause-kept : goal.returns-clause-kept
+returns-clause-kept g c clean =
+    let a : State = state g.S.Store c.args.tx.now.conn.now in
+    let b : State = state g.S.Store c.run.new.tx.conn.now in
+    let d : State = state g.S.Store c.run-2.new.tx.conn.now in
+    let e : State = state g.S.Store c.run-3.new.tx.conn.now in
+    let f : State = state g.S.Store c.run-4.new.tx.conn.now in
+    let clean_e : HasCleanDisk e = omega (arith, c.run-4.ensures.survives.clean) in
+    let clean_d : HasCleanDisk d = omega (arith, c.run-3.ensures.survives.clean) in
+    let clean_b : HasCleanDisk b = omega (arith, c.run-2.ensures.survives.clean) in
+    keeps_on a e f (keeps_on a d e (keeps_on a b d (c.run.ensures.kept clean_b) (c.run-2.ensures.kept clean_d)) (c.run-3.ensures.kept clean_e)) (c.run-4.ensures.kept clean)
+
+pub returns-clause-ok : goal.returns-clause-ok
+returns-clause-ok g c clean =
+    let a : State = state g.S.Store c.args.tx.now.conn.now in
+    let b : State = state g.S.Store c.run.new.tx.conn.now in
+    let d : State = state g.S.Store c.run-2.new.tx.conn.now in
+    let e : State = state g.S.Store c.run-3.new.tx.conn.now in
+    let f : State = state g.S.Store c.run-4.new.tx.conn.now in
+    let clean_e : HasCleanDisk e = omega (arith, c.run-4.ensures.survives.clean) in
+    let clean_d : HasCleanDisk d = omega (arith, c.run-3.ensures.survives.clean) in
+    let clean_b : HasCleanDisk b = omega (arith, c.run-2.ensures.survives.clean) in
+    let clean_a : HasCleanDisk a = omega (arith, c.run.ensures.survives.clean) in
+    on_ok c.run-4.result (c.run-4.ensures.ran clean) (λ last. entries_made a b d e f (c.requires clean_a) (c.in_ok-run.ensures.ran clean_b) (c.in_ok-run-2.ensures.ran clean_d) (c.in_ok-run-3.ensures.ran clean_e) last)
