@@ -115,7 +115,7 @@ first_tree : (size : ℕ) (schema : List Wanted) (pages : PageMap) → file_tree
 first_tree size schema pages e =
     named_tree 0 (omega arith) size schema (in_use size pages) ∙ first_empty size schema (in_use size pages) (sym (catalog_rows size schema (in_use size pages)) ∙ e)
 
-found_empty : (image : Image) (trees : Trees) → AreFoundIn image trees → trees catalog_tree ≡ [] → trees 0 ≡ []
+pub found_empty : (image : Image) (trees : Trees) → AreFoundIn image trees → trees catalog_tree ≡ [] → trees 0 ≡ []
 found_empty image trees found e = elim found [
   | inl held ↦
       let same = held.5 in

@@ -1,3 +1,5 @@
 pub mod Closing
 pub mod Finding
+pub mod Lasting
+pub mod Leaving
 pub mod Opening

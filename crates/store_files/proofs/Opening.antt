@@ -73,6 +73,7 @@ module _ (image : Image) (was is : State) (attempts : ByInvocation) (Commits : T
   is_taken taken = record {
     trees = was.now.trees;
     found = seen;
+    holds = found_trees image was found opens;
     is = elim (bare_or_not was.now.schema) [
       | inl none ↦ inl (subst (λ schema. IsSound schema was.now.trees) none sound, fresh none)
       | inr some ↦

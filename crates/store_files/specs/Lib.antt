@@ -1,3 +1,4 @@
 pub mod Files
+pub mod Left
 pub mod Refused
 pub mod Taken

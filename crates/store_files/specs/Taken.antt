@@ -1,5 +1,5 @@
 -- Which files are taken for a store's, and what the store stands for then.
-use Rattle.std.specs.Prelude.{◌⊎◌, List, []}
+use Rattle.std.specs.Prelude.{◌≡◌, ◌⊎◌, List, []}
 use Rattle.sqlite_disk.specs.declared.Disk.{Ghosts}
 use Rattle.sqlite_wal.specs.Recovery.{Image}
 use Rattle.sqlite_trees.specs.Tree.{Trees}
@@ -8,7 +8,7 @@ use Rattle.sqlite_store.specs.declared.store.FileStore.{FileStore}
 use Rattle.sqlite.specs.Held.{Held}
 use Rattle.sqlite.specs.State.{State, HasCleanDisk, Survives}
 use Rattle.sqlite.specs.Start.{FindsIn}
-use Rattle.sqlite.specs.Files.{AreFoundIn, IsOpened, file_state}
+use Rattle.sqlite.specs.Files.{AreFoundIn, HoldsDatabase, IsOpened, file_state}
 use Rattle.journal_model.specs.Event.{Event}
 use Rattle.journal_model.specs.Cause.{IsAccepted, after_open}
 use Rattle.sql_tables.specs.Columns.{no_schema}
@@ -31,6 +31,7 @@ IsFoundAgain trees database attempts =
 pub record IsTaken (image : Image) (database : State) (attempts : ByInvocation) : Type 0 where
   pub trees : Trees
   pub found : AreFoundIn image trees
+  pub holds : (db : Trees) → ∥ HoldsDatabase image db ∥₁ → trees ≡ db
   pub is : IsMadeNew trees database attempts ⊎ IsFoundAgain trees database attempts
 
 module _ {D : Type 0} {g : Ghosts D} where

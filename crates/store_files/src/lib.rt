@@ -3,7 +3,11 @@
 #![tactic(auto)]
 
 mod close;
+mod laws;
+mod leave;
 mod open;
 
 pub use close::close_file;
+pub use laws::opened_files_last;
+pub use leave::leave_file;
 pub use open::{FileNotTaken, NotTaken, open_file};
