@@ -4,26 +4,10 @@
 
 use anyhow::Result;
 use bytes::{ByteStr, Bytes};
-use invocation_vm::{
-    AwaitResponse, CoreVM, Moment, NotificationHandle, PayloadOptions, Sequence, Target,
-    UnresolvedFuture, VM, VMOptions, VMResult,
-};
+use invocation_vm::{CoreVM, Moment, PayloadOptions, Sequence, Target, VM, VMOptions, VMResult};
 use journal_protocol::Decoder;
 use std::alloc::Global;
 use std::{env, fs};
-
-// A request says by its content type which version of the protocol it is in.
-fn begin<V: VM>(alloc: Global) -> Result<V> {
-    let mut headers = Vec::new(alloc);
-    headers.push((
-        ByteStr::from_static("content-type"),
-        ByteStr::from_static("application/vnd.restate.invocation.v7"),
-    ))?;
-    match V::new(alloc, &headers, VMOptions::default()) {
-        Ok(vm) => Ok(vm),
-        Err(error) => Err(error.into()),
-    }
-}
 
 fn greeter(alloc: Global) -> Target {
     Target {
@@ -37,62 +21,56 @@ fn greeter(alloc: Global) -> Target {
     }
 }
 
-fn wait<V: VM>(vm: &mut V, handle: NotificationHandle) -> VMResult<AwaitResponse> {
-    vm.do_await(UnresolvedFuture::Single(handle))
-}
-
 // The handler: it sleeps, calls another one, and waits for its answer.
-fn run<V: VM>(alloc: Global, vm: &mut V) -> VMResult<AwaitResponse> {
+fn run<V: VM>(alloc: Global, vm: &mut V) -> VMResult<()> {
     drop(vm.sys_input()?);
     let sleep = vm.sys_sleep(ByteStr::new(), Moment::from_millis(10), None)?;
-    wait(vm, sleep)?;
+    vm.do_await(sleep.into())?;
     drop(vm.take_notification(sleep)?);
-    let options = PayloadOptions::default();
-    let call = vm.sys_call(
-        greeter(alloc),
-        Bytes::from_static(b"\"Ada\""),
-        None,
-        options,
-    )?;
-    wait(vm, call.call_notification_handle)
+    let name = Bytes::from_static(b"\"Ada\"");
+    let call = vm.sys_call(greeter(alloc), name, None, PayloadOptions::default())?;
+    vm.do_await(call.call_notification_handle.into())?;
+    Ok(())
 }
 
+// A line for each frame: the name of its type, its header, its payload.
 fn show_frames<R: Print>(rt: &R, alloc: Global, frames: &[u8]) -> Result<()> {
     let mut decoder = Decoder::new(alloc);
     decoder.push(frames)?;
     for _ in 0..u64::MAX {
-        let Some(message) = decoder.consume_next()? else {
+        let Some(frame) = decoder.consume_next()? else {
             break;
         };
-        println!(rt; "{}, {} bytes", message.ty(), message.payload.len())?;
+        let header = u64::from(frame.header());
+        println!(rt; "{} {header:016x} {:x}", frame.ty(), frame.payload)?;
     }
     Ok(())
 }
 
-fn go_on<R: Print, V: VM>(rt: &R, alloc: Global, vm: &mut V, journal: Bytes) -> Result<()> {
-    vm.notify_input(journal);
+// What was recorded comes first, and then nothing more.
+fn go_on<R: Print, V: VM>(rt: &R, alloc: Global, vm: &mut V, journal: &[u8]) -> Result<()> {
+    vm.notify_input(Bytes::copy_from_slice(alloc, journal)?);
     vm.notify_input_closed();
-    match run(alloc, vm) {
-        Ok(response) => println!(rt; "{response:?}")?,
-        Err(error) => println!(rt; "{error}")?,
+    if let Err(error) = run(alloc, vm) {
+        println!(rt; "{error}")?;
     }
     show_frames(rt, alloc, vm.take_output()?.as_slice())
 }
 
-fn attempt<R: Print>(rt: &R, alloc: Global, journal: Bytes) -> Result<()> {
-    let mut vm: CoreVM = begin(alloc)?;
+fn attempt<R: Print>(rt: &R, alloc: Global, journal: &[u8]) -> Result<()> {
+    // A request says by its content type which version of the protocol it is in.
+    let version = ByteStr::from_static("application/vnd.restate.invocation.v7");
+    let headers = vec![in alloc; (ByteStr::from_static("content-type"), version)]?;
+    let mut vm = CoreVM::new(alloc, &headers, VMOptions::default())?;
     let gone_on = go_on(rt, alloc, &mut vm, journal);
     drop(vm);
     gone_on
 }
 
 fn main(rt: HostRuntime) -> Result<()> {
-    let mut words = env::args(&rt)?;
-    let _program = words.next();
-    if let Some(journal) = words.next() {
-        let bytes = fs::read(&rt, journal.as_str())?;
-        let journal = Bytes::copy_from_slice(rt.alloc(), bytes.as_slice())?;
-        attempt(&rt, rt.alloc(), journal)?;
+    if let Some(path) = env::args(&rt)?.nth(1) {
+        let journal = fs::read(&rt, path.as_str())?;
+        attempt(&rt, rt.alloc(), journal.as_slice())?;
     }
     Ok(())
 }

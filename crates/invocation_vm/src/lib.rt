@@ -20,6 +20,11 @@ pub use vm_types::{
     SendHandle, State, VMOptions,
 };
 
+// What it is answered of a run, and tells of one. No call does so yet.
+pub use vm_runs::{
+    EntryRetryInfo, Factor, NextRetry, OnMaxAttempts, RetryPolicy, RunExitResult, RunHandle,
+};
+
 // What calls carry.
 pub use journal_model::{
     AttachInvocationTarget, CANCEL_NOTIFICATION_HANDLE, Header, ImplicitCancellationOption, Input,

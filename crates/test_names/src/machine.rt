@@ -3,9 +3,10 @@ pub use invocation_vm::async_results::{Notification, NotificationId, Notificatio
 pub use invocation_vm::{
     Answer, AttachInvocationTarget, Attempt, AwaitResponse, AwaitedFuture, AwaitingOnPolicy,
     AwakeableHandle, CANCEL_NOTIFICATION_HANDLE, Call, CallHandle, CommandMetadata,
-    CommandRelationship, CommandType, CoreVM, EphemeralCompletionId, Handler,
-    ImplicitCancellationOption, Input, JournalMismatchRetryBehavior, JournalReplay, Moment,
-    NonDeterministicChecksOption, NotificationHandle, PayloadOptions, ResponseHead, SendHandle,
+    CommandRelationship, CommandType, CoreVM, EntryRetryInfo, EphemeralCompletionId, Factor,
+    Handler, ImplicitCancellationOption, Input, JournalMismatchRetryBehavior, JournalReplay,
+    Moment, NextRetry, NonDeterministicChecksOption, NotificationHandle, OnMaxAttempts,
+    PayloadOptions, ResponseHead, RetryPolicy, RunExitResult, RunHandle, SendHandle,
     SignalDelivery, State, Target, Turn, UnresolvedFuture, VM, VMOptions, VMResult, async_results,
     context, ephemeral, transitions,
 };
@@ -45,6 +46,12 @@ pub fn name_invocations() {
     named!(CoreVM as VM:
         sys_call sys_send sys_cancel_invocation sys_attach_invocation sys_get_invocation_output
     );
+}
+
+/// How it is told which runs are tried again.
+pub fn name_policies() {
+    named!(RetryPolicy: fixed_delay exponential);
+    named!(Factor: new);
 }
 
 /// What is called of the parts of a machine.
