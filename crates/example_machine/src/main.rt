@@ -1,5 +1,4 @@
-//! `example_machine JOURNAL`: goes on with a handler that was stopped. It is handed what was recorded of it, and prints the
-//! frames that it writes.
+//! `example_machine JOURNAL`: a handler that was stopped goes on from what was recorded of it, and what it writes is printed.
 #![tactic(auto)]
 
 use anyhow::Result;
@@ -42,12 +41,12 @@ fn show_frames<R: Print>(rt: &R, alloc: Global, frames: &[u8]) -> Result<()> {
             break;
         };
         let header = u64::from(frame.header());
-        println!(rt; "{} {header:016x} {:x}", frame.ty(), frame.payload)?;
+        let payload = hex::encode(alloc, frame.payload.as_slice())?;
+        println!(rt; "{} {header:016x} {payload}", frame.ty())?;
     }
     Ok(())
 }
 
-// What was recorded comes first, and then nothing more.
 fn go_on<R: Print, V: VM>(rt: &R, alloc: Global, vm: &mut V, journal: &[u8]) -> Result<()> {
     vm.notify_input(Bytes::copy_from_slice(alloc, journal)?);
     vm.notify_input_closed();
