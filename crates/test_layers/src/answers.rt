@@ -1,9 +1,11 @@
 //! The calls and the output of a handler behind answers that words stand for. Nothing is promised here, so that a test stays
 //! short to prove.
+use built_in_handlers::BuiltIn;
 use bytes::{ByteStr, Bytes};
 use journal_model::{Answer, Call, Handler, Input, NonEmptyValue, NotificationHandle, Value};
 use sequence::Sequence;
 use std::alloc::{AllocError, Global};
+use std::str;
 
 fn input(alloc: Global) -> Input {
     Input {
@@ -26,10 +28,6 @@ fn keys(alloc: Global) -> Result<Value, AllocError> {
     Ok(Value::StateKeys(keys))
 }
 
-fn taken(value: Value) -> Answer {
-    Answer::Taken(Some(value))
-}
-
 /// Of a number the handle, and of two with a comma between them the two handles of a call.
 fn handles(word: &str) -> Option<Answer> {
     match word.split_once(',') {
@@ -47,9 +45,9 @@ fn answer(alloc: Global, word: &str) -> Option<Answer> {
         "cancelled" => Some(Answer::Cancelled),
         "not-completed" => Some(Answer::Completed(false)),
         "done" => Some(Answer::Done),
-        "void" => Some(taken(Value::Void)),
-        "text" => Some(taken(Value::Success(Bytes::from_static(b"z")))),
-        "keys" => Some(taken(keys(alloc).ok()?)),
+        "void" => Some(Answer::Taken(Some(Value::Void))),
+        "text" => Some(Answer::Taken(Some(Value::Success(Bytes::from_static(b"z"))))),
+        "keys" => Some(Answer::Taken(Some(keys(alloc).ok()?))),
         _ => handles(word),
     }
 }
@@ -83,9 +81,9 @@ fn kind(call: &Call) -> &'static str {
 }
 
 /// The call behind these answers.
-pub fn call_behind<H: Handler>(
+pub fn call_behind(
     alloc: Global,
-    handler: &H,
+    handler: &BuiltIn,
     answers: &[Answer],
 ) -> Result<Call, AllocError> {
     let input = input(alloc);
@@ -95,9 +93,9 @@ pub fn call_behind<H: Handler>(
 }
 
 /// Puts the kind of the call behind these answers.
-fn put_kind<H: Handler>(
+fn put_kind(
     alloc: Global,
-    handler: &H,
+    handler: &BuiltIn,
     answers: &[Answer],
     kinds: &mut String,
 ) -> Result<(), AllocError> {
@@ -108,7 +106,7 @@ fn put_kind<H: Handler>(
 }
 
 /// The kinds of the calls before the first answer, behind it, and so on, a space behind each.
-fn kinds<H: Handler>(alloc: Global, handler: &H, answers: &[Answer]) -> Result<String, AllocError> {
+fn kinds(alloc: Global, handler: &BuiltIn, answers: &[Answer]) -> Result<String, AllocError> {
     let mut kinds = String::new(alloc);
     put_kind(alloc, handler, &[], &mut kinds)?;
     for (index, _answer) in answers.iter().enumerate() {
@@ -118,34 +116,43 @@ fn kinds<H: Handler>(alloc: Global, handler: &H, answers: &[Answer]) -> Result<S
     Ok(kinds)
 }
 
-/// Whether these are the kinds of a handler's calls.
-pub fn calls_are<H: Handler>(alloc: Global, handler: &H, words: &str, wanted: &str) -> bool {
-    let Some(answers) = answers(alloc, words) else {
-        return false;
-    };
-    let kinds = kinds(alloc, handler, answers.as_slice());
+/// The kinds of the calls of the handler of this name behind these answers.
+pub fn calls(alloc: Global, name: &str, words: &str) -> Option<String> {
+    let handler = BuiltIn::from_name(alloc, name.as_bytes())?;
+    let answers = answers(alloc, words)?;
+    let kinds = kinds(alloc, &handler, answers.as_slice());
     drop(answers);
-    match kinds {
-        Ok(kinds) => kinds.as_str() == wanted,
-        Err(_) => false,
+    kinds.ok()
+}
+
+fn value(alloc: Global, value: &NonEmptyValue) -> Option<String> {
+    match value {
+        NonEmptyValue::Success(bytes) => {
+            let text = str::from_utf8(bytes.as_slice()).ok()?;
+            format!(in alloc; "success {text}").ok()
+        }
+        NonEmptyValue::Failure(failure) => {
+            format!(in alloc; "failure {} {}", failure.code, failure.message).ok()
+        }
     }
 }
 
 /// What a call puts out.
-fn output(call: &Call) -> Result<Option<NonEmptyValue>, AllocError> {
+fn output_of(alloc: Global, call: &Call) -> Option<String> {
     match call {
-        Call::Output { value, .. } => Ok(Some(value.clone()?)),
-        _other => Ok(None),
+        Call::Output { value: output, .. } => value(alloc, output),
+        _other => None,
     }
 }
 
-/// What a handler puts out behind these answers.
-pub fn output_behind<H: Handler>(alloc: Global, handler: &H, words: &str) -> Option<NonEmptyValue> {
+/// What the handler of this name puts out behind these answers.
+pub fn output(alloc: Global, name: &str, words: &str) -> Option<String> {
+    let handler = BuiltIn::from_name(alloc, name.as_bytes())?;
     let answers = answers(alloc, words)?;
-    let call = call_behind(alloc, handler, answers.as_slice());
+    let call = call_behind(alloc, &handler, answers.as_slice());
     drop(answers);
     let call = call.ok()?;
-    let output = output(&call);
+    let told = output_of(alloc, &call);
     drop(call);
-    output.ok()?
+    told
 }

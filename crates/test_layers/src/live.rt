@@ -26,12 +26,22 @@ fn begun(alloc: Global) -> Result<LiveAttempt, AllocError> {
     })
 }
 
-/// It is the only live one.
-fn live_alone(alloc: Global, id: &ByteStr) -> Result<LiveAttempts, AllocError> {
-    let mut live = LiveAttempts::new(alloc);
+fn begin(alloc: Global, live: &mut LiveAttempts) -> Result<(), AllocError> {
     live.reserve_one()?;
-    live.put_begun(id.clone()?, begun(alloc)?);
-    Ok(live)
+    live.put_begun(ByteStr::from_static("i1"), begun(alloc)?);
+    Ok(())
+}
+
+/// It is the only live one.
+fn live_alone(alloc: Global) -> Result<LiveAttempts, AllocError> {
+    let mut live = LiveAttempts::new(alloc);
+    match begin(alloc, &mut live) {
+        Ok(()) => Ok(live),
+        Err(refused) => {
+            drop(live);
+            Err(refused)
+        }
+    }
 }
 
 /// Whether these are the next bytes, of which at most so many are asked for.
@@ -75,54 +85,51 @@ fn waiting(live: &LiveAttempts, id: &ByteStr) -> usize {
     }
 }
 
-#[test]
-fn the_input_in_parts(rt: HostRuntime) -> Result<(), Fail> {
-    let id = ByteStr::from_static("i1");
-    let mut live = live_alone(rt.alloc(), &id)?;
-    assert!(rt; hands_out(&mut live, &id, 5, &INPUT[..5]));
-    assert_eq!(rt; handed(&live, &id), Some(0));
-    assert!(rt; hands_out(&mut live, &id, 5, &INPUT[5..]));
-    assert_eq!(rt; handed(&live, &id), Some(1));
-    drop(live);
-    Ok(())
+/// Whether the input is handed out in parts.
+fn comes_in_parts(live: &mut LiveAttempts, id: &ByteStr) -> bool {
+    hands_out(live, id, 5, &INPUT[..5])
+        && handed(live, id) == Some(0)
+        && hands_out(live, id, 5, &INPUT[5..])
+        && handed(live, id) == Some(1)
 }
 
-#[test]
-fn an_arrival_behind_the_input(rt: HostRuntime) -> Result<(), Fail> {
-    let id = ByteStr::from_static("i1");
-    let mut live = live_alone(rt.alloc(), &id)?;
-    assert!(rt; cancel(&mut live, &id));
-    assert!(rt; hands_out(&mut live, &id, 12, b"\x04\0\0\0\0\0\0\0\xfb\xff\0\0"));
-    assert_eq!(rt; handed(&live, &id), Some(1));
-    assert!(rt; hands_out(&mut live, &id, 100, b"\0\0\0\x04\x10\x01\x22\0"));
-    assert_eq!(rt; handed(&live, &id), Some(2));
-    drop(live);
-    Ok(())
+/// Whether an arrival comes behind the input.
+fn brings_an_arrival(live: &mut LiveAttempts, id: &ByteStr) -> bool {
+    cancel(live, id)
+        && hands_out(live, id, 12, b"\x04\0\0\0\0\0\0\0\xfb\xff\0\0")
+        && handed(live, id) == Some(1)
+        && hands_out(live, id, 100, b"\0\0\0\x04\x10\x01\x22\0")
+        && handed(live, id) == Some(2)
 }
 
-#[test]
-fn closed_and_over(rt: HostRuntime) -> Result<(), Fail> {
-    let id = ByteStr::from_static("i1");
+/// Whether output waits.
+fn keeps_output(live: &mut LiveAttempts, id: &ByteStr) -> bool {
+    live.push_output(id, &INPUT).is_ok() && waiting(live, id) == 8
+}
+
+/// Whether it is closed, and then over, when it is told, and not when another is.
+fn is_over_when_told(live: &mut LiveAttempts, id: &ByteStr) -> bool {
     let other = ByteStr::from_static("i2");
-    let mut live = live_alone(rt.alloc(), &id)?;
     live.close_input(&other);
-    assert!(rt; !is_closed(&live, &id));
-    live.close_input(&id);
-    assert!(rt; is_closed(&live, &id));
+    let stays_open = !is_closed(live, id);
+    live.close_input(id);
+    let is_closed = is_closed(live, id);
     live.remove(&other);
-    assert!(rt; live.get(&id).is_some());
-    live.remove(&id);
-    assert!(rt; live.get(&id).is_none());
-    drop(live);
-    Ok(())
+    let stays = live.get(id).is_some();
+    live.remove(id);
+    stays_open && is_closed && stays && live.get(id).is_none()
 }
 
 #[test]
-fn output_that_waits(rt: HostRuntime) -> Result<(), Fail> {
+fn a_live_attempt(rt: HostRuntime) -> Result<(), Fail> {
     let id = ByteStr::from_static("i1");
-    let mut live = live_alone(rt.alloc(), &id)?;
-    assert!(rt; live.push_output(&id, &INPUT).is_ok());
-    assert_eq!(rt; waiting(&live, &id), 8);
+    let mut live = live_alone(rt.alloc())?;
+    assert!(rt; comes_in_parts(&mut live, &id));
+    assert!(rt; keeps_output(&mut live, &id));
+    assert!(rt; is_over_when_told(&mut live, &id));
+    drop(live);
+    let mut live = live_alone(rt.alloc())?;
+    assert!(rt; brings_an_arrival(&mut live, &id));
     drop(live);
     Ok(())
 }

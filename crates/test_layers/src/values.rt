@@ -4,7 +4,7 @@ use journal_model::{
     Answer, AwaitedFuture, CANCEL_NOTIFICATION_HANDLE, Moment, NotificationHandle, PayloadOptions,
     UnresolvedFuture,
 };
-use std::alloc::AllocError;
+use std::alloc::{AllocError, Global};
 use std::test::Fail;
 use std::time::Duration;
 
@@ -16,19 +16,22 @@ fn is_copied<T: Clone + PartialEq + Drop>(one: T) -> Result<bool, AllocError> {
     Ok(is_equal)
 }
 
-#[test]
-fn numbers_of_handles(rt: HostRuntime) {
-    assert_eq!(rt; u32::from(NotificationHandle::new(17)), 17);
-    assert_eq!(rt; NotificationHandle::from(17u32).number(), 17);
-    assert_eq!(rt; CANCEL_NOTIFICATION_HANDLE.number(), 1);
+/// Whether handles, options and moments keep what they are made of.
+fn are_kept() -> bool {
+    let moment = Moment::new(Duration::from_secs(2));
+    u32::from(NotificationHandle::new(17)) == 17
+        && NotificationHandle::from(17u32).number() == 17
+        && CANCEL_NOTIFICATION_HANDLE.number() == 1
+        && !PayloadOptions::stable_serialization().unstable_serialization
+        && PayloadOptions::unstable_serialization().unstable_serialization
+        && moment.duration() == Duration::from_secs(2)
 }
 
-#[test]
-fn copy_of_a_future(rt: HostRuntime) -> Result<(), Fail> {
+/// A future of two notifications.
+fn two(alloc: Global) -> Result<UnresolvedFuture, AllocError> {
     let handles = (NotificationHandle::new(17), NotificationHandle::new(18));
-    let two = UnresolvedFuture::two(rt.alloc(), handles.0, handles.1)?;
-    assert!(rt; is_copied(UnresolvedFuture::AllCompleted(two))?);
-    Ok(())
+    let two = UnresolvedFuture::two(alloc, handles.0, handles.1)?;
+    Ok(UnresolvedFuture::AllCompleted(two))
 }
 
 /// Whether a future is that of one notification.
@@ -39,31 +42,22 @@ fn is_single(awaited: AwaitedFuture, handle: NotificationHandle) -> bool {
     is_single
 }
 
-#[test]
-fn copy_of_an_awaited_future(rt: HostRuntime) -> Result<(), Fail> {
+/// Whether a future that is awaited is copied.
+fn is_awaited_copied() -> Result<bool, AllocError> {
     let first = NotificationHandle::new(17);
     let copy = AwaitedFuture::new(UnresolvedFuture::from(first)).clone()?;
-    assert!(rt; is_single(copy, first));
-    assert!(rt; is_single(AwaitedFuture::single(first), first));
-    Ok(())
+    Ok(is_single(copy, first) && is_single(AwaitedFuture::single(first), first))
 }
 
 #[test]
-fn copy_of_an_answer(rt: HostRuntime) -> Result<(), Fail> {
+fn values_and_their_copies(rt: HostRuntime) -> Result<(), Fail> {
+    assert!(rt; are_kept());
+    assert!(rt; is_copied(two(rt.alloc())?)?);
+    assert!(rt; is_awaited_copied()?);
     let answer = Answer::Awakeable {
         id: ByteStr::from_static("sign_1aW52MQAAABE"),
         handle: NotificationHandle::new(17),
     };
     assert!(rt; is_copied(answer)?);
     Ok(())
-}
-
-#[test]
-fn options_and_moments(rt: HostRuntime) {
-    assert!(rt; !PayloadOptions::stable_serialization().unstable_serialization);
-    assert!(rt; PayloadOptions::unstable_serialization().unstable_serialization);
-    assert_eq!(rt;
-        Moment::new(Duration::from_secs(2)).duration(),
-        Duration::from_secs(2)
-    );
 }

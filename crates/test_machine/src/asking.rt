@@ -1,7 +1,7 @@
-//! Commands towards other invocations: `call SERVICE HANDLER KEY HEX NAME`, `send SERVICE HANDLER KEY HEX MILLIS` with no moment for
-//! `-`, `complete_signal ID NAME HEX`, `cancel ID`, `attach ID`, `output_of ID`.
+//! Commands towards other invocations: `call SERVICE HANDLER KEYS HEX NAME`, `send SERVICE HANDLER KEYS HEX MILLIS` with no moment for
+//! `-`, `complete_signal ID NAME VALUE`, `cancel ID`; `attach` and `output_of` with an id, or with `workflow` or `request` and a scope.
 use crate::answers::{done, failed, handle};
-use crate::operands::{byte_str, bytes, invocation, moment, optional, success, target};
+use crate::operands::{byte_str, bytes, handed, invocation, moment, optional, target};
 use bytes::{ByteStr, Bytes};
 use invocation_vm::{Moment, PayloadOptions, Target, VM};
 use std::alloc::Global;
@@ -23,11 +23,13 @@ fn call<V: VM>(
     }
 }
 
-fn call_words<V: VM>(alloc: Global, vm: &mut V, words: [&str; 5]) -> Option<String> {
-    let [service, handler, key, parameter, name] = words;
-    let name = optional(alloc, name)?;
-    let parameter = bytes(alloc, parameter)?;
-    let target = target(alloc, service, handler, key)?;
+fn call_words<V: VM>(alloc: Global, vm: &mut V, operands: &[&str]) -> Option<String> {
+    let [service, handler, key, parameter, name] = operands else {
+        return None;
+    };
+    let name = optional(alloc, *name)?;
+    let parameter = bytes(alloc, *parameter)?;
+    let target = target(alloc, *service, *handler, *key)?;
     call(alloc, vm, target, parameter, name)
 }
 
@@ -54,45 +56,44 @@ fn moment_or_none(millis: &str) -> Option<Option<Moment>> {
     Some(Some(moment(millis)?))
 }
 
-fn send_words<V: VM>(alloc: Global, vm: &mut V, words: [&str; 5]) -> Option<String> {
-    let [service, handler, key, parameter, millis] = words;
-    let at = moment_or_none(millis)?;
-    let parameter = bytes(alloc, parameter)?;
-    let target = target(alloc, service, handler, key)?;
+fn send_words<V: VM>(alloc: Global, vm: &mut V, operands: &[&str]) -> Option<String> {
+    let [service, handler, key, parameter, millis] = operands else {
+        return None;
+    };
+    let at = moment_or_none(*millis)?;
+    let parameter = bytes(alloc, *parameter)?;
+    let target = target(alloc, *service, *handler, *key)?;
     send(alloc, vm, target, parameter, at)
 }
 
-fn complete_signal<V: VM>(
-    alloc: Global,
-    vm: &mut V,
-    id: &str,
-    name: &str,
-    value: &str,
-) -> Option<String> {
-    let id = byte_str(alloc, id)?;
-    let name = byte_str(alloc, name)?;
-    let value = success(alloc, value)?;
+fn complete_signal<V: VM>(alloc: Global, vm: &mut V, operands: &[&str]) -> Option<String> {
+    let [id, name, value] = operands else {
+        return None;
+    };
+    let id = byte_str(alloc, *id)?;
+    let name = byte_str(alloc, *name)?;
+    let value = handed(alloc, *value)?;
     done(alloc, vm.sys_complete_signal(id, name, value))
 }
 
-pub fn answer<V: VM>(
-    alloc: Global,
-    vm: &mut V,
-    call_name: &str,
-    operands: &[&str],
-) -> Option<String> {
-    match (call_name, operands) {
-        ("call", [service, handler, key, parameter, name]) => {
-            call_words(alloc, vm, [*service, *handler, *key, *parameter, *name])
+pub fn answer<V: VM>(alloc: Global, vm: &mut V, call: &str, operands: &[&str]) -> Option<String> {
+    match call {
+        "call" => call_words(alloc, vm, operands),
+        "send" => send_words(alloc, vm, operands),
+        "complete_signal" => complete_signal(alloc, vm, operands),
+        "cancel" => {
+            let id = byte_str(alloc, *operands.first()?)?;
+            done(alloc, vm.sys_cancel_invocation(id))
         }
-        ("send", [service, handler, key, parameter, millis]) => {
-            send_words(alloc, vm, [*service, *handler, *key, *parameter, *millis])
-        }
-        ("complete_signal", [id, name, value]) => complete_signal(alloc, vm, *id, *name, *value),
-        ("cancel", [id]) => done(alloc, vm.sys_cancel_invocation(byte_str(alloc, *id)?)),
-        ("attach", [id]) => handle(alloc, vm.sys_attach_invocation(invocation(alloc, *id)?)),
-        ("output_of", [id]) => {
-            handle(alloc, vm.sys_get_invocation_output(invocation(alloc, *id)?))
+        "attach" => handle(
+            alloc,
+            vm.sys_attach_invocation(invocation(alloc, operands)?),
+        ),
+        "output_of" => {
+            handle(
+                alloc,
+                vm.sys_get_invocation_output(invocation(alloc, operands)?),
+            )
         }
         _ => None,
     }

@@ -110,11 +110,11 @@ fn take<V: VM>(alloc: Global, vm: &mut V, handle: &str) -> Option<String> {
 }
 
 pub fn answer<V: VM>(alloc: Global, vm: &mut V, call: &str, operands: &[&str]) -> Option<String> {
-    match (call, operands) {
-        ("await", words) => wait(alloc, vm, words),
-        ("input", []) => read_input(alloc, vm),
-        ("completed", [handle]) => completed(alloc, vm, *handle),
-        ("take", [handle]) => take(alloc, vm, *handle),
+    match operands {
+        words if call == "await" => wait(alloc, vm, words),
+        [] if call == "input" => read_input(alloc, vm),
+        [handle] if call == "completed" => completed(alloc, vm, *handle),
+        [handle] if call == "take" => take(alloc, vm, *handle),
         _ => None,
     }
 }

@@ -1,7 +1,7 @@
-//! Commands of an invocation itself: `sleep MILLIS NAME`, `promise KEY`, `peek KEY`, `complete_promise KEY HEX`, `awakeable`,
-//! `complete_awakeable ID HEX`, `signal NAME`, `output HEX`.
+//! Commands of an invocation itself: `sleep MILLIS NAME`, `promise KEY`, `peek KEY`, `complete_promise KEY VALUE`, `awakeable`,
+//! `complete_awakeable ID VALUE`, `signal NAME`, `output VALUE`. A value is hexadecimal digits, or `failure`.
 use crate::answers::{done, failed, handle};
-use crate::operands::{byte_str, moment, success};
+use crate::operands::{byte_str, handed, moment};
 use invocation_vm::{PayloadOptions, VM};
 use std::alloc::Global;
 
@@ -13,7 +13,7 @@ fn sleep<V: VM>(alloc: Global, vm: &mut V, millis: &str, name: &str) -> Option<S
 
 fn complete_promise<V: VM>(alloc: Global, vm: &mut V, key: &str, value: &str) -> Option<String> {
     let key = byte_str(alloc, key)?;
-    let value = success(alloc, value)?;
+    let value = handed(alloc, value)?;
     let made = vm.sys_complete_promise(key, value, PayloadOptions::default());
     handle(alloc, made)
 }
@@ -31,7 +31,7 @@ fn awakeable<V: VM>(alloc: Global, vm: &mut V) -> Option<String> {
 
 fn complete_awakeable<V: VM>(alloc: Global, vm: &mut V, id: &str, value: &str) -> Option<String> {
     let id = byte_str(alloc, id)?;
-    let value = success(alloc, value)?;
+    let value = handed(alloc, value)?;
     done(
         alloc,
         vm.sys_complete_awakeable(id, value, PayloadOptions::default()),
@@ -39,20 +39,26 @@ fn complete_awakeable<V: VM>(alloc: Global, vm: &mut V, id: &str, value: &str) -
 }
 
 fn output<V: VM>(alloc: Global, vm: &mut V, value: &str) -> Option<String> {
-    let value = success(alloc, value)?;
+    let value = handed(alloc, value)?;
     done(alloc, vm.sys_write_output(value, PayloadOptions::default()))
 }
 
 pub fn answer<V: VM>(alloc: Global, vm: &mut V, call: &str, operands: &[&str]) -> Option<String> {
-    match (call, operands) {
-        ("sleep", [millis, name]) => sleep(alloc, vm, *millis, *name),
-        ("promise", [key]) => handle(alloc, vm.sys_get_promise(byte_str(alloc, *key)?)),
-        ("peek", [key]) => handle(alloc, vm.sys_peek_promise(byte_str(alloc, *key)?)),
-        ("complete_promise", [key, value]) => complete_promise(alloc, vm, *key, *value),
-        ("awakeable", []) => awakeable(alloc, vm),
-        ("complete_awakeable", [id, value]) => complete_awakeable(alloc, vm, *id, *value),
-        ("signal", [name]) => handle(alloc, vm.create_signal_handle(byte_str(alloc, *name)?)),
-        ("output", [value]) => output(alloc, vm, *value),
+    match operands {
+        [] if call == "awakeable" => awakeable(alloc, vm),
+        [one] => match call {
+            "promise" => handle(alloc, vm.sys_get_promise(byte_str(alloc, *one)?)),
+            "peek" => handle(alloc, vm.sys_peek_promise(byte_str(alloc, *one)?)),
+            "signal" => handle(alloc, vm.create_signal_handle(byte_str(alloc, *one)?)),
+            "output" => output(alloc, vm, *one),
+            _ => None,
+        },
+        [one, two] => match call {
+            "sleep" => sleep(alloc, vm, *one, *two),
+            "complete_promise" => complete_promise(alloc, vm, *one, *two),
+            "complete_awakeable" => complete_awakeable(alloc, vm, *one, *two),
+            _ => None,
+        },
         _ => None,
     }
 }

@@ -38,7 +38,8 @@ fn choose_waiting(options: &mut VMOptions, word: &str) {
     }
 }
 
-fn options(words: &[&str]) -> VMOptions {
+/// The options that words name.
+pub fn options(words: &[&str]) -> VMOptions {
     let mut options = VMOptions::default();
     for word in words {
         choose_journal(&mut options, *word);
@@ -90,15 +91,7 @@ fn out<V: VM>(alloc: Global, vm: &mut V) -> Option<String> {
 
 fn head<V: VM>(alloc: Global, vm: &V) -> Option<String> {
     match vm.get_response_head() {
-        Ok(head) => {
-            let told = format!(in alloc;
-                "{} {}",
-                head.status_code,
-                head.version.content_type()
-            ).ok();
-            drop(head);
-            told
-        }
+        Ok(head) => debug(alloc, head),
         Err(error) => failed(alloc, error),
     }
 }
@@ -111,16 +104,19 @@ fn ready<V: VM>(alloc: Global, vm: &V) -> Option<String> {
 }
 
 pub fn answer<V: VM>(alloc: Global, vm: &mut V, call: &str, operands: &[&str]) -> Option<String> {
-    match (call, operands) {
-        ("in", [operand]) => come(alloc, vm, *operand),
-        ("close", []) => close(alloc, vm),
-        ("fail", [code]) => fail(alloc, vm, *code),
-        ("out", []) => out(alloc, vm),
-        ("head", []) => head(alloc, vm),
-        ("state", []) => debug(alloc, vm.state()),
-        ("index", []) => debug(alloc, vm.last_command_index()),
-        ("ready", []) => ready(alloc, vm),
-        ("end", []) => done(alloc, vm.sys_end()),
+    match operands {
+        [] => match call {
+            "close" => close(alloc, vm),
+            "out" => out(alloc, vm),
+            "head" => head(alloc, vm),
+            "state" => debug(alloc, vm.state()),
+            "index" => debug(alloc, vm.last_command_index()),
+            "ready" => ready(alloc, vm),
+            "end" => done(alloc, vm.sys_end()),
+            _ => None,
+        },
+        [operand] if call == "in" => come(alloc, vm, *operand),
+        [code] if call == "fail" => fail(alloc, vm, *code),
         _ => None,
     }
 }

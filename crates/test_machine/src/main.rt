@@ -1,6 +1,6 @@
 //! Rows of a machine: each file that a word of the call names has a call a line, its name and its operands; printed is the row
-//! and, behind ` = `, the answer. `new` begins another machine, `shown` prints it with `{:?}`, and `tree` prints one of trees so. A row
-//! that is not understood is printed with a `?`.
+//! and, behind ` = `, the answer. `new` begins another machine, `shown` prints it with `{:?}`, `tree` prints one of trees so, and
+//! `debug` another value. A row that is not understood is printed with a `?`.
 #![tactic(auto)]
 
 mod answers;
@@ -8,11 +8,14 @@ mod asking;
 mod awaits;
 mod commands;
 mod feeding;
+pub mod names;
 mod operands;
+mod printed;
 mod requests;
 mod results;
 mod state;
 mod tables;
+mod telling;
 
 use invocation_vm::{CoreVM, VM};
 use std::alloc::Global;
@@ -39,6 +42,9 @@ fn answer_of<V: VM>(alloc: Global, vm: &mut V, call: &str, operands: &[&str]) ->
         return Some(told);
     }
     if let Some(told) = commands::answer(alloc, vm, call, operands) {
+        return Some(told);
+    }
+    if let Some(told) = telling::answer(alloc, vm, call, operands) {
         return Some(told);
     }
     asking::answer(alloc, vm, call, operands)
@@ -69,6 +75,7 @@ impl<V: VM + fmt::Debug + Drop> Answers for Machine<V> {
             ["resolve", operands @ ..] => tables::answer::<V>(alloc, operands),
             ["copies", operands @ ..] => results::answer(alloc, operands),
             ["tree", operands @ ..] => answers::debug(alloc, awaits::tree(alloc, operands, 0)?),
+            ["debug", operands @ ..] => printed::answer(alloc, operands),
             ["shown"] => answers::shown(alloc, self.vm.as_ref()?),
             [call, operands @ ..] => answer_of(alloc, self.vm.as_mut()?, *call, operands),
             [] => None,

@@ -44,14 +44,17 @@ fn take_ephemeral<V: VM>(alloc: Global, vm: &mut V, id: &str) -> Option<String> 
 }
 
 pub fn answer<V: VM>(alloc: Global, vm: &mut V, call: &str, operands: &[&str]) -> Option<String> {
-    match (call, operands) {
-        ("get", [key, name]) => get(alloc, vm, *key, *name),
-        ("keys", [name]) => handle(alloc, vm.sys_state_get_keys(optional(alloc, *name)?)),
-        ("set", [key, value, name]) => set(alloc, vm, *key, *value, *name),
-        ("clear", [key, name]) => clear(alloc, vm, *key, *name),
-        ("clear_all", [name]) => done(alloc, vm.sys_state_clear_all(optional(alloc, *name)?)),
-        ("ephemeral", [key]) => ephemeral(alloc, vm, *key),
-        ("take_ephemeral", [id]) => take_ephemeral(alloc, vm, *id),
+    match operands {
+        [one] => match call {
+            "keys" => handle(alloc, vm.sys_state_get_keys(optional(alloc, *one)?)),
+            "clear_all" => done(alloc, vm.sys_state_clear_all(optional(alloc, *one)?)),
+            "ephemeral" => ephemeral(alloc, vm, *one),
+            "take_ephemeral" => take_ephemeral(alloc, vm, *one),
+            _ => None,
+        },
+        [key, name] if call == "get" => get(alloc, vm, *key, *name),
+        [key, name] if call == "clear" => clear(alloc, vm, *key, *name),
+        [key, value, name] if call == "set" => set(alloc, vm, *key, *value, *name),
         _ => None,
     }
 }

@@ -1,8 +1,7 @@
 //! Rows of trees: `tree PAYLOAD SUCCEEDED FAILED` with the completions that have succeeded and those that have failed, between
 //! commas. Of the signals, `go` has succeeded. Told is whether the tree is awake, and what it comes to.
-use crate::operands::{bytes, number, text};
+use crate::operands::{number, record, text};
 use journal_protocol::messages::Future;
-use journal_protocol::wire::decode;
 use journal_protocol::{AwaitState, NotificationIdRef, await_state, is_awake};
 use std::alloc::Global;
 
@@ -39,8 +38,7 @@ fn tree(alloc: Global, future: &Future, succeeded: &[u32], failed: &[u32]) -> Op
 fn tree_read(alloc: Global, payload: &str, succeeded: &str, failed: &str) -> Option<String> {
     let succeeded = numbers(alloc, succeeded)?;
     let failed = numbers(alloc, failed)?;
-    let payload = bytes(alloc, payload)?;
-    let future: Future = decode(alloc, payload.as_slice()).ok()?;
+    let future = record(alloc, payload)?;
     let told = tree(alloc, &future, succeeded.as_slice(), failed.as_slice());
     drop(future);
     told

@@ -4,22 +4,16 @@
 //! - `arrived PAYLOAD`: the code of a failure that arrives, and how many pairs it has.
 //! - `output PAYLOAD`: the output whose result is the record of the value that this output's result is.
 //! - `headers PAYLOAD`: the input with the records of the headers that its headers are.
-use crate::operands::bytes;
+use crate::operands::record;
 use crate::records::record_told;
 use journal_protocol::messages::{
     Failure, InputCommandMessage, OutputCommandMessage, OutputCommandResult,
 };
-use journal_protocol::wire::{Record, decode};
 use journal_protocol::{
     to_failure, to_failure_record, to_header_records, to_headers, to_non_empty_value,
     to_output_result, to_terminal_failure,
 };
 use std::alloc::Global;
-
-fn record<R: Record>(alloc: Global, payload: &str) -> Option<R> {
-    let payload = bytes(alloc, payload)?;
-    decode(alloc, payload.as_slice()).ok()
-}
 
 fn failure(alloc: Global, payload: &str) -> Option<String> {
     let taken = to_terminal_failure(alloc, record(alloc, payload)?).ok()?;
@@ -73,11 +67,14 @@ fn headers(alloc: Global, payload: &str) -> Option<String> {
 }
 
 pub fn answer(alloc: Global, operation: &str, operands: &[&str]) -> Option<String> {
-    match (operation, operands) {
-        ("failure", [payload]) => failure(alloc, payload),
-        ("arrived", [payload]) => arrived(alloc, payload),
-        ("output", [payload]) => output(alloc, payload),
-        ("headers", [payload]) => headers(alloc, payload),
+    let [payload] = operands else {
+        return None;
+    };
+    match operation {
+        "failure" => failure(alloc, *payload),
+        "arrived" => arrived(alloc, *payload),
+        "output" => output(alloc, *payload),
+        "headers" => headers(alloc, *payload),
         _ => None,
     }
 }

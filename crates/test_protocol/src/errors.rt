@@ -8,11 +8,15 @@
 //! - `code NAME`, `code_of NUMBER`: the number of a code.
 //! - `fixed NAME`: an error whose text never changes: its code, whether it is a suspension, its text.
 //! - `request_header NAME`: the header with this name, of a request that has two.
-use crate::operands::{message_type, number, text, told, version};
+use crate::operands::{message_type, number, shown, text, told, version};
 use bytes::ByteStr;
 use journal_protocol::{
-    CommandType, ContentTypeError, EMPTY_SCOPE, Error, FixedError, HeaderMap, InvocationErrorCode,
-    MISSING_CONTENT_TYPE, MessageType, SUSPENDED, Version, codes,
+    CommandType, ContentTypeError, EMPTY_GET_EAGER_STATE, EMPTY_GET_EAGER_STATE_KEYS,
+    EMPTY_GET_STATE_EPHEMERAL_NOTIFICATION, EMPTY_IDEMPOTENCY_KEY, EMPTY_LIMIT_KEY, EMPTY_SCOPE,
+    EPHEMERAL_COMMAND_DURING_REPLAY, Error, FixedError, HeaderMap,
+    INPUT_CLOSED_WHILE_WAITING_ENTRIES, INPUT_CLOSED_WHILE_WAITING_EPHEMERAL_NOTIFICATIONS,
+    InvocationErrorCode, KNOWN_ENTRIES_IS_ZERO, MISSING_CONTENT_TYPE, MessageType, SUSPENDED,
+    UNEXPECTED_ENTRY_MESSAGE, UNEXPECTED_INPUT_MESSAGE, Version, codes,
 };
 use std::alloc::Global;
 
@@ -29,6 +33,35 @@ const CODES: [(&str, InvocationErrorCode); 9] = [
     ("UNSUPPORTED_FEATURE", codes::UNSUPPORTED_FEATURE),
     ("CLOSED", codes::CLOSED),
     ("SUSPENDED", codes::SUSPENDED),
+];
+
+const FIXED: [(&str, FixedError); 14] = [
+    ("MISSING_CONTENT_TYPE", MISSING_CONTENT_TYPE),
+    ("UNEXPECTED_INPUT_MESSAGE", UNEXPECTED_INPUT_MESSAGE),
+    ("KNOWN_ENTRIES_IS_ZERO", KNOWN_ENTRIES_IS_ZERO),
+    ("UNEXPECTED_ENTRY_MESSAGE", UNEXPECTED_ENTRY_MESSAGE),
+    (
+        "INPUT_CLOSED_WHILE_WAITING_ENTRIES",
+        INPUT_CLOSED_WHILE_WAITING_ENTRIES,
+    ),
+    ("EMPTY_IDEMPOTENCY_KEY", EMPTY_IDEMPOTENCY_KEY),
+    ("EMPTY_LIMIT_KEY", EMPTY_LIMIT_KEY),
+    ("EMPTY_SCOPE", EMPTY_SCOPE),
+    ("SUSPENDED", SUSPENDED),
+    ("EMPTY_GET_EAGER_STATE", EMPTY_GET_EAGER_STATE),
+    ("EMPTY_GET_EAGER_STATE_KEYS", EMPTY_GET_EAGER_STATE_KEYS),
+    (
+        "EMPTY_GET_STATE_EPHEMERAL_NOTIFICATION",
+        EMPTY_GET_STATE_EPHEMERAL_NOTIFICATION,
+    ),
+    (
+        "INPUT_CLOSED_WHILE_WAITING_EPHEMERAL_NOTIFICATIONS",
+        INPUT_CLOSED_WHILE_WAITING_EPHEMERAL_NOTIFICATIONS,
+    ),
+    (
+        "EPHEMERAL_COMMAND_DURING_REPLAY",
+        EPHEMERAL_COMMAND_DURING_REPLAY,
+    ),
 ];
 
 fn command(alloc: Global, ty: &str) -> Option<String> {
@@ -78,18 +111,13 @@ fn code(alloc: Global, wanted: &str) -> Option<String> {
     None
 }
 
-fn code_of(alloc: Global, of: &str) -> Option<String> {
-    let code = InvocationErrorCode::from(number(of)?);
-    format!(in alloc; "{code}").ok()
-}
-
-fn fixed_named(name: &str) -> Option<FixedError> {
-    match name {
-        "MISSING_CONTENT_TYPE" => Some(MISSING_CONTENT_TYPE),
-        "EMPTY_SCOPE" => Some(EMPTY_SCOPE),
-        "SUSPENDED" => Some(SUSPENDED),
-        _ => None,
+fn fixed_named(wanted: &str) -> Option<FixedError> {
+    for (name, fixed) in FIXED {
+        if name == wanted {
+            return Some(fixed);
+        }
     }
+    None
 }
 
 fn fixed(alloc: Global, name: &str) -> Option<String> {
@@ -118,17 +146,25 @@ fn request_header(alloc: Global, name: &str) -> Option<String> {
     told(alloc, found.unwrap_or("none"))
 }
 
+/// Rows of one operand.
+fn answer_about(alloc: Global, operation: &str, operand: &str) -> Option<String> {
+    match operation {
+        "command" => command(alloc, operand),
+        "content_type" => content_type(alloc, operand),
+        "version" => version_told(alloc, operand),
+        "code" => code(alloc, operand),
+        "code_of" => shown(alloc, InvocationErrorCode::from(number(operand)?)),
+        "fixed" => fixed(alloc, operand),
+        "request_header" => request_header(alloc, operand),
+        _ => None,
+    }
+}
+
 pub fn answer(alloc: Global, operation: &str, operands: &[&str]) -> Option<String> {
-    match (operation, operands) {
-        ("command", [ty]) => command(alloc, ty),
-        ("cancellation", []) => cancellation(alloc),
-        ("content_type", [text]) => content_type(alloc, text),
-        ("version", [number]) => version_told(alloc, number),
-        ("supported", []) => supported(alloc),
-        ("code", [name]) => code(alloc, name),
-        ("code_of", [number]) => code_of(alloc, number),
-        ("fixed", [name]) => fixed(alloc, name),
-        ("request_header", [name]) => request_header(alloc, name),
+    match operands {
+        [] if operation == "cancellation" => cancellation(alloc),
+        [] if operation == "supported" => supported(alloc),
+        [operand] => answer_about(alloc, operation, *operand),
         _ => None,
     }
 }

@@ -1,5 +1,6 @@
 //! Each command of the table with the record that it is.
 use crate::commands::{Question, about};
+use crate::every_record::type_named;
 use journal_protocol::messages;
 use journal_protocol::wire::RecordType;
 use std::alloc::Global;
@@ -13,16 +14,16 @@ macro_rules! about_in_list {
     };
 }
 
-/// Answers the question about the commands of this type that two payloads are.
+/// Answers the question about the commands of the type of this name that two payloads are.
 pub fn about_command(
     alloc: Global,
-    of: RecordType,
+    name: &str,
     question: Question,
-    one: &[u8],
-    two: &[u8],
+    one: &str,
+    two: &str,
 ) -> Option<String> {
     about_in_list!(
-        of, alloc, question, one, two;
+        type_named(alloc, name)?, alloc, question, one, two;
         InputCommand InputCommandMessage,
         OutputCommand OutputCommandMessage,
         SleepCommand SleepCommandMessage,

@@ -68,12 +68,7 @@ macro_rules! about_in_list {
 }
 
 /// Every record type.
-const EVERY_TYPE: [RecordType; 41] = with_records!(types_in_list());
-
-/// Every record type.
-pub fn types() -> [RecordType; 41] {
-    EVERY_TYPE
-}
+pub const EVERY_TYPE: [RecordType; 41] = with_records!(types_in_list());
 
 /// The record type of this name.
 pub fn type_named(alloc: Global, name: &str) -> Option<RecordType> {
@@ -90,8 +85,8 @@ pub fn type_named(alloc: Global, name: &str) -> Option<RecordType> {
 pub fn about_type(
     alloc: Global,
     of: RecordType,
-    payload: &[u8],
-    more: Option<&[u8]>,
+    payload: &str,
+    more: Option<&str>,
 ) -> Option<String> {
     with_records!(about_in_list(of, alloc, payload, more))
 }

@@ -10,6 +10,7 @@ mod every_command;
 mod every_record;
 mod frames;
 mod messages;
+pub mod names;
 mod operands;
 mod records;
 mod replay;

@@ -5,14 +5,14 @@
 //! - `notified PAYLOAD`: the id and the result of a notification.
 //! - `encode VERSION TYPE PAYLOAD`: the frame that the record of this payload is written as.
 //! - `notify VERSION NUMBER PAYLOAD`: the frame of a notification of the type of this number.
-use crate::operands::{Hex, bytes, message_type, version};
+use crate::operands::{Hex, bytes, message_type, record, shown, version};
 use crate::records::refusal_told;
 use bytes::Bytes;
 use journal_protocol::messages::{
     NotificationMessage, ProposeRunCompletionMessage, RunCommandMessage, SetStateCommandMessage,
     SleepCommandMessage, SuspensionMessage, SuspensionMessageV6,
 };
-use journal_protocol::wire::decode;
+use journal_protocol::wire::DecodeError;
 use journal_protocol::{
     Decoder, Encoder, EncodingError, Notification, NotificationId, NotificationResult, RawMessage,
     RawMessageExt, RestateEncodableMessage, RestateMessage, encode_record, is_failure,
@@ -42,14 +42,17 @@ fn read_as<M: RestateMessage>(alloc: Global, place: i64, message: &RawMessage) -
             drop(record);
             told
         }
-        Err(error) => format!(in alloc; "{error}").ok(),
+        Err(error) => shown(alloc, error),
     }
 }
 
-fn asked_for(alloc: Global, name: &str, place: &str, frame: &str) -> Option<String> {
+fn asked_for(alloc: Global, operands: &[&str]) -> Option<String> {
+    let [name, place, frame] = operands else {
+        return None;
+    };
     let place: i64 = place.parse().ok()?;
-    let message = first_message(alloc, frame)?;
-    match name {
+    let message = first_message(alloc, *frame)?;
+    match *name {
         "SleepCommand" => read_as::<SleepCommandMessage>(alloc, place, &message),
         "RunCommand" => read_as::<RunCommandMessage>(alloc, place, &message),
         "SetStateCommand" => read_as::<SetStateCommandMessage>(alloc, place, &message),
@@ -59,22 +62,35 @@ fn asked_for(alloc: Global, name: &str, place: &str, frame: &str) -> Option<Stri
     }
 }
 
-fn decoded(alloc: Global, payload: &str) -> Option<String> {
-    let payload = bytes(alloc, payload)?;
-    match SleepCommandMessage::decode(alloc, payload.as_slice()) {
-        Ok(sleep) => message_told(alloc, &sleep),
+fn sleep_told(alloc: Global, read: Result<SleepCommandMessage, DecodeError>) -> Option<String> {
+    match read {
+        Ok(sleep) => {
+            let told = message_told(alloc, &sleep);
+            drop(sleep);
+            told
+        }
         Err(error) => refusal_told(alloc, error),
     }
 }
 
-fn joined(alloc: Global, payload: &str, more: &str) -> Option<String> {
-    let payload = bytes(alloc, payload)?;
-    let more = bytes(alloc, more)?;
-    let sleep: SleepCommandMessage = decode(alloc, payload.as_slice()).ok()?;
-    match sleep.merge(alloc, more.as_slice()) {
-        Ok(sleep) => message_told(alloc, &sleep),
-        Err(error) => refusal_told(alloc, error),
-    }
+fn decoded(alloc: Global, operands: &[&str]) -> Option<String> {
+    let [payload] = operands else {
+        return None;
+    };
+    let payload = bytes(alloc, *payload)?;
+    sleep_told(
+        alloc,
+        SleepCommandMessage::decode(alloc, payload.as_slice()),
+    )
+}
+
+fn joined(alloc: Global, operands: &[&str]) -> Option<String> {
+    let [payload, more] = operands else {
+        return None;
+    };
+    let more = bytes(alloc, *more)?;
+    let sleep: SleepCommandMessage = record(alloc, *payload)?;
+    sleep_told(alloc, sleep.merge(alloc, more.as_slice()))
 }
 
 fn result_word(brought: &NotificationResult) -> &'static str {
@@ -96,8 +112,11 @@ fn notification_told(alloc: Global, told: &Notification) -> Option<String> {
     }
 }
 
-fn notified(alloc: Global, frame: &str) -> Option<String> {
-    let message = first_message(alloc, frame)?;
+fn notified(alloc: Global, operands: &[&str]) -> Option<String> {
+    let [frame] = operands else {
+        return None;
+    };
+    let message = first_message(alloc, *frame)?;
     let told = message.decode_as_notification(alloc);
     drop(message);
     match told {
@@ -106,7 +125,7 @@ fn notified(alloc: Global, frame: &str) -> Option<String> {
             drop(notification);
             told
         }
-        Err(error) => format!(in alloc; "{error}").ok(),
+        Err(error) => shown(alloc, error),
     }
 }
 
@@ -116,53 +135,55 @@ fn frame_told(alloc: Global, frame: Result<Bytes, EncodingError>) -> Option<Stri
             let frame = Hex(frame.as_slice());
             format!(in alloc; "{frame}").ok()
         }
-        Err(error) => format!(in alloc; "{error}").ok(),
+        Err(error) => shown(alloc, error),
     }
 }
 
 fn encoded<M: RestateMessage + RestateEncodableMessage>(
     alloc: Global,
     encoder: Encoder,
-    payload: &[u8],
+    payload: &str,
 ) -> Option<String> {
-    let record: M = decode(alloc, payload).ok()?;
+    let record: M = record(alloc, payload)?;
     let frame = encoder.encode(alloc, &record);
     drop(record);
     frame_told(alloc, frame)
 }
 
-fn encoded_as(alloc: Global, of: &str, name: &str, payload: &str) -> Option<String> {
-    let encoder = Encoder::new(version(of)?);
-    let payload = bytes(alloc, payload)?;
-    match name {
-        "SleepCommand" => encoded::<SleepCommandMessage>(alloc, encoder, payload.as_slice()),
-        "Suspension" => encoded::<SuspensionMessage>(alloc, encoder, payload.as_slice()),
-        "ProposeRunCompletion" => encoded::<ProposeRunCompletionMessage>(
-            alloc,
-            encoder,
-            payload.as_slice(),
-        ),
+fn encoded_as(alloc: Global, operands: &[&str]) -> Option<String> {
+    let [of, name, payload] = operands else {
+        return None;
+    };
+    let encoder = Encoder::new(version(*of)?);
+    match *name {
+        "SleepCommand" => encoded::<SleepCommandMessage>(alloc, encoder, *payload),
+        "Suspension" => encoded::<SuspensionMessage>(alloc, encoder, *payload),
+        "ProposeRunCompletion" => {
+            encoded::<ProposeRunCompletionMessage>(alloc, encoder, *payload)
+        }
         _ => None,
     }
 }
 
-fn notification_encoded(alloc: Global, of: &str, ty: &str, payload: &str) -> Option<String> {
-    let (version, ty) = (version(of)?, message_type(ty)?);
-    let payload = bytes(alloc, payload)?;
-    let record: NotificationMessage = decode(alloc, payload.as_slice()).ok()?;
+fn notification_encoded(alloc: Global, operands: &[&str]) -> Option<String> {
+    let [of, ty, payload] = operands else {
+        return None;
+    };
+    let (version, ty) = (version(*of)?, message_type(*ty)?);
+    let record: NotificationMessage = record(alloc, *payload)?;
     let frame = encode_record(alloc, ty, &record, version);
     drop(record);
     frame_told(alloc, frame)
 }
 
 pub fn answer(alloc: Global, operation: &str, operands: &[&str]) -> Option<String> {
-    match (operation, operands) {
-        ("as", [name, place, frame]) => asked_for(alloc, name, place, frame),
-        ("decoded", [payload]) => decoded(alloc, payload),
-        ("joined", [payload, more]) => joined(alloc, payload, more),
-        ("notified", [frame]) => notified(alloc, frame),
-        ("encode", [version, name, payload]) => encoded_as(alloc, version, name, payload),
-        ("notify", [version, ty, payload]) => notification_encoded(alloc, version, ty, payload),
+    match operation {
+        "as" => asked_for(alloc, operands),
+        "decoded" => decoded(alloc, operands),
+        "joined" => joined(alloc, operands),
+        "notified" => notified(alloc, operands),
+        "encode" => encoded_as(alloc, operands),
+        "notify" => notification_encoded(alloc, operands),
         _ => None,
     }
 }

@@ -3,8 +3,8 @@
 //! - `again TYPE PAYLOAD`: the canonical payload of what is read, behind its length.
 //! - `merge TYPE PAYLOAD MORE`: the same when more was merged in, or when it was refused.
 //! - `every PAYLOAD`: of how many types it is a record without a field, and for how many it is refused.
-use crate::every_record::{about_type, type_named, types};
-use crate::operands::{Hex, bytes};
+use crate::every_record::{EVERY_TYPE, about_type, type_named};
+use crate::operands::{Hex, bytes, record};
 use journal_protocol::wire::{DecodeError, Record, RecordType, decode, encode, encoded_len, merge};
 use std::alloc::Global;
 
@@ -24,8 +24,9 @@ pub fn refusal_told(alloc: Global, error: DecodeError) -> Option<String> {
     }
 }
 
-fn read_again<R: Record>(alloc: Global, payload: &[u8]) -> Option<String> {
-    match decode::<R>(alloc, payload) {
+fn read_again<R: Record>(alloc: Global, payload: &str) -> Option<String> {
+    let payload = bytes(alloc, payload)?;
+    match decode::<R>(alloc, payload.as_slice()) {
         Ok(record) => {
             let told = record_told(alloc, &record);
             drop(record);
@@ -35,9 +36,10 @@ fn read_again<R: Record>(alloc: Global, payload: &[u8]) -> Option<String> {
     }
 }
 
-fn read_and_merged<R: Record>(alloc: Global, payload: &[u8], more: &[u8]) -> Option<String> {
-    let mut record: R = decode(alloc, payload).ok()?;
-    let word = match merge(alloc, &mut record, more) {
+fn read_and_merged<R: Record>(alloc: Global, payload: &str, more: &str) -> Option<String> {
+    let more = bytes(alloc, more)?;
+    let mut record: R = record(alloc, payload)?;
+    let word = match merge(alloc, &mut record, more.as_slice()) {
         Ok(()) => "merged",
         Err(_) => "refused, still",
     };
@@ -48,24 +50,11 @@ fn read_and_merged<R: Record>(alloc: Global, payload: &[u8], more: &[u8]) -> Opt
 }
 
 /// Tells the record of a payload, with more merged in where there is more.
-pub fn about<R: Record>(alloc: Global, payload: &[u8], more: Option<&[u8]>) -> Option<String> {
+pub fn about<R: Record>(alloc: Global, payload: &str, more: Option<&str>) -> Option<String> {
     match more {
         None => read_again::<R>(alloc, payload),
         Some(more) => read_and_merged::<R>(alloc, payload, more),
     }
-}
-
-fn again(alloc: Global, name: &str, payload: &str) -> Option<String> {
-    let of = type_named(alloc, name)?;
-    let payload = bytes(alloc, payload)?;
-    about_type(alloc, of, payload.as_slice(), None)
-}
-
-fn merged(alloc: Global, name: &str, payload: &str, more: &str) -> Option<String> {
-    let of = type_named(alloc, name)?;
-    let payload = bytes(alloc, payload)?;
-    let more = bytes(alloc, more)?;
-    about_type(alloc, of, payload.as_slice(), Some(more.as_slice()))
 }
 
 /// Of how many types a payload is a record without a field, and for how many it is refused.
@@ -75,7 +64,7 @@ struct Counts {
     refused: u32,
 }
 
-fn count(alloc: Global, of: RecordType, payload: &[u8], counts: &mut Counts) -> Option<()> {
+fn count(alloc: Global, of: RecordType, payload: &str, counts: &mut Counts) -> Option<()> {
     let told = about_type(alloc, of, payload, None)?;
     if told.as_str() == "0 -" {
         counts.empty = counts.empty.wrapping_add(1);
@@ -87,23 +76,26 @@ fn count(alloc: Global, of: RecordType, payload: &[u8], counts: &mut Counts) -> 
 }
 
 fn of_every_type(alloc: Global, payload: &str) -> Option<String> {
-    let payload = bytes(alloc, payload)?;
     let mut counts = Counts {
         empty: 0,
         refused: 0,
     };
-    for of in types() {
-        count(alloc, of, payload.as_slice(), &mut counts)?;
+    for of in EVERY_TYPE {
+        count(alloc, of, payload, &mut counts)?;
     }
     let Counts { empty, refused } = counts;
     format!(in alloc; "empty {empty} refused {refused}").ok()
 }
 
 pub fn answer(alloc: Global, operation: &str, operands: &[&str]) -> Option<String> {
-    match (operation, operands) {
-        ("again", [name, payload]) => again(alloc, name, payload),
-        ("merge", [name, payload, more]) => merged(alloc, name, payload, more),
-        ("every", [payload]) => of_every_type(alloc, payload),
+    match operands {
+        [payload] if operation == "every" => of_every_type(alloc, *payload),
+        [name, payload] if operation == "again" => {
+            about_type(alloc, type_named(alloc, *name)?, *payload, None)
+        }
+        [name, payload, more] if operation == "merge" => {
+            about_type(alloc, type_named(alloc, *name)?, *payload, Some(*more))
+        }
         _ => None,
     }
 }

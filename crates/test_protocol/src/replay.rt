@@ -3,14 +3,13 @@
 //! - `sleep PLACE FRAME PAYLOAD`: a sleep that is made at this place, where this frame is recorded: the canonical payload of the
 //!   recorded one, or the code and the text of the error.
 use crate::messages::first_message;
-use crate::operands::{Hex, bytes};
+use crate::operands::{Hex, record};
 use crate::typed_errors::error;
 use journal_protocol::messages::SleepCommandMessage;
-use journal_protocol::wire::decode;
 use journal_protocol::{RawMessage, RestateMessage};
 use std::alloc::Global;
 use std::collections::VecDeque;
-use vm_commands::{ReplayError, pop_journal_entry};
+use vm_commands::pop_journal_entry;
 
 /// The commands that are left: this frame, if there is one.
 fn recorded(alloc: Global, frame: &str) -> Option<VecDeque<RawMessage>> {
@@ -27,10 +26,12 @@ fn payload_told(alloc: Global, sleep: &SleepCommandMessage) -> Option<String> {
     format!(in alloc; "{payload}").ok()
 }
 
-fn taken_told(
-    alloc: Global,
-    taken: Result<SleepCommandMessage, ReplayError<SleepCommandMessage>>,
-) -> Option<String> {
+fn sleep(alloc: Global, place: &str, frame: &str, payload: &str) -> Option<String> {
+    let place: i64 = place.parse().ok()?;
+    let mut commands = recorded(alloc, frame)?;
+    let made = record(alloc, payload)?;
+    let taken = pop_journal_entry(alloc, &mut commands, place, made, false);
+    drop(commands);
     match taken {
         Ok(sleep) => {
             let told = payload_told(alloc, &sleep);
@@ -39,20 +40,6 @@ fn taken_told(
         }
         Err(refused) => error(alloc, refused),
     }
-}
-
-fn sleep_made(alloc: Global, payload: &str) -> Option<SleepCommandMessage> {
-    let payload = bytes(alloc, payload)?;
-    decode(alloc, payload.as_slice()).ok()
-}
-
-fn sleep(alloc: Global, place: &str, frame: &str, payload: &str) -> Option<String> {
-    let place: i64 = place.parse().ok()?;
-    let mut commands = recorded(alloc, frame)?;
-    let made = sleep_made(alloc, payload)?;
-    let taken = pop_journal_entry(alloc, &mut commands, place, made, false);
-    drop(commands);
-    taken_told(alloc, taken)
 }
 
 pub fn answer(alloc: Global, operation: &str, operands: &[&str]) -> Option<String> {

@@ -6,7 +6,7 @@
 //! - `write TYPE PAYLOAD`: the frame of a message.
 //! - `too_long`: why a payload is not written whose length the header does not hold.
 //! - `pieces BYTES ..`: what stands at the front of the stream when each piece came, and how many bytes are left.
-use crate::operands::{Hex, bytes, flag, message_type, number};
+use crate::operands::{Hex, bytes, flag, message_type, number, shown};
 use bytes::BytesMut;
 use journal_protocol::{
     Decoder, DecodingError, EncodingError, MessageHeader, MessageType, RawMessage, write_message,
@@ -17,49 +17,56 @@ use std::fmt::Write;
 /// How many items of one piece are looked at, at most.
 const MOST: u32 = 64;
 
-fn word(alloc: Global, word: &str) -> Option<String> {
-    let word = u64::from_str_radix(word, 16).ok()?;
+fn word(alloc: Global, operands: &[&str]) -> Option<String> {
+    let [word] = operands else {
+        return None;
+    };
+    let word = u64::from_str_radix(*word, 16).ok()?;
     match MessageHeader::try_from(word) {
         Ok(header) => {
             let (ty, length) = (header.message_type(), header.message_length());
             let flag = flag(header.requested_ack());
             format!(in alloc; "{ty} {length} {flag}").ok()
         }
-        Err(unknown) => format!(in alloc; "{unknown}").ok(),
+        Err(unknown) => shown(alloc, unknown),
     }
 }
 
-/// A header whose flag is told, or is left to the type.
-fn header_of(ty: MessageType, length: u32, flag: &str) -> Option<MessageHeader> {
-    match flag {
-        "-" => Some(MessageHeader::new(ty, length)),
-        "true" => Some(MessageHeader::new_with_requested_ack(ty, true, length)),
-        "false" => Some(MessageHeader::new_with_requested_ack(ty, false, length)),
-        _ => None,
-    }
-}
-
-fn header(alloc: Global, ty: &str, length: &str, flag: &str) -> Option<String> {
-    let header = header_of(message_type(ty)?, number(length)?, flag)?;
+/// The flag is told, or is left to the type.
+fn header(alloc: Global, operands: &[&str]) -> Option<String> {
+    let [ty, length, flag] = operands else {
+        return None;
+    };
+    let (ty, length) = (message_type(*ty)?, number(*length)?);
+    let header = match *flag {
+        "-" => MessageHeader::new(ty, length),
+        _ => MessageHeader::new_with_requested_ack(ty, flag.parse().ok()?, length),
+    };
     let word = u64::from(header);
     format!(in alloc; "{word:016x}").ok()
 }
 
-fn type_numbered(alloc: Global, number: &str) -> Option<String> {
-    let number = u16::from_str_radix(number, 16).ok()?;
+fn type_numbered(alloc: Global, operands: &[&str]) -> Option<String> {
+    let [number] = operands else {
+        return None;
+    };
+    let number = u16::from_str_radix(*number, 16).ok()?;
     match MessageType::try_from(number) {
         Ok(ty) => {
             let (back, is_command) = (u16::from(ty), ty.is_command());
             let (is_notification, allows_ack) = (ty.is_notification(), ty.allows_ack());
             format!(in alloc; "{ty} {back:04x} {is_command} {is_notification} {allows_ack}").ok()
         }
-        Err(unknown) => format!(in alloc; "{unknown}").ok(),
+        Err(unknown) => shown(alloc, unknown),
     }
 }
 
-fn written(alloc: Global, ty: &str, payload: &str) -> Option<String> {
-    let ty = message_type(ty)?;
-    let payload = bytes(alloc, payload)?;
+fn written(alloc: Global, operands: &[&str]) -> Option<String> {
+    let [ty, payload] = operands else {
+        return None;
+    };
+    let ty = message_type(*ty)?;
+    let payload = bytes(alloc, *payload)?;
     let mut out = BytesMut::new(alloc);
     write_message(&mut out, ty, payload.as_slice()).ok()?;
     let frame = Hex(out.as_slice());
@@ -113,18 +120,14 @@ fn pieces(alloc: Global, pieces: &[&str]) -> Option<String> {
     Some(told)
 }
 
-fn error_told(alloc: Global, error: EncodingError) -> Option<String> {
-    format!(in alloc; "{error}").ok()
-}
-
 pub fn answer(alloc: Global, operation: &str, operands: &[&str]) -> Option<String> {
-    match (operation, operands) {
-        ("word", [of]) => word(alloc, of),
-        ("header", [ty, length, flag]) => header(alloc, ty, length, flag),
-        ("type", [of]) => type_numbered(alloc, of),
-        ("write", [ty, payload]) => written(alloc, ty, payload),
-        ("too_long", []) => error_told(alloc, EncodingError::PayloadTooLong),
-        ("pieces", all) => pieces(alloc, all),
+    match operation {
+        "word" => word(alloc, operands),
+        "header" => header(alloc, operands),
+        "type" => type_numbered(alloc, operands),
+        "write" => written(alloc, operands),
+        "too_long" => shown(alloc, EncodingError::PayloadTooLong),
+        "pieces" => pieces(alloc, operands),
         _ => None,
     }
 }

@@ -9,7 +9,7 @@
 //! - `named NAME PLACE TYPE`, `unnamed PLACE TYPE`, `awakeable ID`, `cancelled`: how commands and notifications are told.
 //! - `related TEXT NAME PLACE TYPE`: an error about a command.
 //! - `last`, `next NUMBER`: which command an error is about, and whether it is the last one.
-use crate::operands::{message_type, number, told, version};
+use crate::operands::{message_type, number, shown, version};
 use bytes::ByteStr;
 use journal_protocol::{
     AwaitedId, BadProposeRunCompletionAck, ClosedError, CommandMetadata, CommandRelationship,
@@ -37,49 +37,11 @@ fn owned(alloc: Global, text: &str) -> Option<ByteStr> {
     ByteStr::copy_from_str(alloc, text).ok()
 }
 
-fn unavailable(alloc: Global, ty: &str) -> Option<String> {
-    error(alloc, UnavailableEntryError::new(message_type(ty)?))
-}
-
-fn mismatch(alloc: Global, place: &str, one: &str, other: &str) -> Option<String> {
-    let place: i64 = place.parse().ok()?;
-    let (one, other) = (message_type(one)?, message_type(other)?);
-    error(alloc, CommandTypeMismatchError::new(place, one, other))
-}
-
-fn state(alloc: Global, event: &str) -> Option<String> {
-    let event = owned(alloc, event)?;
-    error(alloc, UnexpectedStateError::new("WaitingStart", event))
-}
-
-fn closed(alloc: Global, event: &str) -> Option<String> {
-    let event = owned(alloc, event)?;
-    error(alloc, ClosedError::new(event))
-}
-
-fn feature(alloc: Global, current: &str, required: &str) -> Option<String> {
-    let (current, required) = (version(current)?, version(required)?);
-    let feature = "terminal error metadata";
-    error(
-        alloc,
-        UnsupportedFeatureForNegotiatedVersion::new(feature, current, required),
-    )
-}
-
 fn duration(alloc: Global) -> Option<String> {
     match u64::try_from(u128::MAX) {
         Ok(_) => None,
         Err(too_long) => error(alloc, OutOfBoundsDuration("sleep", too_long)),
     }
-}
-
-fn acknowledged(alloc: Global, id: &str) -> Option<String> {
-    error(alloc, BadProposeRunCompletionAck::new(number(id)?))
-}
-
-fn ephemeral(alloc: Global, key: &str) -> Option<String> {
-    let key = owned(alloc, key)?;
-    error(alloc, EphemeralStateGetWithClosedInput::new(key))
 }
 
 /// A signal's name, a signal and a completion.
@@ -106,31 +68,6 @@ fn uncompleted(alloc: Global) -> Option<String> {
     )
 }
 
-fn named_command(alloc: Global, name: &str, place: &str, ty: &str) -> Option<CommandMetadata> {
-    let (place, ty) = (number(place)?, message_type(ty)?);
-    Some(CommandMetadata::new_named(owned(alloc, name)?, place, ty))
-}
-
-fn named(alloc: Global, name: &str, place: &str, ty: &str) -> Option<String> {
-    let command = named_command(alloc, name, place, ty)?;
-    format!(in alloc; "{command}").ok()
-}
-
-fn notification(alloc: Global, of: NotificationMetadata) -> Option<String> {
-    let told = format!(in alloc; "{of}");
-    drop(of);
-    told.ok()
-}
-
-fn unnamed(alloc: Global, place: &str, ty: &str) -> Option<String> {
-    let command = CommandMetadata::new(number(place)?, message_type(ty)?);
-    notification(alloc, NotificationMetadata::RelatedToCommand(command))
-}
-
-fn awakeable(alloc: Global, id: &str) -> Option<String> {
-    notification(alloc, NotificationMetadata::Awakeable(owned(alloc, id)?))
-}
-
 fn related(alloc: Global, text: &str, command: CommandMetadata) -> Option<String> {
     let error = Error::internal(owned(alloc, text)?).with_related_command_metadata(command);
     let shown = format!(in alloc; "{error}");
@@ -152,32 +89,93 @@ fn next(alloc: Global, ty: &str) -> Option<String> {
     relationship(alloc, CommandRelationship::Next { ty, name: None })
 }
 
-fn answer_about_commands(alloc: Global, operation: &str, operands: &[&str]) -> Option<String> {
-    match (operation, operands) {
-        ("named", [name, place, ty]) => named(alloc, name, place, ty),
-        ("unnamed", [place, ty]) => unnamed(alloc, place, ty),
-        ("awakeable", [id]) => awakeable(alloc, id),
-        ("cancelled", []) => notification(alloc, NotificationMetadata::Cancellation),
-        ("related", [text, name, place, ty]) => {
-            related(alloc, text, named_command(alloc, name, place, ty)?)
+fn named_command(alloc: Global, name: &str, place: &str, ty: &str) -> Option<CommandMetadata> {
+    let (place, ty) = (number(place)?, message_type(ty)?);
+    Some(CommandMetadata::new_named(owned(alloc, name)?, place, ty))
+}
+
+/// Rows without an operand.
+fn answer_alone(alloc: Global, operation: &str) -> Option<String> {
+    match operation {
+        "duration" => duration(alloc),
+        "uncompleted" => uncompleted(alloc),
+        "cancelled" => shown(alloc, NotificationMetadata::Cancellation),
+        "last" => relationship(alloc, CommandRelationship::Last),
+        _ => None,
+    }
+}
+
+/// Rows of one text.
+fn answer_about_text(alloc: Global, operation: &str, text: ByteStr) -> Option<String> {
+    match operation {
+        "state" => error(alloc, UnexpectedStateError::new("WaitingStart", text)),
+        "closed" => error(alloc, ClosedError::new(text)),
+        "ephemeral" => error(alloc, EphemeralStateGetWithClosedInput::new(text)),
+        "awakeable" => shown(alloc, NotificationMetadata::Awakeable(text)),
+        _ => {
+            drop(text);
+            None
         }
-        ("last", []) => relationship(alloc, CommandRelationship::Last),
-        ("next", [ty]) => next(alloc, ty),
+    }
+}
+
+/// Rows of one operand.
+fn answer_about(alloc: Global, operation: &str, operand: &str) -> Option<String> {
+    match operation {
+        "unavailable" => error(alloc, UnavailableEntryError::new(message_type(operand)?)),
+        "acknowledged" => error(alloc, BadProposeRunCompletionAck::new(number(operand)?)),
+        "next" => next(alloc, operand),
+        _ => answer_about_text(alloc, operation, owned(alloc, operand)?),
+    }
+}
+
+/// Rows of two operands.
+fn answer_about_two(alloc: Global, operation: &str, one: &str, two: &str) -> Option<String> {
+    match operation {
+        "feature" => {
+            let (current, required) = (version(one)?, version(two)?);
+            let feature = "terminal error metadata";
+            error(
+                alloc,
+                UnsupportedFeatureForNegotiatedVersion::new(feature, current, required),
+            )
+        }
+        "unnamed" => {
+            let command = CommandMetadata::new(number(one)?, message_type(two)?);
+            shown(alloc, NotificationMetadata::RelatedToCommand(command))
+        }
+        _ => None,
+    }
+}
+
+/// Rows of three operands, of which the last is the number of a type.
+fn answer_about_three(
+    alloc: Global,
+    operation: &str,
+    one: &str,
+    two: &str,
+    ty: &str,
+) -> Option<String> {
+    match operation {
+        "mismatch" => {
+            let (expected, found) = (message_type(two)?, message_type(ty)?);
+            let place: i64 = one.parse().ok()?;
+            error(alloc, CommandTypeMismatchError::new(place, expected, found))
+        }
+        "named" => shown(alloc, named_command(alloc, one, two, ty)?),
         _ => None,
     }
 }
 
 pub fn answer(alloc: Global, operation: &str, operands: &[&str]) -> Option<String> {
-    match (operation, operands) {
-        ("unavailable", [ty]) => unavailable(alloc, ty),
-        ("mismatch", [place, one, other]) => mismatch(alloc, place, one, other),
-        ("state", [event]) => state(alloc, event),
-        ("closed", [event]) => closed(alloc, event),
-        ("feature", [current, required]) => feature(alloc, current, required),
-        ("duration", []) => duration(alloc),
-        ("acknowledged", [id]) => acknowledged(alloc, id),
-        ("ephemeral", [key]) => ephemeral(alloc, key),
-        ("uncompleted", []) => uncompleted(alloc),
-        _ => answer_about_commands(alloc, operation, operands),
+    match operands {
+        [] => answer_alone(alloc, operation),
+        [one] => answer_about(alloc, operation, *one),
+        [one, two] => answer_about_two(alloc, operation, *one, *two),
+        [one, two, ty] => answer_about_three(alloc, operation, *one, *two, *ty),
+        [text, name, place, ty] if operation == "related" => {
+            related(alloc, *text, named_command(alloc, *name, *place, *ty)?)
+        }
+        _ => None,
     }
 }

@@ -4,6 +4,13 @@
 
 mod operands;
 
+/// Names items of a type, or those that it has by a trait, and calls none.
+#[macro_export]
+macro_rules! named {
+    ($of:ty as $by:path: $($item:ident)*) => { $(let _ = <$of as $by>::$item;)* };
+    ($of:ty: $($item:ident)*) => { $(let _ = <$of>::$item;)* };
+}
+
 pub use operands::{Hex, bytes, number, text, told};
 use std::alloc::Global;
 use std::process::ExitCode;

@@ -4,6 +4,7 @@ use journal_store::{
     Accepted, BegunAttempt, EntryKind, FrameReply, LastError, NonEmptyValue, RecordedEntry, Refusal,
 };
 use script_lines::text::Hex;
+use std::fmt;
 
 /// A refusal by its name, and why a statement was refused.
 pub fn print_refusal<R: Print>(rt: &R, why: Refusal) -> Result<(), Fault> {
@@ -22,16 +23,14 @@ pub fn print_done<R: Print>(rt: &R, done: Result<(), Refusal>) -> Result<(), Fau
     }
 }
 
-pub fn print_place<R: Print>(rt: &R, place: Result<u32, Refusal>) -> Result<(), Fault> {
-    match place {
-        Ok(place) => Ok(println!(rt; "place {place}")?),
-        Err(why) => print_refusal(rt, why),
-    }
-}
-
-pub fn print_count<R: Print>(rt: &R, count: Result<u64, Refusal>) -> Result<(), Fault> {
-    match count {
-        Ok(count) => Ok(println!(rt; "ended {count}")?),
+/// A place or a count, behind the word for it.
+pub fn print_number<R: Print, T: fmt::Display + Copy>(
+    rt: &R,
+    word: &str,
+    number: Result<T, Refusal>,
+) -> Result<(), Fault> {
+    match number {
+        Ok(number) => Ok(println!(rt; "{word} {number}")?),
         Err(why) => print_refusal(rt, why),
     }
 }

@@ -1,8 +1,8 @@
 //! A file of calls of a store, each line a call, ` -> ` and what it answers. The answer is not read: each call is printed with what
 //! it answered, so that a file is printed as it stands where all is as it says.
 use crate::answers::{
-    print_accepted, print_answer, print_begun, print_bytes, print_count, print_done, print_entries,
-    print_failure, print_openness, print_place, print_refusal, print_step,
+    print_accepted, print_answer, print_begun, print_bytes, print_done, print_entries,
+    print_failure, print_number, print_openness, print_refusal, print_step,
 };
 use crate::database::{Database, empty};
 use crate::fault::Fault;
@@ -36,7 +36,7 @@ fn result<R: Print>(
 ) -> Result<(), Fault> {
     let completion = completion.parse()?;
     let value = parse_result(alloc, value)?;
-    print_place(rt, store.result(id, completion, value))
+    print_number(rt, "place", store.result(id, completion, value))
 }
 
 fn begin<R: Print>(rt: &R, store: &mut Memory, id: &ByteStr, now: &str) -> Result<(), Fault> {
@@ -56,7 +56,7 @@ fn tick<R: Print>(rt: &R, store: &mut Memory, words: &[&str]) -> Result<(), Faul
         return Err(Fault::NotUnderstood);
     };
     let now = now.parse()?;
-    print_count(rt, store.tick(now))
+    print_number(rt, "ended", store.tick(now))
 }
 
 fn next_input<R: Print>(
@@ -123,13 +123,19 @@ fn ask_attempt<R: Print>(
         return Err(Fault::NotUnderstood);
     };
     let attempt = attempt.parse()?;
-    match (call, words) {
-        ("next_input", [most]) => next_input(rt, store, id, attempt, most),
-        ("close_input", []) => print_done(rt, store.close_input(id, attempt)),
-        ("feed", [bytes]) => feed(rt, alloc, store, id, attempt, bytes),
-        ("step", []) => print_step(rt, store.step(id, attempt)),
-        ("accept", [bytes]) => accept(rt, alloc, store, id, attempt, bytes),
-        ("stop", []) => print_done(rt, store.stop(id, attempt)),
+    match words {
+        [] => match call {
+            "close_input" => print_done(rt, store.close_input(id, attempt)),
+            "step" => print_step(rt, store.step(id, attempt)),
+            "stop" => print_done(rt, store.stop(id, attempt)),
+            _ => Err(Fault::NotUnderstood),
+        },
+        [operand] => match call {
+            "next_input" => next_input(rt, store, id, attempt, *operand),
+            "feed" => feed(rt, alloc, store, id, attempt, *operand),
+            "accept" => accept(rt, alloc, store, id, attempt, *operand),
+            _ => Err(Fault::NotUnderstood),
+        },
         _ => Err(Fault::NotUnderstood),
     }
 }
@@ -143,13 +149,18 @@ fn ask_invocation<R: Print>(
     id: &ByteStr,
     words: &[&str],
 ) -> Result<(), Fault> {
-    match (call, words) {
-        ("result", [completion, value]) => result(rt, alloc, store, id, completion, value),
-        ("begin", [now]) => begin(rt, store, id, now),
-        ("entries", []) => print_entries(rt, store.entries(id)),
-        ("answer", []) => print_answer(rt, store.answer(id)),
-        ("failure", []) => print_failure(rt, store.failure(id)),
-        ("is_open", []) => print_openness(rt, store.is_open(id)),
+    match words {
+        [] => match call {
+            "entries" => print_entries(rt, store.entries(id)),
+            "answer" => print_answer(rt, store.answer(id)),
+            "failure" => print_failure(rt, store.failure(id)),
+            "is_open" => print_openness(rt, store.is_open(id)),
+            _ => Err(Fault::NotUnderstood),
+        },
+        [now] if call == "begin" => begin(rt, store, id, *now),
+        [completion, value] if call == "result" => {
+            result(rt, alloc, store, id, *completion, *value)
+        }
         _ => ask_attempt(rt, alloc, store, call, id, words),
     }
 }
@@ -175,6 +186,14 @@ fn ask<R: Print>(
     ask_invocation(rt, alloc, store, call, &id, words)
 }
 
+fn ask_line<R: Print>(rt: &R, alloc: Global, store: &mut Memory, line: &str) -> Result<(), Fault> {
+    let words: Vec<&str> = line.split(' ').collect(alloc)?;
+    match words.as_slice() {
+        [call, words @ ..] => ask(rt, alloc, store, *call, words),
+        [] => Err(Fault::NotUnderstood),
+    }
+}
+
 /// A line of the database, or a call of the store over it.
 fn answer<R: Print>(
     rt: &R,
@@ -185,15 +204,15 @@ fn answer<R: Print>(
     if let Some(statement) = line.strip_prefix("sql ") {
         return database.execute(rt, statement);
     }
-    let words: Vec<&str> = line.split(' ').collect(alloc)?;
-    match *words.as_slice() {
-        ["new"] => database.renew(rt),
-        ["open"] => database.open(rt),
-        ["close"] => database.close(rt),
-        ["unlimit"] => database.limit(rt, None),
-        ["limit", steps] => database.limit(rt, Some(steps.parse()?)),
-        [call, ref words @ ..] => ask(rt, alloc, database.store()?, call, words),
-        [] => Err(Fault::NotUnderstood),
+    if let Some(steps) = line.strip_prefix("limit ") {
+        return database.limit(rt, Some(steps.parse()?));
+    }
+    match line {
+        "new" => database.renew(rt),
+        "open" => database.open(rt),
+        "close" => database.close(rt),
+        "unlimit" => database.limit(rt, None),
+        _ => ask_line(rt, alloc, database.store()?, line),
     }
 }
 
@@ -216,13 +235,24 @@ fn run_line<R: Print>(
     answer(rt, alloc, database, call)
 }
 
+fn run_lines<R: Print>(
+    rt: &R,
+    alloc: Global,
+    database: &mut Database,
+    calls: &str,
+) -> Result<(), Fault> {
+    for line in calls.lines() {
+        run_line(rt, alloc, database, line)?;
+    }
+    Ok(())
+}
+
 /// Makes the calls of a file over an empty database.
 pub fn run_calls<R: Files + Print + AllocGlobal>(rt: &R, name: &str) -> Result<(), Fault> {
     let alloc = rt.alloc();
     let calls = fs::read_to_string(rt, name)?;
     let mut database = empty(alloc)?;
-    for line in calls.as_str().lines() {
-        run_line(rt, alloc, &mut database, line)?;
-    }
-    Ok(())
+    let done = run_lines(rt, alloc, &mut database, calls.as_str());
+    drop(database);
+    done
 }

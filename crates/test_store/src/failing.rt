@@ -1,30 +1,36 @@
-//! Readers and a writer that fail.
+//! A reader and a writer that fail.
 use std::io;
 use std::io::{ErrorKind, Read, Write};
 
-/// Gives a text once, and then fails.
+/// What a reader gives behind its text.
+#[derive(Clone, Copy)]
+pub enum Behind {
+    Nothing,
+    Failure,
+    /// Line feeds without an end, as many as there is room for.
+    LineFeeds,
+}
+
+/// Gives a text, and then what is behind it.
 #[derive(Drop)]
-pub struct Broken<'a> {
+pub struct Source<'a> {
     pub left: &'a [u8],
+    pub behind: Behind,
 }
 
-impl Read for Broken<'_> {
+impl Read for Source<'_> {
     fn read(&mut self, buf: &mut [u8]) -> io::Result<usize> {
-        if self.left.is_empty() {
-            return Err(io::Error::from(ErrorKind::Other));
+        if !self.left.is_empty() {
+            return self.left.read(buf);
         }
-        self.left.read(buf)
-    }
-}
-
-/// Gives line feeds without an end, as many as there is room for.
-#[derive(Drop)]
-pub struct Endless;
-
-impl Read for Endless {
-    fn read(&mut self, buf: &mut [u8]) -> io::Result<usize> {
-        buf.fill(b'\n');
-        Ok(buf.len())
+        match self.behind {
+            Behind::Nothing => Ok(0),
+            Behind::Failure => Err(io::Error::from(ErrorKind::Other)),
+            Behind::LineFeeds => {
+                buf.fill(b'\n');
+                Ok(buf.len())
+            }
+        }
     }
 }
 

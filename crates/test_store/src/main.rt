@@ -10,6 +10,7 @@ mod calls;
 mod database;
 mod failing;
 mod fault;
+pub mod names;
 mod schedules;
 mod scripts;
 mod tables;

@@ -2,10 +2,11 @@
 use crate::answers::{print_answer, print_entries, print_openness};
 use crate::database::open_memory;
 use crate::fault::Fault;
+use built_in_handlers::BuiltIn;
 use built_in_handlers::handlers::Nap;
 use bytes::{ByteStr, Bytes};
 use durable_script::{Event, Reply, Scheduler, run_schedule};
-use journal_store::{NewInvocation, StateMode};
+use journal_store::{NewInvocation, StateMode, Store};
 use sequence::Sequence;
 use sqlite::MemStore;
 use std::alloc::{AllocError, Global};
@@ -31,16 +32,16 @@ fn new_invocation(alloc: Global) -> NewInvocation {
 const COUNT: u32 = 9;
 
 /// The events of a nap, by their place: it is moved up to its await, and stopped. The last one asks for another attempt.
-fn event(alloc: Global, place: u32) -> Event<Nap> {
+fn event(alloc: Global, place: u32) -> Event<BuiltIn> {
     let (invocation, attempt, count) = (i1(), 1, 1000);
     match place {
         0 => Event::Invoke(new_invocation(alloc)),
         1 => Event::Begin {
             invocation,
-            handler: Nap {
+            handler: BuiltIn::Nap(Nap {
                 alloc,
                 until_ms: 10,
-            },
+            }),
             now: 0,
         },
         2 => Event::Feed {
@@ -68,7 +69,7 @@ fn event(alloc: Global, place: u32) -> Event<Nap> {
     }
 }
 
-fn events(alloc: Global) -> Result<Vec<Event<Nap>>, AllocError> {
+fn events(alloc: Global) -> Result<Vec<Event<BuiltIn>>, AllocError> {
     let mut events = Vec::new(alloc);
     for place in 0..COUNT {
         events.push(event(alloc, place))?;
@@ -83,23 +84,29 @@ fn print_replies<R: Print>(rt: &R, replies: &[Reply]) -> Result<(), Fault> {
     Ok(())
 }
 
-/// What a scheduler tells of the invocation, and what the store tells that it leaves.
-fn print_left<R: Print>(rt: &R, mut scheduler: Scheduler<Nap, MemStore>) -> Result<(), Fault> {
-    let is_open = scheduler.is_open(&i1());
-    let answer = scheduler.answer(&i1());
-    let entries = scheduler.entries(&i1());
-    let kept = scheduler.into_store().entries(&i1());
-    print_openness(rt, is_open)?;
-    print_answer(rt, answer)?;
-    print_entries(rt, entries)?;
-    print_entries(rt, kept)
+/// What a scheduler tells of the invocation.
+fn print_told<R: Print>(rt: &R, scheduler: &mut Scheduler<BuiltIn, MemStore>) -> Result<(), Fault> {
+    print_openness(rt, scheduler.is_open(&i1()))?;
+    print_answer(rt, scheduler.answer(&i1()))?;
+    print_entries(rt, scheduler.entries(&i1()))
 }
 
-/// Runs the events of a nap over a store in memory, and prints each reply.
-pub fn run_nap<R: Print + AllocGlobal>(rt: &R) -> Result<(), Fault> {
-    let alloc = rt.alloc();
-    let events = events(alloc)?;
-    let store = open_memory(alloc)?;
+/// What a scheduler tells, and what the store tells that it leaves.
+fn print_left<R: Print>(rt: &R, mut scheduler: Scheduler<BuiltIn, MemStore>) -> Result<(), Fault> {
+    let told = print_told(rt, &mut scheduler);
+    let mut store = scheduler.into_store();
+    let kept = store.entries(&i1());
+    drop(store);
+    let left = print_entries(rt, kept);
+    told?;
+    left
+}
+
+fn run_over<R: Print>(rt: &R, alloc: Global, store: Store<MemStore>) -> Result<(), Fault> {
+    let Ok(events) = events(alloc) else {
+        drop(store);
+        return Err(Fault::Memory);
+    };
     match run_schedule(alloc, store, VMOptions::default(), events) {
         Ok((scheduler, replies)) => {
             let printed = print_replies(rt, replies.as_slice());
@@ -113,4 +120,9 @@ pub fn run_nap<R: Print + AllocGlobal>(rt: &R) -> Result<(), Fault> {
             Err(Fault::Memory)
         }
     }
+}
+
+/// Runs the events of a nap over a store in memory, and prints each reply.
+pub fn run_nap<R: Print + AllocGlobal>(rt: &R) -> Result<(), Fault> {
+    run_over(rt, rt.alloc(), open_memory(rt.alloc())?)
 }

@@ -44,6 +44,7 @@ fn invoked(alloc: Global) -> Result<Store<MemStore>, Fault> {
 fn tables_of(alloc: Global) -> Result<Tables, Fault> {
     let connection = invoked(alloc)?.into_connection();
     if !is_ready(&connection) {
+        drop(connection);
         return Err(Fault::Memory);
     }
     Ok(StoreTables::of(alloc, connection))
@@ -170,11 +171,16 @@ fn print_signal<R: Print>(rt: &R, alloc: Global, tables: &mut Tables) -> Result<
     }
 }
 
+fn print_all<R: Print>(rt: &R, alloc: Global, tables: &mut Tables) -> Result<(), Fault> {
+    print_states(rt, tables)?;
+    print_found(rt, tables)?;
+    print_signal(rt, alloc, tables)
+}
+
 /// Writes and finds records, and prints what is found.
 pub fn run_tables<R: Print + AllocGlobal>(rt: &R) -> Result<(), Fault> {
-    let alloc = rt.alloc();
-    let mut tables = tables_of(alloc)?;
-    print_states(rt, &mut tables)?;
-    print_found(rt, &mut tables)?;
-    print_signal(rt, alloc, &mut tables)
+    let mut tables = tables_of(rt.alloc())?;
+    let printed = print_all(rt, rt.alloc(), &mut tables);
+    drop(tables);
+    printed
 }

@@ -4,23 +4,16 @@ use bytes::{ByteStr, Bytes};
 use journal_store::{Failure, NewInvocation, NotificationResult, StateMode};
 use sequence::Sequence;
 use std::alloc::Global;
-
-/// A word, of which `-` is the empty text.
-fn text_of(word: &str) -> &str {
-    if word == "-" { "" } else { word }
-}
+use test_rows::{bytes, text};
 
 /// The text that a word is.
 pub fn parse_text(alloc: Global, word: &str) -> Result<ByteStr, Fault> {
-    Ok(ByteStr::copy_from_str(alloc, text_of(word))?)
+    Ok(ByteStr::copy_from_str(alloc, text(word))?)
 }
 
 /// The bytes that a word spells, two hexadecimal digits each.
 pub fn parse_bytes(alloc: Global, word: &str) -> Result<Vec<u8>, Fault> {
-    match hex::decode(alloc, text_of(word)) {
-        Ok(bytes) => Ok(bytes),
-        Err(_) => Err(Fault::NotUnderstood),
-    }
+    bytes(alloc, word).ok_or(Fault::NotUnderstood)
 }
 
 fn parse_failure(alloc: Global, word: &str) -> Result<NotificationResult, Fault> {
@@ -77,7 +70,7 @@ fn parse_rest<'a>(words: &[&'a str]) -> Result<Rest<'a>, Fault> {
         version: version.parse()?,
         state: parse_state(state)?,
         seed: seed.parse()?,
-        input: text_of(input),
+        input: text(input),
     })
 }
 

@@ -1,0 +1,63 @@
+//! What is told in whole: `why`, the error that the machine answers; `read`, the input; `taken HANDLE`, what is taken; and
+//! `tell CODE BEHAVIOR RELATED`, an error of the host, upon which the invocation is paused or ends for `pause` and `fail`, and about
+//! the command that `RELATED` names.
+use crate::answers::{debug, failed};
+use crate::printed::relationship;
+use bytes::ByteStr;
+use invocation_vm::{Error, ErrorBehavior, InvocationErrorCode, NotificationHandle, VM};
+use std::alloc::Global;
+use test_rows::number;
+
+fn quoted(alloc: Global, error: Error) -> Option<String> {
+    let text = format!(in alloc; "{error}");
+    drop(error);
+    let text = text.ok()?;
+    let text = text.as_str();
+    format!(in alloc; "{text:?}").ok()
+}
+
+fn why<V: VM>(alloc: Global, vm: &V) -> Option<String> {
+    match vm.is_ready_to_execute() {
+        Ok(_) => None,
+        Err(error) => quoted(alloc, error),
+    }
+}
+
+fn read<V: VM>(alloc: Global, vm: &mut V) -> Option<String> {
+    match vm.sys_input() {
+        Ok(read) => debug(alloc, read),
+        Err(error) => failed(alloc, error),
+    }
+}
+
+fn taken<V: VM>(alloc: Global, vm: &mut V, handle: &str) -> Option<String> {
+    match vm.take_notification(NotificationHandle::from(number(handle)?)) {
+        Ok(taken) => debug(alloc, taken),
+        Err(error) => failed(alloc, error),
+    }
+}
+
+fn behavior(word: &str) -> ErrorBehavior {
+    match word {
+        "pause" => ErrorBehavior::Pause,
+        "fail" => ErrorBehavior::Fail,
+        _ => ErrorBehavior::Retry,
+    }
+}
+
+fn tell<V: VM>(alloc: Global, vm: &mut V, code: &str, then: &str, related: &str) -> Option<String> {
+    let code = InvocationErrorCode::from(number(code)?);
+    let error = Error::new(code, ByteStr::from_static("failed")).with_behavior(behavior(then));
+    vm.notify_error(error, relationship(related));
+    debug(alloc, vm.state())
+}
+
+pub fn answer<V: VM>(alloc: Global, vm: &mut V, call: &str, operands: &[&str]) -> Option<String> {
+    match (call, operands) {
+        ("why", []) => why(alloc, vm),
+        ("read", []) => read(alloc, vm),
+        ("taken", [handle]) => taken(alloc, vm, *handle),
+        ("tell", [code, then, related]) => tell(alloc, vm, *code, *then, *related),
+        _ => None,
+    }
+}
