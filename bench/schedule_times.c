@@ -4,8 +4,8 @@
  *
  * Brings COUNT invocations of the handler race from invoke to end, and COUNT of ask, whose first attempt is stopped where it waits and
  * whose second goes on, and prints the microseconds of an event: in memory, of the processor, there with a log too, as the library has
- * it, and in a new file of that name, by the clock. Then an invocation whose journal grows to 10,000 entries, resumed at each tenth of them. To hand bytes out, to make a turn and
- * to stop an attempt are events without a statement. */
+ * it, and in a new file of that name, by the clock. Then an invocation whose journal grows to 10,000 entries, resumed at each tenth of
+ * them. To hand bytes out, to make a turn and to stop an attempt are events without a statement. */
 #include "store_statements.h"
 
 /* How many events each invocation has: each is made, begun twice, fed three times, stopped once, its output is moved three times, and
@@ -55,7 +55,8 @@ static void time_handlers(const char *place, const char *path, clockid_t clock, 
 /* How many entries the journal has in the end, and at how many of them it is resumed. */
 enum { ENTRIES = 10000, TENTH = ENTRIES / 10 };
 
-/* An entry is a turn and a move; to resume is to stop an attempt, to begin one, to feed it, and a turn for each entry. */
+/* An entry is a turn and a move; to resume is to stop an attempt, to begin one, to feed it, and a turn for each entry. Of these the
+ * begin alone has statements. */
 static void time_journal(void) {
     open_database(":memory:");
     struct progress p;
@@ -67,9 +68,9 @@ static void time_journal(void) {
         while (p.entries % TENTH != 0 || p.entries == first) step_sleep(&p);
         double grown = now();
         begin(&p);
-        double resumed = now();
-        double grow = (grown - start) / (2.0 * (p.entries - first)), resume = (resumed - grown) / (p.entries + 3.0);
-        printf("journal %u grow %.2f resume %.2f\n", p.entries, grow, resume);
+        double begun = now() - grown;
+        double grow = (grown - start) / (2.0 * (p.entries - first));
+        printf("journal %u grow %.2f begin %.2f resume %.2f\n", p.entries, grow, begun, begun / (p.entries + 3.0));
     }
     close_database();
 }

@@ -60,11 +60,10 @@ static const char *const SETTINGS[] = {
 static sqlite3 *database;
 static sqlite3_stmt *statements[STATEMENTS];
 
-/* Payloads: of an input, a sleep, a call, a suspension, a call's answer, a sleep's end and an output. */
+/* Payloads: of an input, a sleep, a call, a call's answer, a sleep's end and an output. */
 static const unsigned char INPUT[] = "\x72\x00";
 static const unsigned char SLEEP[] = "\x08\xe8\x07\x58\x01";
 static const unsigned char CALL[] = "\x0a\x03svc\x12\x01h\x50\x01\x58\x02";
-static const unsigned char SUSPENSION[] = "\x0a\x08\x0a\x01\x01\x12\x01\x01\x28\x01";
 static const unsigned char ANSWER[] = "\x08\x01\x2a\x04\x0a\x02ok";
 static const unsigned char SLEEP_END[] = "\x08\x01\x22\x00";
 static const unsigned char OUTPUT[] = "\x72\x04\x0a\x02ok";
@@ -76,7 +75,7 @@ enum { MOMENT = 1000 };
 struct progress {
     char id[24];
     char object[24];
-    int is_suspended, is_ended, has_answer;
+    int is_ended, has_answer;
     uint32_t handed, attempts, since_entry, last_completion, entries;
     uint64_t first_moment;
 };
@@ -171,9 +170,10 @@ static int by_number(enum statement which, const char *id, uint64_t value) {
 static void bind_progress(enum statement which, int at, const struct progress *p) {
     for (int i = 0; i < 9; i++) sqlite3_bind_null(statements[which], at + i);
     if (!p->is_ended) text(which, at, p->object);
-    if (p->is_suspended) sqlite3_bind_blob(statements[which], at + 1, SUSPENSION, sizeof SUSPENSION - 1, SQLITE_STATIC);
-    if (p->is_suspended || p->is_ended) number(which, at + 2, p->handed);
-    if (p->is_ended) number(which, at + 3, 1);
+    if (p->is_ended) {
+        number(which, at + 2, p->handed);
+        number(which, at + 3, 1);
+    }
     if (p->has_answer) sqlite3_bind_blob(statements[which], at + 4, OUTPUT, sizeof OUTPUT - 1, SQLITE_STATIC);
     number(which, at + 9, p->attempts);
     number(which, at + 10, p->since_entry);
@@ -228,7 +228,6 @@ static void begin(struct progress *p) {
     if (p->since_entry == 0) p->first_moment = MOMENT;
     p->attempts++;
     p->since_entry++;
-    p->is_suspended = 0;
     run(BEGIN);
     set_progress(p);
     run(COMMIT);
@@ -254,47 +253,38 @@ static void record(struct progress *p, uint32_t kind, const unsigned char *paylo
     run(COMMIT);
 }
 
-static inline void step_sleep(struct progress *p) {
+static void step_sleep(struct progress *p) {
     by_id(INVOCATION_BY_ID, p->id);
     p->last_completion++;
     record(p, 0x040c, SLEEP, sizeof SLEEP - 1, p->last_completion, 0, 0);
 }
 
-static inline void step_call(struct progress *p) {
+static void step_call(struct progress *p) {
     by_id(INVOCATION_BY_ID, p->id);
     p->last_completion += 2;
     record(p, 0x040d, CALL, sizeof CALL - 1, p->last_completion - 1, p->last_completion, 0);
 }
 
 /* What an attempt waits for is told, and nothing is written of it. */
-static inline void step_awaiting_on(struct progress *p) {
+static void step_awaiting_on(struct progress *p) {
     by_id(INVOCATION_BY_ID, p->id);
-}
-
-static inline void step_suspension(struct progress *p) {
-    by_id(INVOCATION_BY_ID, p->id);
-    p->is_suspended = 1;
-    p->handed = p->entries;
-    run(BEGIN);
-    set_progress(p);
-    run(COMMIT);
 }
 
 /* The result of a call, which is its second completion. */
-static inline void result(struct progress *p, uint32_t completion) {
+static void result(struct progress *p, uint32_t completion) {
     by_id(INVOCATION_BY_ID, p->id);
     by_number(ENTRY_BY_ANSWERED, p->id, completion);
     if (by_number(ENTRY_BY_COMPLETION, p->id, completion) == 0) by_number(ENTRY_BY_SECOND_COMPLETION, p->id, completion);
     record(p, 0x800d, ANSWER, sizeof ANSWER - 1, 0, 0, completion);
 }
 
-static inline void step_output(struct progress *p) {
+static void step_output(struct progress *p) {
     by_id(INVOCATION_BY_ID, p->id);
     p->has_answer = 1;
     record(p, 0x0401, OUTPUT, sizeof OUTPUT - 1, 0, 0, 0);
 }
 
-static inline void step_end(struct progress *p) {
+static void step_end(struct progress *p) {
     by_id(INVOCATION_BY_ID, p->id);
     p->is_ended = 1;
     p->handed = p->entries;
@@ -305,7 +295,7 @@ static inline void step_end(struct progress *p) {
 }
 
 /* The sleeps that are due are over: all that are open, which are those of this invocation, its first completions. */
-static inline void tick(struct progress *p) {
+static void tick(struct progress *p) {
     number(SLEEPS_UNTIL, 1, MOMENT);
     uint32_t ended = (uint32_t)run(SLEEPS_UNTIL);
     by_id(INVOCATION_BY_ID, p->id);

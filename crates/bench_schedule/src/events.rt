@@ -1,8 +1,8 @@
 // Events of one invocation, each of which has to come to what it is meant to.
+use crate::timed::Timed;
 use anyhow::{Result, bail};
 use bytes::{ByteStr, Bytes};
-use durable_schedule::{Event, Reply, Scheduler};
-use journal_model::Handler;
+use durable_schedule::{Event, Refusal, Reply, Scheduler};
 use journal_store::{NewInvocation, NotificationResult, StateMode};
 use sequence::Sequence;
 use sqlite::Alter;
@@ -17,31 +17,63 @@ pub struct Place {
     pub events: u32,
 }
 
-/// What an event came to that was not refused.
-fn apply<H: Handler + Drop, S: Alter + Drop>(
-    scheduler: &mut Scheduler<H, S>,
-    place: &mut Place,
-    event: Event<H>,
-) -> Result<Reply> {
-    place.events = place.events.wrapping_add(1);
-    match scheduler.apply(event) {
-        Reply::Refused(why) => {
-            let name = why.name();
-            bail!("an event was refused: {name}")
-        }
-        reply => Ok(reply),
+impl Place {
+    /// The place of an invocation of this number, of which nothing has happened.
+    pub fn of(alloc: Global, which: u32) -> Result<Place> {
+        let name = format!(in alloc; "inv-{which}")?;
+        let id = ByteStr::copy_from_str(alloc, name.as_str());
+        drop(name);
+        Ok(Place {
+            alloc,
+            id: id?,
+            attempt: 0,
+            events: 0,
+        })
     }
 }
 
-/// The place of an invocation of this number, of which nothing has happened.
-fn place_of(alloc: Global, which: u32) -> Result<Place> {
-    let name = format!(in alloc; "inv-{which}")?;
-    Ok(Place {
-        alloc,
-        id: ByteStr::copy_from_str(alloc, name.as_str())?,
-        attempt: 0,
-        events: 0,
-    })
+/// What is looked at of a reply.
+#[derive(Clone, Copy)]
+enum Outcome {
+    Refused(Refusal),
+    Begun(u32),
+    /// So many frames were taken, and none was refused.
+    Moved(usize),
+    Ticked(u64),
+    Other,
+}
+
+fn outcome_of(reply: &Reply) -> Outcome {
+    match reply {
+        Reply::Refused(why) => Outcome::Refused(*why),
+        Reply::Begun(number) => Outcome::Begun(*number),
+        Reply::Moved {
+            frames,
+            refusal: None,
+            ..
+        } => Outcome::Moved(*frames),
+        Reply::Ticked(count) => Outcome::Ticked(*count),
+        _ => Outcome::Other,
+    }
+}
+
+/// What an event came to that was not refused.
+fn apply<S: Alter + Drop>(
+    scheduler: &mut Scheduler<Timed, S>,
+    place: &mut Place,
+    event: Event<Timed>,
+) -> Result<Outcome> {
+    place.events = place.events.wrapping_add(1);
+    let reply = scheduler.apply(event);
+    let outcome = outcome_of(&reply);
+    drop(reply);
+    match outcome {
+        Outcome::Refused(why) => {
+            let name = why.name();
+            bail!("an event was refused: {name}")
+        }
+        outcome => Ok(outcome),
+    }
 }
 
 /// A new invocation of an object of its own.
@@ -57,36 +89,21 @@ fn new_invocation(place: &Place) -> Result<NewInvocation> {
     })
 }
 
-fn make<H: Handler + Drop, S: Alter + Drop>(
-    scheduler: &mut Scheduler<H, S>,
+/// The invocation is made.
+pub fn invoke<S: Alter + Drop>(
+    scheduler: &mut Scheduler<Timed, S>,
     place: &mut Place,
 ) -> Result<()> {
     let new = new_invocation(place)?;
-    drop(apply(scheduler, place, Event::Invoke(new))?);
+    apply(scheduler, place, Event::Invoke(new))?;
     Ok(())
 }
 
-/// An invocation of this number, which is made.
-pub fn invoke<H: Handler + Drop, S: Alter + Drop>(
-    alloc: Global,
-    scheduler: &mut Scheduler<H, S>,
-    which: u32,
-) -> Result<Place> {
-    let mut place = place_of(alloc, which)?;
-    match make(scheduler, &mut place) {
-        Ok(()) => Ok(place),
-        Err(error) => {
-            drop(place);
-            Err(error)
-        }
-    }
-}
-
-/// Begins an attempt, and hands it all of its input.
-pub fn begin<H: Handler + Drop, S: Alter + Drop>(
-    scheduler: &mut Scheduler<H, S>,
+/// Begins an attempt.
+pub fn begin<S: Alter + Drop>(
+    scheduler: &mut Scheduler<Timed, S>,
     place: &mut Place,
-    handler: H,
+    handler: Timed,
 ) -> Result<()> {
     let begin = Event::Begin {
         invocation: place.id.clone()?,
@@ -94,34 +111,28 @@ pub fn begin<H: Handler + Drop, S: Alter + Drop>(
         now: 0,
     };
     match apply(scheduler, place, begin)? {
-        Reply::Begun(number) => {
+        Outcome::Begun(number) => {
             place.attempt = number;
-            feed(scheduler, place)
+            Ok(())
         }
-        other => {
-            drop(other);
-            bail!("no attempt was begun")
-        }
+        _ => bail!("no attempt was begun"),
     }
 }
 
 /// Hands all of the input out that is left.
-pub fn feed<H: Handler + Drop, S: Alter + Drop>(
-    scheduler: &mut Scheduler<H, S>,
-    place: &mut Place,
-) -> Result<()> {
+pub fn feed<S: Alter + Drop>(scheduler: &mut Scheduler<Timed, S>, place: &mut Place) -> Result<()> {
     let feed = Event::Feed {
         invocation: place.id.clone()?,
         attempt: place.attempt,
         count: usize::MAX,
     };
-    drop(apply(scheduler, place, feed)?);
+    apply(scheduler, place, feed)?;
     Ok(())
 }
 
 /// So many turns. What they came to is seen by the frames that are moved.
-pub fn turns<H: Handler + Drop, S: Alter + Drop>(
-    scheduler: &mut Scheduler<H, S>,
+pub fn turns<S: Alter + Drop>(
+    scheduler: &mut Scheduler<Timed, S>,
     place: &mut Place,
     count: u32,
 ) -> Result<()> {
@@ -130,34 +141,14 @@ pub fn turns<H: Handler + Drop, S: Alter + Drop>(
             invocation: place.id.clone()?,
             attempt: place.attempt,
         };
-        drop(apply(scheduler, place, turn)?);
+        apply(scheduler, place, turn)?;
     }
     Ok(())
 }
 
-/// How many frames were taken, where none was refused.
-fn frames_of(reply: &Reply) -> Option<usize> {
-    match reply {
-        Reply::Moved {
-            frames,
-            refusal: None,
-            ..
-        } => Some(*frames),
-        _ => None,
-    }
-}
-
-/// How many sleeps are over.
-fn ticked_of(reply: &Reply) -> Option<u64> {
-    match reply {
-        Reply::Ticked(count) => Some(*count),
-        _ => None,
-    }
-}
-
 /// Moves all of the output, which is so many frames.
-pub fn transfer<H: Handler + Drop, S: Alter + Drop>(
-    scheduler: &mut Scheduler<H, S>,
+pub fn transfer<S: Alter + Drop>(
+    scheduler: &mut Scheduler<Timed, S>,
     place: &mut Place,
     wanted: usize,
 ) -> Result<()> {
@@ -166,47 +157,38 @@ pub fn transfer<H: Handler + Drop, S: Alter + Drop>(
         attempt: place.attempt,
         count: usize::MAX,
     };
-    let reply = apply(scheduler, place, transfer)?;
-    let frames = frames_of(&reply);
-    drop(reply);
-    if frames != Some(wanted) {
-        bail!("other frames were taken");
+    match apply(scheduler, place, transfer)? {
+        Outcome::Moved(frames) if frames == wanted => Ok(()),
+        _ => bail!("other frames were taken"),
     }
-    Ok(())
 }
 
 /// Stops the attempt.
-pub fn stop<H: Handler + Drop, S: Alter + Drop>(
-    scheduler: &mut Scheduler<H, S>,
-    place: &mut Place,
-) -> Result<()> {
+pub fn stop<S: Alter + Drop>(scheduler: &mut Scheduler<Timed, S>, place: &mut Place) -> Result<()> {
     let stop = Event::Stop {
         invocation: place.id.clone()?,
         attempt: place.attempt,
     };
-    drop(apply(scheduler, place, stop)?);
+    apply(scheduler, place, stop)?;
     Ok(())
 }
 
 /// The sleeps that are due at this moment are over: so many.
-pub fn tick<H: Handler + Drop, S: Alter + Drop>(
-    scheduler: &mut Scheduler<H, S>,
+pub fn tick<S: Alter + Drop>(
+    scheduler: &mut Scheduler<Timed, S>,
     place: &mut Place,
     now: u64,
     wanted: u64,
 ) -> Result<()> {
-    let reply = apply(scheduler, place, Event::Tick(now))?;
-    let ticked = ticked_of(&reply);
-    drop(reply);
-    if ticked != Some(wanted) {
-        bail!("other sleeps were over");
+    match apply(scheduler, place, Event::Tick(now))? {
+        Outcome::Ticked(count) if count == wanted => Ok(()),
+        _ => bail!("other sleeps were over"),
     }
-    Ok(())
 }
 
 /// A call is answered, for its completion.
-pub fn complete<H: Handler + Drop, S: Alter + Drop>(
-    scheduler: &mut Scheduler<H, S>,
+pub fn complete<S: Alter + Drop>(
+    scheduler: &mut Scheduler<Timed, S>,
     place: &mut Place,
     completion: u32,
 ) -> Result<()> {
@@ -215,6 +197,6 @@ pub fn complete<H: Handler + Drop, S: Alter + Drop>(
         completion,
         value: NotificationResult::Value(Bytes::from_static(b"ok")),
     };
-    drop(apply(scheduler, place, result)?);
+    apply(scheduler, place, result)?;
     Ok(())
 }

@@ -1,42 +1,20 @@
 // An invocation whose journal grows, resumed at each tenth.
-use crate::events::{Place, begin, invoke, stop, transfer, turns};
-use crate::opened::{in_lists, in_memory};
+use crate::events::{Place, begin, feed, invoke, stop, transfer, turns};
+use crate::micros::Micros;
+use crate::opened::in_memory;
+use crate::timed::Timed;
 use anyhow::Result;
-use bench_micros::Micros;
-use bytes::ByteStr;
 use durable_schedule::Scheduler;
-use journal_model::{Answer, Call, Handler, Input, Moment};
 use sqlite::Alter;
-use std::alloc::AllocError;
 use std::rt::HostRuntime;
-use std::time::{CpuClock, Duration};
+use std::time::CpuClock;
 
 /// How many entries the journal has in the end.
 const ENTRIES: u32 = 10_000;
 
-/// Sleeps until 1000 ms, again and again, and waits for none of them.
-#[derive(Debug, Drop)]
-struct Sleeps {}
-
-impl Handler for Sleeps {
-    ghost use Rattle.built_in_handlers.specs.Handlers.{sleep_until};
-
-    ghost next_call = { λ handler input answers. sleep_until 1000 answers };
-
-    fn next(&self, input: &Input, answers: &[Answer]) -> Result<Call, AllocError> {
-        Ok(Call::Sleep {
-            name: ByteStr::new(),
-            wake_up: Moment::from_millis(1000),
-            now: None,
-        })
-    }
-}
-
-type Sleepers<S> = Scheduler<Sleeps, S>;
-
 /// So many more sleeps, each moved as it is made.
 fn grow<S: Alter + Drop>(
-    scheduler: &mut Sleepers<S>,
+    scheduler: &mut Scheduler<Timed, S>,
     place: &mut Place,
     entries: u32,
 ) -> Result<()> {
@@ -47,28 +25,28 @@ fn grow<S: Alter + Drop>(
     Ok(())
 }
 
-/// Begins an attempt, which reads its input and makes the sleeps again that are recorded, behind the input.
-fn resume<S: Alter + Drop>(
-    scheduler: &mut Sleepers<S>,
+/// The attempt is handed its input, reads it, and makes the sleeps again that are recorded behind it: so many entries in all.
+fn replay<S: Alter + Drop>(
+    scheduler: &mut Scheduler<Timed, S>,
     place: &mut Place,
     entries: u32,
 ) -> Result<()> {
-    begin(scheduler, place, Sleeps {})?;
+    feed(scheduler, place)?;
     turns(scheduler, place, entries)
 }
 
-/// What a tenth of the journal took, and to resume it behind that.
+/// What an event takes by which a journal grows, a begin, and an event by which the next attempt comes to the same place.
 #[derive(Clone, Copy)]
 struct Tenth {
-    entries: u32,
     grow: Micros,
+    begin: Micros,
     resume: Micros,
 }
 
-/// The journal grows from one number of entries to another; then the attempt is stopped, and the next one resumes.
-fn time_tenth<R: CpuClock, S: Alter + Drop>(
-    rt: &R,
-    scheduler: &mut Sleepers<S>,
+/// The journal grows to so many entries from so many; then the attempt is stopped, and the next one resumes.
+fn time_tenth<S: Alter + Drop>(
+    rt: &HostRuntime,
+    scheduler: &mut Scheduler<Timed, S>,
     place: &mut Place,
     from: u32,
     to: u32,
@@ -79,11 +57,14 @@ fn time_tenth<R: CpuClock, S: Alter + Drop>(
     let grown = rt.thread_cpu_time()?;
     let between = place.events;
     stop(scheduler, place)?;
-    resume(scheduler, place, to)?;
+    let stopped = rt.thread_cpu_time()?;
+    begin(scheduler, place, Timed::Sleeps)?;
+    let begun = rt.thread_cpu_time()?;
+    replay(scheduler, place, to)?;
     let resumed = rt.thread_cpu_time()?;
     Ok(Tenth {
-        entries: to,
         grow: Micros::each(grown.saturating_sub(start), between.wrapping_sub(before)),
+        begin: Micros::each(begun.saturating_sub(stopped), 1),
         resume: Micros::each(
             resumed.saturating_sub(grown),
             place.events.wrapping_sub(between),
@@ -91,61 +72,56 @@ fn time_tenth<R: CpuClock, S: Alter + Drop>(
     })
 }
 
-fn print_tenth<R: Print>(rt: &R, tenth: Tenth) -> Result<()> {
+fn print_tenth<R: Print>(rt: &R, entries: u32, tenth: Tenth) -> Result<()> {
     let Tenth {
-        entries,
         grow,
+        begin,
         resume,
     } = tenth;
-    println!(rt; "journal {entries} grow {grow} resume {resume}")?;
+    println!(rt; "journal {entries} grow {grow} begin {begin} resume {resume}")?;
     Ok(())
 }
 
-/// One tenth of so many entries behind the other, from the input on.
+/// One tenth of the journal behind the other, from the input on.
 fn time_tenths<S: Alter + Drop>(
     rt: &HostRuntime,
-    scheduler: &mut Sleepers<S>,
+    scheduler: &mut Scheduler<Timed, S>,
     place: &mut Place,
-    entries: u32,
 ) -> Result<()> {
     let mut from = 1u32;
     for tenth in 1..11u32 {
-        let to = entries / 10 * tenth;
+        let to = ENTRIES / 10 * tenth;
         let timed = time_tenth(rt, scheduler, place, from, to)?;
-        print_tenth(rt, timed)?;
+        print_tenth(rt, to, timed)?;
         from = to;
     }
     Ok(())
 }
 
-/// An invocation with one attempt, which has read its input.
-fn start<S: Alter + Drop>(rt: &HostRuntime, scheduler: &mut Sleepers<S>) -> Result<Place> {
-    let mut place = invoke(rt.alloc(), scheduler, 0)?;
-    match resume(scheduler, &mut place, 1) {
-        Ok(()) => Ok(place),
-        Err(error) => {
-            drop(place);
-            Err(error)
-        }
-    }
+/// The invocation is made, and its first attempt begun, which reads its input.
+fn start<S: Alter + Drop>(scheduler: &mut Scheduler<Timed, S>, place: &mut Place) -> Result<()> {
+    invoke(scheduler, place)?;
+    begin(scheduler, place, Timed::Sleeps)?;
+    replay(scheduler, place, 1)
 }
 
-fn time_all<S: Alter + Drop>(rt: &HostRuntime, scheduler: &mut Sleepers<S>) -> Result<()> {
-    let mut place = start(rt, scheduler)?;
-    let timed = time_tenths(rt, scheduler, &mut place, ENTRIES);
+fn start_and_time<S: Alter + Drop>(
+    rt: &HostRuntime,
+    scheduler: &mut Scheduler<Timed, S>,
+    place: &mut Place,
+) -> Result<()> {
+    start(scheduler, place)?;
+    time_tenths(rt, scheduler, place)
+}
+
+fn time_all<S: Alter + Drop>(rt: &HostRuntime, scheduler: &mut Scheduler<Timed, S>) -> Result<()> {
+    let mut place = Place::of(rt.alloc(), 0)?;
+    let timed = start_and_time(rt, scheduler, &mut place);
     drop(place);
     timed
 }
 
-/// Prints what an event takes while the journal grows, and while an attempt is resumed, for each tenth: in the library's lists.
-pub fn time_growth_in_lists(rt: &HostRuntime) -> Result<()> {
-    let mut scheduler = in_lists(rt.alloc())?;
-    let timed = time_all(rt, &mut scheduler);
-    drop(scheduler);
-    timed
-}
-
-/// The same in files that lie in memory.
+/// Prints what events take while the journal grows in memory, for each tenth of it.
 pub fn time_growth(rt: &HostRuntime) -> Result<()> {
     let mut scheduler = in_memory(rt.alloc())?;
     let timed = time_all(rt, &mut scheduler);
@@ -153,30 +129,32 @@ pub fn time_growth(rt: &HostRuntime) -> Result<()> {
     timed
 }
 
-fn try_tenth<S: Alter + Drop>(
-    scheduler: &mut Sleepers<S>,
+fn try_events<S: Alter + Drop>(
+    scheduler: &mut Scheduler<Timed, S>,
     place: &mut Place,
     entries: u32,
 ) -> Result<()> {
+    start(scheduler, place)?;
     grow(scheduler, place, entries.saturating_sub(1))?;
     stop(scheduler, place)?;
-    resume(scheduler, place, entries)
+    begin(scheduler, place, Timed::Sleeps)?;
+    replay(scheduler, place, entries)
 }
 
 fn try_all<S: Alter + Drop>(
     rt: &HostRuntime,
-    scheduler: &mut Sleepers<S>,
+    scheduler: &mut Scheduler<Timed, S>,
     entries: u32,
 ) -> Result<u32> {
-    let mut place = start(rt, scheduler)?;
-    let tried = try_tenth(scheduler, &mut place, entries);
+    let mut place = Place::of(rt.alloc(), 0)?;
+    let tried = try_events(scheduler, &mut place, entries);
     let events = place.events;
     drop(place);
     tried?;
     Ok(events)
 }
 
-/// Has a journal grow to so many entries, resumes it once, and says so.
+/// Has a journal grow to so many entries in memory, resumes it once, and says so.
 pub fn try_growth(rt: &HostRuntime, entries: u32) -> Result<()> {
     let mut scheduler = in_memory(rt.alloc())?;
     let tried = try_all(rt, &mut scheduler, entries);

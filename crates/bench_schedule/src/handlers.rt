@@ -1,10 +1,9 @@
 // Invocations of `race` and `ask`, from invoke to end.
 use crate::events::{Place, begin, complete, feed, invoke, stop, tick, transfer, turns};
-use crate::opened::{in_file, in_lists, in_memory};
+use crate::micros::Micros;
+use crate::opened::{in_file, in_memory};
+use crate::timed::Timed;
 use anyhow::Result;
-use bench_micros::Micros;
-use built_in_handlers::BuiltIn;
-use built_in_handlers::handlers::{Ask, Race};
 use durable_schedule::Scheduler;
 use sqlite::Alter;
 use std::alloc::Global;
@@ -26,10 +25,10 @@ impl Kind {
         }
     }
 
-    fn handler(self, alloc: Global) -> BuiltIn {
+    fn handler(self, alloc: Global) -> Timed {
         match self {
-            Kind::Race => BuiltIn::Race(Race { alloc }),
-            Kind::Ask => BuiltIn::Ask(Ask { alloc }),
+            Kind::Race => Timed::Race(alloc),
+            Kind::Ask => Timed::Ask(alloc),
         }
     }
 
@@ -44,17 +43,18 @@ impl Kind {
 
 /// An attempt is begun and makes turns until it waits: it reads its input, makes its requests and awaits.
 fn run_until_it_waits<S: Alter + Drop>(
-    scheduler: &mut Scheduler<BuiltIn, S>,
+    scheduler: &mut Scheduler<Timed, S>,
     place: &mut Place,
     kind: Kind,
 ) -> Result<()> {
     begin(scheduler, place, kind.handler(place.alloc))?;
+    feed(scheduler, place)?;
     turns(scheduler, place, kind.requests().wrapping_add(2))
 }
 
 /// What the invocation waits for comes: both sleeps, or the answer to the call.
 fn arrive<S: Alter + Drop>(
-    scheduler: &mut Scheduler<BuiltIn, S>,
+    scheduler: &mut Scheduler<Timed, S>,
     place: &mut Place,
     kind: Kind,
 ) -> Result<()> {
@@ -64,12 +64,13 @@ fn arrive<S: Alter + Drop>(
     }
 }
 
-/// The first attempt is stopped where it waits, behind its requests; the second waits too, and goes on to the end.
+/// The invocation is made. Its first attempt is stopped where it waits, behind its requests; the second waits too, and goes on to the end.
 fn do_events<S: Alter + Drop>(
-    scheduler: &mut Scheduler<BuiltIn, S>,
+    scheduler: &mut Scheduler<Timed, S>,
     place: &mut Place,
     kind: Kind,
 ) -> Result<()> {
+    invoke(scheduler, place)?;
     run_until_it_waits(scheduler, place, kind)?;
     // The requests, and that they are waited for.
     transfer(scheduler, place, (kind.requests() as usize).wrapping_add(1))?;
@@ -86,11 +87,11 @@ fn do_events<S: Alter + Drop>(
 /// One invocation from invoke to end. Answers how many events that were.
 fn do_one<S: Alter + Drop>(
     alloc: Global,
-    scheduler: &mut Scheduler<BuiltIn, S>,
+    scheduler: &mut Scheduler<Timed, S>,
     kind: Kind,
     which: u32,
 ) -> Result<u32> {
-    let mut place = invoke(alloc, scheduler, which)?;
+    let mut place = Place::of(alloc, which)?;
     let done = do_events(scheduler, &mut place, kind);
     let events = place.events;
     drop(place);
@@ -125,7 +126,7 @@ impl Numbers {
 /// So many invocations, one behind the other, by numbers from this one on. Answers how many events that were.
 fn do_all<S: Alter + Drop>(
     alloc: Global,
-    scheduler: &mut Scheduler<BuiltIn, S>,
+    scheduler: &mut Scheduler<Timed, S>,
     kind: Kind,
     numbers: Numbers,
     first: u32,
@@ -139,11 +140,10 @@ fn do_all<S: Alter + Drop>(
     Ok(events)
 }
 
-/// Where the database is: in files that lie in memory, in the library's lists in memory, or in a file.
+/// Where the database is: in files that lie in memory, or in a file.
 #[derive(Clone, Copy)]
 enum Medium {
     Memory,
-    Lists,
     File,
 }
 
@@ -151,7 +151,6 @@ impl Medium {
     fn name(self) -> &'static str {
         match self {
             Medium::Memory => "memory",
-            Medium::Lists => "lists",
             Medium::File => "file",
         }
     }
@@ -159,7 +158,7 @@ impl Medium {
     /// The processor time so far; of a file the time by the clock, since a disk is waited for.
     fn now(self, rt: &HostRuntime) -> Result<Duration> {
         let now = match self {
-            Medium::Memory | Medium::Lists => rt.thread_cpu_time()?,
+            Medium::Memory => rt.thread_cpu_time()?,
             Medium::File => rt.monotonic()?,
         };
         Ok(now)
@@ -169,7 +168,7 @@ impl Medium {
 /// Prints what an event took of so many invocations of one handler.
 fn time_kind<S: Alter + Drop>(
     rt: &HostRuntime,
-    scheduler: &mut Scheduler<BuiltIn, S>,
+    scheduler: &mut Scheduler<Timed, S>,
     medium: Medium,
     kind: Kind,
     numbers: Numbers,
@@ -187,7 +186,7 @@ fn time_kind<S: Alter + Drop>(
 
 fn time_both<S: Alter + Drop>(
     rt: &HostRuntime,
-    scheduler: &mut Scheduler<BuiltIn, S>,
+    scheduler: &mut Scheduler<Timed, S>,
     medium: Medium,
     numbers: Numbers,
     count: u32,
@@ -203,13 +202,6 @@ fn time_memory(rt: &HostRuntime, numbers: Numbers, count: u32) -> Result<()> {
     timed
 }
 
-fn time_lists(rt: &HostRuntime, numbers: Numbers, count: u32) -> Result<()> {
-    let mut scheduler = in_lists(rt.alloc())?;
-    let timed = time_both(rt, &mut scheduler, Medium::Lists, numbers, count);
-    drop(scheduler);
-    timed
-}
-
 /// Prints what an event takes in memory.
 pub fn time_in_memory(rt: &HostRuntime, count: u32) -> Result<()> {
     time_memory(rt, Numbers::Counted, count)
@@ -219,12 +211,6 @@ pub fn time_in_memory(rt: &HostRuntime, count: u32) -> Result<()> {
 pub fn time_orders_in_memory(rt: &HostRuntime, count: u32) -> Result<()> {
     time_memory(rt, Numbers::Counted, count)?;
     time_memory(rt, Numbers::Scattered, count)
-}
-
-/// The same in the library's lists.
-pub fn time_orders_in_lists(rt: &HostRuntime, count: u32) -> Result<()> {
-    time_lists(rt, Numbers::Counted, count)?;
-    time_lists(rt, Numbers::Scattered, count)
 }
 
 /// Prints what an event takes in a new file.
@@ -237,7 +223,7 @@ pub fn time_in_file(rt: &HostRuntime, path: &str, count: u32) -> Result<()> {
 
 fn try_kind<S: Alter + Drop>(
     rt: &HostRuntime,
-    scheduler: &mut Scheduler<BuiltIn, S>,
+    scheduler: &mut Scheduler<Timed, S>,
     kind: Kind,
     first: u32,
     count: u32,
@@ -250,7 +236,7 @@ fn try_kind<S: Alter + Drop>(
 
 fn try_both<S: Alter + Drop>(
     rt: &HostRuntime,
-    scheduler: &mut Scheduler<BuiltIn, S>,
+    scheduler: &mut Scheduler<Timed, S>,
     count: u32,
 ) -> Result<()> {
     try_kind(rt, scheduler, Kind::Race, 0, count)?;

@@ -2,8 +2,8 @@
 //! is stopped where it waits, and whose second goes on; and prints what an event takes, in memory, and in a new file of that name with
 //! its syncs. Then one invocation whose journal grows to 10,000 entries, resumed at each tenth of them.
 //!
-//! `bench_schedule memory COUNT` and `bench_schedule lists COUNT` do the same in memory alone, in files or in the library's lists, with
-//! ids that come one behind the other, and again with ids that are scattered.
+//! `bench_schedule memory COUNT` does the same in memory alone, with ids that come one behind the other, and again with ids that are
+//! scattered.
 //!
 //! With no word it does a little of it in memory, and prints what came of it without times.
 #![tactic(auto)]
@@ -11,13 +11,13 @@
 mod events;
 mod growth;
 mod handlers;
+mod micros;
 mod opened;
+mod timed;
 
 use anyhow::Result;
-use growth::{time_growth, time_growth_in_lists, try_growth};
-use handlers::{
-    time_in_file, time_in_memory, time_orders_in_lists, time_orders_in_memory, try_in_memory,
-};
+use growth::{time_growth, try_growth};
+use handlers::{time_in_file, time_in_memory, time_orders_in_memory, try_in_memory};
 use std::env;
 use std::rt::HostRuntime;
 
@@ -29,14 +29,9 @@ fn time(rt: &HostRuntime, count: u32, file: Option<String>) -> Result<()> {
     time_growth(rt)
 }
 
-fn time_files(rt: &HostRuntime, count: u32) -> Result<()> {
+fn time_orders(rt: &HostRuntime, count: u32) -> Result<()> {
     time_orders_in_memory(rt, count)?;
     time_growth(rt)
-}
-
-fn time_lists(rt: &HostRuntime, count: u32) -> Result<()> {
-    time_orders_in_lists(rt, count)?;
-    time_growth_in_lists(rt)
 }
 
 fn try_all(rt: &HostRuntime) -> Result<()> {
@@ -52,8 +47,7 @@ fn run(rt: &HostRuntime) -> Result<()> {
     };
     let second = words.next();
     match (first.as_str(), second) {
-        ("memory", Some(count)) => time_files(rt, count.as_str().parse()?),
-        ("lists", Some(count)) => time_lists(rt, count.as_str().parse()?),
+        ("memory", Some(count)) => time_orders(rt, count.as_str().parse()?),
         (count, file) => time(rt, count.parse()?, file),
     }
 }
