@@ -3,7 +3,7 @@ use crate::timed::Timed;
 use anyhow::{Result, bail};
 use durable_schedule::Scheduler;
 use journal_store::Store;
-use sqlite::{Connection, FileFrom, FileStore, Unknown};
+use sqlite::{Alter, Connection, FileFrom, FileStore, Unknown};
 use std::alloc::Global;
 use std::rt::HostRuntime;
 use store_memory::{MemoryFile, open_in_memory};
@@ -20,17 +20,20 @@ pub fn in_memory(alloc: Global) -> Result<Scheduler<Timed, FileStore<MemoryFile>
     }
 }
 
-/// A scheduler over a database in a file, which is made. Each commit is on the disk.
-pub fn in_file(
-    rt: &HostRuntime,
-    path: &str,
-) -> Result<Scheduler<Timed, FileStore<FileFrom<Unknown>>>> {
-    let connection = Connection::open(rt, path)?;
-    match Store::open(rt.alloc(), connection) {
-        Ok(store) => Ok(Scheduler::new(rt.alloc(), store, VMOptions::default())),
+fn over<S: Alter + Drop>(alloc: Global, connection: Connection<S>) -> Result<Scheduler<Timed, S>> {
+    match Store::open(alloc, connection) {
+        Ok(store) => Ok(Scheduler::new(alloc, store, VMOptions::default())),
         Err(not_opened) => {
             drop(not_opened);
             bail!("the database is no store's")
         }
     }
+}
+
+/// A scheduler over a database in a file, which is made. Each commit is on the disk.
+pub fn in_file(
+    rt: &HostRuntime,
+    path: &str,
+) -> Result<Scheduler<Timed, FileStore<FileFrom<Unknown>>>> {
+    over(rt.alloc(), Connection::open(rt, path)?)
 }
