@@ -20,7 +20,7 @@ use Rattle.schedule_model.specs.declared.held.HeldAttempt.{HeldAttempt}
 use Rattle.store_calls.specs.Standing.{Standing}
 use Rattle.schedule_model.specs.Schedule.{Scheduled, Does, Applies}
 use Rattle.durable_schedule.specs.declared.scheduler.Scheduler.{Scheduler}
-use Rattle.durable_schedule.specs.Scheduled.{IsScheduled, IsWritten, LeadsLasting, OutlastsEvent, AppliesWith}
+use Rattle.durable_schedule.specs.Scheduled.{IsScheduled, IsWritten, LeadsLasting, OutlastsEvent, AppliesWith, CommitsNothing, IsOfHeld, Spares, SparesUnheld}
 use Rattle.journal_store.proofs.Enduring.{BeginsSome, endures_so}
 
 -- what lasts of a store behind one more event is what it stands for
@@ -96,3 +96,15 @@ module _ {H : Type 0} (function : H → Handler) (options : VMOptions) where
   -- a begin of which the answer is not known
   pub begins_with : (id : Text) (handler : H) (now : ℕ) (held : List (HeldAttempt H)) (s t : Standing) → BeginsSome id now s t → AppliesWith function options (event.Begin id handler now) held s t
   begins_with id handler now held s t it = (reply.Refused (refusal.Store OutOfMemory), held, inr (it.0, refl, it.1, refl))
+
+-- ---- what is spared
+
+module _ {H S : Type 0} where
+  -- what is not answered so asks nothing
+  pub spares_held : (answer : Reply) (old new : Scheduler H S) → IsOfHeld answer → SparesUnheld answer old new
+  spares_held answer old new held is = absurd (subst IsOfHeld is held)
+
+  -- an event that is applied is the one that was asked for
+  pub spared : (g : Ghosts S) (asked one : Event H) (answer : Reply) (old new : Scheduler H S) → asked ≡ one → SparesUnheld answer old new → CommitsNothing g one old.store new.store → Spares g asked answer old new
+  spared g asked one answer old new same unheld quiet =
+      record { unheld = unheld; quiet = subst (λ (event : Event H). CommitsNothing g event old.store new.store) (sym same) quiet }

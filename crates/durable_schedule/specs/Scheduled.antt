@@ -12,7 +12,7 @@ use Rattle.store_refusals.specs.declared.refusal.Refusal.TheVariants.{OutOfMemor
 use Rattle.journal_store.specs.Accepting.{OutlastsFrames}
 use Rattle.journal_store.specs.Stored.{Stored}
 use Rattle.journal_store.specs.Words.{attempt_of, has_number}
-use Rattle.journal_store.specs.Stands.{IsStanding, Leads, Outlasts}
+use Rattle.journal_store.specs.Stands.{IsQuiet, IsStanding, Leads, Outlasts}
 use Rattle.schedule_model.specs.Attempts.attempts
 use Rattle.schedule_model.specs.Attempts.{Attempt, LetsGo}
 use Rattle.schedule_model.specs.declared.event.Event as scheduled
@@ -80,6 +80,30 @@ abbrev pub TakesLive : {H S : Type 0} → scheduled.Event H → Reply → Stored
 TakesLive (event.Stop id attempt) answer store = IsLive id attempt store → IsDone answer
 TakesLive (event.Move id attempt count) answer store = IsLive id attempt store → IsMovedIfHeld answer
 TakesLive _ answer store = Unit {0}
+
+-- ---- an attempt that nobody holds
+
+-- the answer is not that nobody holds the attempt
+abbrev pub IsOfHeld : Reply → Type 0
+IsOfHeld (reply.Refused refusal.AttemptNotHeld) = ⊥
+IsOfHeld _ = Unit {0}
+
+-- where it is, all is as it was
+abbrev pub SparesUnheld : {H S : Type 0} → Reply → Scheduler H S → Scheduler H S → Type 0
+SparesUnheld answer old new = answer ≡ reply.Refused refusal.AttemptNotHeld → new ≡ old
+
+-- a turn leaves the store as it was; bytes that are handed out, an input that is closed and a stop commit nothing
+abbrev pub CommitsNothing : {H S : Type 0} → Ghosts S → scheduled.Event H → Stored S → Stored S → Type 0
+CommitsNothing g (event.Turn id attempt) old new = new ≡ old
+CommitsNothing g (event.Feed id attempt count) old new = IsQuiet g old new
+CommitsNothing g (event.Close id attempt) old new = IsQuiet g old new
+CommitsNothing g (event.Stop id attempt) old new = IsQuiet g old new
+CommitsNothing g _ old new = Unit {0}
+
+-- so it is whatever the store stands for, and whatever the disk returned
+pub record Spares {H S : Type 0} (g : Ghosts S) (one : scheduled.Event H) (answer : Reply) (old new : Scheduler H S) : Type 0 where
+  pub unheld : SparesUnheld answer old new
+  pub quiet : CommitsNothing g one old.store new.store
 
 -- ---- what lasts of that
 

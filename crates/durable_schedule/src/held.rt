@@ -4,7 +4,7 @@ ghost use Rattle.journal_store.specs.Stands.{Endures, IsQuiet, Leads};
 ghost use Rattle.schedule_model.specs.Lends.{held_as};
 ghost use Rattle.schedule_model.specs.Schedule.{ClosesOne, FeedsOne, MovesOne};
 ghost use Rattle.store_calls.specs.Frames.{AcceptsFirst};
-ghost use Rattle.durable_schedule.specs.Scheduled.{AcceptsOne, HasTakenFrames, IsLive, IsMadeAndFed, IsMovedIfHeld, LeadsMoved, MovesSome};
+ghost use Rattle.durable_schedule.specs.Scheduled.{AcceptsOne, HasTakenFrames, IsLive, IsMadeAndFed, IsMovedIfHeld, IsOfHeld, LeadsMoved, MovesSome};
 
 use bytes::{ByteStr, Bytes};
 use journal_model::Handler;
@@ -48,6 +48,7 @@ pub(crate) fn hand_out<H: Handler, S: Alter + Drop>(
     count: usize,
 ) -> Reply
     ensures does { Leads S.Store (λ s t. FeedsOne count (held_as invocation.now number attempt.old) s result t attempt.new) store.old store.new }
+    ensures held { IsOfHeld result }
     ensures crash { IsQuiet S.Store store.old store.new }
 {
     match store.next_input(invocation, number, count) {
@@ -68,6 +69,7 @@ pub(crate) fn close<H: Handler, S: Alter + Drop>(
     attempt: &mut Attempt<H>,
 ) -> Reply
     ensures does { Leads S.Store (λ s t. ClosesOne (held_as invocation.now number attempt.old) s result t attempt.new) store.old store.new }
+    ensures held { IsOfHeld result }
     ensures crash { IsQuiet S.Store store.old store.new }
 {
     match store.close_input(invocation, number) {
@@ -89,6 +91,7 @@ fn accept_from<H: Handler, S: Alter + Drop>(
 ) -> Reply
     ensures does { Leads S.Store (λ s t. AcceptsOne bytes (held_as invocation.now number attempt.old) s result t attempt.new) store.old store.new }
     ensures settled { HasTakenFrames result → LeadsMoved S.Store invocation.now number result (λ s t. AcceptsOne bytes (held_as invocation.now number attempt.old) s result t attempt.new) store.old store.new }
+    ensures held { IsOfHeld result }
     ensures live { IsLive invocation.now number store.old → IsMovedIfHeld result }
     ensures crash { Endures S.Store (AcceptsFirst invocation.now number bytes) store.old store.new }
 {
@@ -121,6 +124,7 @@ pub(crate) fn take_in<H: Handler, S: Alter + Drop>(
 ) -> Reply
     ensures does { Leads S.Store (λ s t. MovesOne count (held_as invocation.now number attempt.old) s result t attempt.new) store.old store.new }
     ensures settled { HasTakenFrames result → LeadsMoved S.Store invocation.now number result (λ s t. MovesOne count (held_as invocation.now number attempt.old) s result t attempt.new) store.old store.new }
+    ensures held { IsOfHeld result }
     ensures live { IsLive invocation.now number store.old → IsMovedIfHeld result }
     ensures crash { Endures S.Store (MovesSome count (held_as invocation.now number attempt.old)) store.old store.new }
 {

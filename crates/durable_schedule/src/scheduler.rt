@@ -16,7 +16,7 @@ ghost use Rattle.schedule_model.specs.Held.{held_of};
 ghost use Rattle.schedule_model.specs.Schedule.{RepliesDone, RepliesPlace, RepliesCount, BeginDoes, IfHeld, FeedsOne, ClosesOne, TurnsOne, MovesOne, Applies, Scheduled};
 ghost use Rattle.schedule_model.specs.Fitting.{FitsEvent};
 ghost use Rattle.fitting_events.specs.Fitting.{InvocationFits, ResultFits};
-ghost use Rattle.durable_schedule.specs.Scheduled.{AppliesWith, HasBegun, HasTakenFrames, HasTicked, IsDone, IsLive, IsMovedIfHeld, IsPlaced, IsScheduled, IsWritten, LeadsLasting, LeadsMoved, OutlastsEvent, TakesLive};
+ghost use Rattle.durable_schedule.specs.Scheduled.{AppliesWith, HasBegun, HasTakenFrames, HasTicked, IsDone, IsLive, IsMovedIfHeld, IsOfHeld, IsPlaced, IsScheduled, IsWritten, LeadsLasting, LeadsMoved, OutlastsEvent, Spares, SparesUnheld, TakesLive};
 
 use crate::held::{close, hand_out, make, take_in};
 use bytes::ByteStr;
@@ -61,6 +61,7 @@ impl<H: Handler + Drop, S: Alter + Drop> Scheduler<H, S> {
         ensures kept { self.new ≡ record self.old { store = self.new.store } }
         ensures settled { IsDone result → LeadsLasting S.Store (λ s t. RepliesDone (λ answer. Invokes new answer s t) result) self.old.store self.new.store }
         ensures fits { InvocationFits new }
+        ensures held { IsOfHeld result }
         ensures crash { Endures S.Store (Adds (Accepted.Invoke new)) self.old.store self.new.store }
     {
         invocation_fits(&new);
@@ -81,6 +82,7 @@ impl<H: Handler + Drop, S: Alter + Drop> Scheduler<H, S> {
         ensures kept { self.new ≡ record self.old { store = self.new.store } }
         ensures settled { IsPlaced result → LeadsLasting S.Store (λ s t. RepliesPlace (λ answer. Completes invocation.now completion value answer s t) result) self.old.store self.new.store }
         ensures fits { ResultFits (completion_of completion value) }
+        ensures held { IsOfHeld result }
         ensures crash { Endures S.Store (Adds (Accepted.Complete invocation.now completion value)) self.old.store self.new.store }
     {
         result_fits(completion, &value);
@@ -95,6 +97,7 @@ impl<H: Handler + Drop, S: Alter + Drop> Scheduler<H, S> {
         ensures does { Leads S.Store (λ s t. RepliesCount (λ answer. Ticks now answer s t) result) self.old.store self.new.store }
         ensures kept { self.new ≡ record self.old { store = self.new.store } }
         ensures settled { HasTicked result → LeadsLasting S.Store (λ s t. RepliesCount (λ answer. Ticks now answer s t) result) self.old.store self.new.store }
+        ensures held { IsOfHeld result }
         ensures crash { Endures S.Store (Adds (Accepted.Tick now)) self.old.store self.new.store }
     {
         match self.store.tick(now) {
@@ -108,6 +111,7 @@ impl<H: Handler + Drop, S: Alter + Drop> Scheduler<H, S> {
         ensures does { Leads S.Store (λ s t. RepliesDone (λ answer. Stops invocation.now number answer s t) result) self.old.store self.new.store }
         ensures live { IsLive invocation.now number self.old.store → IsDone result }
         ensures kept { self.new ≡ record self.old { store = self.new.store } }
+        ensures held { IsOfHeld result }
         ensures crash { IsQuiet S.Store self.old.store self.new.store }
     {
         match self.store.stop(invocation, number) {
@@ -122,6 +126,7 @@ impl<H: Handler + Drop, S: Alter + Drop> Scheduler<H, S> {
         ensures options { self.new.options ≡ self.old.options }
         ensures settled { HasBegun result → LeadsLasting S.Store (λ s t. BeginDoes self.old.options invocation handler now s self.old.held result t self.new.held) self.old.store self.new.store }
         ensures moment { now < 2 ^ 64 }
+        ensures held { IsOfHeld result }
         ensures crash { Endures S.Store (λ s t. (begun : Begun) × Begins invocation now begun s t) self.old.store self.new.store }
     {
         let begun = match self.store.begin(&invocation, now) {
@@ -156,6 +161,7 @@ impl<H: Handler + Drop, S: Alter + Drop> Scheduler<H, S> {
     /// Bytes of its input go to an attempt.
     fn feed(&mut self, invocation: &ByteStr, number: u32, count: usize) -> Reply
         ensures does { Leads S.Store (λ s t. IfHeld (FeedsOne count) (held_of self.old.held invocation.now number) s self.old.held result t self.new.held) self.old.store self.new.store }
+        ensures unheld { SparesUnheld result self.old self.new }
         ensures options { self.new.options ≡ self.old.options }
         ensures crash { IsQuiet S.Store self.old.store self.new.store }
     {
@@ -168,6 +174,7 @@ impl<H: Handler + Drop, S: Alter + Drop> Scheduler<H, S> {
     /// The input of an attempt is closed.
     fn close(&mut self, invocation: &ByteStr, number: u32) -> Reply
         ensures does { Leads S.Store (λ s t. IfHeld ClosesOne (held_of self.old.held invocation.now number) s self.old.held result t self.new.held) self.old.store self.new.store }
+        ensures unheld { SparesUnheld result self.old self.new }
         ensures options { self.new.options ≡ self.old.options }
         ensures crash { IsQuiet S.Store self.old.store self.new.store }
     {
@@ -180,6 +187,7 @@ impl<H: Handler + Drop, S: Alter + Drop> Scheduler<H, S> {
     /// An attempt makes a turn.
     fn turn(&mut self, invocation: &ByteStr, number: u32) -> Reply
         ensures does { Leads S.Store (λ s t. IfHeld (TurnsOne H.next_call) (held_of self.old.held invocation.now number) s self.old.held result t self.new.held) self.old.store self.new.store }
+        ensures unheld { SparesUnheld result self.old self.new }
         ensures store { self.new.store ≡ self.old.store }
         ensures options { self.new.options ≡ self.old.options }
     {
@@ -192,6 +200,7 @@ impl<H: Handler + Drop, S: Alter + Drop> Scheduler<H, S> {
     /// Bytes of its output go from an attempt to the store.
     fn transfer(&mut self, invocation: &ByteStr, number: u32, count: usize) -> Reply
         ensures does { Leads S.Store (λ s t. IfHeld (MovesOne count) (held_of self.old.held invocation.now number) s self.old.held result t self.new.held) self.old.store self.new.store }
+        ensures unheld { SparesUnheld result self.old self.new }
         ensures options { self.new.options ≡ self.old.options }
         ensures settled { HasTakenFrames result → LeadsMoved S.Store invocation.now number result (λ s t. IfHeld (MovesOne count) (held_of self.old.held invocation.now number) s self.old.held result t self.new.held) self.old.store self.new.store }
         ensures live { IsLive invocation.now number self.old.store → IsMovedIfHeld result }
@@ -212,6 +221,9 @@ impl<H: Handler + Drop, S: Alter + Drop> Scheduler<H, S> {
         ensures fits { FitsEvent event }
         // A stop of a live attempt is never refused, nor are its bytes but for want of memory, whatever the store stands for.
         ensures live { TakesLive event result self.old.store }
+        // Where nobody holds the attempt that it names (X2), all is as it was; a turn leaves the store as it was; and bytes that are handed
+        // out, an input that is closed and a stop commit nothing: this too whatever the store stands for, and whatever the disk returned.
+        ensures spares { Spares S.Store event result self.old self.new }
         ensures crash { Endures S.Store (AppliesWith H.next_call self.old.options event self.old.held) self.old.store self.new.store }
     {
         match event {
@@ -255,6 +267,7 @@ impl<H: Handler + Drop, S: Alter + Drop> Scheduler<H, S> {
     /// One turn of an attempt: what `apply` does for `Event::Turn`, for a caller that keeps the id.
     pub fn take_turn(&mut self, invocation: &ByteStr, attempt: u32) -> Reply
         ensures does { HasCleanDisk (state S.Store self.new.store.connection) → (old : Scheduled H) → IsScheduled S.Store old self.old → (new : Scheduled H) × IsScheduled S.Store new self.new × Applies H.next_call self.old.options (Event.Turn invocation.now attempt) result old new }
+        ensures unheld { SparesUnheld result self.old self.new }
         ensures store { self.new.store ≡ self.old.store }
         ensures options { self.new.options ≡ self.old.options }
     {

@@ -1,5 +1,5 @@
 -- What schedules leave, and what that gives.
-use Rattle.std.proofs.Common.{◌≡◌, ℕ, false, List, [], ◌∷◌, Some, refl, sym, ap, subst, inl, inr}
+use Rattle.std.proofs.Common.{◌≡◌, ℕ, false, List, [], ◌∷◌, Option, Some, None, refl, sym, ap, subst, ◌∙◌, inl, inr}
 use Rattle.std.specs.List.{AllByRecursion}
 use Rattle.journal_model.specs.Notification.{Text}
 use Rattle.journal_model.specs.Run.{Handler}
@@ -12,15 +12,16 @@ use Rattle.store_refusals.specs.declared.refusal.Refusal.TheVariants.{OutOfMemor
 use Rattle.store_steps.specs.Taken.{lies_in_frame}
 use Rattle.store_calls.specs.Frames.{Rests}
 use Rattle.following_laws.specs.Following.{ReplaysInLine, HoldsOf, given_of, Follows, FollowsByText}
-use Rattle.schedule_laws.specs.Laws.{KeptByEach, HoldsHeadline, HoldsNeverLate, HoldsWakesExactly}
+use Rattle.schedule_laws.specs.Laws.{KeptByEach, NoneRefused, RefusesNoFrame, RefuseNoFrame, HoldsHeadline, HoldsNeverLate, HoldsWakesExactly}
 use Rattle.following_laws.proofs.Beginning.{holds_follows, follows_holds}
-use Rattle.following_laws.proofs.Schedules.{held_with}
+use Rattle.following_laws.proofs.Schedules.{found_is, held_is, held_with}
 use Rattle.schedule_laws.proofs.Moving.{moved, none_refused}
 use Rattle.following_laws.proofs.Serving.{ServingLaws}
 use Rattle.following_laws.proofs.Taking.{took_each}
 use Rattle.following_laws.specs.Attempts.{Attempt}
+use Rattle.following_laws.specs.Schedules.event
 use Rattle.following_laws.specs.Schedules.reply
-use Rattle.following_laws.specs.Schedules.{Event, Reply, HeldAttempt, held_of, with_attempt, MovesOne, Scheduled, Brings, AppliesAll, FitsEvent}
+use Rattle.following_laws.specs.Schedules.{Event, Reply, HeldAttempt, held_of, with_attempt, IfHeld, MovesOne, Does, Scheduled, Brings, AppliesAll, FitsEvent}
 
 module _ {H : Type 0} (function : H → Handler) (next : Handler) (options : VMOptions) (id : Text) (each : KeptByEach function) (in_line : ReplaysInLine options) where
   -- a list of events keeps an invocation in its run
@@ -39,6 +40,46 @@ module _ {H : Type 0} (function : H → Handler) (next : Handler) (options : VMO
       follows_holds function next options id new.standing new.held
       (keeps_all events replies old new applies fit brings
       (subst (λ (held : List (HeldAttempt H)). FollowsByText function next options id old.standing held) (sym none) (holds_follows function next options id old.standing holds)))
+
+  -- ---- and what they answer of frames
+
+  module _ (none_refused_of : NoneRefused function) where
+    -- the bytes are those of an attempt that is held
+    move_refuses : (other : Text) (n count bytes frames : ℕ) (why : Refusal) (s t : Standing) (held more : List (HeldAttempt H))
+        → IfHeld (MovesOne count) (held_of held other n) s held (reply.Moved bytes frames (Some why)) t more → FollowsByText function next options id s held → other ≡ id → lies_in_frame why ≡ false
+    move_refuses other n count bytes frames why s t held more does f same = by_held (held_of held other n) refl does
+      where
+        by_held : (o : Option (HeldAttempt H)) → held_of held other n ≡ o → IfHeld (MovesOne count) o s held (reply.Moved bytes frames (Some why)) t more → lies_in_frame why ≡ false
+        by_held None there d = let clash = d.0 in absurd cc
+        by_held (Some one) there d =
+            let is = held_is other n one (found_is other n held one there) in
+            none_refused_of next options s t held count bytes frames why one d.0 in_line
+            (ap (λ (i : Text). held_of held i one.number) is.0 ∙ ap (λ (m : ℕ). held_of held other m) is.1 ∙ there) d.1
+            (subst (λ (i : Text). FollowsByText function next options i s held) (sym (is.0 ∙ same)) f)
+
+    refuses_none : (one : Event H) (answer : Reply) (s t : Standing) (held more : List (HeldAttempt H)) → Does function options one s held answer t more
+        → FollowsByText function next options id s held → RefusesNoFrame id one answer
+    refuses_none (event.Move other n count) (reply.Moved bytes frames (Some why)) s t held more does f = move_refuses other n count bytes frames why s t held more does f
+    refuses_none (event.Move other n count) (reply.Moved bytes frames None) s t held more does f = tt
+    refuses_none (event.Move other n count) _ s t held more does f = tt
+    refuses_none _ answer s t held more does f = tt
+
+    refuse_none : (events : List (Event H)) (replies : List Reply) (old new : Scheduled H) → AppliesAll function options events replies old new → AllByRecursion FitsEvent events
+        → AllByRecursion (Brings function id next) events → FollowsByText function next options id old.standing old.held → RefuseNoFrame id events replies
+    refuse_none [] [] old new same fit brings f = tt
+    refuse_none (one ∷ events) (answer ∷ replies) old new applies fit brings f = (
+      refuses_none one answer old.standing applies.0.standing old.held applies.0.held applies.1 f,
+      refuse_none events replies applies.0 new applies.2 fit.1 brings.1
+          (each next options id one answer old.standing applies.0.standing old.held applies.0.held in_line fit.0 brings.0 applies.1 f),
+    )
+    refuse_none [] (answer ∷ replies) old new applies fit brings f = absurd applies
+    refuse_none (one ∷ events) [] old new applies fit brings f = absurd applies
+
+    pub take_frames : (events : List (Event H)) (replies : List Reply) (old new : Scheduled H) → old.held ≡ [] → AppliesAll function options events replies old new → AllByRecursion FitsEvent events
+        → AllByRecursion (Brings function id next) events → HoldsOf next options id old.standing.events → RefuseNoFrame id events replies
+    take_frames events replies old new none applies fit brings holds =
+        refuse_none events replies old new applies fit brings
+        (subst (λ (held : List (HeldAttempt H)). FollowsByText function next options id old.standing held) (sym none) (holds_follows function next options id old.standing holds))
 
 -- no frame is refused for what it is
 no_room : (why : Refusal) → why ≡ OutOfMemory → lies_in_frame why ≡ false

@@ -1,5 +1,5 @@
 -- What schedules keep, and what they leave.
-use Rattle.std.specs.Prelude.{◌≡◌, ℕ, false, List, [], Some}
+use Rattle.std.specs.Prelude.{◌≡◌, ℕ, false, List, [], ◌∷◌, Some}
 use Rattle.std.specs.List.{AllByRecursion}
 use Rattle.journal_model.specs.declared.invocation.NewInvocation.{NewInvocation}
 use Rattle.journal_model.specs.Notification.{Text}
@@ -15,8 +15,21 @@ use Rattle.store_refusals.specs.declared.refusal.Refusal.{Refusal}
 use Rattle.store_steps.specs.Taken.{lies_in_frame}
 use Rattle.following_laws.specs.Attempts.{Attempt}
 use Rattle.following_laws.specs.Following.{ReplaysInLine, HoldsOf, given_of, FollowsByText}
+use Rattle.following_laws.specs.Schedules.event
 use Rattle.following_laws.specs.Schedules.reply
 use Rattle.following_laws.specs.Schedules.{Event, Reply, HeldAttempt, held_of, MovesOne, Does, Scheduled, AppliesAll, Brings, FitsEvent}
+
+-- ---- what is answered of frames
+
+-- where bytes of this invocation were moved and a further frame was refused, its cause does not lie in the frame
+abbrev pub RefusesNoFrame : {H : Type 0} → Text → Event H → Reply → Type 0
+RefusesNoFrame id (event.Move other attempt count) (reply.Moved bytes frames (Some why)) = other ≡ id → lies_in_frame why ≡ false
+RefusesNoFrame id _ answer = Unit {0}
+
+-- by these replies to these events, each to its own
+abbrev pub RefuseNoFrame : {H : Type 0} → Text → List (Event H) → List Reply → Type 0
+RefuseNoFrame id (one ∷ events) (answer ∷ replies) = RefusesNoFrame id one answer × RefuseNoFrame id events replies
+RefuseNoFrame id _ replies = Unit {0}
 
 module _ {H : Type 0} (function : H → Handler) where
   -- ---- event by event
@@ -48,6 +61,12 @@ module _ {H : Type 0} (function : H → Handler) where
   LeavesHolds = (options : VMOptions) (events : List (Event H)) (replies : List Reply) (old new : Scheduled H) → old.held ≡ [] → AppliesAll function options events replies old new
       → AllByRecursion FitsEvent events → (next : Handler) (id : Text) → ReplaysInLine options → AllByRecursion (Brings function id next) events
       → HoldsOf next options id old.standing.events → HoldsOf next options id new.standing.events
+
+  -- and no frame of such a one is refused for a cause that lies in it
+  abbrev pub FramesAreTaken : Type 0
+  FramesAreTaken = (options : VMOptions) (events : List (Event H)) (replies : List Reply) (old new : Scheduled H) → old.held ≡ [] → AppliesAll function options events replies old new
+      → AllByRecursion FitsEvent events → (next : Handler) (id : Text) → ReplaysInLine options → AllByRecursion (Brings function id next) events
+      → HoldsOf next options id old.standing.events → RefuseNoFrame id events replies
 
 -- ---- what that gives
 

@@ -3,13 +3,15 @@
 //! contracts are the laws.
 #![tactic(auto)]
 
-ghost use Rattle.schedule_laws.specs.Laws.{FollowsHolds, HoldsFollows, HoldsHeadline, HoldsNeverLate, HoldsWakesExactly, KeptByEach, LeavesHolds, NoneRefused};
+ghost use Rattle.schedule_laws.specs.Isolation.{AllStandAlone};
+ghost use Rattle.schedule_laws.specs.Laws.{FollowsHolds, FramesAreTaken, HoldsFollows, HoldsHeadline, HoldsNeverLate, HoldsWakesExactly, KeptByEach, LeavesHolds, NoneRefused};
 
 pub use following_laws::inputs_are_handed_out;
 use following_laws::{
     attempts_begin, closes_keep, events_keep, feeds_keep, notes_follow, overs_stay, takes_keep,
     turns_keep,
 };
+use journal_laws::invocations_isolated;
 use journal_model::Handler;
 use machine_laws::{machines_begin, machines_stay_live};
 
@@ -40,9 +42,23 @@ pub fn schedules_leave<H: Handler>()
     schedules_keep::<H>();
 }
 
+/// Nor does it refuse a frame of such an invocation for a cause that lies in the frame.
+pub fn frames_are_taken<H: Handler>()
+    ensures { FramesAreTaken H.next_call }
+{
+    schedules_keep::<H>();
+}
+
 /// That is the headline, and that waking is never late and, from version 7 on, exact.
 pub fn records_of_runs()
     ensures headline { HoldsHeadline }
     ensures never_late { HoldsNeverLate }
     ensures wakes_exactly { HoldsWakesExactly }
 {}
+
+/// What stands of an invocation, its answer too, depends on its own events, the ticks and its object's state at its start.
+pub fn invocations_stand_alone()
+    ensures { AllStandAlone }
+{
+    invocations_isolated();
+}

@@ -1,14 +1,18 @@
--- The accepted events stay, and more are put in front of them.
-use Rattle.std.proofs.Common.{◌≡◌, sym, ap, ◌∙◌, ℕ, Bool, true, false, ◌++◌, append_assoc, take, List, [], ◌∷◌, Option, Some, None, inl, inr, Result, Ok, Err}
+-- The accepted events stay, and more are put in front of them, each of the invocation that the event of the schedule names.
+use Rattle.std.proofs.Common.{◌≡◌, refl, sym, ap, subst, ◌∙◌, ℕ, Bool, true, false, ◌++◌, append_assoc, take, bytes_eq, List, [], ◌∷◌, Option, Some, None, inl, inr, Result, Ok, Err}
+use Rattle.std.specs.List.{AllByRecursion}
+use Rattle.std.proofs.lemmas.Slice.Eq.{bytes_eq-Decides}
 use Rattle.journal_model.specs.Notification.{Bytes, Text}
 use Rattle.journal_model.specs.declared.invocation.NewInvocation.{NewInvocation}
 use Rattle.journal_model.specs.Run.{Handler}
 use Rattle.journal_model.specs.declared.notification.NotificationResult.{NotificationResult}
 use Rattle.journal_model.specs.Event.{Event}
+use Rattle.journal_model.specs.Journal.{begins, invocation_of, is_of, is_text, is_tick, starting_state, view_of}
 use Rattle.journal_model.specs.Attempt.{is_live}
 use Rattle.vm_types.specs.declared.options.VMOptions.{VMOptions}
 use Rattle.store_refusals.specs.declared.refusal.Refusal.{Refusal}
 use Rattle.schedule_laws.specs.Attempts.{Attempt, output_of}
+use Rattle.schedule_laws.proofs.Schedules.{found_is, held_is}
 use Rattle.schedule_laws.specs.Schedules.scheduled
 use Rattle.schedule_laws.specs.Schedules.event
 use Rattle.schedule_laws.specs.Schedules.reply
@@ -20,79 +24,93 @@ use Rattle.store_calls.specs.Standing.{Standing, Stays, Refuses}
 use Rattle.store_calls.specs.Calls.{Completes, Invokes, Stops, Ticks}
 use Rattle.store_calls.specs.Frames.{Accepts, LeavesRefused, Rests, TakesEach}
 use Rattle.store_calls.proofs.Taking.{bytes_stay}
+use Rattle.schedule_runs.specs.Runs.{IsApart, IsOther, invocation_named}
+
+-- it is of this invocation, or of none
+abbrev IsOf : Option Text → Event → Type 0
+IsOf name event = invocation_of event ≡ name
+
+both_are : (name : Option Text) (xs ys : List Event) → AllByRecursion (IsOf name) xs → AllByRecursion (IsOf name) ys → AllByRecursion (IsOf name) (xs ++ ys)
+both_are name [] ys first second = second
+both_are name (x ∷ xs) ys first second = (first.0, both_are name xs ys first.1 second)
 
 -- the events of the one are the first of the other's
 abbrev pub Grows : Standing → Standing → Type 0
 Grows s t = (more : List Event) × (t.events ≡ more ++ s.events)
 
-pub grows_on : (s t u : Standing) → Grows s t → Grows t u → Grows s u
-grows_on s t u one two = (two.0 ++ one.0, two.1 ∙ ap (λ (events : List Event). two.0 ++ events) one.1 ∙ sym (append_assoc two.0 one.0 s.events))
+-- and the others are of this invocation, or of none
+abbrev GrowsBy : Option Text → Standing → Standing → Type 0
+GrowsBy name s t = (more : List Event) × (t.events ≡ more ++ s.events) × AllByRecursion (IsOf name) more
 
-pub same_grows : (s t : Standing) → t.events ≡ s.events → Grows s t
-same_grows s t same = ([], same)
+grows_on : (name : Option Text) (s t u : Standing) → GrowsBy name s t → GrowsBy name t u → GrowsBy name s u
+grows_on name s t u one two =
+    (two.0 ++ one.0, two.1 ∙ ap (λ (events : List Event). two.0 ++ events) one.1 ∙ sym (append_assoc two.0 one.0 s.events), both_are name two.0 one.0 two.2 one.2)
 
-pub more_grows : (s t : Standing) (last : Event) → t.events ≡ last ∷ s.events → Grows s t
-more_grows s t last more = (last ∷ [], more)
+same_grows : (name : Option Text) (s t : Standing) → t.events ≡ s.events → GrowsBy name s t
+same_grows name s t same = ([], same, tt)
 
-pub stays_grows : (s t : Standing) → Stays s t → Grows s t
-stays_grows s t it = same_grows s t it.events
+more_grows : (s t : Standing) (last : Event) → t.events ≡ last ∷ s.events → GrowsBy (invocation_of last) s t
+more_grows s t last more = (last ∷ [], more, (refl, tt))
 
-each_grows : (id : Text) (n : ℕ) (replies : List FrameReply) (s t : Standing) → TakesEach id n replies s t → Grows s t
-each_grows id n [] s t it = stays_grows s t it
+stays_grows : (name : Option Text) (s t : Standing) → Stays s t → GrowsBy name s t
+stays_grows name s t it = same_grows name s t it.events
+
+each_grows : (id : Text) (n : ℕ) (replies : List FrameReply) (s t : Standing) → TakesEach id n replies s t → GrowsBy (Some id) s t
+each_grows id n [] s t it = stays_grows (Some id) s t it
 each_grows id n (first ∷ replies) s t it =
-    grows_on s it.0 t (more_grows s it.0 (Event.Take id n it.1.frame) it.1.leaves.events) (each_grows id n replies it.0 t it.2)
+    grows_on (Some id) s it.0 t (more_grows s it.0 (Event.Take id n it.1.frame) it.1.leaves.events) (each_grows id n replies it.0 t it.2)
 
-refused_grows : (b : Bool) (id : Text) (n : ℕ) (s t : Standing) → LeavesRefused b id n s t → Grows s t
+refused_grows : (b : Bool) (id : Text) (n : ℕ) (s t : Standing) → LeavesRefused b id n s t → GrowsBy (Some id) s t
 refused_grows true id n s t it = more_grows s t (Event.Stop id n) it.events
-refused_grows false id n s t it = stays_grows s t it
+refused_grows false id n s t it = stays_grows (Some id) s t it
 
-rests_grow : (id : Text) (n : ℕ) (why : Option Refusal) (s t : Standing) → Rests id n why s t → Grows s t
-rests_grow id n (Some why) s t it = elim it [ inl none ↦ stays_grows s t none.stays | inr refused ↦ refused_grows (lies_in_frame why) id n s t refused.left ]
-rests_grow id n None s t it = elim it [ inl ended ↦ stays_grows s t ended.stays | inr none ↦ stays_grows s t none.stays ]
+rests_grow : (id : Text) (n : ℕ) (why : Option Refusal) (s t : Standing) → Rests id n why s t → GrowsBy (Some id) s t
+rests_grow id n (Some why) s t it = elim it [ inl none ↦ stays_grows (Some id) s t none.stays | inr refused ↦ refused_grows (lies_in_frame why) id n s t refused.left ]
+rests_grow id n None s t it = elim it [ inl ended ↦ stays_grows (Some id) s t ended.stays | inr none ↦ stays_grows (Some id) s t none.stays ]
 
-pub accepts_grow : (id : Text) (n : ℕ) (bytes : Bytes) (taken : List FrameReply × Option Refusal) (s t : Standing) → Accepts id n bytes (Ok taken) s t → Grows s t
+accepts_grow : (id : Text) (n : ℕ) (bytes : Bytes) (taken : List FrameReply × Option Refusal) (s t : Standing) → Accepts id n bytes (Ok taken) s t → GrowsBy (Some id) s t
 accepts_grow id n bytes taken s t it =
-    grows_on s it.0 t (same_grows s it.0 it.1.events)
-    (grows_on it.0 it.2.between t (each_grows id n taken.0 it.0 it.2.between it.2.taken) (rests_grow id n taken.1 it.2.between t it.2.rests))
+    grows_on (Some id) s it.0 t (same_grows (Some id) s it.0 it.1.events)
+    (grows_on (Some id) it.0 it.2.between t (each_grows id n taken.0 it.0 it.2.between it.2.taken) (rests_grow id n taken.1 it.2.between t it.2.rests))
 
 -- ---- what an event does
 
-refuses_grows : (one : Event) (why : Refusal) (s t : Standing) → Refuses one why s t → Grows s t
-refuses_grows one why s t it = same_grows s t it.stays.events
+refuses_grows : (one : Event) (why : Refusal) (s t : Standing) → Refuses one why s t → GrowsBy (invocation_of one) s t
+refuses_grows one why s t it = same_grows (invocation_of one) s t it.stays.events
 
-done_grows : (Change : Result (Unit {0}) Refusal → Type 0) (answer : Reply) (s t : Standing) → ((result : Result (Unit {0}) Refusal) → Change result → Grows s t) → RepliesDone Change answer → Grows s t
-done_grows Change reply.Done s t each it = each (Ok tt) it
-done_grows Change (reply.Refused (refusal.Store why)) s t each it = each (Err why) it
-done_grows Change _ s t each it = absurd it
+done_grows : (Change : Result (Unit {0}) Refusal → Type 0) (name : Option Text) (answer : Reply) (s t : Standing) → ((result : Result (Unit {0}) Refusal) → Change result → GrowsBy name s t) → RepliesDone Change answer → GrowsBy name s t
+done_grows Change name reply.Done s t each it = each (Ok tt) it
+done_grows Change name (reply.Refused (refusal.Store why)) s t each it = each (Err why) it
+done_grows Change name _ s t each it = absurd it
 
-place_grows : (Change : Result ℕ Refusal → Type 0) (answer : Reply) (s t : Standing) → ((result : Result ℕ Refusal) → Change result → Grows s t) → RepliesPlace Change answer → Grows s t
-place_grows Change (reply.Placed place) s t each it = each (Ok place) it
-place_grows Change (reply.Refused (refusal.Store why)) s t each it = each (Err why) it
-place_grows Change _ s t each it = absurd it
+place_grows : (Change : Result ℕ Refusal → Type 0) (name : Option Text) (answer : Reply) (s t : Standing) → ((result : Result ℕ Refusal) → Change result → GrowsBy name s t) → RepliesPlace Change answer → GrowsBy name s t
+place_grows Change name (reply.Placed place) s t each it = each (Ok place) it
+place_grows Change name (reply.Refused (refusal.Store why)) s t each it = each (Err why) it
+place_grows Change name _ s t each it = absurd it
 
-count_grows : (Change : Result ℕ Refusal → Type 0) (answer : Reply) (s t : Standing) → ((result : Result ℕ Refusal) → Change result → Grows s t) → RepliesCount Change answer → Grows s t
-count_grows Change (reply.Ticked count) s t each it = each (Ok count) it
-count_grows Change (reply.Refused (refusal.Store why)) s t each it = each (Err why) it
-count_grows Change _ s t each it = absurd it
+count_grows : (Change : Result ℕ Refusal → Type 0) (name : Option Text) (answer : Reply) (s t : Standing) → ((result : Result ℕ Refusal) → Change result → GrowsBy name s t) → RepliesCount Change answer → GrowsBy name s t
+count_grows Change name (reply.Ticked count) s t each it = each (Ok count) it
+count_grows Change name (reply.Refused (refusal.Store why)) s t each it = each (Err why) it
+count_grows Change name _ s t each it = absurd it
 
-complete_grows : (id : Text) (n : ℕ) (value : NotificationResult) (s t : Standing) (result : Result ℕ Refusal) → Completes id n value result s t → Grows s t
+complete_grows : (id : Text) (n : ℕ) (value : NotificationResult) (s t : Standing) (result : Result ℕ Refusal) → Completes id n value result s t → GrowsBy (Some id) s t
 complete_grows id n value s t (Ok place) it = more_grows s t (Event.Complete id n value) it.1.events
 complete_grows id n value s t (Err why) it = refuses_grows (Event.Complete id n value) why s t it
 
-tick_grows : (now : ℕ) (s t : Standing) (result : Result ℕ Refusal) → Ticks now result s t → Grows s t
+tick_grows : (now : ℕ) (s t : Standing) (result : Result ℕ Refusal) → Ticks now result s t → GrowsBy None s t
 tick_grows now s t (Ok count) it = more_grows s t (Event.Tick now) it.1.events
 tick_grows now s t (Err why) it = refuses_grows (Event.Tick now) why s t it
 
-invoke_grows : (one : NewInvocation) (s t : Standing) (result : Result (Unit {0}) Refusal) → Invokes one result s t → Grows s t
+invoke_grows : (one : NewInvocation) (s t : Standing) (result : Result (Unit {0}) Refusal) → Invokes one result s t → GrowsBy (Some one.id) s t
 invoke_grows one s t (Ok done) it = more_grows s t (Event.Invoke one) it.events
 invoke_grows one s t (Err why) it = refuses_grows (Event.Invoke one) why s t it
 
-stop_grows : (id : Text) (n : ℕ) (s t : Standing) (result : Result (Unit {0}) Refusal) → Stops id n result s t → Grows s t
+stop_grows : (id : Text) (n : ℕ) (s t : Standing) (result : Result (Unit {0}) Refusal) → Stops id n result s t → GrowsBy (Some id) s t
 stop_grows id n s t (Ok done) it = more_grows s t (Event.Stop id n) it.events
-stop_grows id n s t (Err why) it = stays_grows s t it.stays
+stop_grows id n s t (Err why) it = stays_grows (Some id) s t it.stays
 
 module _ {H : Type 0} (function : H → Handler) (options : VMOptions) where
-  begin_grows : (id : Text) (handler : H) (now : ℕ) (s t : Standing) (held more : List (HeldAttempt H)) (answer : Reply) → BeginDoes options id handler now s held answer t more → Grows s t
+  begin_grows : (id : Text) (handler : H) (now : ℕ) (s t : Standing) (held more : List (HeldAttempt H)) (answer : Reply) → BeginDoes options id handler now s held answer t more → GrowsBy (Some id) s t
   begin_grows id handler now s t held more (reply.Begun n) it = more_grows s t (Event.Begin id now) it.2.leaves.events
   begin_grows id handler now s t held more (reply.Refused (refusal.Store why)) it = elim it [
     | inl none_made ↦ refuses_grows (Event.Begin id now) why s t none_made.0
@@ -100,45 +118,102 @@ module _ {H : Type 0} (function : H → Handler) (options : VMOptions) where
   ]
   begin_grows id handler now s t held more _ it = absurd it
 
-  feed_grows : (count : ℕ) (one : HeldAttempt H) (s t : Standing) (answer : Reply) (changed : Attempt H) → FeedsOne count one s answer t changed → Grows s t
+  feed_grows : (count : ℕ) (one : HeldAttempt H) (s t : Standing) (answer : Reply) (changed : Attempt H) → FeedsOne count one s answer t changed → GrowsBy (Some one.invocation) s t
   feed_grows count one s t (reply.Fed n) changed it = more_grows s t (Event.HandOut one.invocation one.number count) it.2.1.events
   feed_grows count one s t (reply.Refused (refusal.Store why)) changed it = refuses_grows (Event.HandOut one.invocation one.number count) why s t it.0
   feed_grows count one s t _ changed it = absurd it
 
-  close_grows : (one : HeldAttempt H) (s t : Standing) (answer : Reply) (changed : Attempt H) → ClosesOne one s answer t changed → Grows s t
+  close_grows : (one : HeldAttempt H) (s t : Standing) (answer : Reply) (changed : Attempt H) → ClosesOne one s answer t changed → GrowsBy (Some one.invocation) s t
   close_grows one s t reply.Done changed it = more_grows s t (Event.CloseInput one.invocation one.number) it.0.events
   close_grows one s t (reply.Refused (refusal.Store why)) changed it = refuses_grows (Event.CloseInput one.invocation one.number) why s t it.0
   close_grows one s t _ changed it = absurd it
 
-  turn_grows : (one : HeldAttempt H) (s t : Standing) (answer : Reply) (changed : Attempt H) → TurnsOne function one s answer t changed → Grows s t
-  turn_grows one s t (reply.Turned turn) changed it = same_grows s t it.1.events
+  turn_grows : (one : HeldAttempt H) (s t : Standing) (answer : Reply) (changed : Attempt H) → TurnsOne function one s answer t changed → GrowsBy (Some one.invocation) s t
+  turn_grows one s t (reply.Turned turn) changed it = same_grows (Some one.invocation) s t it.1.events
   turn_grows one s t _ changed it = absurd it
 
-  move_grows : (count : ℕ) (one : HeldAttempt H) (s t : Standing) (answer : Reply) (changed : Attempt H) → MovesOne count one s answer t changed → Grows s t
+  move_grows : (count : ℕ) (one : HeldAttempt H) (s t : Standing) (answer : Reply) (changed : Attempt H) → MovesOne count one s answer t changed → GrowsBy (Some one.invocation) s t
   move_grows count one s t (reply.Moved bytes frames why) changed it = accepts_grow one.invocation one.number (take bytes (output_of one.attempt)) (it.0, why) s t it.3
   move_grows count one s t (reply.Refused (refusal.Store why)) changed it =
-      stays_grows s t (bytes_stay (is_live s.events one.invocation one.number) one.invocation one.number why s t it.0)
+      stays_grows (Some one.invocation) s t (bytes_stay (is_live s.events one.invocation one.number) one.invocation one.number why s t it.0)
   move_grows count one s t _ changed it = absurd it
 
-  held_grows : (Change : HeldAttempt H → Standing → Reply → Standing → Attempt H → Type 0) (s t : Standing) (held more : List (HeldAttempt H)) (answer : Reply)
-      → ((one : HeldAttempt H) (changed : Attempt H) → Change one s answer t changed → Grows s t) → (o : Option (HeldAttempt H)) → IfHeld Change o s held answer t more → Grows s t
-  held_grows Change s t held more answer each None it = same_grows s t it.1.events
-  held_grows Change s t held more answer each (Some one) it = each one it.0 it.1
+  held_grows : (Change : HeldAttempt H → Standing → Reply → Standing → Attempt H → Type 0) (id : Text) (n : ℕ) (s t : Standing) (held more : List (HeldAttempt H)) (answer : Reply)
+      → ((one : HeldAttempt H) (changed : Attempt H) → Change one s answer t changed → GrowsBy (Some one.invocation) s t) → IfHeld Change (held_of held id n) s held answer t more → GrowsBy (Some id) s t
+  held_grows Change id n s t held more answer each it = by_held (held_of held id n) refl it
+    where
+      by_held : (o : Option (HeldAttempt H)) → held_of held id n ≡ o → IfHeld Change o s held answer t more → GrowsBy (Some id) s t
+      by_held None is it = same_grows (Some id) s t it.1.events
+      by_held (Some one) is it = subst (λ (other : Text). GrowsBy (Some other) s t) (held_is id n one (found_is id n held one is)).0 (each one it.0 it.1)
 
-  pub does_grow : (one : scheduled.Event H) (s t : Standing) (held more : List (HeldAttempt H)) (answer : Reply) → Does function options one s held answer t more → Grows s t
-  does_grow (event.Invoke one) s t held more answer it = done_grows (λ result. Invokes one result s t) answer s t (invoke_grows one s t) it.0
-  does_grow (event.Result id n value) s t held more answer it = place_grows (λ result. Completes id n value result s t) answer s t (complete_grows id n value s t) it.0
-  does_grow (event.Tick now) s t held more answer it = count_grows (λ result. Ticks now result s t) answer s t (tick_grows now s t) it.0
+  does_grow : (one : scheduled.Event H) (s t : Standing) (held more : List (HeldAttempt H)) (answer : Reply) → Does function options one s held answer t more → GrowsBy (invocation_named one) s t
+  does_grow (event.Invoke one) s t held more answer it = done_grows (λ result. Invokes one result s t) (Some one.id) answer s t (invoke_grows one s t) it.0
+  does_grow (event.Result id n value) s t held more answer it = place_grows (λ result. Completes id n value result s t) (Some id) answer s t (complete_grows id n value s t) it.0
+  does_grow (event.Tick now) s t held more answer it = count_grows (λ result. Ticks now result s t) None answer s t (tick_grows now s t) it.0
   does_grow (event.Begin id handler now) s t held more answer it = begin_grows id handler now s t held more answer it
-  does_grow (event.Feed id n count) s t held more answer it = held_grows (FeedsOne count) s t held more answer (λ one. feed_grows count one s t answer) (held_of held id n) it
-  does_grow (event.Close id n) s t held more answer it = held_grows ClosesOne s t held more answer (λ one. close_grows one s t answer) (held_of held id n) it
-  does_grow (event.Turn id n) s t held more answer it = held_grows (TurnsOne function) s t held more answer (λ one. turn_grows one s t answer) (held_of held id n) it
-  does_grow (event.Move id n count) s t held more answer it = held_grows (MovesOne count) s t held more answer (λ one. move_grows count one s t answer) (held_of held id n) it
-  does_grow (event.Stop id n) s t held more answer it = done_grows (λ result. Stops id n result s t) answer s t (stop_grows id n s t) it.0
+  does_grow (event.Feed id n count) s t held more answer it = held_grows (FeedsOne count) id n s t held more answer (λ one. feed_grows count one s t answer) it
+  does_grow (event.Close id n) s t held more answer it = held_grows ClosesOne id n s t held more answer (λ one. close_grows one s t answer) it
+  does_grow (event.Turn id n) s t held more answer it = held_grows (TurnsOne function) id n s t held more answer (λ one. turn_grows one s t answer) it
+  does_grow (event.Move id n count) s t held more answer it = held_grows (MovesOne count) id n s t held more answer (λ one. move_grows count one s t answer) it
+  does_grow (event.Stop id n) s t held more answer it = done_grows (λ result. Stops id n result s t) (Some id) answer s t (stop_grows id n s t) it.0
 
   pub all_grow : (events : List (scheduled.Event H)) (replies : List Reply) (old new : Scheduled H) → AppliesAll function options events replies old new → Grows old.standing new.standing
-  all_grow [] [] old new it = same_grows old.standing new.standing (ap (λ (s : Scheduled H). s.standing.events) it)
+  all_grow [] [] old new it = ([], ap (λ (s : Scheduled H). s.standing.events) it)
   all_grow (one ∷ events) (answer ∷ replies) old new it =
-      grows_on old.standing it.0.standing new.standing (does_grow one old.standing it.0.standing old.held it.0.held answer it.1) (all_grow events replies it.0 new it.2)
+      let first = does_grow one old.standing it.0.standing old.held it.0.held answer it.1 in
+      let rest = all_grow events replies it.0 new it.2 in
+      (rest.0 ++ first.0, rest.1 ∙ ap (λ (es : List Event). rest.0 ++ es) first.1 ∙ sym (append_assoc rest.0 first.0 old.standing.events))
   all_grow [] (answer ∷ replies) old new it = absurd it
   all_grow (one ∷ events) [] old new it = absurd it
+
+-- ---- what another invocation is shown of that
+
+-- what an invocation is shown of the two is the same
+pub record IsShownAlike (id : Text) (s t : Standing) : Type 0 where
+  pub view : view_of id t.events ≡ view_of id s.events
+  pub start : starting_state t.events id ≡ starting_state s.events id
+
+module _ (id : Text) where
+  not_own : (event : Event) (name : Option Text) → IsOther id name → IsOf name event → is_of id event ≡ false
+  not_own event (Some other) far is = ap (is_text id) is ∙ by_name (bytes_eq other id) refl
+    where
+      by_name : (b : Bool) → bytes_eq other id ≡ b → b ≡ false
+      by_name true e = absurd (far ((bytes_eq-Decides other id).0 e))
+      by_name false e = refl
+  not_own event None far is = absurd far
+
+  not_tick : (event : Event) (name : Option Text) → IsOther id name → IsOf name event → is_tick event ≡ false
+  not_tick (Event.Tick now) (Some other) far is = let clash : None ≡ Some other = is in absurd cc
+  not_tick event None far is = absurd far
+  not_tick _ (Some other) far is = refl
+
+  not_begun : (event : Event) → is_of id event ≡ false → begins id event ≡ false
+  not_begun (Event.Invoke new) e = e
+  not_begun _ e = refl
+
+  -- events of another invocation show nothing
+  view_skips : (name : Option Text) → IsOther id name → (more events : List Event) → AllByRecursion (IsOf name) more → view_of id (more ++ events) ≡ view_of id events
+  view_skips name far [] events all = refl
+  view_skips name far (event ∷ more) events all = rw (not_own event name far all.0, not_tick event name far all.0) (view_skips name far more events all.1)
+
+  start_skips : (name : Option Text) → IsOther id name → (more events : List Event) → AllByRecursion (IsOf name) more → starting_state (more ++ events) id ≡ starting_state events id
+  start_skips name far [] events all = refl
+  start_skips name far (event ∷ more) events all = rw (not_begun event (not_own event name far all.0)) (start_skips name far more events all.1)
+
+  shown_alike : (name : Option Text) → IsOther id name → (s t : Standing) → GrowsBy name s t → IsShownAlike id s t
+  shown_alike name far s t it = record {
+    view = ap (view_of id) it.1 ∙ view_skips name far it.0 s.events it.2;
+    start = ap (λ (events : List Event). starting_state events id) it.1 ∙ start_skips name far it.0 s.events it.2;
+  }
+
+  module _ {H : Type 0} (function : H → Handler) (options : VMOptions) where
+    -- a schedule whose events are all of others shows it nothing
+    pub all_shown_alike : (events : List (scheduled.Event H)) (replies : List Reply) (old new : Scheduled H) → AppliesAll function options events replies old new → AllByRecursion (IsApart id) events
+        → IsShownAlike id old.standing new.standing
+    all_shown_alike [] [] old new it apart = subst (λ (s : Scheduled H). IsShownAlike id old.standing s.standing) (sym it) (record { view = refl; start = refl })
+    all_shown_alike (one ∷ events) (answer ∷ replies) old new it apart =
+        let first = shown_alike (invocation_named one) apart.0 old.standing it.0.standing (does_grow function options one old.standing it.0.standing old.held it.0.held answer it.1) in
+        let rest = all_shown_alike events replies it.0 new it.2 apart.1 in
+        record { view = rest.view ∙ first.view; start = rest.start ∙ first.start }
+    all_shown_alike [] (answer ∷ replies) old new it apart = absurd it
+    all_shown_alike (one ∷ events) [] old new it apart = absurd it

@@ -1,4 +1,5 @@
 pub mod Growing
 pub mod Running
+pub mod Settling
 pub mod Schedules
 mod Reopening

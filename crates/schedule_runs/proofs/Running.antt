@@ -14,15 +14,16 @@ use Rattle.journal_store.specs.Stored.{Stored}
 use Rattle.journal_store.specs.Stands.{Stands as StandsFor, IsStanding, Keeps, Endures, KeepsAll}
 use Rattle.store_calls.specs.Standing.{Standing}
 use Rattle.schedule_laws.proofs.Schedules.{schedules_grow}
-use Rattle.schedule_laws.specs.Laws.{LeavesHolds}
+use Rattle.schedule_laws.specs.Isolation.{AllStandAlone}
+use Rattle.schedule_laws.specs.Laws.{FramesAreTaken, LeavesHolds}
 use Rattle.schedule_laws.specs.Schedules.{Event, Reply, HeldAttempt, Scheduled, AppliesAll, Brings, FitsEvent}
 use Rattle.schedule_laws.specs.Words.{HoldsOf}
 use Rattle.durable_schedule.specs.declared.scheduler.Scheduler.{Scheduler}
 use Rattle.durable_schedule.specs.Scheduled.{IsScheduled, AppliesWith}
-use Rattle.schedule_runs.specs.Runs.{KeepsMore, Extends, LeavesMore, AppliesFirst, RunsLeave, at_first}
+use Rattle.schedule_runs.specs.Runs.{KeepsMore, Extends, LeavesMore, AppliesFirst, RunsLeave, FramesTaken, LeavesAlone, IsApart, at_first}
 use Rattle.journal_store.proofs.Leading.{stood}
 use Rattle.journal_store.proofs.Enduring.{endures_on}
-use Rattle.schedule_runs.proofs.Growing.{all_grow}
+use Rattle.schedule_runs.proofs.Growing.{all_grow, all_shown_alike}
 
 pub each_more : {A : Type 0} (P : A → Type 0) (xs : List A) (x : A) → AllByRecursion P xs → P x → AllByRecursion P (xs ++ x ∷ [])
 each_more P [] x all one = (one, tt)
@@ -39,40 +40,26 @@ module _ {H : Type 0} (function : H → Handler) (options : VMOptions) where
       HasCleanDisk (state g new.store.connection) → (s : Standing) → IsStanding g s first
       → (to : Scheduled H) × IsScheduled g to new × AppliesAll function options events replies (at_first s) to
 
-  module _ (law : LeavesHolds function) (Left : Handler → Text → List Accepted → Type 0) (gives : (next : Handler) (id : Text) (after : List Accepted) → IsAccepted after → HoldsOf next options id after → Left next id after) where
-    -- what a schedule leaves, from the law of schedules
-    pub runs_leave : (events : List (Event H)) (replies : List Reply) (s : Standing) (new : Scheduled H)
-        → AllByRecursion FitsEvent events → AppliesAll function options events replies (at_first s) new → RunsLeave function options events Left s.events new.standing.events
-    runs_leave events replies s new fits applies id next in_line brings holds =
-        gives next id new.standing.events new.standing.accepted (law options events replies (at_first s) new refl applies fits next id in_line brings holds)
-
-    -- of the store that they are applied to
-    pub runs_more : {S : Type 0} (g : Ghosts S) (events : List (Event H)) (replies : List Reply) → AllByRecursion FitsEvent events → (first : Stored S) (new : Scheduler H S)
-        → LeadsFirst g events replies first new → LeavesMore g (RunsLeave function options events Left) first new.store
-    runs_more g events replies fits first new leads clean before stands =
+  -- what holds of all that is applied so holds of the store that is left
+  module _ (events : List (Event H)) (replies : List Reply) (Relation : List Accepted → List Accepted → Type 0)
+      (related : (s : Standing) (new : Scheduled H) → AppliesAll function options events replies (at_first s) new → Relation s.events new.standing.events) where
+    pub leaves_more : {S : Type 0} (g : Ghosts S) (first : Stored S) (new : Scheduler H S) → LeadsFirst g events replies first new → LeavesMore g Relation first new.store
+    leaves_more g first new leads clean before stands =
         let from = stood g before first stands in
         let it = leads clean from.0 from.1.standing in
         let grown = all_grow function options events replies (at_first from.0) it.0 it.2 in
         let all : it.0.standing.events ≡ grown.0 ++ before = grown.1 ∙ ap (λ (es : List Accepted). grown.0 ++ es) from.1.same in (
           grown.0,
           subst (λ (es : List Accepted). StandsFor es (state g new.store.connection) new.store.live.attempts) all it.1.standing.stands,
-          subst (λ (es : List Accepted). RunsLeave function options events Left es (grown.0 ++ before)) from.1.same
-              (subst (λ (es : List Accepted). RunsLeave function options events Left from.0.events es) all (runs_leave events replies from.0 it.0 fits it.2)),
+          subst (λ (es : List Accepted). Relation es (grown.0 ++ before)) from.1.same (subst (λ (es : List Accepted). Relation from.0.events es) all (related from.0 it.0 it.2)),
         )
 
-    -- of the first events
-    first_leave : (events : List (Event H)) (s t : Standing) → AllByRecursion FitsEvent events → AppliesFirst function options events s t → RunsLeave function options events Left s.events t.events
-    first_leave events s t fits it id next in_line brings holds =
-        let first : (P : Event H → Type 0) → AllByRecursion P events → AllByRecursion P it.first =
-        λ P all. first_all P it.first it.rest (subst (λ (es : List (Event H)). AllByRecursion P es) it.beginning all) in
-        runs_leave it.first it.answers s (record { standing = t; held = it.held }) (first FitsEvent fits) it.applies id next in_line (first (Brings function id next) brings) holds
-
-    -- what a crash leaves
-    pub runs_kept : {S : Type 0} (g : Ghosts S) (events : List (Event H)) → AllByRecursion FitsEvent events → (old new : Stored S) → Endures g (AppliesFirst function options events) old new
-        → Extends g (RunsLeave function options events Left) old new
-    runs_kept g events fits old new lives =
+  -- what holds of the first events so holds of what a crash leaves
+  module _ (events : List (Event H)) (Relation : List Accepted → List Accepted → Type 0) (related : (s t : Standing) → AppliesFirst function options events s t → Relation s.events t.events) where
+    pub leaves_kept : {S : Type 0} (g : Ghosts S) (old new : Stored S) → Endures g (AppliesFirst function options events) old new → Extends g Relation old new
+    leaves_kept g old new lives =
         survives_weaker (state g old.connection) (state g new.connection) (Keeps g (AppliesFirst function options events) old)
-        (λ trees. (before : List Accepted) → StandsFor before (state g old.connection) old.live.attempts → KeepsMore (RunsLeave function options events Left) before trees)
+        (λ trees. (before : List Accepted) → StandsFor before (state g old.connection) old.live.attempts → KeepsMore Relation before trees)
         (λ clean db it before stands.
         let from = stood g before old stands in
         let kept = it from.0 from.1.standing in
@@ -82,11 +69,70 @@ module _ {H : Type 0} (function : H → Handler) (options : VMOptions) where
         record {
           more = grown.0;
           accepted = subst (λ (es : List Accepted). IsAccepted es) all kept.0.accepted;
-          related = subst (λ (es : List Accepted). RunsLeave function options events Left es (grown.0 ++ before)) from.1.same
-              (subst (λ (es : List Accepted). RunsLeave function options events Left from.0.events es) all (first_leave events from.0 kept.0 fits kept.1));
+          related = subst (λ (es : List Accepted). Relation es (grown.0 ++ before)) from.1.same (subst (λ (es : List Accepted). Relation from.0.events es) all (related from.0 kept.0 kept.1));
           kept = subst (λ (es : List Accepted). KeepsAll es db) all kept.2;
         })
         lives
+
+  -- what holds of all of them holds of the first
+  of_first : (events : List (Event H)) (s t : Standing) (it : AppliesFirst function options events s t) (P : Event H → Type 0) → AllByRecursion P events → AllByRecursion P it.first
+  of_first events s t it P all = first_all P it.first it.rest (subst (λ (es : List (Event H)). AllByRecursion P es) it.beginning all)
+
+  -- ---- of an invocation in the run of its function
+
+  module _ (law : LeavesHolds function) (Left : Handler → Text → List Accepted → Type 0) (gives : (next : Handler) (id : Text) (after : List Accepted) → IsAccepted after → HoldsOf next options id after → Left next id after) where
+    -- what a schedule leaves, from the law of schedules
+    runs_leave : (events : List (Event H)) (replies : List Reply) (s : Standing) (new : Scheduled H)
+        → AllByRecursion FitsEvent events → AppliesAll function options events replies (at_first s) new → RunsLeave function options events Left s.events new.standing.events
+    runs_leave events replies s new fits applies id next in_line brings holds =
+        gives next id new.standing.events new.standing.accepted (law options events replies (at_first s) new refl applies fits next id in_line brings holds)
+
+    -- of the store that they are applied to
+    pub runs_more : {S : Type 0} (g : Ghosts S) (events : List (Event H)) (replies : List Reply) → AllByRecursion FitsEvent events → (first : Stored S) (new : Scheduler H S)
+        → LeadsFirst g events replies first new → LeavesMore g (RunsLeave function options events Left) first new.store
+    runs_more g events replies fits = leaves_more events replies (RunsLeave function options events Left) (λ s new applies. runs_leave events replies s new fits applies) g
+
+    -- of the first events
+    first_leave : (events : List (Event H)) (s t : Standing) → AllByRecursion FitsEvent events → AppliesFirst function options events s t → RunsLeave function options events Left s.events t.events
+    first_leave events s t fits it id next in_line brings holds =
+        runs_leave it.first it.answers s (record { standing = t; held = it.held }) (of_first events s t it FitsEvent fits) it.applies id next in_line
+        (of_first events s t it (Brings function id next) brings) holds
+
+    -- what a crash leaves
+    pub runs_kept : {S : Type 0} (g : Ghosts S) (events : List (Event H)) → AllByRecursion FitsEvent events → (old new : Stored S) → Endures g (AppliesFirst function options events) old new
+        → Extends g (RunsLeave function options events Left) old new
+    runs_kept g events fits = leaves_kept events (RunsLeave function options events Left) (λ s t it. first_leave events s t fits it) g
+
+  -- no frame of it is refused for a cause that lies in it
+  pub frames_more : {S : Type 0} (g : Ghosts S) → FramesAreTaken function → (events : List (Event H)) (replies : List Reply) → AllByRecursion FitsEvent events → (first : Stored S) (new : Scheduler H S)
+      → LeadsFirst g events replies first new → LeavesMore g (RunsLeave function options events (FramesTaken events replies)) first new.store
+  frames_more g law events replies fits =
+      leaves_more events replies (RunsLeave function options events (FramesTaken events replies))
+      (λ s new applies id next in_line brings holds. law options events replies (at_first s) new refl applies fits next id in_line brings holds) g
+
+  -- ---- of each invocation, apart from others
+
+  module _ (law : AllStandAlone) where
+    leaves_alone : (events : List (Event H)) (replies : List Reply) (s : Standing) (new : Scheduled H) → AppliesAll function options events replies (at_first s) new
+        → LeavesAlone events s.events new.standing.events
+    leaves_alone events replies s new applies = record {
+      alone = law new.standing.events;
+      untouched = λ id apart.
+          let shown = all_shown_alike id function options events replies (at_first s) new applies apart in
+          law new.standing.events id s.events shown.view shown.start;
+    }
+
+    pub alone_more : {S : Type 0} (g : Ghosts S) (events : List (Event H)) (replies : List Reply) (first : Stored S) (new : Scheduler H S) → LeadsFirst g events replies first new
+        → LeavesMore g (LeavesAlone events) first new.store
+    alone_more g events replies = leaves_more events replies (LeavesAlone events) (λ s new applies. leaves_alone events replies s new applies) g
+
+    first_alone : (events : List (Event H)) (s t : Standing) → AppliesFirst function options events s t → LeavesAlone events s.events t.events
+    first_alone events s t it =
+        let left = leaves_alone it.first it.answers s (record { standing = t; held = it.held }) it.applies in
+        record { alone = left.alone; untouched = λ id apart. left.untouched id (of_first events s t it (IsApart id) apart) }
+
+    pub alone_kept : {S : Type 0} (g : Ghosts S) (events : List (Event H)) (old new : Stored S) → Endures g (AppliesFirst function options events) old new → Extends g (LeavesAlone events) old new
+    alone_kept g events = leaves_kept events (LeavesAlone events) (first_alone events) g
 
   -- fewer events are the first of more
   first_of_more : (events : List (Event H)) (one : Event H) (s t : Standing) → AppliesFirst function options events s t → AppliesFirst function options (events ++ one ∷ []) s t

@@ -1,15 +1,15 @@
 //! A whole schedule over a store: what it answers and leaves, whatever its events and the cuts of the bytes are.
 #![tactic(auto)]
 
-ghost use Rattle.std.specs.Prelude.{◌≡◌, ◌<◌, ◌≤◌, ◌+◌, List, [], ◌∷◌, ◌++◌, IfOk, IfErr, vec_len, vec_capacity};
+ghost use Rattle.std.specs.Prelude.{◌≡◌, ◌<◌, ◌≤◌, ◌+◌, List, [], ◌∷◌, ◌++◌, length, IfOk, IfErr, vec_len, vec_capacity};
 ghost use Rattle.std.specs.List.{AllByRecursion};
 ghost use Rattle.sqlite.specs.Held.{state};
 ghost use Rattle.sqlite.specs.State.{HasCleanDisk};
 ghost use Rattle.store_calls.specs.Standing.{Standing};
-ghost use Rattle.journal_store.specs.Stands.{Endures, IsStanding};
+ghost use Rattle.journal_store.specs.Stands.{Endures, IsStanding, Outlasts};
 ghost use Rattle.schedule_laws.specs.Schedules.{AppliesAll, FitsEvent, Scheduled};
 ghost use Rattle.durable_schedule.specs.Scheduled.{IsScheduled};
-ghost use Rattle.schedule_runs.specs.Runs.{AppliesFirst, Extends, HeadlineAfter, HoldsAfter, LeavesMore, NeverLateAfter, RunsLeave, WakesExactlyAfter, at_first};
+ghost use Rattle.schedule_runs.specs.Runs.{AppliesFirst, Extends, FramesTaken, HeadlineAfter, HoldsAfter, LastsBehind, LeavesAlone, LeavesMore, NeverLateAfter, RunsLeave, WakesExactlyAfter, at_first};
 
 mod laws;
 
@@ -17,7 +17,10 @@ pub use durable_schedule::{Event, HeldAttempt, Refusal, Reply, Scheduler, Turn};
 use journal_model::Handler;
 use journal_store::Store;
 pub use laws::reopened_stores_hold;
-pub use schedule_laws::{inputs_are_handed_out, records_of_runs, schedules_keep, schedules_leave};
+pub use schedule_laws::{
+    frames_are_taken, inputs_are_handed_out, invocations_stand_alone, records_of_runs,
+    schedules_keep, schedules_leave,
+};
 use sqlite::Alter;
 use std::alloc::Global;
 use vm_types::VMOptions;
@@ -58,9 +61,19 @@ pub fn run_schedule<H: Handler + Drop, S: Alter + Drop>(
     ensures never_late { IfOk result (λ done. LeavesMore S.Store (RunsLeave H.next_call options events.items (NeverLateAfter options)) store done.0.store) }
     // From version 7 on it is exact.
     ensures wakes_exactly { IfOk result (λ done. LeavesMore S.Store (RunsLeave H.next_call options events.items (WakesExactlyAfter options)) store done.0.store) }
+    // No frame of such an invocation is refused for a cause that lies in the frame.
+    ensures frames { IfOk result (λ done. LeavesMore S.Store (RunsLeave H.next_call options events.items (FramesTaken events.items done.1.items)) store done.0.store) }
+    // What stands of an invocation depends on its own events, the ticks and its object's state at its start: other invocations' events
+    // change nothing of it.
+    ensures isolated { IfOk result (λ done. LeavesMore S.Store (LeavesAlone events.items) store done.0.store) }
     // What each event answers and leaves.
     ensures applies { IfOk result (λ done. HasCleanDisk (state S.Store done.0.store.connection) → (s : Standing) → IsStanding S.Store s store →
         (new : Scheduled H) × IsScheduled S.Store new done.0 × AppliesAll H.next_call options events.items done.1.items (at_first s) new) }
+    // Where the last event that may commit anything was answered as written, or none may and what was handed in lasts, all that is left
+    // lasts: whatever a crash leaves from then on, up to the next call, the tables keep it.
+    ensures settled { IfOk result (λ done. HasCleanDisk (state S.Store done.0.store.connection) → (s : Standing) → IsStanding S.Store s store → LastsBehind (Outlasts s.events (state S.Store store.connection)) events.items done.1.items →
+        (new : Scheduled H) × IsScheduled S.Store new done.0 × AppliesAll H.next_call options events.items done.1.items (at_first s) new × Outlasts new.standing.events (state S.Store done.0.store.connection)) }
+    ensures count { IfOk result (λ done. length done.1.items ≡ length events.items) }
     ensures options { IfOk result (λ done. done.0.options ≡ options) }
     // What each event brings is within its types, which `schedules_keep` asks of each.
     ensures fits { IfOk result (λ done. AllByRecursion FitsEvent events.items) }
@@ -71,13 +84,16 @@ pub fn run_schedule<H: Handler + Drop, S: Alter + Drop>(
     ensures crash_headline { IfOk result (λ done. Extends S.Store (RunsLeave H.next_call options events.items (HeadlineAfter options)) store done.0.store) }
     ensures crash_never_late { IfOk result (λ done. Extends S.Store (RunsLeave H.next_call options events.items (NeverLateAfter options)) store done.0.store) }
     ensures crash_wakes_exactly { IfOk result (λ done. Extends S.Store (RunsLeave H.next_call options events.items (WakesExactlyAfter options)) store done.0.store) }
+    ensures crash_isolated { IfOk result (λ done. Extends S.Store (LeavesAlone events.items) store done.0.store) }
     ensures err { IfErr result (λ refused. refused.store ≡ store) }
 {
     let Ok(mut replies) = Vec::with_capacity(alloc, events.len()) else {
         return Err(NoRoom { store });
     };
     schedules_leave::<H>();
+    frames_are_taken::<H>();
     records_of_runs();
+    invocations_stand_alone();
     let mut scheduler = Scheduler::new(alloc, store, options);
     for event in events {
         put(&mut replies, scheduler.apply(event));

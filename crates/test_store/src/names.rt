@@ -15,7 +15,7 @@ pub mod store {
 /// The schedule.
 pub mod schedule {
     pub use durable_schedule::{Event, HeldAttempt, HeldAttempts, Refusal, Reply, Scheduler};
-    pub use schedule_runs::{NoRoom, run_schedule};
+    pub use schedule_runs::{NoRoom, frames_are_taken, invocations_stand_alone, run_schedule};
 }
 
 /// What is called of a store.

@@ -1,4 +1,4 @@
-use Rattle.std.proofs.Common.{◌≡◌, refl, List, [], ◌∷◌, ◌++◌, sym, subst, ◌∙◌, map-id, arith, length-append}
+use Rattle.std.proofs.Common.{◌≡◌, refl, ap, length, List, [], ◌∷◌, ◌++◌, sym, subst, ◌∙◌, map-id, arith, length-append}
 use Rattle.std.specs.List.{AllByRecursion}
 use Rattle.std.proofs.lemmas.Iterator.Consumers.{YieldsList-end}
 use Rattle.std.proofs.lemmas.Iterator.Adapters.{YieldsList-from_vec}
@@ -10,9 +10,10 @@ use Rattle.schedule_laws.proofs.Schedules.{schedules_grow}
 use Rattle.schedule_laws.specs.Schedules.{Event, Reply, Applies, AppliesAll, FitsEvent}
 use Rattle.journal_store.specs.Stands.{IsStanding, Endures}
 use Rattle.durable_schedule.specs.Scheduled.{AppliesWith}
-use Rattle.schedule_runs.specs.Runs.{Extends, LeavesMore, AppliesFirst, RunsLeave, HoldsAfter, HeadlineAfter, NeverLateAfter, WakesExactlyAfter, at_first}
+use Rattle.schedule_runs.specs.Runs.{Extends, LeavesMore, AppliesFirst, RunsLeave, HoldsAfter, HeadlineAfter, NeverLateAfter, WakesExactlyAfter, FramesTaken, LeavesAlone, at_first}
 use Rattle.journal_store.proofs.Enduring.{same_endures}
-use Rattle.schedule_runs.proofs.Running.{runs_more, runs_kept, one_endures, each_more}
+use Rattle.schedule_runs.proofs.Running.{runs_more, runs_kept, frames_more, alone_more, alone_kept, one_endures, each_more}
+use Rattle.schedule_runs.proofs.Settling.{AppliesOne, SettlesOne, SettlesFirst, one_settles, none_settles}
 use Rattle.schedule_runs.proofs.run_schedule.Goals as goal
 
 pub loop-event-preserved : goal.loop-event-preserved
@@ -36,6 +37,11 @@ loop-event-preserved g c =
       fits = each_more FitsEvent yielded one inv.fits c.apply.ensures.fits;
       crash = one_endures g.H.Handler.next_call c.args.options g.S.Store yielded c.loop-event.replies.items one c.args.store old new inv.applies inv.crash
           (subst (λ (o : VMOptions). Endures g.S.Store (AppliesWith g.H.Handler.next_call o one old.held) old.store new.store) inv.options c.apply.ensures.crash);
+      settled = subst (λ (rs : List Reply). SettlesFirst g.H.Handler.next_call c.args.options g.S.Store (yielded ++ one ∷ []) rs c.args.store new) (sym c.put.ensures.items)
+          (one_settles g.H.Handler.next_call c.args.options g.S.Store yielded c.loop-event.replies.items one c.apply.result c.args.store old new
+          (λ clean. omega (arith, c.apply.ensures.crash.clean, clean)) inv.applies inv.settled
+          (subst (λ (o : VMOptions). AppliesOne g.H.Handler.next_call o g.S.Store one c.apply.result old new) inv.options c.apply.ensures.does)
+          (subst (λ (o : VMOptions). SettlesOne g.H.Handler.next_call o g.S.Store one c.apply.result old new) inv.options c.apply.ensures.settled) c.apply.ensures.spares);
       options = c.apply.ensures.options ∙ inv.options;
       count = omega (arith, c.put.ensures.len, inv.count, length-append yielded (one ∷ []));
       room = omega (arith, inv.room, c.put.ensures.capacity);
@@ -54,6 +60,8 @@ loop-event-init g c =
       fits = tt;
       crash = subst (λ (store : Stored g.row.S.Denot). Endures g.S.Store (AppliesFirst g.H.Handler.next_call c.args.options []) c.args.store store) same
           (same_endures g.S.Store (AppliesFirst g.H.Handler.next_call c.args.options []) c.args.store);
+      settled = subst (λ (rs : List Reply). SettlesFirst g.H.Handler.next_call c.args.options g.S.Store [] rs c.args.store first) (sym c.in-Ok.ensures.items)
+          (none_settles g.H.Handler.next_call c.args.options g.S.Store c.args.store first same (sym c.new-scheduler.ensures.held));
       options = c.new-scheduler.ensures.options;
       count = c.in-Ok.ensures.len;
       room = omega (arith, c.in-Ok.ensures.capacity, c.len.ensures, c.args.events.ok.0);
@@ -155,3 +163,42 @@ returns-clause-crash_wakes_exactly g c =
     let function = g.H.Handler.next_call in
     subst (λ (es : List (Event g.row.H.Denot)). Extends g.S.Store (RunsLeave function c.args.options es (WakesExactlyAfter c.args.options)) c.args.store c.loop-event.scheduler.store) all
     (runs_kept function c.args.options c.schedules_leave.ensures (WakesExactlyAfter c.args.options) (λ next id after accepted holds new is. c.records_of_runs.ensures.wakes_exactly next c.args.options id after new is holds) g.S.Store c.loop-event.yielded c.loop-event.invariant.fits c.args.store c.loop-event.scheduler.store c.loop-event.invariant.crash)
+
+pub returns-clause-frames : goal.returns-clause-frames
+returns-clause-frames g c =
+    let h = c.into_iter-event-iterator.ensures.into_iter_gives in
+    let e = YieldsList-end (YieldsList-from_vec {s = c.into_iter-event-iterator.result} c.args.events.items h.0 (h.1 ∙ c.args.events.ok.0)) c.loop-event.yielded c.loop-event.event-iterator c.loop-event.yielded_by c.next.result c.next.new.self c.in-None.is c.next.ensures.steps in
+    let all : c.loop-event.yielded ≡ c.args.events.items = sym (map-id c.loop-event.yielded) ∙ e.0 in
+    let function = g.H.Handler.next_call in
+    subst (λ (es : List (Event g.row.H.Denot)). LeavesMore g.S.Store (RunsLeave function c.args.options es (FramesTaken es c.loop-event.replies.items)) c.args.store c.loop-event.scheduler.store) all
+    (frames_more function c.args.options g.S.Store c.frames_are_taken.ensures c.loop-event.yielded c.loop-event.replies.items c.loop-event.invariant.fits c.args.store c.loop-event.scheduler c.loop-event.invariant.applies)
+
+pub returns-clause-isolated : goal.returns-clause-isolated
+returns-clause-isolated g c =
+    let h = c.into_iter-event-iterator.ensures.into_iter_gives in
+    let e = YieldsList-end (YieldsList-from_vec {s = c.into_iter-event-iterator.result} c.args.events.items h.0 (h.1 ∙ c.args.events.ok.0)) c.loop-event.yielded c.loop-event.event-iterator c.loop-event.yielded_by c.next.result c.next.new.self c.in-None.is c.next.ensures.steps in
+    let all : c.loop-event.yielded ≡ c.args.events.items = sym (map-id c.loop-event.yielded) ∙ e.0 in
+    subst (λ (es : List (Event g.row.H.Denot)). LeavesMore g.S.Store (LeavesAlone es) c.args.store c.loop-event.scheduler.store) all
+    (alone_more g.H.Handler.next_call c.args.options c.invocations_stand_alone.ensures g.S.Store c.loop-event.yielded c.loop-event.replies.items c.args.store c.loop-event.scheduler c.loop-event.invariant.applies)
+
+pub returns-clause-crash_isolated : goal.returns-clause-crash_isolated
+returns-clause-crash_isolated g c =
+    let h = c.into_iter-event-iterator.ensures.into_iter_gives in
+    let e = YieldsList-end (YieldsList-from_vec {s = c.into_iter-event-iterator.result} c.args.events.items h.0 (h.1 ∙ c.args.events.ok.0)) c.loop-event.yielded c.loop-event.event-iterator c.loop-event.yielded_by c.next.result c.next.new.self c.in-None.is c.next.ensures.steps in
+    let all : c.loop-event.yielded ≡ c.args.events.items = sym (map-id c.loop-event.yielded) ∙ e.0 in
+    subst (λ (es : List (Event g.row.H.Denot)). Extends g.S.Store (LeavesAlone es) c.args.store c.loop-event.scheduler.store) all
+    (alone_kept g.H.Handler.next_call c.args.options c.invocations_stand_alone.ensures g.S.Store c.loop-event.yielded c.args.store c.loop-event.scheduler.store c.loop-event.invariant.crash)
+
+pub returns-clause-count : goal.returns-clause-count
+returns-clause-count g c =
+    let h = c.into_iter-event-iterator.ensures.into_iter_gives in
+    let e = YieldsList-end (YieldsList-from_vec {s = c.into_iter-event-iterator.result} c.args.events.items h.0 (h.1 ∙ c.args.events.ok.0)) c.loop-event.yielded c.loop-event.event-iterator c.loop-event.yielded_by c.next.result c.next.new.self c.in-None.is c.next.ensures.steps in
+    let all : c.loop-event.yielded ≡ c.args.events.items = sym (map-id c.loop-event.yielded) ∙ e.0 in
+    omega (arith, c.loop-event.invariant.count, c.loop-event.replies.ok.0, ap (λ (es : List (Event g.row.H.Denot)). length es) all)
+
+pub returns-clause-settled : goal.returns-clause-settled
+returns-clause-settled g c =
+    let h = c.into_iter-event-iterator.ensures.into_iter_gives in
+    let e = YieldsList-end (YieldsList-from_vec {s = c.into_iter-event-iterator.result} c.args.events.items h.0 (h.1 ∙ c.args.events.ok.0)) c.loop-event.yielded c.loop-event.event-iterator c.loop-event.yielded_by c.next.result c.next.new.self c.in-None.is c.next.ensures.steps in
+    let all : c.loop-event.yielded ≡ c.args.events.items = sym (map-id c.loop-event.yielded) ∙ e.0 in
+    subst (λ (es : List (Event g.row.H.Denot)). SettlesFirst g.H.Handler.next_call c.args.options g.S.Store es c.loop-event.replies.items c.args.store c.loop-event.scheduler) all c.loop-event.invariant.settled

@@ -10,7 +10,7 @@ use Rattle.store_calls.specs.Standing.{Adds}
 use Rattle.journal_store.specs.Stands.{Endures}
 use Rattle.durable_schedule.specs.Scheduled.{AppliesWith}
 use Rattle.journal_store.proofs.Enduring.{BeginsSome, quiet_endures, same_endures}
-use Rattle.durable_schedule.proofs.Scheduling.{applied, applied_lasting, applied_with, begins_with, stored, unwritten}
+use Rattle.durable_schedule.proofs.Scheduling.{applied, applied_lasting, applied_with, begins_with, spared, spares_held, stored, unwritten}
 use Rattle.durable_schedule.proofs.scheduler.Scheduler.apply.Goals as goal
 
 pub returns-in-Invoke-clause-does : goal.returns-in-Invoke-clause-does
@@ -148,3 +148,39 @@ pub returns-in-Close-clause-crash : goal.returns-in-Close-clause-crash
 returns-in-Close-clause-crash g c =
     let old = c.args.self.now in
     quiet_endures g.S.Store (AppliesWith g.H.Handler.next_call old.options c.args.event old.held) old.store c.close.new.self.store c.close.ensures.crash
+
+pub returns-in-Invoke-clause-spares : goal.returns-in-Invoke-clause-spares
+returns-in-Invoke-clause-spares g c =
+    spared g.S.Store c.args.event (event.Invoke c.in-Invoke.new) c.invoke.result c.args.self.now c.invoke.new.self c.in-Invoke.is (spares_held c.invoke.result c.args.self.now c.invoke.new.self c.invoke.ensures.held) tt
+
+pub returns-in-Result-clause-spares : goal.returns-in-Result-clause-spares
+returns-in-Result-clause-spares g c =
+    spared g.S.Store c.args.event (event.Result c.in-Result.invocation c.in-Result.completion c.in-Result.value) c.complete.result c.args.self.now c.complete.new.self c.in-Result.is (spares_held c.complete.result c.args.self.now c.complete.new.self c.complete.ensures.held) tt
+
+pub returns-in-Tick-clause-spares : goal.returns-in-Tick-clause-spares
+returns-in-Tick-clause-spares g c =
+    spared g.S.Store c.args.event (event.Tick c.in-Tick.now) c.tick.result c.args.self.now c.tick.new.self c.in-Tick.is (spares_held c.tick.result c.args.self.now c.tick.new.self c.tick.ensures.held) tt
+
+pub returns-in-Begin-clause-spares : goal.returns-in-Begin-clause-spares
+returns-in-Begin-clause-spares g c =
+    spared g.S.Store c.args.event (event.Begin c.in-Begin.invocation c.in-Begin.handler c.in-Begin.now) c.begin.result c.args.self.now c.begin.new.self c.in-Begin.is (spares_held c.begin.result c.args.self.now c.begin.new.self c.begin.ensures.held) tt
+
+pub returns-in-Feed-clause-spares : goal.returns-in-Feed-clause-spares
+returns-in-Feed-clause-spares g c =
+    spared g.S.Store c.args.event (event.Feed c.in-Feed.invocation c.in-Feed.attempt c.in-Feed.count) c.feed.result c.args.self.now c.feed.new.self c.in-Feed.is c.feed.ensures.unheld c.feed.ensures.crash
+
+pub returns-in-Close-clause-spares : goal.returns-in-Close-clause-spares
+returns-in-Close-clause-spares g c =
+    spared g.S.Store c.args.event (event.Close c.in-Close.invocation c.in-Close.attempt) c.close.result c.args.self.now c.close.new.self c.in-Close.is c.close.ensures.unheld c.close.ensures.crash
+
+pub returns-in-Turn-clause-spares : goal.returns-in-Turn-clause-spares
+returns-in-Turn-clause-spares g c =
+    spared g.S.Store c.args.event (event.Turn c.in-Turn.invocation c.in-Turn.attempt) c.turn.result c.args.self.now c.turn.new.self c.in-Turn.is c.turn.ensures.unheld c.turn.ensures.store
+
+pub returns-in-Move-clause-spares : goal.returns-in-Move-clause-spares
+returns-in-Move-clause-spares g c =
+    spared g.S.Store c.args.event (event.Move c.in-Move.invocation c.in-Move.attempt c.in-Move.count) c.transfer.result c.args.self.now c.transfer.new.self c.in-Move.is c.transfer.ensures.unheld tt
+
+pub returns-in-Stop-clause-spares : goal.returns-in-Stop-clause-spares
+returns-in-Stop-clause-spares g c =
+    spared g.S.Store c.args.event (event.Stop c.in-Stop.invocation c.in-Stop.attempt) c.stop.result c.args.self.now c.stop.new.self c.in-Stop.is (spares_held c.stop.result c.args.self.now c.stop.new.self c.stop.ensures.held) c.stop.ensures.crash

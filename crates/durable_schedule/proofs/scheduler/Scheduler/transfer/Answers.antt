@@ -1,6 +1,7 @@
+use Rattle.std.proofs.Common.{refl, subst}
 use Rattle.schedule_model.specs.declared.event.Event.TheVariants as event
 use Rattle.schedule_model.specs.Schedule.{MovesOne}
-use Rattle.durable_schedule.specs.Scheduled.{AppliesWith}
+use Rattle.durable_schedule.specs.Scheduled.{AppliesWith, IsOfHeld}
 use Rattle.journal_store.proofs.Enduring.{same_endures}
 use Rattle.durable_schedule.proofs.Holding.{misses, finds, finds_lasting, finds_crashed}
 use Rattle.durable_schedule.proofs.scheduler.Scheduler.transfer.Goals as goal
@@ -35,3 +36,9 @@ returns-in-Some-clause-crash g c =
     let old = c.args.self.now in
     finds_crashed g.S.Store (MovesOne c.args.count) c.args.invocation.now c.args.number old.held c.get_mut.result c.get_mut.ensures.found
     c.in-Some.attempt c.in-Some.is old.store c.take_in.new.store c.take_in.ensures.crash
+
+pub returns-in-None-clause-unheld : goal.returns-in-None-clause-unheld
+returns-in-None-clause-unheld g c is = refl
+
+pub returns-in-Some-clause-unheld : goal.returns-in-Some-clause-unheld
+returns-in-Some-clause-unheld g c is = absurd (subst IsOfHeld is c.take_in.ensures.held)
