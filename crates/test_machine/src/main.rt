@@ -75,7 +75,7 @@ impl<V: VM + fmt::Debug + Drop> Answers for Machine<V> {
             ["resolve", operands @ ..] => tables::answer::<V>(alloc, operands),
             ["copies", operands @ ..] => results::answer(alloc, operands),
             ["tree", operands @ ..] => answers::debug(alloc, awaits::tree(alloc, operands, 0)?),
-            ["debug", operands @ ..] => printed::answer(alloc, operands),
+            ["debug", name, operands @ ..] => printed::answer(alloc, *name, operands),
             ["shown"] => answers::shown(alloc, self.vm.as_ref()?),
             [call, operands @ ..] => answer_of(alloc, self.vm.as_mut()?, *call, operands),
             [] => None,

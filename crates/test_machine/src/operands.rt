@@ -83,22 +83,29 @@ pub fn target(alloc: Global, service: &str, handler: &str, keys: &str) -> Option
     })
 }
 
-/// An invocation by its id, or with `workflow` and `request` one that was begun so, in a scope that may be absent.
-pub fn invocation(alloc: Global, words: &[&str]) -> Option<AttachInvocationTarget> {
-    match words {
-        [id] => Some(AttachInvocationTarget::InvocationId(byte_str(alloc, *id)?)),
-        ["workflow", scope] => Some(AttachInvocationTarget::WorkflowId {
+fn begun(how: &str, scope: Option<ByteStr>) -> Option<AttachInvocationTarget> {
+    match how {
+        "workflow" => Some(AttachInvocationTarget::WorkflowId {
             name: ByteStr::from_static("w"),
             key: ByteStr::from_static("k"),
-            scope: given(Some(*scope)),
+            scope,
         }),
-        ["request", scope] => Some(AttachInvocationTarget::IdempotencyId {
+        "request" => Some(AttachInvocationTarget::IdempotencyId {
             service_name: ByteStr::from_static("s"),
             handler_name: ByteStr::from_static("h"),
             idempotency_key: ByteStr::from_static("i"),
             service_key: None,
-            scope: given(Some(*scope)),
+            scope,
         }),
+        _ => None,
+    }
+}
+
+/// An invocation by its id, or with `workflow` and `request` one that was begun so, in a scope that may be absent.
+pub fn invocation(alloc: Global, words: &[&str]) -> Option<AttachInvocationTarget> {
+    match words {
+        [id] => Some(AttachInvocationTarget::InvocationId(byte_str(alloc, *id)?)),
+        [how, scope] => begun(*how, given(Some(*scope))),
         _ => None,
     }
 }

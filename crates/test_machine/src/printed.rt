@@ -76,16 +76,20 @@ fn named(alloc: Global, name: &str) -> Option<String> {
     }
 }
 
-pub fn answer(alloc: Global, operands: &[&str]) -> Option<String> {
-    match operands {
-        ["options", words @ ..] => debug(alloc, options(words)),
-        ["target", service, handler, keys] => {
-            debug(alloc, target(alloc, *service, *handler, *keys)?)
-        }
-        ["attach", words @ ..] => debug(alloc, invocation(alloc, words)?),
-        ["value", value] => debug(alloc, handed(alloc, *value)?),
-        ["related", word] => debug(alloc, relationship(*word)?),
-        [name] => named(alloc, *name),
-        _ => None,
+fn target_shown(alloc: Global, operands: &[&str]) -> Option<String> {
+    let [service, handler, keys] = operands else {
+        return None;
+    };
+    debug(alloc, target(alloc, *service, *handler, *keys)?)
+}
+
+pub fn answer(alloc: Global, name: &str, operands: &[&str]) -> Option<String> {
+    match name {
+        "options" => debug(alloc, options(operands)),
+        "target" => target_shown(alloc, operands),
+        "attach" => debug(alloc, invocation(alloc, operands)?),
+        "value" => debug(alloc, handed(alloc, *operands.first()?)?),
+        "related" => debug(alloc, relationship(*operands.first()?)?),
+        name => named(alloc, name),
     }
 }

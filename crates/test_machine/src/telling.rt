@@ -45,19 +45,22 @@ fn behavior(word: &str) -> ErrorBehavior {
     }
 }
 
-fn tell<V: VM>(alloc: Global, vm: &mut V, code: &str, then: &str, related: &str) -> Option<String> {
-    let code = InvocationErrorCode::from(number(code)?);
-    let error = Error::new(code, ByteStr::from_static("failed")).with_behavior(behavior(then));
-    vm.notify_error(error, relationship(related));
+fn tell<V: VM>(alloc: Global, vm: &mut V, operands: &[&str]) -> Option<String> {
+    let [code, then, related] = operands else {
+        return None;
+    };
+    let code = InvocationErrorCode::from(number(*code)?);
+    let error = Error::new(code, ByteStr::from_static("failed")).with_behavior(behavior(*then));
+    vm.notify_error(error, relationship(*related));
     debug(alloc, vm.state())
 }
 
 pub fn answer<V: VM>(alloc: Global, vm: &mut V, call: &str, operands: &[&str]) -> Option<String> {
-    match (call, operands) {
-        ("why", []) => why(alloc, vm),
-        ("read", []) => read(alloc, vm),
-        ("taken", [handle]) => taken(alloc, vm, *handle),
-        ("tell", [code, then, related]) => tell(alloc, vm, *code, *then, *related),
+    match call {
+        "why" => why(alloc, vm),
+        "read" => read(alloc, vm),
+        "taken" => taken(alloc, vm, *operands.first()?),
+        "tell" => tell(alloc, vm, operands),
         _ => None,
     }
 }
