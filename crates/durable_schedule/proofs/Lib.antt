@@ -3,4 +3,3 @@ pub mod Scheduling
 pub mod Moving
 pub mod Holding
 pub mod Lasting
-pub mod Quieting

@@ -15,17 +15,14 @@ use Rattle.journal_model.specs.Run.{Handler}
 use Rattle.vm_types.specs.Options.{run_options}
 use Rattle.vm_types.specs.declared.options.VMOptions.{VMOptions}
 use Rattle.journal_store.specs.Stored.{Stored}
-use Rattle.journal_store.specs.Stands.{Stands, KeepsAll, Outlasts}
+use Rattle.journal_store.specs.Stands.{Stands, KeepsAll}
 use Rattle.store_calls.specs.Standing.{Standing}
 use Rattle.schedule_laws.specs.Isolation.{StandsAlike, StandsAlone}
 use Rattle.schedule_laws.specs.Laws.{RefuseNoFrame}
 use Rattle.schedule_laws.specs.Schedules.scheduled
 use Rattle.schedule_laws.specs.Schedules.event
-use Rattle.schedule_laws.specs.Schedules.reply
-use Rattle.schedule_laws.specs.Schedules.refusal
 use Rattle.schedule_laws.specs.Schedules.{Reply, HeldAttempt, Scheduled, AppliesAll, Brings}
 use Rattle.schedule_laws.specs.Words.{ReplaysInLine, HoldsOf, given_of}
-use Rattle.durable_schedule.specs.Scheduled.{IsWritten}
 
 -- ---- its events, one after another
 
@@ -119,28 +116,6 @@ IsApart id one = IsOther id (invocation_named one)
 pub record LeavesAlone {H : Type 0} (events : List (scheduled.Event H)) (before after : List Event) : Type 0 where
   pub alone : (id : Text) → StandsAlone after id
   pub untouched : (id : Text) → AllByRecursion (IsApart id) events → StandsAlike after before id
-
--- ---- what lasts
-
--- What is answered so was written, and nothing besides: a frame that was refused may have been written all the same.
-abbrev pub IsWrittenWhole : {H : Type 0} → scheduled.Event H → Reply → Type 0
-IsWrittenWhole (event.Move id attempt count) (reply.Moved bytes frames (Some why)) = ⊥
-IsWrittenWhole one answer = IsWritten one answer
-
--- Whether all lasts that was accepted up to an event, from whether all before it did. What is fed, closed, turned and stopped, and what
--- nobody holds, commits nothing; any other event is to be answered as written.
-abbrev pub LastsNext : {H : Type 0} → Type 0 → scheduled.Event H → Reply → Type 0
-LastsNext Before (event.Feed id attempt count) answer = Before
-LastsNext Before (event.Close id attempt) answer = Before
-LastsNext Before (event.Turn id attempt) answer = Before
-LastsNext Before (event.Stop id attempt) answer = Before
-LastsNext Before (event.Move id attempt count) (reply.Refused refusal.AttemptNotHeld) = Before
-LastsNext Before one answer = IsWrittenWhole one answer
-
--- up to the last of these events, each with its reply
-abbrev pub LastsBehind : {H : Type 0} → Type 0 → List (scheduled.Event H) → List Reply → Type 0
-LastsBehind Before (one ∷ events) (answer ∷ replies) = LastsBehind (LastsNext Before one answer) events replies
-LastsBehind Before _ _ = Before
 
 -- ---- a store that is opened again
 

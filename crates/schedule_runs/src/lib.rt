@@ -6,10 +6,10 @@ ghost use Rattle.std.specs.List.{AllByRecursion};
 ghost use Rattle.sqlite.specs.Held.{state};
 ghost use Rattle.sqlite.specs.State.{HasCleanDisk};
 ghost use Rattle.store_calls.specs.Standing.{Standing};
-ghost use Rattle.journal_store.specs.Stands.{Endures, IsStanding, Outlasts};
+ghost use Rattle.journal_store.specs.Stands.{Endures, IsStanding};
 ghost use Rattle.schedule_laws.specs.Schedules.{AppliesAll, FitsEvent, Scheduled};
 ghost use Rattle.durable_schedule.specs.Scheduled.{IsScheduled};
-ghost use Rattle.schedule_runs.specs.Runs.{AppliesFirst, Extends, FramesTaken, HeadlineAfter, HoldsAfter, LastsBehind, LeavesAlone, LeavesMore, NeverLateAfter, RunsLeave, WakesExactlyAfter, at_first};
+ghost use Rattle.schedule_runs.specs.Runs.{AppliesFirst, Extends, FramesTaken, HeadlineAfter, HoldsAfter, LeavesAlone, LeavesMore, NeverLateAfter, RunsLeave, WakesExactlyAfter, at_first};
 
 mod laws;
 
@@ -69,10 +69,6 @@ pub fn run_schedule<H: Handler + Drop, S: Alter + Drop>(
     // What each event answers and leaves.
     ensures applies { IfOk result (λ done. HasCleanDisk (state S.Store done.0.store.connection) → (s : Standing) → IsStanding S.Store s store →
         (new : Scheduled H) × IsScheduled S.Store new done.0 × AppliesAll H.next_call options events.items done.1.items (at_first s) new) }
-    // Where the last event that may commit anything was answered as written, or none may and what was handed in lasts, all that is left
-    // lasts: whatever a crash leaves from then on, up to the next call, the tables keep it.
-    ensures settled { IfOk result (λ done. HasCleanDisk (state S.Store done.0.store.connection) → (s : Standing) → IsStanding S.Store s store → LastsBehind (Outlasts s.events (state S.Store store.connection)) events.items done.1.items →
-        (new : Scheduled H) × IsScheduled S.Store new done.0 × AppliesAll H.next_call options events.items done.1.items (at_first s) new × Outlasts new.standing.events (state S.Store done.0.store.connection)) }
     ensures count { IfOk result (λ done. length done.1.items ≡ length events.items) }
     ensures options { IfOk result (λ done. done.0.options ≡ options) }
     // What each event brings is within its types, which `schedules_keep` asks of each.

@@ -4,9 +4,9 @@ use Rattle.sqlite.specs.Held.{state}
 use Rattle.sqlite.specs.State.{HasCleanDisk}
 use Rattle.store_calls.specs.Standing.{Standing}
 use Rattle.schedule_laws.specs.Schedules.{Scheduled, AppliesAll, FitsEvent}
-use Rattle.journal_store.specs.Stands.{IsStanding, Endures, Outlasts}
+use Rattle.journal_store.specs.Stands.{IsStanding, Endures}
 use Rattle.durable_schedule.specs.Scheduled.{IsScheduled}
-use Rattle.schedule_runs.specs.Runs.{AppliesFirst, LastsBehind, at_first}
+use Rattle.schedule_runs.specs.Runs.{AppliesFirst, at_first}
 use Rattle.schedule_runs.proofs.run_schedule.Given as goal
 
 abbrev pub invariant-loop-event : goal.invariant-loop-event
@@ -15,8 +15,6 @@ invariant-loop-event g l = record {
       → (new : Scheduled g.row.H.Denot) × IsScheduled g.S.Store new l.scheduler × AppliesAll g.H.Handler.next_call l.fn.options l.yielded l.replies.items (at_first s) new;
   fits : AllByRecursion FitsEvent l.yielded;
   crash : Endures g.S.Store (AppliesFirst g.H.Handler.next_call l.fn.options l.yielded) l.fn.store l.scheduler.store;
-  settled : HasCleanDisk (state g.S.Store l.scheduler.store.connection) → (s : Standing) → IsStanding g.S.Store s l.fn.store → LastsBehind (Outlasts s.events (state g.S.Store l.fn.store.connection)) l.yielded l.replies.items
-      → (new : Scheduled g.row.H.Denot) × IsScheduled g.S.Store new l.scheduler × AppliesAll g.H.Handler.next_call l.fn.options l.yielded l.replies.items (at_first s) new × Outlasts new.standing.events (state g.S.Store l.scheduler.store.connection);
   options : l.scheduler.options ≡ l.fn.options;
   count : vec_len l.replies ≡ length l.yielded;
   room : length l.fn.events.items ≤ vec_capacity l.replies;
