@@ -29,7 +29,7 @@ use Rattle.vm_progress.specs.declared.asleep.Sleep.{Sleep}
 use Rattle.vm_progress.specs.declared.asleep.Sleep.TheVariants as sleeps
 use Rattle.vm_types.specs.declared.answers.AwaitResponse.{AwaitResponse}
 use Rattle.vm_types.specs.declared.handles.EphemeralCompletionId.{EphemeralCompletionId}
-use Rattle.vm_waiting.specs.Suspending.{over_ids, suspension_payload_in, Suspends, TellsAsRun, tells_awaiting, TellsIf}
+use Rattle.vm_waiting.specs.Suspending.{over_ids, suspension_payload_in, Suspends, tells_awaiting, TellsIf}
 use Rattle.vm_waiting.specs.Waiting.{Becomes, Awaits}
 use Rattle.vm_waiting.specs.declared.awaiting.Awaited.{Awaited}
 use Rattle.vm_waiting.specs.declared.awaiting.Awaited.TheVariants.{AnyCompleted, Cancelled, Asleep}
@@ -96,9 +96,9 @@ module _ (given : Invocation) (m : Machine) (tree : AwaitTree ℕ) (old : Machin
 
     -- it stays for more input
     stays : (is_open : old.is_input_closed ≡ false) (told : Result (Unit {0}) EncodingError) (active : Active) (result : Result AwaitResponse Error) (new : MachineState)
-        → TellsIf (tells_awaiting old.version old.options.awaiting_on_policy false left) left resolved told active → TellsAsRun left resolved → SettlesStay told (record old { active = active }) result new
+        → TellsIf (tells_awaiting old.version old.options.awaiting_on_policy false left) left resolved told active → SettlesStay told (record old { active = active }) result new
         → Comes given m (Call.Await tree) old (awaited_as result) new
-    stays is_open (Ok done) active (Ok response) new tells run settles =
+    stays is_open (Ok done) active (Ok response) new tells settles =
         let seen = tells_seen given becomes.machine (tells_awaiting old.version old.options.awaiting_on_policy false left) left resolved active tells becomes.sees in
         subst (λ (r : AwaitResponse). Comes given m (Call.Await tree) old (awaited_as (Ok r)) new) (sym settles.0)
         (subst (λ (vm : MachineState). Waits given m (Call.Await tree) old vm) (sym settles.1) (record {
@@ -111,12 +111,11 @@ module _ (given : Invocation) (m : Machine) (tree : AwaitTree ℕ) (old : Machin
           resolved = resolved;
           unwritten = unwritten;
           tells = tells;
-          run = run;
           others = refl;
         }))
-    stays is_open (Ok done) active (Err answer) new tells run settles = absurd settles
-    stays is_open (Err error) active (Ok response) new tells run settles = absurd settles
-    stays is_open (Err error) active (Err answer) new tells run settles =
+    stays is_open (Ok done) active (Err answer) new tells settles = absurd settles
+    stays is_open (Err error) active (Ok response) new tells settles = absurd settles
+    stays is_open (Err error) active (Err answer) new tells settles =
         fails_unwritten error answer new
         (λ is. subst (λ (b : Bool). 2 ^ 32 ≤ length (waiting_payload b old.version (over_ids resolved left))) (sym is_open)
         (long_told error (tells_awaiting old.version old.options.awaiting_on_policy false left) active tells is))
@@ -124,8 +123,8 @@ module _ (given : Invocation) (m : Machine) (tree : AwaitTree ℕ) (old : Machin
 
     -- it is suspended
     suspends : (is_closed : old.is_input_closed ≡ true) (written : Result (Unit {0}) EncodingError) (active : Active) (answer : Error) (new : MachineState) → Suspends left resolved written active
-        → TellsAsRun left resolved → ClosesAs written (record old { active = active }) answer new → Comes given m (Call.Await tree) old (awaited_as (Err answer)) new
-    suspends is_closed (Ok done) active answer new suspended run closes =
+        → ClosesAs written (record old { active = active }) answer new → Comes given m (Call.Await tree) old (awaited_as (Err answer)) new
+    suspends is_closed (Ok done) active answer new suspended closes =
         subst (λ (e : Error). Comes given m (Call.Await tree) old (awaited_as (Err e)) new) (sym closes.0)
         (subst (λ (vm : MachineState). IsSuspended given m (Call.Await tree) old vm) (sym closes.1) (record {
           is_closed = is_closed;
@@ -137,25 +136,24 @@ module _ (given : Invocation) (m : Machine) (tree : AwaitTree ℕ) (old : Machin
           sees = becomes.sees;
           unwritten = unwritten;
           suspended = suspended;
-          run = run;
           others = refl;
         }))
-    suspends is_closed (Err unsent.PayloadTooLong) active answer new suspended run closes =
+    suspends is_closed (Err unsent.PayloadTooLong) active answer new suspended closes =
         fails_unwritten unsent.PayloadTooLong answer new
         (λ is. subst (λ (b : Bool). 2 ^ 32 ≤ length (waiting_payload b old.version (over_ids resolved left))) (sym is_closed)
         (subst (λ (v : Version). 2 ^ 32 ≤ length (suspension_payload_in v (over_ids resolved left))) (ap (λ (w : Written). w.version) unwritten ∙ driven.written) suspended.0))
         (subst (λ (a : Active). FailsUnwritten unsent.PayloadTooLong (record old { active = a }) answer new) suspended.1 closes)
-    suspends is_closed (Err unsent.OutOfMemory) active answer new suspended run closes =
+    suspends is_closed (Err unsent.OutOfMemory) active answer new suspended closes =
         lacks_memory resolved answer new looked unwritten (subst (λ (a : Active). LacksMemory (record old { active = a }) answer new) suspended closes)
 
     sleeps_as : (sleep : Sleep) (result : Result AwaitResponse Error) (new : MachineState) → SleepIs sleep (record old { active = resolved }) → SleepsAs sleep left (record old { active = resolved }) result new
         → Comes given m (Call.Await tree) old (awaited_as result) new
-    sleeps_as sleeps.Stays result new is goes_on = stays is goes_on.told goes_on.active result new goes_on.tells goes_on.run goes_on.settles
+    sleeps_as sleeps.Stays result new is goes_on = stays is goes_on.told goes_on.active result new goes_on.tells goes_on.settles
     sleeps_as sleeps.Unanswered result new is goes_on =
         let flying : 0 < length no_reads.in_flight = subst (λ (reads : EphemeralReads). 0 < length reads.in_flight) driven.reads is.1 in
         absurd (omega (arith, flying))
     sleeps_as sleeps.Suspends (Ok response) new is goes_on = absurd goes_on
-    sleeps_as sleeps.Suspends (Err answer) new is goes_on = suspends is.0 goes_on.written goes_on.active answer new goes_on.suspends goes_on.run goes_on.closes
+    sleeps_as sleeps.Suspends (Err answer) new is goes_on = suspends is.0 goes_on.written goes_on.active answer new goes_on.suspends goes_on.closes
 
   -- it goes on from what it has come to
   goes_on_as : (awaited : Result Awaited AwaitError) (resolved : Active) (result : Result AwaitResponse Error) (new : MachineState) → IsLookedAt old.active resolved → resolved.output ≡ old.active.output

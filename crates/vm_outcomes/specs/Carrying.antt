@@ -18,7 +18,7 @@ use Rattle.vm_errors.specs.Failing.{FailsNow, IsCopy}
 use Rattle.vm_errors.specs.Phases.{closed_error}
 use Rattle.vm_errors.specs.declared.phase.Phase.{Phase}
 use Rattle.vm_errors.specs.declared.phase.Phase.TheVariants as phases
-use Rattle.vm_waiting.specs.Suspending.{tells_awaiting, TellsIf, TellsAsRun, IsSuspended}
+use Rattle.vm_waiting.specs.Suspending.{tells_awaiting, TellsIf, IsSuspended}
 use Rattle.vm_feeding.specs.Passed.{MachineState}
 use Rattle.vm_outcomes.specs.Causes.{NumbersLeft, HasCause}
 use Rattle.vm_outcomes.specs.Driven.{IsDriven, TracksNone, reply_of}
@@ -53,7 +53,6 @@ module _ (given : Invocation) (m : Machine) (call : Call) (old : MachineState) w
     pub resolved : Active
     pub unwritten : resolved.output ≡ old.active.output
     pub tells : TellsIf (tells_awaiting old.version old.options.awaiting_on_policy false tree) tree resolved (Ok tt) new.active
-    pub run : TellsAsRun tree resolved
     pub others : new ≡ record old { active = new.active }
 
   -- It is such an await, and no more input can come: what is left of its tree is written as the suspension, behind which nothing is.
@@ -68,7 +67,6 @@ module _ (given : Invocation) (m : Machine) (call : Call) (old : MachineState) w
     pub sees : Sees given resolved machine
     pub unwritten : resolved.output ≡ old.active.output
     pub suspended : IsSuspended tree resolved new.active
-    pub run : TellsAsRun tree resolved
     pub others : new ≡ record old { phase = phases.Closed; active = new.active }
 
   -- It is the end, behind all that was recorded: its frame is written, behind which nothing is.

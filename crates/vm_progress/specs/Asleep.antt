@@ -18,7 +18,7 @@ use Rattle.vm_machine.specs.Steps.{FailsBy}
 use Rattle.vm_machine.specs.declared.machine_state.MachineState.{MachineState}
 use Rattle.vm_types.specs.declared.answers.AwaitResponse.{AwaitResponse}
 use Rattle.vm_types.specs.declared.answers.AwaitResponse.TheVariants.{WaitingExternalProgress}
-use Rattle.vm_waiting.specs.Suspending.{Suspends, TellsAsRun, tells_awaiting, TellsIf}
+use Rattle.vm_waiting.specs.Suspending.{Suspends, tells_awaiting, TellsIf}
 use Rattle.vm_progress.specs.declared.asleep.Sleep.{Sleep}
 use Rattle.vm_progress.specs.declared.asleep.Sleep.TheVariants as sleeps
 
@@ -60,7 +60,6 @@ pub record Stays (left : AwaitTree ℕ) (old : MachineState) (result : Result Aw
   pub told : Result (Unit {0}) EncodingError
   pub active : Active
   pub tells : TellsIf (tells_awaiting old.version old.options.awaiting_on_policy false left) left old.active told active
-  pub run : TellsAsRun left old.active
   pub settles : SettlesStay told (record old { active = active }) result new
 
 -- ---- it is suspended
@@ -74,7 +73,6 @@ pub record SuspendsWith (left : AwaitTree ℕ) (old : MachineState) (answer : Er
   pub written : Result (Unit {0}) EncodingError
   pub active : Active
   pub suspends : Suspends left old.active written active
-  pub run : TellsAsRun left old.active
   pub closes : ClosesAs written (record old { active = active }) answer new
 
 -- ---- all three

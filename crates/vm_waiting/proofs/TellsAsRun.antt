@@ -11,8 +11,7 @@ use Rattle.attempt_model.specs.Results.{slot_of}
 use Rattle.attempt_model.specs.Machine.{Machine}
 use Rattle.attempt_model.specs.Standing.{WaitsWithRun}
 use Rattle.vm_awaits.specs.Views.{AsyncResults}
-use Rattle.vm_calls.specs.declared.active.Active.{Active}
-use Rattle.vm_waiting.specs.Suspending.{TellsAsRun}
+use Rattle.vm_waiting.specs.Telling.{WaitsTellAsRun}
 
 -- ---- equal trees are the same
 
@@ -53,6 +52,6 @@ tells_of_run handler given journal arrivals calls tree m waits =
     ∙ sym (left_out (stands_for (run handler given arrivals calls).steps) tree)
     ∙ ap (λ (t : AwaitTree (Option NotificationId)). only_leaves (λ (leaf : Option NotificationId). leaf) t) waits.rest
 
-pub tells_as_run : (tree : AwaitTree ℕ) (active : Active) → TellsAsRun tree active
+pub tells_as_run : WaitsTellAsRun
 tells_as_run tree active handler given journal arrivals calls m sees waits =
     equal_are_same _ _ (ap (λ (r : AsyncResults). only_leaves (slot_of r.slots) tree) sees.results ∙ tells_of_run handler given journal arrivals calls tree m waits)

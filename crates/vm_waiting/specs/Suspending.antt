@@ -1,16 +1,12 @@
 -- What an attempt that waits behind the journal writes: its suspension, or what it waits for while it stays.
 use Rattle.std.specs.Prelude.{◌≡◌, ◌≤◌, ◌<◌, ◌^◌, ℕ, Bool, true, false, not, ◌&&◌, ◌||◌, if◌then◌else◌, List, [], ◌++◌, length, map, Result, Ok, Err}
-use Rattle.journal_model.specs.Notification.{Bytes, Arrival}
+use Rattle.journal_model.specs.Notification.{Bytes}
 use Rattle.journal_model.specs.declared.notification.NotificationId.{NotificationId}
 use Rattle.journal_model.specs.AwaitTree.{AwaitTree, Single, Combined, Combinator, AwaitTrees, no_trees, and_trees}
 use Rattle.journal_model.specs.Future.{tree_of, node}
-use Rattle.journal_model.specs.Waiting.{only_leaves, still_awaited, SameTree}
-use Rattle.journal_model.specs.Request.{Request}
-use Rattle.journal_model.specs.Run.{Handler, Invocation, run}
+use Rattle.journal_model.specs.Waiting.{only_leaves}
 use Rattle.journal_model.specs.Spelling.{packed_numbers, repeated_bytes, completions_in, signals_in, names_in, suspension_payload, awaiting_on_payload, frame_bytes}
 use Rattle.attempt_model.specs.Results.{slot_of}
-use Rattle.attempt_model.specs.Machine.{Machine}
-use Rattle.attempt_model.specs.Standing.{WaitsWithRun}
 use Rattle.protocol_types.specs.declared.message_type.MessageType.{MessageType}
 use Rattle.protocol_types.specs.declared.message_type.MessageType.TheVariants as messages
 use Rattle.protocol_types.specs.declared.version.Version.{Version}
@@ -24,7 +20,6 @@ use Rattle.vm_types.specs.declared.options.AwaitingOnPolicy.TheVariants.{SendAlw
 use Rattle.vm_awaits.specs.Views.{slots_of}
 use Rattle.vm_context.specs.Output.{Written, with_frame}
 use Rattle.vm_calls.specs.declared.active.Active.{Active}
-use Rattle.vm_calls.specs.Active.{Sees}
 use Rattle.vm_waiting.specs.declared.handles.Opened.{Opened}
 use Rattle.vm_waiting.specs.declared.handles.Opened.TheVariants.{Leaf, Node}
 
@@ -48,13 +43,6 @@ IsOpened tree (Node children) = (combinator : Combinator) × (tree ≡ node comb
 -- a tree over the ids that its handles stand for; a handle that stands for none is left out
 abbrev pub over_ids : Active → AwaitTree ℕ → AwaitTree NotificationId
 over_ids active tree = only_leaves (slot_of (slots_of active.results)) tree
-
--- Where the abstract machine stands to a run that waits with this tree, those ids are what the run still waits for: the same tree, where
--- children are a set.
-abbrev pub TellsAsRun : AwaitTree ℕ → Active → Type 0
-TellsAsRun tree active = (handler : Handler) (given : Invocation) (journal : List Request) (arrivals : List Arrival) (calls : ℕ) (m : Machine)
-    → Sees given active m → (waits : WaitsWithRun handler given journal arrivals calls tree m)
-    → SameTree (over_ids active tree) (still_awaited given.options (run handler given arrivals calls).steps arrivals waits.ids)
 
 module _ {Leaf : Type 0} (own : AwaitTrees NotificationId → List Leaf) where
   -- the leaves of one kind of the nodes below, the own ones of each first

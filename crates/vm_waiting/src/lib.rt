@@ -2,16 +2,18 @@
 //!
 //! None of them makes a command. An await, a look and a take change what has come and what handles stand for alone, and each says
 //! that it does what the attempt without bytes does. A suspension, and a message that tells what is waited for, are written by the
-//! definitions of their frames, of what is left of the awaited tree.
+//! definitions of their frames, of what is left of the awaited tree. That this is what the run still waits for is a law beside them.
 #![tactic(auto)]
 
 mod awaiting;
 mod handles;
+mod laws;
 mod looking;
 mod suspending;
 mod taking;
 
 pub use awaiting::{AwaitError, Awaited, await_future};
+pub use laws::waits_tell_as_run;
 pub use looking::is_completed;
 pub use suspending::{suspend, tell_awaiting_on};
 pub use taking::take;

@@ -10,7 +10,7 @@ ghost use Rattle.protocol_stream.specs.Records.{future_record};
 ghost use Rattle.protocol_stream.specs.declared.encoder.EncodingError.TheVariants.{OutOfMemory};
 ghost use Rattle.protocol_types.specs.declared.message_type.MessageType.TheVariants.{Suspension, AwaitingOn};
 ghost use Rattle.vm_awaits.specs.Views.{slots_of};
-ghost use Rattle.vm_waiting.specs.Suspending.{suspension_payload_in, Writes, Suspends, TellsAsRun, allows_telling, tells_awaiting, TellsIf};
+ghost use Rattle.vm_waiting.specs.Suspending.{suspension_payload_in, Writes, Suspends, allows_telling, tells_awaiting, TellsIf};
 
 use crate::handles::has_handle;
 use journal_model::UnresolvedFuture;
@@ -72,8 +72,7 @@ pub fn suspend(
     alloc: Global,
     left: UnresolvedFuture,
 ) -> Result<(), EncodingError>
-    ensures suspends { Suspends (tree_of left) active.old result active.new }
-    ensures run { TellsAsRun (tree_of left) active.old }
+    ensures { Suspends (tree_of left) active.old result active.new }
 {
     let awaiting_on = record_of(&active.results, left)?;
     write_suspension(&mut active.output, alloc, awaiting_on)?;
@@ -121,8 +120,7 @@ pub fn tell_awaiting_on(
     executes_run: bool,
     left: UnresolvedFuture,
 ) -> Result<(), EncodingError>
-    ensures told { TellsIf (tells_awaiting version policy executes_run (tree_of left)) (tree_of left) active.old result active.new }
-    ensures run { TellsAsRun (tree_of left) active.old }
+    ensures { TellsIf (tells_awaiting version policy executes_run (tree_of left)) (tree_of left) active.old result active.new }
 {
     if tells_awaiting(version, policy, executes_run, &left) {
         return tell(active, alloc, left);

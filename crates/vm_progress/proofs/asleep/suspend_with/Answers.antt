@@ -4,7 +4,6 @@ pub returns : goal.returns
 returns c = record {
   written = c.suspend-written.result;
   active = c.suspend-written.new.active;
-  suspends = c.suspend-written.ensures.suspends;
-  run = c.suspend-written.ensures.run;
+  suspends = c.suspend-written.ensures;
   closes = c.close_as.ensures;
 }
