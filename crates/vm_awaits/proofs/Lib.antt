@@ -1,5 +1,7 @@
 pub mod Seen
 pub mod Futures
+pub mod Children
+pub mod Hearing
 pub mod Looking
 pub mod Gathering
 pub mod ResolutionRows

@@ -1,11 +1,16 @@
 -- Steps of looking for an awaited tree.
-use Rattle.std.proofs.Common.{◌≡◌, refl, sym, ap, ◌∙◌, ℕ, true, false, List, [], ◌∷◌, ◌++◌, append_assoc, Result, Ok, Err, OnErr}
+use Rattle.std.proofs.Common.{◌≡◌, refl, sym, ap, ◌∙◌, subst, ℕ, true, false, List, [], ◌∷◌, ◌++◌, append_assoc, Some, None}
 use Rattle.journal_model.specs.Notification.{Arrival}
 use Rattle.journal_model.specs.AwaitTree.{AwaitTree, is_awake}
+use Rattle.journal_model.specs.Future.{tree_of}
 use Rattle.journal_model.specs.Waiting.{pruned}
+use Rattle.journal_model.specs.declared.future.UnresolvedFuture.{UnresolvedFuture}
 use Rattle.journal_model.specs.declared.options.SignalDelivery.{SignalDelivery}
 use Rattle.attempt_model.specs.Results.{Ready, Slots, handle_state, ready_after, ready_after_all, Awake, Asleep, resolution_of}
+use Rattle.vm_awaits.specs.Heard.{brought_state}
+use Rattle.vm_awaits.specs.Pruning.{IsLeft}
 use Rattle.vm_awaits.specs.Resolving.{OnTheWay, StopsMidway}
+use Rattle.vm_awaits.proofs.Hearing.{LeavesMeet, IsPending, IsSame, asleep_pends, same_awake, same_left, told_by_one}
 
 module _ (delivery : SignalDelivery) (slots : Slots) where
   pub awake_now : (tree : AwaitTree ℕ) (queue : List Arrival) (ready : Ready) → is_awake tree (handle_state slots ready) ≡ true → resolution_of delivery slots tree queue ready ≡ Awake queue ready
@@ -57,8 +62,48 @@ module _ (delivery : SignalDelivery) (slots : Slots) where
       → OnTheWay delivery slots tree queue ready left others waiting → rest ≡ others → after ≡ waiting → OnTheWay delivery slots tree queue ready left rest after
   still_on tree queue ready left others rest waiting after way same_rest same_ready = rw (same_rest, same_ready) way
 
+  -- ---- it sleeps
+
+  -- what is left of a tree that is not awake on the way
+  pub record Sleeps (tree : AwaitTree ℕ) (queue : List Arrival) (ready : Ready) (left : AwaitTree ℕ) (others : List Arrival) (waiting : Ready) : Type 0 where
+    pub whole : AwaitTree ℕ
+    pub way : OnTheWay delivery slots tree queue ready whole others waiting
+    pub asleep : is_awake whole (handle_state slots waiting) ≡ false
+    pub is_left : left ≡ pruned whole (handle_state slots waiting)
+
+  pub sleeps_first : (tree : AwaitTree ℕ) (queue : List Arrival) (ready : Ready) (left : UnresolvedFuture) → IsLeft tree (handle_state slots ready) (Some left) → Sleeps tree queue ready (tree_of left) queue ready
+  sleeps_first tree queue ready left is = record { whole = tree; way = at_start tree queue ready; asleep = is.0; is_left = is.1 }
+
+  -- nothing is left to look at
+  pub sleeps_to_the_end : (tree : AwaitTree ℕ) (queue : List Arrival) (ready : Ready) (left : AwaitTree ℕ) (others : List Arrival) (waiting : Ready)
+      → Sleeps tree queue ready left others waiting → others ≡ [] → resolution_of delivery slots tree queue ready ≡ Asleep left waiting
+  sleeps_to_the_end tree queue ready left others waiting sleeps none = asleep_on_the_way tree queue ready sleeps.whole left others waiting sleeps.way sleeps.asleep none sleeps.is_left
+
   -- it stops where it is
-  pub stops : {A E : Type 0} (result : Result A E) (tree : AwaitTree ℕ) (queue : List Arrival) (ready : Ready) (left : AwaitTree ℕ) (others : List Arrival) (waiting : Ready)
-      → OnTheWay delivery slots tree queue ready left others waiting → OnErr result (StopsMidway delivery slots tree queue ready others waiting)
-  stops (Ok answer) tree queue ready left others waiting way = tt
-  stops (Err why) tree queue ready left others waiting way = (left, way)
+  pub stops : (tree : AwaitTree ℕ) (queue : List Arrival) (ready : Ready) (left : AwaitTree ℕ) (others rest : List Arrival) (waiting after : Ready)
+      → Sleeps tree queue ready left others waiting → rest ≡ others → after ≡ waiting → StopsMidway delivery slots tree queue ready rest after
+  stops tree queue ready left others rest waiting after sleeps same_rest same_ready =
+      (sleeps.whole, still_on tree queue ready sleeps.whole others rest waiting after sleeps.way same_rest same_ready)
+
+  -- one more is looked at, which alone tells what has come of what is left
+  module _ (tree : AwaitTree ℕ) (queue : List Arrival) (ready : Ready) (left : UnresolvedFuture) (arrival : Arrival) (others behind rest : List Arrival) (waiting after : Ready)
+      (sleeps : Sleeps tree queue ready (tree_of left) others waiting) (front : others ≡ arrival ∷ behind) (same_rest : rest ≡ behind) (is_after : after ≡ ready_after delivery waiting arrival) where
+    on : OnTheWay delivery slots tree queue ready (tree_of left) rest after
+    on = one_on tree queue ready sleeps.whole (tree_of left) arrival others behind rest waiting after sleeps.way sleeps.asleep front same_rest sleeps.is_left is_after
+
+    told : LeavesMeet (IsSame (handle_state slots after) (brought_state slots arrival)) (tree_of left)
+    told =
+        subst (λ (r : Ready). LeavesMeet (IsSame (handle_state slots r) (brought_state slots arrival)) (tree_of left)) (sym is_after)
+        (told_by_one delivery slots waiting arrival (tree_of left)
+        (subst (λ (t : AwaitTree ℕ). LeavesMeet (IsPending (handle_state slots waiting)) t) (sym sleeps.is_left) (asleep_pends (handle_state slots waiting) sleeps.whole sleeps.asleep)))
+
+    pub wakes : IsLeft (tree_of left) (brought_state slots arrival) None → resolution_of delivery slots tree queue ready ≡ Awake rest after
+    wakes awake = awake_on_the_way tree queue ready (tree_of left) rest after on (same_awake (handle_state slots after) (brought_state slots arrival) (tree_of left) told ∙ awake)
+
+    pub sleeps_on : (next : UnresolvedFuture) → IsLeft (tree_of left) (brought_state slots arrival) (Some next) → Sleeps tree queue ready (tree_of next) rest after
+    sleeps_on next is = record {
+      whole = tree_of left;
+      way = on;
+      asleep = same_awake (handle_state slots after) (brought_state slots arrival) (tree_of left) told ∙ is.0;
+      is_left = is.1 ∙ sym (same_left (handle_state slots after) (brought_state slots arrival) (tree_of left) told);
+    }

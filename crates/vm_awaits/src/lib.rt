@@ -5,6 +5,7 @@
 //! the definitions of an attempt over these.
 #![tactic(auto)]
 
+mod heard;
 mod pruning;
 mod records;
 mod resolving;

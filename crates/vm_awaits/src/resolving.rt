@@ -6,9 +6,10 @@ ghost use Rattle.attempt_model.specs.Results.{ready_after, resolution_of};
 ghost use Rattle.vm_awaits.specs.Resolving.{resolution_as, line_left, StopsMidway};
 ghost use Rattle.vm_results.specs.Views.{ready_in};
 
-use crate::pruning::{is_future_awake, left_of};
+use crate::heard::Heard;
+use crate::pruning::left_of;
 use journal_model::{Notification, NotificationId, SignalDelivery, UnresolvedFuture};
-use std::alloc::{AllocError, Global};
+use std::alloc::AllocError;
 use std::collections::VecDeque;
 use vm_results::ReadyNotifications;
 
@@ -42,8 +43,10 @@ fn look_at(
 }
 
 /// Looks at one notification a step, until the future is awake; what is completed of it is left out at each step.
+///
+/// First the future is looked at by all that waits. From then on nothing waits for what is left of it, so that one notification
+/// tells what its leaves have come to.
 pub(crate) fn resolve(
-    alloc: Global,
     delivery: SignalDelivery,
     slots: &[Option<NotificationId>],
     line: &mut VecDeque<Notification>,
@@ -55,22 +58,24 @@ pub(crate) fn resolve(
     ensures left { IfOk result (λ answer. line.new.items ≡ line_left line.new.items answer) }
     ensures err { OnErr result (StopsMidway delivery slots.now (tree_of future) line.old.items (ready_in ready.old) line.new.items (ready_in ready.new)) }
 {
-    let mut future = future;
+    let Some(mut left) = left_of(future, slots, Heard::Waiting(ready)) else {
+        return Ok(ResolveFutureResult::AnyCompleted);
+    };
     'steps: loop {
-        if is_future_awake(slots, ready, &future) {
-            drop(future);
-            return Ok(ResolveFutureResult::AnyCompleted);
-        }
-        future = left_of(alloc, slots, ready, future)?;
         let Some(notification) = line.pop_front() else {
-            return Ok(ResolveFutureResult::WaitExternalInput(future));
+            return Ok(ResolveFutureResult::WaitExternalInput(left));
         };
+        let next = left_of(left, slots, Heard::One(&notification));
         match look_at(line, ready, delivery, notification) {
             Ok(()) => {}
             Err(error) => {
-                drop(future);
+                drop(next);
                 return Err(error);
             }
         }
+        let Some(next) = next else {
+            return Ok(ResolveFutureResult::AnyCompleted);
+        };
+        left = next;
     }
 }

@@ -133,7 +133,7 @@ impl AsyncResultsState {
     /// Looks at what stands in line, one notification a step, until the future is awake. Where it stays asleep, this is what it
     /// still waits for: what was completed of it is left out, also where a later notification replaced what completed it.
     ///
-    /// Where memory runs out, what was looked at stays looked at.
+    /// The future is pruned in place: memory is taken for what waits alone. Where it runs out, what was looked at stays looked at.
     pub fn try_resolve_future(
         &mut self,
         future: UnresolvedFuture,
@@ -145,9 +145,7 @@ impl AsyncResultsState {
         ensures slots { slots_of self.new ≡ slots_of self.old }
         ensures err { OnErr result (StopsMidway (delivery_of self.old) (slots_of self.old) (tree_of future) (queue_of self.old) (ready_of self.old) (queue_of self.new) (ready_of self.new)) }
     {
-        let alloc = *self.slots.allocator();
         resolve(
-            alloc,
             self.signal_delivery,
             self.slots.as_slice(),
             &mut self.line,

@@ -1,12 +1,11 @@
-// A future as a tree that is looked at in place.
+// A future by its root.
 ghost use Rattle.std.specs.Prelude.{◌≡◌, map};
 ghost use Rattle.journal_model.specs.Future.{tree_of, node};
 ghost use Rattle.protocol_stream.specs.Records.{combinator_record};
-ghost use Rattle.vm_awaits.specs.Trees.{combinator_meant, opened_tree, shape_for};
+ghost use Rattle.vm_awaits.specs.Trees.{combinator_meant, opened_tree, taken_tree};
 
 use journal_model::{NotificationHandle, UnresolvedFuture};
 use protocol_records::CombinatorType;
-use protocol_trees::{AwaitTree, AwaitTreeShape};
 use sequence::Sequence;
 
 /// How a node combines its children.
@@ -24,6 +23,13 @@ pub(crate) enum Combinator {
 pub(crate) enum Opened<'a> {
     Leaf(NotificationHandle),
     Node(Combinator, &'a [UnresolvedFuture]),
+}
+
+/// A future, taken apart at its root.
+#[derive(Drop)]
+pub(crate) enum Taken {
+    Leaf(NotificationHandle),
+    Node(Combinator, Sequence<UnresolvedFuture>),
 }
 
 /// Opens a future at its root.
@@ -56,6 +62,29 @@ pub(crate) fn open(future: &UnresolvedFuture) -> Opened<'_>
     }
 }
 
+/// Takes a future apart at its root.
+#[tactic(auto, using(journal_model::proofs::TreeLemmas::future_trees))]
+pub(crate) fn taken_apart(future: UnresolvedFuture) -> Taken
+    ensures { tree_of future ≡ taken_tree result }
+{
+    match future {
+        UnresolvedFuture::Single(handle) => Taken::Leaf(handle),
+        UnresolvedFuture::Unknown(children) => Taken::Node(Combinator::Unknown, children),
+        UnresolvedFuture::FirstCompleted(children) => {
+            Taken::Node(Combinator::FirstCompleted, children)
+        }
+        UnresolvedFuture::AllCompleted(children) => {
+            Taken::Node(Combinator::AllCompleted, children)
+        }
+        UnresolvedFuture::FirstSucceededOrAllFailed(children) => {
+            Taken::Node(Combinator::FirstSucceededOrAllFailed, children)
+        }
+        UnresolvedFuture::AllSucceededOrFirstFailed(children) => {
+            Taken::Node(Combinator::AllSucceededOrFirstFailed, children)
+        }
+    }
+}
+
 /// A future of these children.
 #[tactic(auto, using(journal_model::proofs::TreeLemmas::future_trees))]
 pub(crate) fn node_over(
@@ -77,18 +106,6 @@ pub(crate) fn node_over(
     }
 }
 
-fn shape_of(combinator: Combinator) -> AwaitTreeShape
-    ensures { result ≡ shape_for (combinator_meant combinator) }
-{
-    match combinator {
-        Combinator::Unknown => AwaitTreeShape::Unknown,
-        Combinator::FirstCompleted => AwaitTreeShape::FirstCompleted,
-        Combinator::AllCompleted => AwaitTreeShape::AllCompleted,
-        Combinator::FirstSucceededOrAllFailed => AwaitTreeShape::FirstSucceededOrAllFailed,
-        Combinator::AllSucceededOrFirstFailed => AwaitTreeShape::AllSucceededOrFirstFailed,
-    }
-}
-
 /// How the record of a node names its combinator.
 pub(crate) fn record_combinator(combinator: Combinator) -> CombinatorType
     ensures { result ≡ combinator_record (combinator_meant combinator) }
@@ -99,70 +116,5 @@ pub(crate) fn record_combinator(combinator: Combinator) -> CombinatorType
         Combinator::AllCompleted => CombinatorType::AllCompleted,
         Combinator::FirstSucceededOrAllFailed => CombinatorType::FirstSucceededOrAllFailed,
         Combinator::AllSucceededOrFirstFailed => CombinatorType::AllSucceededOrFirstFailed,
-    }
-}
-
-/// A future as a tree over its handles.
-#[derive(Clone, Copy)]
-pub(crate) struct FutureTree<'a> {
-    pub future: &'a UnresolvedFuture,
-}
-
-impl<'a> AwaitTree for FutureTree<'a> {
-    ghost use Rattle.std.specs.Prelude.{ℕ};
-    ghost use Rattle.journal_model.specs.Future.{tree_of};
-    ghost use Rattle.vm_awaits.specs.Trees.{shape_in, leaves_in, children_in, is_shaped};
-
-    type Leaf = NotificationHandle;
-
-    ghost Meant = { ℕ };
-
-    ghost meant = { λ handle. handle };
-
-    ghost tree = { λ t. tree_of t.future.now };
-
-    ghost shape_of = { λ t. shape_in (tree_of t.future.now) };
-
-    ghost leaves_of = { λ t. leaves_in (tree_of t.future.now) };
-
-    ghost children_of = { λ t. children_in (tree_of t.future.now) };
-
-    ghost is_shaped = { λ t. is_shaped (tree_of t.future.now) };
-
-    fn shape(self) -> AwaitTreeShape {
-        match open(self.future) {
-            Opened::Leaf(_) => AwaitTreeShape::Single,
-            Opened::Node(combinator, _) => shape_of(combinator),
-        }
-    }
-
-    fn leaf_count(self) -> u128 {
-        match open(self.future) {
-            Opened::Leaf(_) => 1,
-            Opened::Node(_, _) => 0,
-        }
-    }
-
-    fn leaf(self, index: u128) -> NotificationHandle {
-        match open(self.future) {
-            Opened::Leaf(handle) => handle,
-            Opened::Node(_, _) => unreachable!(),
-        }
-    }
-
-    fn child_count(self) -> usize {
-        match open(self.future) {
-            Opened::Leaf(_) => 0,
-            Opened::Node(_, children) => children.len(),
-        }
-    }
-
-    fn child(self, index: usize) -> FutureTree<'a> {
-        match open(self.future) {
-            Opened::Leaf(_) => unreachable!(),
-            Opened::Node(_, children) => FutureTree {
-                future: &children[index],
-            },
-        }
     }
 }
