@@ -21,7 +21,7 @@ filter-either {A} p q (x ∷ xs) = by_cases (p x) refl (q x) (filter-either p q 
     by_cases false e false h = h
 
 module _ (id : Text) where
-  frames_of-view : (events : List Event) → frames_of (view_of id events) id ≡ frames_of events id
+  pub frames_of-view : (events : List Event) → frames_of (view_of id events) id ≡ frames_of events id
   frames_of-view events = ap (λ (some : List Event). filter_map frame_of some) (filter-either (is_of id) is_tick events)
 
   -- an event that is no invocation's begin changes nothing of how the invocation was begun
@@ -60,7 +60,7 @@ module _ (id : Text) where
       by_cases false e true f h k = rw (e, f, h, k) refl
       by_cases false e false f h k = h ∙ sym (append-nil (entries_from start events id))
 
-  version_of-view : (events : List Event) → version_of (view_of id events) id ≡ version_of events id
+  pub version_of-view : (events : List Event) → version_of (view_of id events) id ≡ version_of events id
   version_of-view events = ap (λ (new : Option NewInvocation). unwrap_or (option_map (λ (begun : NewInvocation). begun.version) new) 0) (invocation_begun-view events)
 
   -- an event outside the view begins no attempt, ends none, hands out nothing and suspends nothing

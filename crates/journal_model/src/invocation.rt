@@ -21,7 +21,7 @@ pub struct NewInvocation {
     pub object: ByteStr,
     pub input: Bytes,
     pub headers: Sequence<Header>,
-    /// The version of the protocol that its attempts speak, 5 to 8.
+    /// The number of the version of the protocol that its attempts speak, one of `protocol_types::Version`.
     pub version: u32,
     /// What its handler draws random numbers from, from version 6 on.
     pub seed: u64,

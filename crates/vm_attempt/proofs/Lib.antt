@@ -2,4 +2,3 @@ pub mod Carried
 mod Lists
 pub mod Nested
 pub mod Pieces
-pub mod Sending
