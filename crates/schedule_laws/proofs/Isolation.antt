@@ -11,7 +11,7 @@ use Rattle.schedule_laws.specs.Isolation.{AllStandAlone}
 module _ (id : Text) where
   closing_of-view : (events : List Event) → closing_of (view_of id events) id ≡ closing_of events id
   closing_of-view events =
-      ap₂ (λ (version : ℕ) (frames : List Frame). option_and_then closing_frame (find (closes version) frames)) (version_of-view events) (frames_of-view events)
+      ap₂ (λ (version : ℕ) (frames : List Frame). option_and_then closing_frame (find (closes version) frames)) (version_of-view id events) (frames_of-view id events)
 
 pub stand_alone : AllIsolated → AllStandAlone
 stand_alone isolated events id others views starts =
