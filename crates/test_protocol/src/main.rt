@@ -26,8 +26,10 @@ fn answer_to(alloc: Global, file: &str, operation: &str, operands: &[&str]) -> O
     match file {
         "records" => records::answer(alloc, operation, operands),
         "commands" => commands::answer(alloc, operation, operands),
-        "stream" => stream::answer(alloc, operation, operands),
-        "messages" => messages::answer(alloc, operation, operands),
+        "stream" | "header_words" | "frame_in_two_pieces" | "unknown_header" => {
+            stream::answer(alloc, operation, operands)
+        }
+        "messages" | "hundred_levels" => messages::answer(alloc, operation, operands),
         "conversions" => conversions::answer(alloc, operation, operands),
         "awaits" => awaits::answer(alloc, operation, operands),
         "frames" => frames::answer(alloc, operation, operands),
