@@ -11,9 +11,13 @@ quoted text = codes "'" ++ text ++ codes "'"
 abbrev pub is_plain_byte : ℕ → Bool
 is_plain_byte byte = nat_lt 31 byte && nat_lt byte 127 && not (byte == 92)
 
+-- a byte as two hexadecimal digits in lower case
+abbrev pub hex_byte : ℕ → List ℕ
+hex_byte byte = digit_glyph false (byte / 16) ∷ digit_glyph false (byte % 16) ∷ []
+
 -- a byte by its number in two digits
 abbrev pub numbered_byte : ℕ → List ℕ
-numbered_byte byte = codes "\\x" ++ (digit_glyph false (byte / 16) ∷ digit_glyph false (byte % 16) ∷ [])
+numbered_byte byte = codes "\\x" ++ hex_byte byte
 
 -- a byte as it is where it is plain, and else by its number
 abbrev pub escaped_byte : ℕ → List ℕ

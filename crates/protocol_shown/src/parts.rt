@@ -4,7 +4,7 @@ ghost use Rattle.std.specs.List.{flat_map};
 ghost use Rattle.std.specs.Fmt.{WritesOnOk};
 ghost use Rattle.protocol_shown.specs.Texts.{quoted, is_plain_byte, numbered_byte, escaped_byte, escaped, optional_text, list_text, later_text};
 
-use crate::Shown;
+use crate::{HexByte, Shown};
 use bytes::{ByteStr, Bytes};
 use sequence::Sequence;
 use std::fmt;
@@ -38,7 +38,8 @@ fn is_plain(byte: u8) -> bool
 fn show_number<W: fmt::Write>(byte: u8, f: &mut fmt::Formatter<W>) -> fmt::Result
     ensures { WritesOnOk W.write_str_gives f.old result (numbered_byte byte) f.new }
 {
-    write!(f, "\\x{byte:02x}")
+    let digits = HexByte(byte);
+    write!(f, "\\x{digits}")
 }
 
 fn show_letter<W: fmt::Write>(byte: u8, f: &mut fmt::Formatter<W>) -> fmt::Result

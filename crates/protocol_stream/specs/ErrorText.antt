@@ -1,6 +1,7 @@
 -- What errors of bytes print.
 use Rattle.std.specs.Prelude.{ℕ, ℤ, ◌/◌, ◌%◌, false, List, [], ◌∷◌, ◌++◌, codes}
-use Rattle.std.specs.Fmt.{digit_glyph, signed_decimal}
+use Rattle.std.specs.Fmt.{signed_decimal}
+use Rattle.protocol_shown.specs.Texts.{hex_byte}
 use Rattle.protocol_types.specs.TypeText.{type_text}
 use Rattle.protocol_types.specs.declared.message_type.MessageType.{MessageType}
 use Rattle.protocol_wire.specs.declared.check.Fault.{Fault}
@@ -23,10 +24,6 @@ too_long_text = codes "a payload of more than 4294967295 bytes"
 abbrev pub encoding_text : EncodingError → List ℕ
 encoding_text unsent.PayloadTooLong = too_long_text
 encoding_text unsent.OutOfMemory = no_memory_text
-
--- a byte as two digits in lower case
-abbrev pub hex_byte : ℕ → List ℕ
-hex_byte byte = digit_glyph false (byte / 16) ∷ digit_glyph false (byte % 16) ∷ []
 
 -- the number of a header that means no type, in four digits
 unfoldable pub unknown_type_text : ℕ → List ℕ

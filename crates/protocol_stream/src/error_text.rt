@@ -1,24 +1,12 @@
 // What errors of bytes print.
 ghost use Rattle.std.specs.Prelude.{◌≡◌, ◌/◌, ◌%◌, Some};
 ghost use Rattle.std.specs.Fmt.{WritesOnOk};
-ghost use Rattle.protocol_stream.specs.ErrorText.{hex_byte, unknown_type_text, fault_text, unread_payload_text, asked_text, there_text, missing_field_text, decoding_text, encoding_text};
+ghost use Rattle.protocol_stream.specs.ErrorText.{unknown_type_text, fault_text, unread_payload_text, asked_text, there_text, missing_field_text, decoding_text, encoding_text};
 
 use crate::{DecodingError, EncodingError, MessageType, NotificationField, UnknownMessageType};
+use protocol_shown::HexByte;
 use protocol_wire::Fault;
 use std::fmt;
-
-// A byte as two digits in lower case.
-#[derive(Clone, Copy)]
-struct HexByte(u8);
-
-impl fmt::Display for HexByte {
-    ghost output = { λ byte. Some (hex_byte byte.0) };
-
-    fn fmt<W: fmt::Write>(&self, f: &mut fmt::Formatter<W>) -> fmt::Result {
-        let byte = self.0;
-        write!(f, "{byte:02x}")
-    }
-}
 
 // The first byte of a number, and the second.
 fn bytes_of(number: u16) -> (HexByte, HexByte)

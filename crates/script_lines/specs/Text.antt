@@ -2,7 +2,7 @@
 use Rattle.std.specs.Prelude.{ℕ, ◌/◌, ◌%◌, Bool, true, false, List, [], ◌∷◌, ◌++◌, Some, None, codes, decimal}
 use Rattle.std.specs.List.{flat_map}
 use Rattle.std.specs.Int.{w16, to_be_bytes}
-use Rattle.std.specs.Fmt.{digit_glyph}
+use Rattle.protocol_shown.specs.Texts.{hex_byte}
 use Rattle.script_lines.specs.declared.text.LastTurn.{LastTurn}
 use Rattle.script_lines.specs.declared.text.LastTurn.TheVariants.{Answered, Waiting, Suspended, Ended, Failed}
 use Rattle.script_lines.specs.declared.text.LineReply.{LineReply}
@@ -10,10 +10,6 @@ use Rattle.script_lines.specs.declared.text.LineReply.TheVariants.{Done, Placed,
 use Rattle.script_lines.specs.declared.text.ShownRequest.{ShownRequest}
 use Rattle.script_lines.specs.declared.text.ShownAnswer.{ShownAnswer}
 use Rattle.script_lines.specs.declared.text.ShownAnswer.TheVariants.{Missing, Value, Failure}
-
--- a byte as two digits in lower case
-abbrev pub hex_byte : ℕ → List ℕ
-hex_byte byte = digit_glyph false (byte / 16) ∷ digit_glyph false (byte % 16) ∷ []
 
 -- bytes as digits, and a dash for none
 abbrev pub hex_text : List ℕ → List ℕ

@@ -3,22 +3,8 @@
 ghost use Rattle.std.specs.Prelude.{◌≡◌, Some};
 ghost use Rattle.std.specs.Int.{to_be_bytes, w16};
 
+use protocol_shown::HexByte;
 use std::fmt;
-
-/// A byte as two hexadecimal digits in lower case.
-#[derive(Clone, Copy)]
-struct HexByte(u8);
-
-impl fmt::Display for HexByte {
-    ghost use Rattle.script_lines.specs.Text.{hex_byte};
-
-    ghost output = { λ byte. Some (hex_byte byte.0) };
-
-    fn fmt<W: fmt::Write>(&self, f: &mut fmt::Formatter<W>) -> fmt::Result {
-        let byte = self.0;
-        write!(f, "{byte:02x}")
-    }
-}
 
 /// Bytes as hexadecimal digits in lower case, and a dash where there are none.
 #[derive(Clone, Copy)]

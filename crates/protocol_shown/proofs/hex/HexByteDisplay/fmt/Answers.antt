@@ -1,7 +1,7 @@
 use Rattle.std.proofs.Common.{arith, rules, false}
 use Rattle.std.proofs.Output.{has_written_of_eq}
 use Rattle.std.proofs.lemmas.Fmt.{hex_byte as printed_byte}
-use Rattle.script_lines.proofs.text.HexByteDisplay.fmt.Goals as goal
+use Rattle.protocol_shown.proofs.hex.HexByteDisplay.fmt.Goals as goal
 
 pub returns : goal.returns
 returns g c = record {
