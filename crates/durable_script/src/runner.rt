@@ -1,6 +1,5 @@
 //! A line of a script, from its bytes to its text.
 ghost use Rattle.std.specs.Prelude.{◌≡◌, ◌≤◌, [], IfOk, IfErr, string_bytes};
-ghost use Rattle.script_lines.specs.Word.{handler_word};
 ghost use Rattle.script_lines.specs.Line.{IsLine};
 ghost use Rattle.vm_types.specs.Options.{default_options};
 ghost use Rattle.durable_script.specs.Reaching.{Nowhere, Reaches};
@@ -72,25 +71,11 @@ fn brought(alloc: Global, value: LineValue) -> NotificationResult
     }
 }
 
-/// The word that a handler is named by.
-fn handler_word(name: HandlerName) -> &'static [u8]
-    ensures { result.now ≡ handler_word name }
-{
-    match name {
-        HandlerName::Nap => b"nap".as_slice(),
-        HandlerName::Nap99 => b"nap99".as_slice(),
-        HandlerName::Race => b"race".as_slice(),
-        HandlerName::Both => b"both".as_slice(),
-        HandlerName::Ask => b"ask".as_slice(),
-        HandlerName::Pair => b"pair".as_slice(),
-    }
-}
-
 /// An attempt is begun, with the handler of this name.
 fn begin(alloc: Global, invocation: ByteStr, name: HandlerName, now: u64) -> Event<BuiltIn>
     ensures { IsBegin invocation name now result }
 {
-    let handler = BuiltIn::from_name(alloc, handler_word(name)).unwrap();
+    let handler = BuiltIn::from_name(alloc, name.word()).unwrap();
     Event::Begin {
         invocation,
         handler,

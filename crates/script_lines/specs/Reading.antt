@@ -7,6 +7,7 @@ use Rattle.script_lines.specs.declared.word.StateMode.{StateMode}
 use Rattle.script_lines.specs.declared.word.StateMode.TheVariants.{Whole, Hidden}
 use Rattle.script_lines.specs.declared.word.HandlerName.{HandlerName}
 use Rattle.script_lines.specs.declared.word.HandlerName.TheVariants.{Nap, Nap99, Race, Both, Ask, Pair}
+use Rattle.script_lines.specs.Word.{handler_word}
 use Rattle.script_lines.specs.declared.word.LineError.{LineError}
 use Rattle.script_lines.specs.declared.word.LineError.TheVariants.{NotUnderstood, Memory}
 use Rattle.script_lines.specs.declared.word.Command.{Command}
@@ -51,12 +52,12 @@ state_of word = if bytes_eq word (codes "whole") then Some Whole else
 
 unfoldable pub handler_of : List ℕ → Option HandlerName
 handler_of word =
-    if bytes_eq word (codes "nap") then Some Nap else
-    (if bytes_eq word (codes "nap99") then Some Nap99 else
-    (if bytes_eq word (codes "race") then Some Race else
-    (if bytes_eq word (codes "both") then Some Both else
-    (if bytes_eq word (codes "ask") then Some Ask else
-    (if bytes_eq word (codes "pair") then Some Pair else None)))))
+    if bytes_eq word (handler_word Nap) then Some Nap else
+    (if bytes_eq word (handler_word Nap99) then Some Nap99 else
+    (if bytes_eq word (handler_word Race) then Some Race else
+    (if bytes_eq word (handler_word Both) then Some Both else
+    (if bytes_eq word (handler_word Ask) then Some Ask else
+    (if bytes_eq word (handler_word Pair) then Some Pair else None)))))
 
 -- what stands before the first colon, and behind it
 unfoldable pub at_colon : List ℕ → Option (List ℕ × List ℕ)

@@ -3,6 +3,7 @@
 ghost use Rattle.std.specs.Prelude.{◌≡◌, ◌^◌};
 ghost use Rattle.std.specs.List.{list_all};
 ghost use Rattle.script_lines.specs.declared.word.LineError.TheVariants.{Memory};
+ghost use Rattle.script_lines.specs.Word.{handler_word};
 ghost use Rattle.script_lines.specs.Reading.{Gives, is_word_byte, number_below, printable_of, text_of, state_of, handler_of, command_of};
 
 use bytes::{ByteStr, Bytes};
@@ -66,6 +67,22 @@ pub enum HandlerName {
     Ask,
     /// Makes two calls, waits for both, and answers `ok`.
     Pair,
+}
+
+impl HandlerName {
+    /// The word that it is named by.
+    pub fn word(self) -> &'static [u8]
+        ensures { result.now ≡ handler_word self }
+    {
+        match self {
+            HandlerName::Nap => b"nap".as_slice(),
+            HandlerName::Nap99 => b"nap99".as_slice(),
+            HandlerName::Race => b"race".as_slice(),
+            HandlerName::Both => b"both".as_slice(),
+            HandlerName::Ask => b"ask".as_slice(),
+            HandlerName::Pair => b"pair".as_slice(),
+        }
+    }
 }
 
 /// The number below 2^16 that a word spells: the one whose printed form the word is.
@@ -139,17 +156,17 @@ pub fn parse_state(word: &[u8]) -> Option<StateMode>
 pub fn parse_handler(word: &[u8]) -> Option<HandlerName>
     ensures { result ≡ handler_of word.now }
 {
-    if word == b"nap".as_slice() {
+    if word == HandlerName::Nap.word() {
         Some(HandlerName::Nap)
-    } else if word == b"nap99".as_slice() {
+    } else if word == HandlerName::Nap99.word() {
         Some(HandlerName::Nap99)
-    } else if word == b"race".as_slice() {
+    } else if word == HandlerName::Race.word() {
         Some(HandlerName::Race)
-    } else if word == b"both".as_slice() {
+    } else if word == HandlerName::Both.word() {
         Some(HandlerName::Both)
-    } else if word == b"ask".as_slice() {
+    } else if word == HandlerName::Ask.word() {
         Some(HandlerName::Ask)
-    } else if word == b"pair".as_slice() {
+    } else if word == HandlerName::Pair.word() {
         Some(HandlerName::Pair)
     } else {
         None

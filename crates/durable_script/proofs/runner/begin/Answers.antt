@@ -5,11 +5,11 @@ use Rattle.durable_script.proofs.runner.begin.Goals as goal
 
 pub unwrap-handler-requires : goal.unwrap-handler-requires
 unwrap-handler-requires c =
-    subst IsSome (sym (c.from_name.ensures ∙ ap (built_in c.args.alloc) c.handler_word.ensures)) (is_there c.args.alloc c.args.name)
+    subst IsSome (sym (c.from_name.ensures ∙ ap (built_in c.args.alloc) c.word.ensures)) (is_there c.args.alloc c.args.name)
 
 pub returns : goal.returns
 returns c = (
   c.unwrap-handler.result,
-  (c.args.alloc, sym (c.from_name.ensures ∙ ap (built_in c.args.alloc) c.handler_word.ensures) ∙ c.unwrap-handler.ensures),
+  (c.args.alloc, sym (c.from_name.ensures ∙ ap (built_in c.args.alloc) c.word.ensures) ∙ c.unwrap-handler.ensures),
   refl,
 )
