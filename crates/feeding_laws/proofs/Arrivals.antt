@@ -20,9 +20,9 @@ use Rattle.protocol_stream.specs.Frame.{message_of}
 use Rattle.protocol_stream.proofs.Frames.{item_at-frame_bytes}
 use Rattle.protocol_messages.specs.Told.{id_told, result_told, notification_told}
 use Rattle.protocol_messages.specs.Decoded.{DecodesNotification}
-use Rattle.protocol_spellings.specs.Records.{id_record, result_record}
+use Rattle.protocol_spellings.specs.Records.{id_record, notification_record, result_record}
 use Rattle.protocol_spellings.proofs.Notifications.{notifications_spelled}
-use Rattle.feeding_laws.specs.Arrivals.{notification_record, ArrivalFits, IsAsked, IsNotificationType, ArrivalsReadBack}
+use Rattle.feeding_laws.specs.Arrivals.{ArrivalFits, IsAsked, IsNotificationType, ArrivalsReadBack}
 
 -- ---- the record tells the arrival
 

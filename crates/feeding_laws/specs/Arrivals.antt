@@ -11,16 +11,12 @@ use Rattle.journal_model.specs.Spelling.{frame_bytes, notification_payload}
 use Rattle.journal_model.specs.Journal.{Entry, requests_in, asks_for}
 use Rattle.journal_model.specs.Attempt.{notification_type}
 use Rattle.protocol_controls.specs.Notification.{NotificationFits}
-use Rattle.protocol_controls.specs.declared.notification.NotificationMessage.{NotificationMessage}
 use Rattle.protocol_stream.specs.Frame.{message_of}
 use Rattle.protocol_stream.specs.Item.{message, item_at}
 use Rattle.protocol_messages.specs.Decoded.{DecodesNotification}
-use Rattle.protocol_spellings.specs.Records.{id_record, result_record}
+use Rattle.protocol_spellings.specs.Records.{notification_record}
 use Rattle.vm_entries.specs.Incoming.{incoming_of}
 use Rattle.vm_entries.specs.declared.incoming.Incoming.TheVariants as incoming
-
-abbrev pub notification_record : Arrival → NotificationMessage
-notification_record arrival = record { id = Some (id_record arrival.id); result = Some (result_record arrival.result) }
 
 -- each number of its record is within its type, each text is UTF-8, and the length of its payload is one that a header tells
 pub record ArrivalFits (arrival : Arrival) : Type 0 where

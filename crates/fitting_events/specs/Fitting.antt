@@ -1,9 +1,9 @@
 -- What calls bring, whose numbers are within their types and whose texts are UTF-8.
-use Rattle.std.specs.Prelude.{◌<◌, ◌^◌, IsUtf8, Some}
+use Rattle.std.specs.Prelude.{◌<◌, ◌^◌, IsUtf8}
 use Rattle.protocol_wire.specs.declared.record.TheConstants.{LEVELS}
 use Rattle.protocol_records.specs.InputCommand.{InputCommandFits}
 use Rattle.protocol_controls.specs.Notification.{NotificationFits}
-use Rattle.protocol_spellings.specs.Records.{id_record, result_record}
+use Rattle.protocol_spellings.specs.Records.{notification_record}
 use Rattle.protocol_stream.specs.Records.{input_record}
 use Rattle.journal_model.specs.declared.invocation.NewInvocation.{NewInvocation}
 use Rattle.journal_model.specs.Notification.{Arrival}
@@ -15,4 +15,4 @@ pub record InvocationFits (new : NewInvocation) : Type 0 where
   pub input : InputCommandFits LEVELS (input_record new.headers new.input)
 
 abbrev pub ResultFits : Arrival → Type 0
-ResultFits arrival = NotificationFits LEVELS (record { id = Some (id_record arrival.id); result = Some (result_record arrival.result) })
+ResultFits arrival = NotificationFits LEVELS (notification_record arrival)

@@ -9,7 +9,7 @@ use Rattle.protocol_stream.specs.Records.{future_record}
 use Rattle.protocol_records.specs.Suspension.{suspension_parts}
 use Rattle.protocol_controls.specs.ProposeRunCompletionAck.{propose_run_completion_ack_parts}
 use Rattle.protocol_controls.specs.Notification.{notification_parts}
-use Rattle.protocol_spellings.specs.Records.{id_record, result_record}
+use Rattle.protocol_spellings.specs.Records.{notification_record}
 use Rattle.protocol_spellings.specs.Commands.{command_record, command_parts}
 
 -- the parts of the record of a request
@@ -21,7 +21,7 @@ abbrev pub record_payload : Request → List ℕ
 record_payload request = payload_of (record_parts request)
 
 abbrev pub notification_record_payload : Arrival → List ℕ
-notification_record_payload arrival = payload_of (notification_parts (record { id = Some (id_record arrival.id); result = Some (result_record arrival.result) }))
+notification_record_payload arrival = payload_of (notification_parts (notification_record arrival))
 
 abbrev pub acknowledgement_record_payload : ℕ → List ℕ
 acknowledgement_record_payload completion = payload_of (propose_run_completion_ack_parts (record { completion_id = completion }))

@@ -1,6 +1,6 @@
 -- The records that stand for requests, notifications and what is waited for.
 use Rattle.std.specs.Prelude.{ℕ, List, map, Option, Some, None}
-use Rattle.journal_model.specs.Notification.{Bytes, Text}
+use Rattle.journal_model.specs.Notification.{Arrival, Bytes, Text}
 use Rattle.journal_model.specs.declared.notification.Failure.{Failure}
 use Rattle.journal_model.specs.declared.notification.NotificationId.{NotificationId}
 use Rattle.journal_model.specs.declared.notification.NotificationId.TheVariants as model_ids
@@ -29,6 +29,7 @@ use Rattle.protocol_calls.specs.declared.workflow_target.WorkflowTarget.{Workflo
 use Rattle.protocol_calls.specs.declared.idempotent_request_target.IdempotentRequestTarget.{IdempotentRequestTarget}
 use Rattle.protocol_calls.specs.declared.invocation_target.InvocationTarget.{InvocationTarget}
 use Rattle.protocol_calls.specs.declared.invocation_target.InvocationTarget.TheVariants as targets
+use Rattle.protocol_controls.specs.declared.notification.NotificationMessage.{NotificationMessage}
 use Rattle.protocol_controls.specs.declared.notification.NotificationMessageId.{NotificationMessageId}
 use Rattle.protocol_controls.specs.declared.notification.NotificationMessageId.TheVariants as ids
 use Rattle.protocol_controls.specs.declared.notification.NotificationMessageResult.{NotificationMessageResult}
@@ -88,10 +89,13 @@ abbrev pub signal_id : SignalKey → SendSignalCommandSignalId
 signal_id (SignalKey.ByIndex n) = signal_ids.Idx n
 signal_id (SignalKey.ByName name) = signal_ids.Name name
 
+abbrev pub signal_record : NonEmptyValue → SendSignalCommandResult
+signal_record (NonEmptyValue.Success bytes) = signals.Value (value_record bytes)
+signal_record (NonEmptyValue.Failure failure) = signals.Failure (failure_record failure)
+
 abbrev pub signal_result : SignalValue → SendSignalCommandResult
 signal_result SignalValue.Empty = signals.Void void_record
-signal_result (SignalValue.Carries (NonEmptyValue.Success bytes)) = signals.Value (value_record bytes)
-signal_result (SignalValue.Carries (NonEmptyValue.Failure failure)) = signals.Failure (failure_record failure)
+signal_result (SignalValue.Carries value) = signal_record value
 
 abbrev pub awakeable_result : NonEmptyValue → CompleteAwakeableCommandResult
 awakeable_result (NonEmptyValue.Success bytes) = awakeables.Value (value_record bytes)
@@ -121,3 +125,6 @@ result_record (model_results.Value bytes) = results.Value (value_record bytes)
 result_record (model_results.Failure failure) = results.Failure (arrived_failure_record failure)
 result_record (model_results.InvocationId id) = results.InvocationId id
 result_record (model_results.StateKeys keys) = results.StateKeys (keys_record keys)
+
+abbrev pub notification_record : Arrival → NotificationMessage
+notification_record arrival = record { id = Some (id_record arrival.id); result = Some (result_record arrival.result) }
