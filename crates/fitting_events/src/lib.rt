@@ -16,24 +16,7 @@ ghost use Rattle.protocol_wire.specs.declared.record.TheConstants.{LEVELS};
 
 use bytes::ByteStr;
 use journal_model::{Failure, Header, NewInvocation, NotificationResult};
-
-fn text_fits(text: &ByteStr)
-    ensures { IsUtf8 text.now }
-{
-    let _ = text.as_bytes();
-}
-
-fn short_fits(number: u32)
-    ensures { number < 2 ^ 32 }
-{
-    let _ = number;
-}
-
-fn long_fits(number: u64)
-    ensures { number < 2 ^ 64 }
-{
-    let _ = number;
-}
+use protocol_records::fits::{long_fits, short_fits, text_fits};
 
 fn header_fits(header: &Header)
     ensures { HeaderFits 100 (header_record header.now) }

@@ -13,16 +13,17 @@ use protocol_wire::table::suspension::AWAITING_ON;
 use protocol_wire::{put_numbers, put_tagged_bytes, put_texts, put_u32};
 use std::alloc::{AllocError, Global};
 
-/// The number of what a combinator means: one that has no name is unknown.
-fn number_of(combinator: CombinatorType) -> u32
+// The number of what a combinator means: one that has no name is unknown.
+fn meant_number(combinator: CombinatorType) -> u32
     ensures { result ≡ combinator_number (combinator_of (shape_in combinator)) }
 {
     match combinator {
-        CombinatorType::FirstCompleted => 1,
-        CombinatorType::AllCompleted => 2,
-        CombinatorType::FirstSucceededOrAllFailed => 3,
-        CombinatorType::AllSucceededOrFirstFailed => 4,
-        CombinatorType::Unknown | CombinatorType::Other(_) => 0,
+        CombinatorType::Other(_) => CombinatorType::Unknown.number(),
+        CombinatorType::Unknown
+        | CombinatorType::FirstCompleted
+        | CombinatorType::AllCompleted
+        | CombinatorType::FirstSucceededOrAllFailed
+        | CombinatorType::AllSucceededOrFirstFailed => combinator.number(),
     }
 }
 
@@ -38,7 +39,7 @@ fn spell_tree(alloc: Global, one: &Future, out: &mut Vec<u8>) -> Result<(), Allo
         spell_tree(alloc, nested, &mut inner)?;
         put_tagged_bytes(out, NESTED_FUTURES, &inner)?;
     }
-    put_u32(out, COMBINATOR_TYPE, number_of(one.combinator_type))?;
+    put_u32(out, COMBINATOR_TYPE, meant_number(one.combinator_type))?;
     Ok(())
 }
 

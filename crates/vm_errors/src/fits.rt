@@ -5,24 +5,7 @@ ghost use Rattle.protocol_wire.specs.declared.record.TheConstants.{LEVELS};
 
 use bytes::ByteStr;
 use protocol_controls::ErrorMessage;
-
-fn short_fits(number: u32)
-    ensures { number < 2 ^ 32 }
-{
-    let _ = number;
-}
-
-fn long_fits(number: u64)
-    ensures { number < 2 ^ 64 }
-{
-    let _ = number;
-}
-
-fn text_fits(text: &ByteStr)
-    ensures { IsUtf8 text.now }
-{
-    let _ = text.as_bytes();
-}
+use protocol_records::fits::{long_fits, short_fits, text_fits};
 
 fn short_or_none_fits(number: Option<u32>)
     ensures { IfSome number (λ n. n < 2 ^ 32) }
