@@ -141,6 +141,7 @@ pub fn parse_text(alloc: Global, word: &[u8]) -> Result<ByteStr, LineError>
     parse_printable(alloc, word)
 }
 
+/// The mode that a word names.
 #[tactic(auto, unfolding(crate::specs::Reading::state_of))]
 pub fn parse_state(word: &[u8]) -> Option<StateMode>
     ensures { result ≡ state_of word.now }
@@ -152,6 +153,7 @@ pub fn parse_state(word: &[u8]) -> Option<StateMode>
     }
 }
 
+/// The handler that a word names.
 #[tactic(auto, unfolding(crate::specs::Reading::handler_of))]
 pub fn parse_handler(word: &[u8]) -> Option<HandlerName>
     ensures { result ≡ handler_of word.now }

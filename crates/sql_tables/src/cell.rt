@@ -9,6 +9,7 @@ ghost use Rattle.sql_tables.specs.Cells.{IsLong, IsShort, flag_cell, long_cell, 
 use bytes::{ByteStr, Bytes};
 use sqlite::types::{ToSql, ValueRef};
 
+/// A text as a text of SQL.
 pub fn text(text: &ByteStr) -> ValueRef<'_>
     ensures cell { bound_value (owned result) ≡ Words text.now }
     ensures fits { IsUtf8 text.now }
@@ -16,12 +17,14 @@ pub fn text(text: &ByteStr) -> ValueRef<'_>
     ValueRef::Text(text.as_bytes().as_slice())
 }
 
+/// Bytes as a blob of SQL.
 pub fn blob(bytes: &Bytes) -> ValueRef<'_>
     ensures { bound_value (owned result) ≡ Blob bytes.now }
 {
     ValueRef::Blob(bytes.as_slice())
 }
 
+/// 32 bits as an integer of SQL.
 pub fn short<'a>(n: u32) -> ValueRef<'a>
     ensures cell { bound_value (owned result) ≡ short_cell n }
     ensures fits { IsShort n }
@@ -37,12 +40,14 @@ pub fn long<'a>(n: u64) -> ValueRef<'a>
     n.cast_signed().to_sql()
 }
 
+/// Whether something holds, as 1 or 0.
 pub fn flag<'a>(b: bool) -> ValueRef<'a>
     ensures { bound_value (owned result) ≡ flag_cell b }
 {
     b.to_sql()
 }
 
+/// A text, or NULL for none.
 pub fn text_or_null(value: &Option<ByteStr>) -> ValueRef<'_>
     ensures cell { bound_value (owned result) ≡ or_null Words value.now }
     ensures fits { IfSome value.now IsUtf8 }
@@ -53,6 +58,7 @@ pub fn text_or_null(value: &Option<ByteStr>) -> ValueRef<'_>
     }
 }
 
+/// Bytes, or NULL for none.
 pub fn blob_or_null(value: &Option<Bytes>) -> ValueRef<'_>
     ensures { bound_value (owned result) ≡ or_null Blob value.now }
 {
@@ -62,6 +68,7 @@ pub fn blob_or_null(value: &Option<Bytes>) -> ValueRef<'_>
     }
 }
 
+/// 32 bits, or NULL for none.
 pub fn short_or_null<'a>(value: Option<u32>) -> ValueRef<'a>
     ensures cell { bound_value (owned result) ≡ or_null short_cell value }
     ensures fits { IfSome value IsShort }
@@ -72,6 +79,7 @@ pub fn short_or_null<'a>(value: Option<u32>) -> ValueRef<'a>
     }
 }
 
+/// 64 bits, or NULL for none.
 pub fn long_or_null<'a>(value: Option<u64>) -> ValueRef<'a>
     ensures cell { bound_value (owned result) ≡ or_null long_cell value }
     ensures fits { IfSome value IsLong }

@@ -34,6 +34,7 @@ impl From<AllocError> for ReadError {
     }
 }
 
+/// A text of SQL that is UTF-8.
 pub fn text_at(alloc: Global, row: &Row, at: usize) -> Result<ByteStr, ReadError>
     ensures ok { IfOk result (IsCell Words IsUtf8 row.now at) }
     ensures foreign { IfErr result (λ e. e ≡ ReadError.Foreign → IsForeign Words IsUtf8 row.now at) }
@@ -47,6 +48,7 @@ pub fn text_at(alloc: Global, row: &Row, at: usize) -> Result<ByteStr, ReadError
     }
 }
 
+/// A blob of SQL.
 pub fn blob_at(alloc: Global, row: &Row, at: usize) -> Result<Bytes, ReadError>
     ensures ok { IfOk result (IsCell Blob (λ _. ⊤) row.now at) }
     ensures foreign { IfErr result (λ e. e ≡ ReadError.Foreign → IsForeign Blob (λ _. ⊤) row.now at) }
@@ -57,6 +59,7 @@ pub fn blob_at(alloc: Global, row: &Row, at: usize) -> Result<Bytes, ReadError>
     }
 }
 
+/// An integer of SQL that 32 bits hold.
 pub fn short_at(row: &Row, at: usize) -> Result<u32, ReadError>
     ensures ok { IfOk result (IsCell short_cell IsShort row.now at) }
     ensures foreign { IfErr result (λ e. e ≡ ReadError.Foreign → IsForeign short_cell IsShort row.now at) }
@@ -78,6 +81,7 @@ pub fn long_at(row: &Row, at: usize) -> Result<u64, ReadError>
     }
 }
 
+/// Whether something holds: an integer of SQL that is 1 or 0.
 pub fn flag_at(row: &Row, at: usize) -> Result<bool, ReadError>
     ensures ok { IfOk result (IsCell flag_cell (λ _. ⊤) row.now at) }
     ensures foreign { IfErr result (λ e. e ≡ ReadError.Foreign → IsForeign flag_cell (λ _. ⊤) row.now at) }
@@ -95,6 +99,7 @@ fn is_null_at(row: &Row, at: usize) -> bool
     matches!(row.get_ref(at), Ok(ValueRef::Null))
 }
 
+/// A text, or none for NULL.
 pub fn text_or_none_at(alloc: Global, row: &Row, at: usize) -> Result<Option<ByteStr>, ReadError>
     ensures ok { IfOk result (IsCell (or_null Words) (λ o. IfSome o IsUtf8) row.now at) }
     ensures foreign { IfErr result (λ e. e ≡ ReadError.Foreign → IsForeign (or_null Words) (λ o. IfSome o IsUtf8) row.now at) }
@@ -105,6 +110,7 @@ pub fn text_or_none_at(alloc: Global, row: &Row, at: usize) -> Result<Option<Byt
     text_at(alloc, row, at).map(Some)
 }
 
+/// Bytes, or none for NULL.
 pub fn blob_or_none_at(alloc: Global, row: &Row, at: usize) -> Result<Option<Bytes>, ReadError>
     ensures ok { IfOk result (IsCell (or_null Blob) (λ o. IfSome o (λ _. ⊤)) row.now at) }
     ensures foreign { IfErr result (λ e. e ≡ ReadError.Foreign → IsForeign (or_null Blob) (λ o. IfSome o (λ _. ⊤)) row.now at) }
@@ -115,6 +121,7 @@ pub fn blob_or_none_at(alloc: Global, row: &Row, at: usize) -> Result<Option<Byt
     blob_at(alloc, row, at).map(Some)
 }
 
+/// 32 bits, or none for NULL.
 pub fn short_or_none_at(row: &Row, at: usize) -> Result<Option<u32>, ReadError>
     ensures ok { IfOk result (IsCell (or_null short_cell) (λ o. IfSome o IsShort) row.now at) }
     ensures foreign { IfErr result (λ e. e ≡ ReadError.Foreign → IsForeign (or_null short_cell) (λ o. IfSome o IsShort) row.now at) }
@@ -125,6 +132,7 @@ pub fn short_or_none_at(row: &Row, at: usize) -> Result<Option<u32>, ReadError>
     short_at(row, at).map(Some)
 }
 
+/// 64 bits, or none for NULL.
 pub fn long_or_none_at(row: &Row, at: usize) -> Result<Option<u64>, ReadError>
     ensures ok { IfOk result (IsCell (or_null long_cell) (λ o. IfSome o IsLong) row.now at) }
     ensures foreign { IfErr result (λ e. e ≡ ReadError.Foreign → IsForeign (or_null long_cell) (λ o. IfSome o IsLong) row.now at) }
