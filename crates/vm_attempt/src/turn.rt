@@ -1,10 +1,10 @@
 // What turns come to.
 ghost use Rattle.std.specs.Prelude.{◌≡◌};
 ghost use Rattle.vm_attempt.specs.Turning.{again, not_carried_out};
-ghost use Rattle.vm_errors.specs.Failing as failing;
 
 use bytes::ByteStr;
 use protocol_errors::{Error, codes};
+use vm_errors::out_of_memory;
 
 /// What a turn of an attempt came to.
 #[derive(Debug, Drop)]
@@ -28,13 +28,6 @@ pub enum Finish {
     Ended,
     /// Memory was refused to the attempt itself. Nothing is written of that.
     OutOfMemory,
-}
-
-// The error of an attempt for which there was no memory. It takes none.
-fn out_of_memory() -> Error
-    ensures { result ≡ failing.out_of_memory }
-{
-    Error::new(codes::INTERNAL, ByteStr::from_static("out of memory"))
 }
 
 // The error of an attempt whose handler makes a call that is not carried out.

@@ -9,7 +9,7 @@ use Rattle.protocol_errors.specs.declared.fixed.FixedError.TheVariants as fixed
 use Rattle.protocol_types.specs.Version.{version_content_type}
 use Rattle.protocol_types.specs.declared.version.Version.{Version}
 use Rattle.vm_ephemeral.specs.Reads.{no_reads}
-use Rattle.vm_errors.specs.Failing.{out_of_memory}
+use Rattle.vm_errors.specs.Failing.{or_out_of_memory, out_of_memory}
 use Rattle.vm_errors.specs.declared.phase.Phase.TheVariants.{WaitingStart}
 use Rattle.vm_machine.specs.Passed.{Tells, Unless, IsFresh}
 use Rattle.vm_machine.specs.declared.machine_state.MachineState.{MachineState}
@@ -18,11 +18,6 @@ use Rattle.vm_start.specs.declared.negotiation.NegotiationError.{NegotiationErro
 use Rattle.vm_start.specs.declared.negotiation.NegotiationError.TheVariants.{MissingContentType, OutOfMemory}
 use Rattle.vm_types.specs.declared.answers.ResponseHead.{ResponseHead}
 use Rattle.vm_types.specs.declared.options.VMOptions.{VMOptions}
-
--- what is answered of a cause
-abbrev pub or_memory : Result Error AllocError → Error
-or_memory (Ok error) = error
-or_memory (Err refused) = out_of_memory
 
 -- why no machine is made of a request; that its header is missing takes no memory to tell
 abbrev pub RefusalCauses : {E : Type 0} → NegotiationError E → Result Error AllocError → Type 0
@@ -33,7 +28,7 @@ RefusalCauses refused cause = Unless false (Tells (negotiation_code refused) (ne
 pub record Refuses {E : Type 0} (refused : NegotiationError E) (error : Error) : Type 0 where
   pub cause : Result Error AllocError
   pub causes : RefusalCauses refused cause
-  pub error_is : error ≡ or_memory cause
+  pub error_is : error ≡ or_out_of_memory cause
 
 -- nothing has come, was asked for or written
 pub record IsNew (version : Version) (options : VMOptions) (vm : MachineState) : Type 0 where

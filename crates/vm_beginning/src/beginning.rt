@@ -1,37 +1,19 @@
 // A machine is made of a request.
 ghost use Rattle.std.specs.Prelude.{◌≡◌, IfOk, IfErr};
-ghost use Rattle.vm_beginning.specs.Beginning.{or_memory, RefusalCauses, Refuses, IsMade, Begins, head_of};
+ghost use Rattle.vm_beginning.specs.Beginning.{RefusalCauses, Refuses, IsMade, Begins, head_of};
 ghost use Rattle.vm_errors.specs.Failing.{out_of_memory};
 ghost use Rattle.vm_start.specs.Negotiation.{content_type};
 
-use bytes::ByteStr;
-use protocol_errors::{Error, MISSING_CONTENT_TYPE, codes};
+use protocol_errors::{Error, MISSING_CONTENT_TYPE};
 use protocol_stream::{Decoder, HeaderMap};
 use protocol_types::Version;
 use std::alloc::{AllocError, Global};
 use std::fmt;
 use vm_ephemeral::EphemeralCommands;
-use vm_errors::Phase;
+use vm_errors::{Phase, or_out_of_memory, out_of_memory};
 use vm_machine::{MachineState, about_nothing, fresh_active};
 use vm_start::{NegotiationError, negotiate, response_head};
 use vm_types::{ResponseHead, VMOptions};
-
-// What is answered where memory was refused. It takes none.
-fn out_of_memory() -> Error
-    ensures { result ≡ out_of_memory }
-{
-    Error::new(codes::INTERNAL, ByteStr::from_static("out of memory"))
-}
-
-// The error that is answered of a cause.
-fn error_of(cause: Result<Error, AllocError>) -> Error
-    ensures { result ≡ or_memory cause }
-{
-    match cause {
-        Ok(error) => error,
-        Err(_) => out_of_memory(),
-    }
-}
 
 // Why no machine is made of the request.
 fn refusal_cause<E: fmt::Debug>(
@@ -54,7 +36,7 @@ fn refuse<E: fmt::Debug + Drop>(alloc: Global, refused: NegotiationError<E>) -> 
 {
     let cause = refusal_cause(alloc, &refused);
     drop(refused);
-    error_of(cause)
+    or_out_of_memory(cause)
 }
 
 // The machine, before anything has come.

@@ -23,6 +23,11 @@ use Rattle.vm_errors.specs.declared.phase.Phase.TheVariants.{Failed}
 abbrev pub out_of_memory : Error
 out_of_memory = plain_error internal (codes "out of memory")
 
+-- an error, or that memory was refused for it
+abbrev pub or_out_of_memory : Result Error AllocError → Error
+or_out_of_memory (Ok error) = error
+or_out_of_memory (Err refused) = out_of_memory
+
 abbrev pub error_message : Version → Error → RawMessage
 error_message version error = record_message messages.Error version (error_parts (told_error error))
 

@@ -3,7 +3,7 @@ ghost use Rattle.std.specs.Prelude.{◌≡◌, ◌⊎◌, OnOk, OnErr, IfOk, IsE
 ghost use Rattle.protocol_errors.specs.Code.{internal};
 ghost use Rattle.protocol_errors.specs.Error.{plain_error};
 ghost use Rattle.protocol_stream.specs.declared.encoder.EncodingError.TheVariants.{PayloadTooLong};
-ghost use Rattle.vm_errors.specs.Failing.{out_of_memory, IsTooLong, Writes, Tells, TellsCause, IsCopy, Fails, IsAgain};
+ghost use Rattle.vm_errors.specs.Failing.{out_of_memory, or_out_of_memory, IsTooLong, Writes, Tells, TellsCause, IsCopy, Fails, IsAgain};
 ghost use Rattle.vm_errors.specs.Phases.{kept_error};
 
 use crate::fits::record_fits;
@@ -18,11 +18,21 @@ use std::mem::replace;
 use vm_context::Output;
 use vm_types::JournalMismatchRetryBehavior;
 
-// What a machine fails with where memory was refused. It takes none.
-fn out_of_memory() -> Error
+/// What a machine fails with where memory was refused. It takes none.
+pub fn out_of_memory() -> Error
     ensures { result ≡ out_of_memory }
 {
     Error::new(codes::INTERNAL, ByteStr::from_static("out of memory"))
+}
+
+/// An error, or that memory was refused for it.
+pub fn or_out_of_memory(told: Result<Error, AllocError>) -> Error
+    ensures { result ≡ or_out_of_memory told }
+{
+    match told {
+        Ok(error) => error,
+        Err(_) => out_of_memory(),
+    }
 }
 
 // A copy, or that there is no memory for one.

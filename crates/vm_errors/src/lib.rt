@@ -6,7 +6,7 @@ mod failure;
 mod fits;
 mod phase;
 
-pub use failing::{again, fail};
+pub use failing::{again, fail, or_out_of_memory, out_of_memory};
 pub use failure::{error_message, fail_with};
 pub use phase::{Phase, unexpected};
 pub use vm_context::{EagerState, IdsExhausted, Journal, Output};

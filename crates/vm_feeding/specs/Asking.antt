@@ -3,7 +3,7 @@ use Rattle.std.specs.Prelude.{◌≡◌, ℕ, Bool, true, false, List, codes, Re
 use Rattle.std.specs.declared.alloc.AllocError.{AllocError}
 use Rattle.protocol_errors.specs.declared.error.Error.{Error}
 use Rattle.vm_context.specs.Output.{all_taken}
-use Rattle.vm_errors.specs.Failing.{IsCopy, out_of_memory}
+use Rattle.vm_errors.specs.Failing.{IsCopy}
 use Rattle.vm_errors.specs.Phases.{closed_error}
 use Rattle.vm_errors.specs.declared.phase.Phase.{Phase}
 use Rattle.vm_errors.specs.declared.phase.Phase.TheVariants as phases
@@ -22,11 +22,6 @@ state_of (phases.WaitingReplayEntries left) is_replaying = states.WaitingPreFlig
 state_of phases.Active is_replaying = active_state is_replaying
 state_of phases.Closed is_replaying = states.Closed
 state_of (phases.Failed error) is_replaying = states.Closed
-
--- an error, or that memory was refused for it
-abbrev pub answered : Result Error AllocError → Error
-answered (Ok error) = error
-answered (Err refused) = out_of_memory
 
 -- the answer is this error, or that memory was refused for it
 abbrev pub Refuses : Error → Result Bool Error → Type 0

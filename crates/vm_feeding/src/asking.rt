@@ -1,11 +1,11 @@
 // What is asked of a machine.
 ghost use Rattle.std.specs.Prelude.{◌≡◌, ◌-ℤ◌, pos};
-ghost use Rattle.vm_feeding.specs.Asking.{active_state, state_of, answered, IsReady, TakesOutput};
+ghost use Rattle.vm_feeding.specs.Asking.{active_state, state_of, IsReady, TakesOutput};
 
 use bytes::{ByteStr, Bytes};
-use protocol_errors::{Error, codes};
+use protocol_errors::Error;
 use std::alloc::{AllocError, Global};
-use vm_errors::{Phase, unexpected};
+use vm_errors::{Phase, or_out_of_memory, unexpected};
 use vm_machine::MachineState;
 use vm_types::State;
 
@@ -45,16 +45,6 @@ pub fn last_command_index(vm: &MachineState) -> i64
     vm.active.journal.command_index()
 }
 
-// An error, or that memory was refused for it.
-fn answered(told: Result<Error, AllocError>) -> Error
-    ensures { result ≡ answered told }
-{
-    match told {
-        Ok(error) => error,
-        Err(_) => Error::new(codes::INTERNAL, ByteStr::from_static("out of memory")),
-    }
-}
-
 // Whether calls are made in this phase, or why none are any more.
 fn is_ready(alloc: Global, phase: &Phase) -> Result<bool, Error>
     ensures { IsReady phase.now result }
@@ -64,9 +54,9 @@ fn is_ready(alloc: Global, phase: &Phase) -> Result<bool, Error>
         Phase::Active => Ok(true),
         Phase::Closed => {
             let event = ByteStr::from_static("IsReadyToExecute");
-            Err(answered(unexpected(alloc, phase, false, event)))
+            Err(or_out_of_memory(unexpected(alloc, phase, false, event)))
         }
-        Phase::Failed(kept) => Err(answered(kept.clone())),
+        Phase::Failed(kept) => Err(or_out_of_memory(kept.clone())),
     }
 }
 

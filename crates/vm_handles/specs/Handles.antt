@@ -1,5 +1,5 @@
 -- The calls that make a handle, take what it stands for, and look at it.
-use Rattle.std.specs.Prelude.{◌≡◌, ℕ, Bool, false, [], codes, is_some, Option, Some, None, Result, Ok, Err}
+use Rattle.std.specs.Prelude.{◌≡◌, ℕ, Bool, false, codes, is_some, Option, Result, Ok, Err}
 use Rattle.std.specs.declared.alloc.AllocError.{AllocError}
 use Rattle.journal_model.specs.Awakeable.{awakeable_id}
 use Rattle.journal_model.specs.Notification.{Bytes, Text}
@@ -14,7 +14,6 @@ use Rattle.protocol_errors.specs.Error.{plain_error}
 use Rattle.protocol_errors.specs.declared.error.Error.{Error}
 use Rattle.protocol_messages.specs.declared.taken.TakeError.{TakeError}
 use Rattle.protocol_messages.specs.declared.taken.TakeError.TheVariants.{KeyNotText, OutOfMemory}
-use Rattle.protocol_records.specs.declared.start.StartMessage.{StartMessage}
 use Rattle.vm_types.specs.declared.handles.AwakeableHandle.{AwakeableHandle}
 use Rattle.vm_types.specs.declared.options.JournalReplay.{JournalReplay}
 use Rattle.vm_types.specs.declared.options.JournalReplay.TheVariants.{Enabled, Disabled}
@@ -33,6 +32,7 @@ use Rattle.vm_machine.specs.Passed.{NumberCauses}
 use Rattle.vm_machine.specs.Steps.{IsUnexpected}
 use Rattle.vm_machine.specs.declared.machine_state.MachineState.{MachineState}
 use Rattle.vm_handles.specs.Calling.{IsCalled}
+pub use Rattle.vm_start.specs.Starts.{started_id as id_of}
 
 -- ---- signals
 
@@ -43,11 +43,6 @@ MakesSignal name old made new =
     × TellsSame old.journal new.journal × GivesSignal name old made new
 
 -- ---- awakeables
-
--- the bytes of the invocation's id, as the start has them
-abbrev pub id_of : Option StartMessage → Bytes
-id_of None = []
-id_of (Some start) = start.id
 
 abbrev pub MakesAwakeable : (id : Bytes) → (old : Active) → Result AwakeableHandle NumberError → (new : Active) → Type 0
 MakesAwakeable id old made new =

@@ -1,5 +1,5 @@
 -- What is told of an await that stays asleep although the journal goes on behind it.
-use Rattle.std.specs.Prelude.{◌≡◌, ℕ, ◌==◌, nat_lt, if◌then◌else◌, List, [], ◌∷◌, ◌++◌, map, Option, Some, None, IsPermutation, IsSortedBy}
+use Rattle.std.specs.Prelude.{◌≡◌, ℕ, ◌==◌, nat_lt, if◌then◌else◌, List, [], ◌∷◌, ◌++◌, map, Some, IsPermutation, IsSortedBy}
 use Rattle.std.specs.List.{flat_map}
 use Rattle.journal_model.specs.Awakeable.{awakeable_id}
 use Rattle.journal_model.specs.AwaitTree.{AwaitTree}
@@ -15,13 +15,13 @@ use Rattle.protocol_errors.specs.declared.uncompleted.AwaitedId.{AwaitedId}
 use Rattle.protocol_errors.specs.declared.uncompleted.AwaitedId.TheVariants.{CompletionId, SignalId, SignalName}
 use Rattle.protocol_errors.specs.declared.uncompleted.UncompletedDoProgressDuringReplay.{UncompletedDoProgressDuringReplay}
 use Rattle.protocol_messages.specs.Leaves.{lists_of}
-use Rattle.protocol_records.specs.declared.start.StartMessage.{StartMessage}
 use Rattle.protocol_records.specs.declared.suspension_v6.SuspensionMessageV6.{SuspensionMessageV6}
 use Rattle.protocol_stream.specs.Records.{future_record}
 use Rattle.vm_machine.specs.Passed.{Tells}
 use Rattle.vm_machine.specs.Steps.{FailsBy}
 use Rattle.vm_machine.specs.declared.machine_state.MachineState.{MachineState}
 use Rattle.vm_waiting.specs.Suspending.{over_ids}
+pub use Rattle.vm_start.specs.Starts.{started_id}
 
 -- ---- ids
 
@@ -34,11 +34,6 @@ abbrev pub ids_in : SuspensionMessageV6 → List AwaitedId
 ids_in lists = (map CompletionId lists.waiting_completions ++ map SignalId lists.waiting_signals) ++ map SignalName lists.waiting_named_signals
 
 -- ---- what is known of them
-
--- the id of the invocation that was started; before a start it is empty
-abbrev pub started_id : Option StartMessage → Bytes
-started_id None = []
-started_id (Some start) = start.id
 
 -- signal 1 cancels the invocation, one above 16 is an awakeable's, and nothing is known of the others
 abbrev pub known_of : (invocation : Bytes) → ℕ → List (AwaitedId × NotificationMetadata)

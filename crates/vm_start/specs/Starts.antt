@@ -1,5 +1,5 @@
 -- What a start tells of its attempt, and when an attempt does not begin with it.
-use Rattle.std.specs.Prelude.{◌≡◌, ◌<◌, ◌⊎◌, ℕ, List, [], ◌∷◌, map, drop, IsUtf8}
+use Rattle.std.specs.Prelude.{◌≡◌, ◌<◌, ◌⊎◌, ℕ, List, [], ◌∷◌, map, drop, Option, Some, None, IsUtf8}
 use Rattle.std.specs.Str.{valid_up_to, error_len}
 use Rattle.std.specs.Str.Lossy.{utf8_valid_len, utf8_error_len}
 use Rattle.protocol_errors.specs.declared.typed.BadEagerStateKeyError.{BadEagerStateKeyError}
@@ -23,6 +23,11 @@ pair_of entry = (entry.key, entry.value)
 -- a key and its value, in the order of the entries
 abbrev pub pairs_of : List StateEntry → List (Bytes × Bytes)
 pairs_of entries = map pair_of entries
+
+-- the bytes of the id of the invocation that was started; before a start they are none
+abbrev pub started_id : Option StartMessage → Bytes
+started_id None = []
+started_id (Some start) = start.id
 
 -- a start of no state
 abbrev pub without_state : StartMessage → StartMessage
