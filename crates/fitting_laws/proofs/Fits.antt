@@ -22,11 +22,11 @@ use Rattle.input_laws.proofs.Telling.{arrivals_carried-append}
 use Rattle.children_laws.specs.Childless.{is_cancellation}
 use Rattle.request_laws.specs.Fitting.{RequestFits}
 use Rattle.beginning_laws.proofs.Passed.{of_asked}
-use Rattle.beginning_laws.specs.Reading.{ArrivalFits, IsAsked, IsNotificationType}
+use Rattle.beginning_laws.specs.Reading.{ArrivalFits, IsAsked, IsNotificationType, MayCome}
 use Rattle.sending_laws.specs.Sent.{is_recorded}
 use Rattle.fitting_events.specs.Fitting.{InvocationFits, ResultFits}
 use Rattle.fitting_laws.specs.Fitting.{AcceptedFits, AllFit}
-use Rattle.fitting_laws.specs.Laws.{ComesWell, MessagesComeWell, UnbornFit}
+use Rattle.fitting_laws.specs.Laws.{MessagesMayCome, UnbornFit}
 
 -- ---- ids
 
@@ -348,7 +348,7 @@ no_input : (entries : List Entry) (id : Text) (event : Event) (new : NewInvocati
 no_input entries id event new brought = absurd brought
 
 come : (entries : List Entry) (id : Text) (event : Event) (more : List InputMessage) → AcceptedFits id event → AllByRecursion (IsBroughtBy entries id event) more
-    → AllByRecursion (ArrivalCome entries) (arrivals_carried more) → AllByRecursion ComesWell more
+    → AllByRecursion (ArrivalCome entries) (arrivals_carried more) → AllByRecursion MayCome more
 come entries id event [] fits brought arrivals = tt
 come entries id event (CarriesArrival ty arrival ∷ more) fits brought arrivals = (
   ((arrivals.0.fits, subst IsNotificationType (sym brought.0) (of_asked entries arrival.id arrivals.0.asked)), arrivals.0.uncancelled),
@@ -358,7 +358,7 @@ come entries id event (CarriesOutcome number value ∷ more) fits brought arriva
 come entries id event (CarriesRequest request ∷ more) fits brought arrivals = absurd (no_request entries id event request brought.0)
 come entries id event (CarriesInput new ∷ more) fits brought arrivals = absurd (no_input entries id event new brought.0)
 
-pub may_come : MessagesComeWell
+pub may_come : MessagesMayCome
 may_come next options fallback_seed id event events live unread more parts accepted typed lives brought =
     let entries = entries_of (event ∷ events) id in
     let all_come : AllByRecursion (ArrivalCome entries) (arrivals_carried (live.read ++ live.unread)) =

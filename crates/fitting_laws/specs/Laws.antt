@@ -8,24 +8,19 @@ use Rattle.journal_model.specs.Event.{Event}
 use Rattle.journal_model.specs.Journal.{invocation_begun, entries_of}
 use Rattle.journal_model.specs.Cause.{IsAccepted}
 use Rattle.journal_model.specs.Run.{Handler}
-use Rattle.input_laws.specs.Message.{InputMessage, CarriesInput, CarriesArrival, arrivals_carried, IsBroughtBy}
+use Rattle.input_laws.specs.Message.{InputMessage, CarriesInput, arrivals_carried, IsBroughtBy}
 use Rattle.position_laws.specs.Beginning.{AttemptStart, ShowsStart, IsBegunAs, start_after}
 use Rattle.machine_laws.specs.Living.{LiveAttempt, IsLiveMachine}
 use Rattle.children_laws.specs.Childless.{is_cancellation}
-use Rattle.beginning_laws.specs.Reading.{MessageFits}
+use Rattle.beginning_laws.specs.Reading.{MayCome}
 use Rattle.beginning_laws.specs.Standing.{IsInputOf, CanBegin}
 use Rattle.fitting_laws.specs.Fitting.{AllFit}
 
--- an arrival that the protocol can carry, and no cancellation
-abbrev pub ComesWell : InputMessage → Type 0
-ComesWell (CarriesArrival ty arrival) = MessageFits (CarriesArrival ty arrival) × (is_cancellation arrival ≡ false)
-ComesWell _ = ⊥
-
--- so is what an event brings to the live attempt
-abbrev pub MessagesComeWell : Type 0
-MessagesComeWell = (next : Handler) (options : RunOptions) (fallback_seed : ℕ) (id : Text) (event : Event) (events : List Event) (live : LiveAttempt) (unread more : List InputMessage)
+-- what an event brings to the live attempt may come behind its journal
+abbrev pub MessagesMayCome : Type 0
+MessagesMayCome = (next : Handler) (options : RunOptions) (fallback_seed : ℕ) (id : Text) (event : Event) (events : List Event) (live : LiveAttempt) (unread more : List InputMessage)
     → live.unread ≡ unread ++ more → IsAccepted (event ∷ events) → AllFit id (event ∷ events) → IsLiveMachine next options fallback_seed id (event ∷ events) live
-    → AllByRecursion (IsBroughtBy (entries_of (event ∷ events) id) id event) more → AllByRecursion ComesWell more
+    → AllByRecursion (IsBroughtBy (entries_of (event ∷ events) id) id event) more → AllByRecursion MayCome more
 
 -- the messages that an attempt is begun with are such as the protocol can carry, and none cancels
 pub record IsFedWell (start : AttemptStart) : Type 0 where

@@ -4,11 +4,11 @@
 #![tactic(auto)]
 
 ghost use Rattle.fitting_laws.specs.Handing.{HandsOutInput};
-ghost use Rattle.fitting_laws.specs.Laws.{AttemptsAreFedWell, AttemptsCanStart, MessagesComeWell};
+ghost use Rattle.fitting_laws.specs.Laws.{AttemptsAreFedWell, AttemptsCanStart, MessagesMayCome};
 
 /// What an event brings to the live attempt can be told to it.
 pub fn messages_come_well()
-    ensures { MessagesComeWell }
+    ensures { MessagesMayCome }
 {}
 
 /// What an attempt is begun with can be told to it.

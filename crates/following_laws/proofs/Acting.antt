@@ -32,7 +32,7 @@ use Rattle.schedule_model.specs.Schedule.{Advances}
 use Rattle.following_laws.specs.Following.{ReplaysInLine, given_of, IsServed, Flies, FollowsBegun}
 use Rattle.fitting_laws.proofs.Fits.{may_come}
 use Rattle.following_laws.proofs.Following.{IsFlown, flown}
-use Rattle.following_laws.proofs.Serving.{ServingLaws, may_all}
+use Rattle.following_laws.proofs.Serving.{ServingLaws}
 
 never : (b : Bool) → (b && false) ≡ false
 never true = refl
@@ -196,7 +196,7 @@ module _ {H : Type 0} (function : H → Handler) (next : Handler) (options : VMO
             lives = some.2;
             serves = subst (λ (b : Bool). Serves function next f.version options after b changed) (sym closed_now_too)
                 (laws.events f.version s.live true changed some.0 s.live.coming c.serves
-                (may_all some.0 (may_come next (run_options options) options.fallback_random_seed id closing events after s.live.unread some.0 refl accepted (tt, f.typed) some.2 some.1)));
+                (may_come next (run_options options) options.fallback_random_seed id closing events after s.live.unread some.0 refl accepted (tt, f.typed) some.2 some.1));
           }
 
       closed_served : (s : IsServed function next options id events new f.version f.coming one.attempt) → IsFlown function next options id (closing ∷ events) held new output waits (record one { attempt = changed })

@@ -27,7 +27,7 @@ use Rattle.schedule_model.proofs.Holding.{some_none}
 use Rattle.fitting_laws.specs.Fitting.{AcceptedFits, AllFit}
 use Rattle.following_laws.specs.Following.{given_of, IsServed, Flies, FollowsBegun, FollowsWhere, FollowsIn}
 use Rattle.fitting_laws.proofs.Fits.{may_come}
-use Rattle.following_laws.proofs.Serving.{ServingLaws, may_all}
+use Rattle.following_laws.proofs.Serving.{ServingLaws}
 
 -- an event that begins neither the invocation nor an attempt of it, hands it nothing and closes nothing of it
 pub record IsPlain (id : Text) (event : Event) : Type 0 where
@@ -58,7 +58,7 @@ module _ {H : Type 0} (function : H → Handler) (next : Handler) (options : VMO
         lives = some.2;
         serves = subst (λ (b : Bool). Serves function next version options (record s.live { unread = s.live.unread ++ some.0; coming = map (frame_meant version) left }) b attempt) (sym closed_same)
             (laws.events version s.live (is_input_closed events id) attempt some.0 (map (frame_meant version) left) s.serves
-            (may_all some.0 (may_come next (run_options options) options.fallback_random_seed id event events (record s.live { unread = s.live.unread ++ some.0; coming = map (frame_meant version) left }) s.live.unread some.0 refl (causes, accepted) (fits, typed) some.2 some.1)));
+            (may_come next (run_options options) options.fallback_random_seed id event events (record s.live { unread = s.live.unread ++ some.0; coming = map (frame_meant version) left }) s.live.unread some.0 refl (causes, accepted) (fits, typed) some.2 some.1));
       }
 
   attempts_same : attempts_begun (event ∷ events) id ≡ attempts_begun events id

@@ -9,7 +9,6 @@ use Rattle.journal_model.specs.Event.{Event, Frame}
 use Rattle.journal_model.specs.Journal.{is_of, invocation_begun, recorded_requests}
 use Rattle.journal_model.specs.Attempt.{live_attempt, is_input_closed}
 use Rattle.journal_model.specs.Cause.{Cause, causes_of, is_of_frame, IsAccepted}
-use Rattle.journal_model.specs.Cause as cause
 use Rattle.journal_model.specs.Headline.{arrivals_handed}
 use Rattle.journal_model.specs.Run.{Handler}
 use Rattle.turn_laws.specs.Sending.{SendsOfRun}
@@ -33,6 +32,7 @@ use Rattle.following_laws.proofs.Sending.{none_lie_in_frames}
 use Rattle.following_laws.proofs.Serving.{ServingLaws}
 use Rattle.following_laws.proofs.Taking.{first_on_its_way}
 use Rattle.following_laws.specs.Attempts.{output_of, Attempt}
+use Rattle.sending_laws.proofs.Taking.{lies_as}
 use Rattle.following_laws.specs.Schedules.{HeldAttempt, with_first, is_held, held_of, with_attempt, Advances}
 use Rattle.following_laws.specs.Sending.{Sent, frame_meant, IsOfStore}
 
@@ -41,29 +41,6 @@ never true = refl
 never false = refl
 
 -- ---- refusals
-
-lies_as : (c : Cause) → lies_in_frame (refusal_of c) ≡ is_of_frame c
-lies_as cause.ObjectBusy = refl
-lies_as cause.EmptyName = refl
-lies_as cause.IdUsed = refl
-lies_as cause.UnknownInvocation = refl
-lies_as cause.InvocationClosed = refl
-lies_as cause.CompletionNotOpen = refl
-lies_as cause.WrongKind = refl
-lies_as cause.ReservedSignal = refl
-lies_as cause.AttemptNotLive = refl
-lies_as cause.UnsupportedVersion = refl
-lies_as cause.BrokenPayload = refl
-lies_as cause.NestedTooDeep = refl
-lies_as cause.FrameNotAccepted = refl
-lies_as cause.BadCompletion = refl
-lies_as cause.InputNotClosed = refl
-lies_as cause.InputRemains = refl
-lies_as cause.InputAlreadyClosed = refl
-lies_as cause.KeyNotText = refl
-lies_as cause.RunNotOpen = refl
-lies_as cause.NumbersUsedUp = refl
-lies_as cause.PayloadTooLong = refl
 
 not-either : (a b : Bool) → (a || b) ≡ false → a ≡ false
 not-either true b e = e

@@ -100,7 +100,7 @@ causes_none next given arrivals version Ends id events h number =
 
 -- ---- refusals
 
-lies_as : (c : Cause) → lies_in_frame (refusal_of c) ≡ is_of_frame c
+pub lies_as : (c : Cause) → lies_in_frame (refusal_of c) ≡ is_of_frame c
 lies_as cause.ObjectBusy = refl
 lies_as cause.EmptyName = refl
 lies_as cause.IdUsed = refl

@@ -6,19 +6,15 @@ use Rattle.vm_attempt.specs.Attempt.{ClosesInput}
 use Rattle.serving_laws.specs.Attempts.{IsBegun, Feeds, output_of, Shows, LetsGo, TakesOutput, Turns, Attempt, Turn}
 use Rattle.serving_laws.specs.Machine.phases
 use Rattle.serving_laws.specs.Machine.{out_of_memory}
-use Rattle.serving_laws.specs.Reading.{MessageFits, CanBegin, IsRunOf}
+use Rattle.serving_laws.specs.Reading.{CanBegin, IsRunOf}
 use Rattle.serving_laws.specs.Sending.{Sent, sent_stream, AllFit, frame_meant}
 use Rattle.serving_laws.specs.Serving.{asking_by_text, IsFedBy, Serves, IsOver}
-use Rattle.serving_laws.specs.Words.{Error, Version, Bytes, Text, Handler, Invocation, Event, Frame, IsAccepted, InputMessage, CarriesArrival, FollowsSo, IsNote, AttemptStart, ShowsStart, LiveAttempt, IsLiveMachine, HasReadJournal, attempt_begun, handed_bytes, after_reading, is_cancellation, run_options, VMOptions}
+use Rattle.serving_laws.specs.Words.{Error, Version, Bytes, Text, Handler, Invocation, Event, Frame, IsAccepted, InputMessage, FollowsSo, IsNote, AttemptStart, ShowsStart, LiveAttempt, IsLiveMachine, HasReadJournal, attempt_begun, handed_bytes, after_reading, run_options, VMOptions}
+pub use Rattle.beginning_laws.specs.Reading.{MayCome}
 
 -- as it is begun, once it has read its start frame
 abbrev pub attempt_started : AttemptStart → LiveAttempt
 attempt_started start = record (attempt_begun start) { bytes = [] }
-
--- a message behind the journal: an arrival that the protocol can carry, and no cancellation
-abbrev pub MayCome : InputMessage → Type 0
-MayCome (CarriesArrival ty arrival) = MessageFits (CarriesArrival ty arrival) × (is_cancellation arrival ≡ false)
-MayCome _ = ⊥
 
 -- a frame that says nothing of requests is of the run whatever is on its way
 abbrev pub NotesFollow : Type 0
