@@ -7,10 +7,10 @@ use Rattle.protocol_types.specs.declared.feature.Feature.TheVariants.{AwaitTree 
 use Rattle.protocol_types.specs.Version.{version_number}
 use Rattle.protocol_types.specs.Feature.{lacks_feature}
 use Rattle.journal_model.specs.declared.notification.NotificationId.{NotificationId}
-use Rattle.journal_model.specs.AwaitTree.{AwaitTree, Single, Combined, AwaitTrees, no_trees, and_trees, map_leaves, map_leaves_of_trees}
+use Rattle.journal_model.specs.AwaitTree.{AwaitTree, map_leaves}
 use Rattle.journal_model.specs.Event.{Frame}
 use Rattle.journal_model.specs.Request.{Request}
-use Rattle.journal_model.specs.Waiting.{and_leaf, only_leaves, only_children}
+use Rattle.journal_model.specs.Waiting.{only_leaves}
 use Rattle.attempt_model.specs.Results.{Slots, slot_of}
 use Rattle.attempt_model.specs.Machine.{Reply}
 use Rattle.position_laws.specs.Replies.{SendsReply}
@@ -18,6 +18,7 @@ use Rattle.waking_laws.specs.Suspended.{Tells}
 use Rattle.vm_context.specs.Output.{Written}
 use Rattle.vm_calls.specs.declared.active.Active.{Active}
 use Rattle.vm_waiting.specs.Suspending.{over_ids}
+use Rattle.vm_waiting.proofs.TellsAsRun.{left_out}
 use Rattle.vm_errors.specs.Failure.{told_error}
 use Rattle.request_laws.specs.Fitting.{RequestFits}
 use Rattle.sending_laws.specs.Sent.{Asks, Awaits, Suspends, Fails, Ends, AllFit, is_recorded, suspension_told, frame_meant}
@@ -63,16 +64,6 @@ stays_send false done m after left old new opens fits tells =
       written = subst (λ (active : Active). Sends [] old.output active.output) (sym tells) (nothing old.output);
       sends = inl refl;
     }
-
--- leaves are replaced, and then left out, in one step
-only_mapped : {A B : Type 0} (f : A → Option B) (trees : AwaitTrees A) → only_children (λ (leaf : Option B). leaf) (map_leaves_of_trees f trees) ≡ only_children f trees
-only_mapped f no_trees = refl
-only_mapped f (and_trees (Single leaf) trees) = ap (and_leaf (f leaf)) (only_mapped f trees)
-only_mapped f (and_trees (Combined combinator children) trees) = λ i. and_trees (Combined combinator (only_mapped f children i)) (only_mapped f trees i)
-
-left_out : {A B : Type 0} (f : A → Option B) (tree : AwaitTree A) → only_leaves (λ (leaf : Option B). leaf) (map_leaves f tree) ≡ only_leaves f tree
-left_out f (Single leaf) = refl
-left_out f (Combined combinator children) = ap (Combined combinator) (only_mapped f children)
 
 suspensions_send : SuspensionsSend
 suspensions_send m after left old new opens slots fits asleep is =

@@ -39,7 +39,7 @@ only_mapped f no_trees = refl
 only_mapped f (and_trees (Single leaf) trees) = ap (and_leaf (f leaf)) (only_mapped f trees)
 only_mapped f (and_trees (Combined combinator children) trees) = λ i. and_trees (Combined combinator (only_mapped f children i)) (only_mapped f trees i)
 
-left_out : {A B : Type 0} (f : A → Option B) (tree : AwaitTree A) → only_leaves (λ (leaf : Option B). leaf) (map_leaves f tree) ≡ only_leaves f tree
+pub left_out : {A B : Type 0} (f : A → Option B) (tree : AwaitTree A) → only_leaves (λ (leaf : Option B). leaf) (map_leaves f tree) ≡ only_leaves f tree
 left_out f (Single leaf) = refl
 left_out f (Combined combinator children) = ap (Combined combinator) (only_mapped f children)
 
