@@ -18,10 +18,6 @@ open_grows version old new frame true opened more = absurd cc
 open_grows version old new frame false opened more = ap (λ (bytes : List ℕ). written_of version bytes false) more
 
 -- the same of a call whose answer is handed on
-pub frame_kept : {T E : Type 0} (r : Result T E) (version : Version) (old new frame : List ℕ) (is_closed : Bool) → is_closed ≡ false → OnOk r (new ≡ old ++ frame)
-    → OnOk r (written_of version new is_closed ≡ with_frame frame (written_of version old is_closed))
-frame_kept r version old new frame is_closed opened = on_ok_weaker r (λ (more : new ≡ old ++ frame). open_grows version old new frame is_closed opened more)
-
 pub rest_taken : {T E : Type 0} (r : Result T E) (version : Version) (old new : List ℕ) (is_closed : Bool) → OnOk r (new ≡ [])
     → OnOk r (written_of version new is_closed ≡ all_taken (written_of version old is_closed))
 rest_taken r version old new is_closed = on_ok_weaker r (λ (none : new ≡ []). ap (λ (bytes : List ℕ). written_of version bytes is_closed) none)

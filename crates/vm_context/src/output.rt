@@ -117,18 +117,6 @@ impl Output {
         Ok(())
     }
 
-    /// Writes a frame that stands already; behind the end nothing.
-    pub fn send_frame(&mut self, frame: Bytes) -> Result<(), AllocError>
-        ensures ok { OnOk result (self.new ≡ with_frame frame self.old) }
-        ensures err { OnErr result (self.new ≡ self.old) }
-        ensures closed { self.old.is_closed ≡ true → IsOk result }
-    {
-        if self.is_closed {
-            return Ok(());
-        }
-        push_frame(&mut self.frames, frame)
-    }
-
     /// Ends the output: what waits can be taken still.
     pub fn send_eof(&mut self)
         ensures { self.new ≡ record self.old { is_closed = true } }
