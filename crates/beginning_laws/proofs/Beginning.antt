@@ -48,7 +48,7 @@ asked_again version first old result new nothing failed steps =
     same_answer answer (inl same) = same
     same_answer answer (inr same) = same
 
-    go : (admission : Admission) → AdmitsWhere (Some out_of_memory) None old admission steps.between → GoesOn ReadsInputs (IsElsewhere InputCommand []) admission steps.between result new
+    go : (admission : Admission) → AdmitsWhere (Some out_of_memory) None old admission steps.between → GoesOn ReadsInputs (IsElsewhere 0 InputCommand []) admission steps.between result new
         → RefusesInput version result new
     go (admissions.Stopped answer) admits goes =
         let same : new ≡ old = goes.1 ∙ admits.0 in

@@ -96,7 +96,7 @@ module _ (follows : SeesBehindInput) (given : Invocation) (m : Machine) (left : 
       (subst (λ (replay : JournalReplay). Leaves replay old.active starts.read h.between.active) at.replays starts.reads.leaves)
       starts.gives h.answers
 
-  stepped : (admission : Admission) (between : MachineState) → AdmitsWhere None None old admission between → GoesOn ReadsInputs (IsElsewhere InputCommand []) admission between result new
+  stepped : (admission : Admission) (between : MachineState) → AdmitsWhere None None old admission between → GoesOn ReadsInputs (IsElsewhere 0 InputCommand []) admission between result new
       → IsGiven given m left told input old result new ⊎ LacksMemory old result new
   stepped admissions.Admitted between admits goes = made (subst (λ (vm : MachineState). ReadsInputs vm result new) admits.1 goes)
   stepped admissions.Elsewhere between admits goes = absurd (never_elsewhere (ap is_active (sym at.phase) ∙ admits.0))

@@ -1,5 +1,5 @@
 // What has come, and what handles stand for.
-ghost use Rattle.std.specs.Prelude.{◌≡◌, ◌+◌, ◌^◌, ◌≤◌, ◌↔◌, [], length, is_some, IfOk, OnOk, OnErr, IsErrOf};
+ghost use Rattle.std.specs.Prelude.{◌≡◌, ◌+◌, ◌^◌, ◌≤◌, ◌↔◌, true, [], length, is_some, IfOk, OnOk, OnErr, IsErrOf};
 ghost use Rattle.journal_model.specs.Future.{tree_of};
 ghost use Rattle.journal_model.specs.Waiting.{only_leaves};
 ghost use Rattle.protocol_stream.specs.Records.{future_record};
@@ -99,6 +99,13 @@ impl AsyncResultsState {
         };
         self.slots.push(Some(id))?;
         Ok(NotificationHandle::new(number))
+    }
+
+    /// Whether no handle is left behind so many more.
+    pub fn lacks_handles(&self, behind: u32) -> bool
+        ensures { (result ≡ true) ↔ (2 ^ 32 ≤ 17 + length (slots_of self.now) + behind) }
+    {
+        next_handle(self.slots.len().saturating_add(behind as usize)).is_none()
     }
 
     /// Whether a notification waits for the handle.

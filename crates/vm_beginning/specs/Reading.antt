@@ -40,7 +40,7 @@ ReadsAs version options is_replaying start old reading new = (reading ≡ Elsewh
 abbrev pub AnswersReading : Reading → (between : MachineState) → Result Input Error → (new : MachineState) → Type 0
 AnswersReading (Given input) between result new = (result ≡ Ok input) × (new ≡ between)
 AnswersReading (Fails cause) between (Err answer) new = MachineFails cause between answer new
-AnswersReading Elsewhere between (Err answer) new = IsElsewhere InputCommand [] between answer new
+AnswersReading Elsewhere between (Err answer) new = IsElsewhere 0 InputCommand [] between answer new
 AnswersReading reading between result new = ⊥
 
 -- of a machine of which calls are made
@@ -53,4 +53,4 @@ pub record ReadsInputs (old : MachineState) (result : Result Input Error) (new :
 
 -- one that has failed answers that again; elsewhere it fails, with the input's command counted
 abbrev pub IsRead : (old : MachineState) → Result Input Error → (new : MachineState) → Type 0
-IsRead old result new = Steps ReadsInputs (IsElsewhere InputCommand []) None old result new
+IsRead old result new = Steps ReadsInputs (IsElsewhere 0 InputCommand []) None old result new

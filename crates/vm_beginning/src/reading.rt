@@ -82,7 +82,7 @@ fn make(vm: &mut MachineState) -> Result<Input, Error>
     match read(&mut vm.active, vm.alloc, vm.version, vm.options, &vm.start) {
         Reading::Given(input) => Ok(input),
         Reading::Fails(cause) => Err(vm.fail(cause)),
-        Reading::Elsewhere => Err(vm.fail_elsewhere(MessageType::InputCommand, ByteStr::new())),
+        Reading::Elsewhere => Err(vm.fail_elsewhere(0, MessageType::InputCommand, ByteStr::new())),
     }
 }
 
@@ -95,7 +95,7 @@ pub fn sys_input(vm: &mut MachineState) -> Result<Input, Error>
     match vm.admit(None) {
         Admission::Admitted => make(vm),
         Admission::Elsewhere => {
-            Err(vm.fail_elsewhere(MessageType::InputCommand, ByteStr::new()))
+            Err(vm.fail_elsewhere(0, MessageType::InputCommand, ByteStr::new()))
         }
         Admission::Stopped(error) => Err(error),
     }

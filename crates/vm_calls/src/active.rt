@@ -1,5 +1,5 @@
 // What an attempt keeps while calls are made of it, and the steps that each call is made of.
-ghost use Rattle.std.specs.Prelude.{◌≡◌, ◌+◌, ◌≤◌, ◌<◌, ◌^◌, ◌↔◌, ◌||◌, ℕ, Bool, List, Some, OnOk, OnErr, IfOk, IfErr, length};
+ghost use Rattle.std.specs.Prelude.{◌≡◌, ◌+◌, ◌≤◌, ◌<◌, ◌^◌, ◌↔◌, ◌||◌, ℕ, Bool, true, List, Some, OnOk, OnErr, IfOk, IfErr, length};
 ghost use Rattle.vm_calls.specs.Words.{Call, Answer, Request, Invocation, Machine};
 ghost use Rattle.vm_commands.specs.HeaderEquality.{is_unstable};
 ghost use Rattle.vm_calls.specs.Active.{left_of, still_replays, asking, TellsSame, IsAtCommand, IsSettled, TakesCompletion, LacksCompletions, HasCompletions, PutsIn};
@@ -69,6 +69,18 @@ fn still_replays(is_replaying: bool, commands: &VecDeque<RawMessage>) -> bool
 }
 
 impl Active {
+    /// Whether so many completion ids, or handles for them, are not left.
+    pub fn lacks_completions(&self, taken: u32) -> bool
+        ensures { (result ≡ true) ↔ LacksCompletions taken self.now }
+    {
+        match taken.checked_sub(1) {
+            Some(behind) => {
+                self.journal.lacks_completions(behind) || self.results.lacks_handles(behind)
+            }
+            None => false,
+        }
+    }
+
     /// A command of this type and name is asked for: errors that follow tell it. Answers a copy of the name.
     pub fn ask(&mut self, ty: MessageType, name: ByteStr) -> Result<ByteStr, AllocError>
         ensures copy { IfOk result (λ copy. copy ≡ name) }

@@ -1,5 +1,5 @@
 // The calls that make a handle and put no command.
-ghost use Rattle.std.specs.Prelude.{◌≡◌, Bool, IfOk, IfErr};
+ghost use Rattle.std.specs.Prelude.{◌≡◌, ◌↔◌, Bool, true, IfOk, IfErr};
 ghost use Rattle.vm_calls.specs.Words.{Call, Answer, Invocation, Machine};
 ghost use Rattle.vm_calls.specs.Active.{Sees, TellsSame};
 ghost use Rattle.vm_calls.specs.Handles.{LacksHandle, LacksSignal, TakesSignal, GivesSignal, GivesAwakeable, MakesHandle};
@@ -13,6 +13,20 @@ use vm_awakeables::awakeable_id;
 use vm_types::AwakeableHandle;
 
 impl Active {
+    /// Whether no handle is left.
+    pub fn lacks_handle(&self) -> bool
+        ensures { (result ≡ true) ↔ LacksHandle self.now }
+    {
+        self.results.lacks_handles(0)
+    }
+
+    /// Whether no number of an awakeable's signal, or no handle, is left.
+    pub fn lacks_signal(&self) -> bool
+        ensures { (result ≡ true) ↔ LacksSignal self.now }
+    {
+        self.journal.lacks_signal() || self.lacks_handle()
+    }
+
     // Takes the next number of an awakeable's signal, and the handle that stands for it.
     fn next_signal(&mut self) -> Result<(u32, NotificationHandle), NumberError>
         ensures ok { IfOk result (λ made. TakesSignal made self.old self.new) }

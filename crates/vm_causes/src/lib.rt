@@ -11,7 +11,7 @@ pub use about::{about_last, about_nothing};
 pub use calls::{call_cause, input_cause, number_cause};
 pub use entries::entry_cause;
 pub use vm_entries::{
-    Active, CallError, Command, EntryError, Incoming, InputError, Journal, Phase, again, fail,
-    fresh_active, kind_of, read_input, receive_command, receive_ephemeral_answer,
+    Active, CallError, Command, EntryError, IdsExhausted, Incoming, InputError, Journal, Phase,
+    again, fail, fresh_active, kind_of, read_input, receive_command, receive_ephemeral_answer,
     receive_notification, receive_run_acknowledgement, receive_start, unexpected,
 };

@@ -108,6 +108,20 @@ impl Journal {
         self.last_name = name;
     }
 
+    /// Whether no completion id is left behind so many more.
+    pub fn lacks_completions(&self, behind: u32) -> bool
+        ensures { (result ≡ true) ↔ (2 ^ 32 ≤ self.now.completions + behind) }
+    {
+        u64::from(self.last_completion) + u64::from(behind) >= u64::from(u32::MAX)
+    }
+
+    /// Whether no id of an awakeable's signal is left.
+    pub fn lacks_signal(&self) -> bool
+        ensures { (result ≡ true) ↔ (2 ^ 32 ≤ self.now.signals) }
+    {
+        self.last_signal == u32::MAX
+    }
+
     /// Takes the next completion id.
     pub fn next_completion_notification_id(&mut self) -> Result<u32, IdsExhausted>
         ensures id { IfOk result (λ id. id ≡ self.old.completions) }

@@ -22,7 +22,7 @@ ghost use Rattle.vm_feeding.specs.Closing.{ClosesInput};
 ghost use Rattle.vm_feeding.specs.Feeding.{IsFed};
 ghost use Rattle.vm_feeding.specs.Telling.{IsTold};
 ghost use Rattle.vm_handles.specs.Calling.{IsCalled};
-ghost use Rattle.vm_handles.specs.Handles.{id_of, IsNamed, IsAwakeable, IsNoAwakeable, Looks, MakesSignal, TakesFirst, TakeCauses};
+ghost use Rattle.vm_handles.specs.Handles.{id_of, IsNamed, IsAwakeable, IsNoAwakeable, IsNoSignal, Looks, MakesSignal, TakesFirst, TakeCauses};
 ghost use Rattle.vm_syscalls.specs.Passed.{Calls, IsUnexpected, Steps};
 ghost use Rattle.vm_progress.specs.Awaiting.{DoesAwait};
 ghost use Rattle.vm_progress.specs.Ending.{EndsAs};
@@ -274,7 +274,7 @@ impl VM for CoreVM {
     }
 
     fn create_signal_handle(&mut self, name: ByteStr) -> VMResult<NotificationHandle>
-        ensures { Steps (IsCalled (MakesSignal name) NumberCauses) (IsUnexpected (codes "named awakeable")) None self.old.state result self.new.state }
+        ensures { Steps (IsCalled (MakesSignal name) NumberCauses) IsNoSignal None self.old.state result self.new.state }
     {
         vm_handles::create_signal_handle(&mut self.state, name)
     }

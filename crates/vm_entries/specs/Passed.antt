@@ -1,5 +1,5 @@
 -- Names of crates below, passed on, so that crates above name this one alone.
-pub use Rattle.vm_calls.specs.Active.{Sees, IsAtCommand, asking}
+pub use Rattle.vm_calls.specs.Active.{Sees, IsAtCommand, LacksCompletions, HasCompletions, asking}
 pub use Rattle.vm_calls.specs.Finding.{FindsAs}
 pub use Rattle.vm_calls.specs.Making.{Makes}
 pub use Rattle.vm_calls.specs.Passed.unmatched

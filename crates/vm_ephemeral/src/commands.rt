@@ -100,6 +100,13 @@ impl EphemeralCommands {
         }
     }
 
+    /// Whether every number that a read may have was taken.
+    pub fn is_exhausted(&self) -> bool
+        ensures { (result ≡ true) ↔ (2 ^ 32 ≤ self.now.next) }
+    {
+        self.last_completion_id == u32::MAX
+    }
+
     /// A read that the runtime is asked for, under the next number.
     pub fn register_in_flight(&mut self) -> Result<EphemeralCompletionId, RegisterError>
         ensures id { IfOk result (λ id. id.number ≡ self.old.next) }

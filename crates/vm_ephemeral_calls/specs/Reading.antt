@@ -28,7 +28,7 @@ use Rattle.vm_ephemeral.specs.declared.commands.RegisterError.{RegisterError}
 use Rattle.vm_ephemeral.specs.declared.commands.RegisterError.TheVariants as unregistered
 use Rattle.vm_machine.specs.Failing.{MachineFails}
 use Rattle.vm_machine.specs.Passed.{Tells, Unless}
-use Rattle.vm_machine.specs.Steps.{Steps, FailsBy, IsUnexpected}
+use Rattle.vm_machine.specs.Steps.{Steps, FailsBy, IsUnexpected, IsMissed}
 use Rattle.vm_machine.specs.declared.machine_state.MachineState.{MachineState}
 use Rattle.vm_types.specs.declared.handles.EphemeralCompletionId.{EphemeralCompletionId}
 use Rattle.vm_ephemeral_calls.specs.Refusals.{lacks_reads, refusal_code, refusal_text}
@@ -116,10 +116,10 @@ abbrev pub GetsIn : (lacks : Bool) → (key : Text) → (old : MachineState) →
 GetsIn true key old result new = Refuses (Unsupported old.version) old result new
 GetsIn false key old result new = GetsBehind old.active.is_replaying key old result new
 
--- elsewhere; the version is looked at first
+-- elsewhere; the version is looked at first, then whether a number is left
 abbrev pub MissesIn : (lacks : Bool) → (old : MachineState) → Error → (new : MachineState) → Type 0
 MissesIn true old answer new = Refuses (Unsupported old.version) old (Err answer) new
-MissesIn false old answer new = IsUnexpected (codes "SysEphemeralStateGet") old answer new
+MissesIn false old answer new = IsMissed (2 ^ 32 ≤ old.reads.next) (codes "SysEphemeralStateGet") old answer new
 
 -- one that has failed answers that again
 abbrev pub IsGot : (key : Text) → (old : MachineState) → Result EphemeralCompletionId Error → (new : MachineState) → Type 0

@@ -1,6 +1,7 @@
 // The object's state is read ephemerally.
-ghost use Rattle.std.specs.Prelude.{◌≡◌, Err};
+ghost use Rattle.std.specs.Prelude.{◌≡◌, ◌≤◌, ◌^◌, codes, Err};
 ghost use Rattle.vm_context.specs.Eager.{told_value};
+ghost use Rattle.vm_machine.specs.Steps.{IsMissed};
 ghost use Rattle.vm_ephemeral_calls.specs.Refusals.{lacks_reads};
 ghost use Rattle.vm_ephemeral_calls.specs.Reading.{Refuses, AsksWhere, Gets, IsReplayed, GetsIn, MissesIn, IsGot};
 
@@ -65,6 +66,16 @@ fn make(vm: &mut MachineState, key: ByteStr) -> Result<EphemeralCompletionId, Er
     get(vm, key)
 }
 
+// A read of a machine of which no calls are made, and whose version has reads.
+fn miss_numbered(vm: &mut MachineState) -> Error
+    ensures { IsMissed (2 ^ 32 ≤ vm.old.reads.next) (codes "SysEphemeralStateGet") vm.old result vm.new }
+{
+    if vm.reads.is_exhausted() {
+        return vm.fail_exhausted();
+    }
+    vm.fail_unexpected("SysEphemeralStateGet")
+}
+
 // A read of a machine of which no calls are made.
 fn miss(vm: &mut MachineState) -> Error
     ensures { MissesIn (lacks_reads vm.old.version) vm.old result vm.new }
@@ -72,7 +83,7 @@ fn miss(vm: &mut MachineState) -> Error
     if lacks_reads(vm.version) {
         return refuse(vm, ReadRefusal::Unsupported(vm.version));
     }
-    vm.fail_unexpected("SysEphemeralStateGet")
+    miss_numbered(vm)
 }
 
 /// Reads a key of the object's state without recording it. The answer is there at once where the key is known; else the runtime

@@ -29,7 +29,7 @@ use Rattle.vm_errors.specs.declared.phase.Phase.TheVariants as phases
 use Rattle.vm_waiting.specs.Waiting.{IsTaken, Takes}
 use Rattle.vm_machine.specs.Failing.{MachineFails}
 use Rattle.vm_machine.specs.Passed.{NumberCauses}
-use Rattle.vm_machine.specs.Steps.{IsUnexpected}
+use Rattle.vm_machine.specs.Steps.{IsMissed}
 use Rattle.vm_machine.specs.declared.machine_state.MachineState.{MachineState}
 use Rattle.vm_handles.specs.Calling.{IsCalled}
 pub use Rattle.vm_start.specs.Starts.{started_id as id_of}
@@ -41,6 +41,10 @@ abbrev pub MakesSignal : Text → (old : Active) → Result ℕ NumberError → 
 MakesSignal name old made new =
     ((checks_off : Bool) (given : Invocation) (m : Machine) → Sees given old m → MakesHandle checks_off given m (Call.Signal name) (λ handle. Answer.Handle handle) LacksHandle old made new)
     × TellsSame old.journal new.journal × GivesSignal name old made new
+
+-- where no calls are made none is made: no handle is left, or the phase has no such call
+abbrev pub IsNoSignal : (old : MachineState) → Error → (new : MachineState) → Type 0
+IsNoSignal old answer new = IsMissed (LacksHandle old.active) (codes "named awakeable") old answer new
 
 -- ---- awakeables
 
@@ -69,7 +73,7 @@ abbrev pub IsAwakeable : (old : MachineState) → Result AwakeableHandle Error �
 IsAwakeable old result new = IsAwakeableWhere old.options.journal_replay old result new
 
 abbrev pub IsNoAwakeableWhere : JournalReplay → (old : MachineState) → Error → (new : MachineState) → Type 0
-IsNoAwakeableWhere Enabled old answer new = IsUnexpected (codes "awakeable") old answer new
+IsNoAwakeableWhere Enabled old answer new = IsMissed (LacksSignal old.active) (codes "awakeable") old answer new
 IsNoAwakeableWhere Disabled old answer new = IsUnsupported old answer new
 
 -- and where none are

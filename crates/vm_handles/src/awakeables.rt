@@ -1,6 +1,7 @@
 // An awakeable, of a machine in any phase.
-ghost use Rattle.std.specs.Prelude.{None};
-ghost use Rattle.vm_machine.specs.Steps.{Steps};
+ghost use Rattle.std.specs.Prelude.{codes, None};
+ghost use Rattle.vm_calls.specs.Handles.{LacksSignal};
+ghost use Rattle.vm_machine.specs.Steps.{IsMissed, Steps};
 ghost use Rattle.vm_handles.specs.Handles.{id_of, MakesAwakeable, IsNamed, IsUnsupported, IsAwakeable, IsNoAwakeable};
 
 use crate::answering::answer;
@@ -48,12 +49,22 @@ fn make(vm: &mut MachineState) -> Result<AwakeableHandle, Error>
     }
 }
 
+// Fails, where no calls are made and numbers of signals are known.
+fn miss_numbered(vm: &mut MachineState) -> Error
+    ensures { IsMissed (LacksSignal vm.old.active) (codes "awakeable") vm.old result vm.new }
+{
+    if vm.active.lacks_signal() {
+        return vm.fail_exhausted();
+    }
+    vm.fail_unexpected("awakeable")
+}
+
 // Fails, where no calls are made.
 fn miss(vm: &mut MachineState) -> Error
     ensures { IsNoAwakeable vm.old result vm.new }
 {
     match vm.options.journal_replay {
-        JournalReplay::Enabled => vm.fail_unexpected("awakeable"),
+        JournalReplay::Enabled => miss_numbered(vm),
         JournalReplay::Disabled => fail_unsupported(vm),
     }
 }

@@ -86,16 +86,16 @@ module _ {M Taken : Type 0} (difference : M → M → List ℕ) (call : Call) (a
     (old between : MachineState) where
   pub calls_made : (result : Result Taken Error) (new : MachineState) → IsRefusalOf old.version call event refusal → Admits refusal old Admitted between
       → IsMade difference call answer ty name between result new → Calls difference call answer event ty name old result new
-  calls_made result new refuses admits made = record { refusal = refusal; refuses = refuses; steps = steps_made (IsMade difference call answer ty name) (IsElsewhere ty name) refusal old between result new admits made }
+  calls_made result new refuses admits made = record { refusal = refusal; refuses = refuses; steps = steps_made (IsMade difference call answer ty name) (IsElsewhere (completions_of call) ty name) refusal old between result new admits made }
 
   pub calls_elsewhere : (told : Error) (new : MachineState) (named : Text) → named ≡ name → IsRefusalOf old.version call event refusal → Admits refusal old Elsewhere between
-      → IsElsewhere ty named between told new → Calls difference call answer event ty name old (Err told) new
+      → IsElsewhere (completions_of call) ty named between told new → Calls difference call answer event ty name old (Err told) new
   calls_elsewhere told new named is refuses admits elsewhere = record {
     refusal = refusal;
     refuses = refuses;
-    steps = steps_elsewhere (IsMade difference call answer ty name) (IsElsewhere ty name) refusal old between told new admits (subst (λ (n : Text). IsElsewhere ty n between told new) is elsewhere);
+    steps = steps_elsewhere (IsMade difference call answer ty name) (IsElsewhere (completions_of call) ty name) refusal old between told new admits (subst (λ (n : Text). IsElsewhere (completions_of call) ty n between told new) is elsewhere);
   }
 
   pub calls_stopped : (told : Error) → IsRefusalOf old.version call event refusal → Admits refusal old (Stopped told) between
       → Calls difference call answer event ty name old (Err told) between
-  calls_stopped told refuses admits = record { refusal = refusal; refuses = refuses; steps = steps_stopped (IsMade difference call answer ty name) (IsElsewhere ty name) refusal old between told admits }
+  calls_stopped told refuses admits = record { refusal = refusal; refuses = refuses; steps = steps_stopped (IsMade difference call answer ty name) (IsElsewhere (completions_of call) ty name) refusal old between told admits }

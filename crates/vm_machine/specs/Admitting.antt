@@ -1,15 +1,17 @@
 -- What stands before each call.
-use Rattle.std.specs.Prelude.{◌≡◌, ℕ, Bool, true, false, List, Option, Some, None, Result, IfOk}
+use Rattle.std.specs.Prelude.{◌≡◌, ◌⊎◌, ℕ, Bool, true, false, List, Option, Some, None, Result, IfOk}
 use Rattle.std.specs.declared.alloc.AllocError.{AllocError}
 use Rattle.journal_model.specs.Notification.{Text}
 use Rattle.protocol_differences.specs.declared.relationship.CommandRelationship.TheVariants.{Last}
+use Rattle.protocol_differences.specs.Passed.{CommandMetadata}
+use Rattle.protocol_errors.specs.Code.{internal}
 use Rattle.protocol_errors.specs.declared.error.Error.{Error}
 use Rattle.protocol_types.specs.TypeText.{type_text}
 use Rattle.protocol_types.specs.declared.message_type.MessageType.{MessageType}
 use Rattle.protocol_types.specs.declared.version.Version.{Version}
 use Rattle.vm_causes.specs.Causes.{Tells}
 use Rattle.vm_causes.specs.Passed.phases
-use Rattle.vm_causes.specs.Passed.{asking, IsCopy, kept_error, unexpected_error, Phase, JournalCounts, command_told}
+use Rattle.vm_causes.specs.Passed.{Active, LacksCompletions, HasCompletions, asking, IsCopy, kept_error, unexpected_error, Phase, no_id_text, command_told}
 use Rattle.vm_refusals.specs.Refusals.{refusal_code, refusal_text}
 use Rattle.vm_refusals.specs.declared.refusal.CallRefusal.{CallRefusal}
 use Rattle.vm_refusals.specs.declared.refusal_error.RefusalError.{RefusalError}
@@ -23,14 +25,26 @@ abbrev pub is_active : Phase → Bool
 is_active phases.Active = true
 is_active _ = false
 
--- the error of a command that is asked for where no calls are made; it is about that command
-abbrev pub ElsewhereCauses : Phase → Bool → JournalCounts → MessageType → Error → Type 0
-ElsewhereCauses phase is_replaying journal ty told = told ≡ record (unexpected_error phase is_replaying (type_text ty)) { related_command = Some (command_told journal Last) }
+-- Why a call that takes so many completions is not made where no calls are made: a number is lacking, or none is, and there is no such
+-- call in this phase.
+abbrev pub MissedCauses : (taken : ℕ) → Phase → Active → (event : List ℕ) → Error → Type 0
+MissedCauses taken phase active event told =
+    (LacksCompletions taken active × Tells internal (Some no_id_text) told) ⊎ (HasCompletions taken active × (told ≡ unexpected_error phase active.is_replaying event))
 
--- the command is counted, and the machine fails
-pub record IsElsewhere (ty : MessageType) (name : Text) (old : MachineState) (answer : Error) (new : MachineState) : Type 0 where
+-- an error of which this is known is told about this command
+pub record IsAbout (command : CommandMetadata) (Causes : Error → Type 0) (told : Error) : Type 0 where
+  pub plain : Error
+  pub causes : Causes plain
+  pub about : told ≡ record plain { related_command = Some command }
+
+-- the error of a command that is asked for where no calls are made; it is about that command
+abbrev pub ElsewhereCauses : (taken : ℕ) → Phase → Active → MessageType → Error → Type 0
+ElsewhereCauses taken phase active ty told = IsAbout (command_told active.journal Last) (MissedCauses taken phase active (type_text ty)) told
+
+-- the command, which takes so many completions, is counted, and the machine fails
+pub record IsElsewhere (taken : ℕ) (ty : MessageType) (name : Text) (old : MachineState) (answer : Error) (new : MachineState) : Type 0 where
   pub cause : Result Error AllocError
-  pub causes : IfOk cause (ElsewhereCauses old.phase old.active.is_replaying (asking ty name old.active).journal ty)
+  pub causes : IfOk cause (ElsewhereCauses taken old.phase (asking ty name old.active) ty)
   pub fails : MachineFails cause (record old { active = asking ty name old.active }) answer new
 
 -- the machine fails with why the call is refused; no command is counted

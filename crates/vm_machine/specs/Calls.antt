@@ -58,7 +58,7 @@ pub record Calls {M Taken : Type 0} (difference : M → M → List ℕ) (call : 
     (old : MachineState) (result : Result Taken Error) (new : MachineState) : Type 0 where
   pub refusal : Option RefusalError
   pub refuses : IsRefusalOf old.version call event refusal
-  pub steps : Steps (IsMade difference call answer ty name) (IsElsewhere ty name) refusal old result new
+  pub steps : Steps (IsMade difference call answer ty name) (IsElsewhere (completions_of call) ty name) refusal old result new
 
 -- ---- moments
 

@@ -1,8 +1,10 @@
 -- What stands before a call, and then the call itself.
-use Rattle.std.specs.Prelude.{◌≡◌, List, ℕ, Option, Result, Ok, Err, IfOk}
+use Rattle.std.specs.Prelude.{◌≡◌, ◌⊎◌, List, ℕ, Option, Some, Result, Ok, Err, IfOk}
 use Rattle.std.specs.declared.alloc.AllocError.{AllocError}
+use Rattle.protocol_errors.specs.Code.{internal}
 use Rattle.protocol_errors.specs.declared.error.Error.{Error}
-use Rattle.vm_causes.specs.Passed.{unexpected_error}
+use Rattle.vm_causes.specs.Causes.{Tells}
+use Rattle.vm_causes.specs.Passed.{unexpected_error, no_id_text}
 use Rattle.vm_refusals.specs.declared.refusal_error.RefusalError.{RefusalError}
 use Rattle.vm_machine.specs.Admitting.{Admits}
 use Rattle.vm_machine.specs.Failing.{MachineFails}
@@ -19,6 +21,14 @@ pub record FailsBy (Causes : Error → Type 0) (old : MachineState) (answer : Er
 -- the call that this names is none for the machine in its phase; no command is counted
 abbrev pub IsUnexpected : (event : List ℕ) → (old : MachineState) → Error → (new : MachineState) → Type 0
 IsUnexpected event old answer new = FailsBy (λ told. told ≡ unexpected_error old.phase old.active.is_replaying event) old answer new
+
+-- no number is left; the error is about no command
+abbrev pub IsExhausted : (old : MachineState) → Error → (new : MachineState) → Type 0
+IsExhausted old answer new = FailsBy (Tells internal (Some no_id_text)) old answer new
+
+-- the call that this names puts no command: that a number is lacking is told before that it is none for the machine in its phase
+abbrev pub IsMissed : (Lacks : Type 0) → (event : List ℕ) → (old : MachineState) → Error → (new : MachineState) → Type 0
+IsMissed Lacks event old answer new = (Lacks × IsExhausted old answer new) ⊎ ((Lacks → ⊥) × IsUnexpected event old answer new)
 
 module _ {Taken : Type 0} (Makes : MachineState → Result Taken Error → MachineState → Type 0) (Misses : MachineState → Error → MachineState → Type 0) where
   -- what was admitted is made; where no calls are made it fails so; what was stopped is answered

@@ -1,14 +1,14 @@
 // What stands before each call: whether it is refused, and whether calls are made of the machine.
 ghost use Rattle.std.specs.Prelude.{◌≡◌, Option, IfOk};
-ghost use Rattle.vm_machine.specs.Admitting.{is_active, ElsewhereCauses, IsElsewhere, Admits, Carries};
-ghost use Rattle.vm_machine.specs.Steps.{IsUnexpected};
+ghost use Rattle.vm_machine.specs.Admitting.{is_active, MissedCauses, ElsewhereCauses, IsElsewhere, Admits, Carries};
+ghost use Rattle.vm_machine.specs.Steps.{IsUnexpected, IsExhausted};
 
 use crate::MachineState;
 use bytes::ByteStr;
 use protocol_errors::Error;
 use protocol_types::{MessageType, Version};
 use std::alloc::{AllocError, Global};
-use vm_causes::{Journal, Phase, about_nothing, again, unexpected};
+use vm_causes::{Active, IdsExhausted, Phase, about_nothing, again, unexpected};
 use vm_refusals::{CallRefusal, RefusalError};
 
 /// What stands before a call.
@@ -34,19 +34,37 @@ fn is_active(phase: &Phase) -> bool
     }
 }
 
+/// Why a call is not made where no calls are made: no number is left for the completions that it takes, or there is no such call in
+/// this phase. `event` is what it is named by. The error is about no command.
+pub fn missed_cause(
+    alloc: Global,
+    phase: &Phase,
+    active: &Active,
+    taken: u32,
+    event: ByteStr,
+) -> Result<Error, AllocError>
+    ensures { IfOk result (MissedCauses taken phase.now active.now event) }
+{
+    if active.lacks_completions(taken) {
+        drop(event);
+        return about_nothing(alloc, &IdsExhausted);
+    }
+    unexpected(alloc, phase, active.is_replaying, event)
+}
+
 // Why a command of this type is not asked for in this phase; the error is about that command.
 fn elsewhere_cause(
     alloc: Global,
     phase: &Phase,
-    is_replaying: bool,
-    journal: &Journal,
+    active: &Active,
+    taken: u32,
     ty: MessageType,
 ) -> Result<Error, AllocError>
-    ensures { IfOk result (ElsewhereCauses phase.now is_replaying journal.now ty) }
+    ensures { IfOk result (ElsewhereCauses taken phase.now active.now ty) }
 {
     let event = ByteStr::from_string(ty.to_string(alloc)?)?;
-    let error = unexpected(alloc, phase, is_replaying, event)?;
-    match journal.last_command_metadata() {
+    let error = missed_cause(alloc, phase, active, taken, event)?;
+    match active.journal.last_command_metadata() {
         Ok(command) => Ok(error.with_related_command_metadata(command)),
         Err(refused) => {
             drop(error);
@@ -56,18 +74,20 @@ fn elsewhere_cause(
 }
 
 impl MachineState {
-    /// A command is asked for where no calls are made: it is counted, and the machine fails.
-    pub fn fail_elsewhere(&mut self, ty: MessageType, name: ByteStr) -> Error
-        ensures { IsElsewhere ty name self.old result self.new }
+    /// A command that takes so many completions is asked for where no calls are made: it is counted, and the machine fails.
+    pub fn fail_elsewhere(&mut self, taken: u32, ty: MessageType, name: ByteStr) -> Error
+        ensures { IsElsewhere taken ty name self.old result self.new }
     {
         self.active.journal.transition(ty, name);
-        let cause = elsewhere_cause(
-            self.alloc,
-            &self.phase,
-            self.active.is_replaying,
-            &self.active.journal,
-            ty,
-        );
+        let cause = elsewhere_cause(self.alloc, &self.phase, &self.active, taken, ty);
+        self.fail(cause)
+    }
+
+    /// No number is left for a call that puts no command: the machine fails.
+    pub fn fail_exhausted(&mut self) -> Error
+        ensures { IsExhausted self.old result self.new }
+    {
+        let cause = about_nothing(self.alloc, &IdsExhausted);
         self.fail(cause)
     }
 

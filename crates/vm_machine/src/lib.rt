@@ -8,7 +8,7 @@ mod receiving;
 mod settling;
 mod sleeping;
 
-pub use admitting::{Admission, refusal_error};
+pub use admitting::{Admission, missed_cause, refusal_error};
 pub use machine_state::MachineState;
 pub use sleeping::checks_off;
 pub use vm_causes::{

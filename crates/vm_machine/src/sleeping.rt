@@ -67,7 +67,7 @@ impl MachineState {
         let (time, refusal) = moment_of(self.version, wake_up, "sleep duration");
         match self.admit(refusal) {
             Admission::Admitted => self.make_sleep(name, time),
-            Admission::Elsewhere => Err(self.fail_elsewhere(MessageType::SleepCommand, name)),
+            Admission::Elsewhere => Err(self.fail_elsewhere(1, MessageType::SleepCommand, name)),
             Admission::Stopped(error) => Err(error),
         }
     }

@@ -114,7 +114,7 @@ module _ (given : Invocation) (m : Machine) (call : Call) (old : MachineState) (
       → event ≡ moment_event call → length (ids_of m.completions m.signals call) ≡ completions_of call → TracksNone given m call → Calls difference call answer event ty name old result new
       → Comes given m call old (answered_as answer result) new
   call_comes {Taken = Taken} difference answer event ty name result new names same none calls =
-      steps_of (IsMade difference call answer ty name) (IsElsewhere ty name) calls.refusal old driven.phase (λ (r : Result Taken Error) (vm : MachineState). Comes given m call old (answered_as answer r) vm)
+      steps_of (IsMade difference call answer ty name) (IsElsewhere (completions_of call) ty name) calls.refusal old driven.phase (λ (r : Result Taken Error) (vm : MachineState). Comes given m call old (answered_as answer r) vm)
       (λ r vm free made. call_made (refusal_none given call event calls.refusal old driven.version calls.refuses free) same difference answer ty name r vm none made)
       (λ error told vm some refused. call_refused event error told vm names (refusal_some call event calls.refusal error old calls.refuses some) refused)
       result new calls.steps

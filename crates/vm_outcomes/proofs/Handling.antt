@@ -25,7 +25,7 @@ use Rattle.vm_calls.specs.declared.call_error.NumberError.TheVariants as numbers
 use Rattle.vm_context.specs.Journal.{no_id_text}
 use Rattle.vm_errors.specs.declared.phase.Phase.{Phase}
 use Rattle.vm_handles.specs.Calling.{AnswersBy, IsCalled}
-use Rattle.vm_handles.specs.Handles.{MakesSignal, IsAwakeableWhere, IsAwakeable, IsNoAwakeable, TakesFirst, TakeCauses, Looks}
+use Rattle.vm_handles.specs.Handles.{MakesSignal, IsNoSignal, IsAwakeableWhere, IsAwakeable, IsNoAwakeable, TakesFirst, TakeCauses, Looks}
 use Rattle.vm_types.specs.declared.handles.AwakeableHandle.{AwakeableHandle}
 use Rattle.vm_types.specs.declared.options.JournalReplay.{JournalReplay}
 use Rattle.vm_types.specs.declared.options.JournalReplay.TheVariants.{Enabled, Disabled}
@@ -80,10 +80,10 @@ module _ (given : Invocation) (m : Machine) (call : Call) (old : MachineState) (
       failed given m call old driven.phase answers.cause active told new (no_memory given m call old active asked answers.cause answers.causes) makes answers.fails
 
 signal_comes : (given : Invocation) (m : Machine) (name : Text) (old : MachineState) (driven : IsDriven given m old) (result : Result ℕ Error) (new : MachineState)
-    → Steps (IsCalled (MakesSignal name) NumberCauses) (IsUnexpected (codes "named awakeable")) None old result new
+    → Steps (IsCalled (MakesSignal name) NumberCauses) IsNoSignal None old result new
     → Comes given m (Call.Signal name) old (answered_as (λ handle. Answer.Handle handle) result) new
 signal_comes given m name old driven result new steps =
-    steps_of (IsCalled (MakesSignal name) NumberCauses) (IsUnexpected (codes "named awakeable")) None old driven.phase
+    steps_of (IsCalled (MakesSignal name) NumberCauses) IsNoSignal None old driven.phase
     (λ (r : Result ℕ Error) (vm : MachineState). Comes given m (Call.Signal name) old (answered_as (λ handle. Answer.Handle handle) r) vm)
     (λ r vm free called. handle_settles given m (Call.Signal name) old driven refl (λ handle. Answer.Handle handle) LacksHandle (λ lacks. inr (inr (lacks_handle given m old.active driven.sees lacks))) (λ has. inl refl)
     called.made called.active (inl called.does.1) r vm (called.does.0 (checks_off old.options.non_determinism_checks) given m driven.sees) called.answers)
@@ -91,7 +91,7 @@ signal_comes given m name old driven result new steps =
 
 -- a signal's handle is made
 pub signal_carried : (name : Text) (old : MachineState) (result : Result ℕ Error) (new : MachineState) (outcome : CallOutcome) → outcome ≡ answered_as (λ handle. Answer.Handle handle) result
-    → Steps (IsCalled (MakesSignal name) NumberCauses) (IsUnexpected (codes "named awakeable")) None old result new → CarriesOut (Call.Signal name) old outcome new
+    → Steps (IsCalled (MakesSignal name) NumberCauses) IsNoSignal None old result new → CarriesOut (Call.Signal name) old outcome new
 signal_carried name old result new outcome is steps = λ given m none driven.
     subst (λ (o : CallOutcome). Comes given m (Call.Signal name) old o new) (sym is) (signal_comes given m name old driven result new steps)
 

@@ -1,5 +1,5 @@
 -- What a read of the object's state does, in every phase of a machine.
-use Rattle.std.specs.Prelude.{◌≡◌, ℕ, Bool, List, Some, None, Result, Ok, Err}
+use Rattle.std.specs.Prelude.{◌≡◌, ℕ, Bool, List, None, Result, Ok, Err}
 use Rattle.std.specs.declared.alloc.AllocError.{AllocError}
 use Rattle.journal_model.specs.Notification.{Text}
 use Rattle.journal_model.specs.Run.{Invocation}
@@ -21,8 +21,7 @@ use Rattle.protocol_types.specs.declared.message_type.MessageType.{MessageType}
 use Rattle.protocol_types.specs.declared.message_type.MessageType.TheVariants.{GetEagerStateCommand, GetLazyStateCommand, GetEagerStateKeysCommand, GetLazyStateKeysCommand}
 use Rattle.vm_calls.specs.Active.{Sees}
 use Rattle.vm_calls.specs.declared.active.Active.{Active}
-use Rattle.vm_context.specs.Journal.{JournalCounts, command_told}
-use Rattle.vm_errors.specs.Phases.{unexpected_error}
+use Rattle.vm_context.specs.Journal.{command_told}
 use Rattle.vm_errors.specs.declared.phase.Phase.{Phase}
 use Rattle.vm_calls.specs.Spent.{IsSpent}
 use Rattle.vm_state_reads.specs.Finding.{FindsRead}
@@ -30,6 +29,7 @@ use Rattle.vm_state_reads.specs.Reading.{Reads}
 use Rattle.vm_state_reads.specs.Spent.{ReadFailsSpent}
 use Rattle.vm_state_reads.specs.Telling.{IsAtRead}
 use Rattle.vm_state_reads.specs.declared.read_error.ReadError.{ReadError}
+use Rattle.vm_machine.specs.Admitting.{MissedCauses, IsAbout}
 use Rattle.vm_machine.specs.Calls.{checks_off, IsOf}
 use Rattle.vm_machine.specs.Failing.{MachineFails}
 use Rattle.vm_machine.specs.Steps.{FailsBy, Steps}
@@ -39,12 +39,12 @@ use Rattle.vm_reading.specs.Causes.{ReadCauses}
 -- ---- where no calls are made
 
 -- the error is about the command that would be asked for next
-abbrev pub NextCauses : Phase → (is_replaying : Bool) → JournalCounts → CommandType → Error → Type 0
-NextCauses phase is_replaying journal ty told = told ≡ record (unexpected_error phase is_replaying (command_words ty)) { related_command = Some (command_told journal (Next ty None)) }
+abbrev pub NextCauses : Phase → Active → CommandType → Error → Type 0
+NextCauses phase active ty told = IsAbout (command_told active.journal (Next ty None)) (MissedCauses 1 phase active (command_words ty)) told
 
 -- no command is counted, and the machine fails
 abbrev pub MissesNext : CommandType → (old : MachineState) → Error → (new : MachineState) → Type 0
-MissesNext ty old answer new = FailsBy (NextCauses old.phase old.active.is_replaying old.active.journal ty) old answer new
+MissesNext ty old answer new = FailsBy (NextCauses old.phase old.active ty) old answer new
 
 -- ---- where they are
 

@@ -12,10 +12,10 @@ use protocol_differences::CommandRelationship;
 use protocol_errors::{EMPTY_GET_EAGER_STATE, EMPTY_GET_EAGER_STATE_KEYS, Error, FixedError};
 use protocol_stream::CommandType;
 use std::alloc::{AllocError, Global};
+use vm_calls::Active;
 use vm_commands::Command;
-use vm_context::Journal;
-use vm_errors::{Phase, unexpected};
-use vm_machine::{Admission, MachineState, checks_off};
+use vm_errors::Phase;
+use vm_machine::{Admission, MachineState, checks_off, missed_cause};
 use vm_state_reads::{ReadError, state_get, state_get_keys};
 
 // The handle of a read, or what the machine fails with.
@@ -40,14 +40,14 @@ fn settle_read<L: Command, E: Command>(
 fn next_cause(
     alloc: Global,
     phase: &Phase,
-    is_replaying: bool,
-    journal: &Journal,
+    active: &Active,
     ty: CommandType,
 ) -> Result<Error, AllocError>
-    ensures { IfOk result (NextCauses phase.now is_replaying journal.now ty) }
+    ensures { IfOk result (NextCauses phase.now active.now ty) }
 {
-    let error = unexpected(alloc, phase, is_replaying, ByteStr::from_static(ty.words()))?;
-    match journal.resolve_related_command(CommandRelationship::Next { ty, name: None }) {
+    let error = missed_cause(alloc, phase, active, 1, ByteStr::from_static(ty.words()))?;
+    let next = CommandRelationship::Next { ty, name: None };
+    match active.journal.resolve_related_command(next) {
         Ok(command) => Ok(error.with_related_command_metadata(command)),
         Err(refused) => {
             drop(error);
@@ -60,13 +60,7 @@ fn next_cause(
 fn fail_next(vm: &mut MachineState, ty: CommandType) -> Error
     ensures { MissesNext ty vm.old result vm.new }
 {
-    let cause = next_cause(
-        vm.alloc,
-        &vm.phase,
-        vm.active.is_replaying,
-        &vm.active.journal,
-        ty,
-    );
+    let cause = next_cause(vm.alloc, &vm.phase, &vm.active, ty);
     vm.fail(cause)
 }
 

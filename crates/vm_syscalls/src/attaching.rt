@@ -31,6 +31,7 @@ pub fn sys_attach_invocation(
             vm.settle(made)
         }
         Admission::Elsewhere => Err(vm.fail_elsewhere(
+            1,
             MessageType::AttachInvocationCommand,
             ByteStr::new(),
         )),
@@ -55,6 +56,7 @@ pub fn sys_get_invocation_output(
             vm.settle(made)
         }
         Admission::Elsewhere => Err(vm.fail_elsewhere(
+            1,
             MessageType::GetInvocationOutputCommand,
             ByteStr::new(),
         )),

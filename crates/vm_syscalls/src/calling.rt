@@ -44,7 +44,7 @@ pub fn sys_call(
             );
             vm.settle(made)
         }
-        Admission::Elsewhere => Err(vm.fail_elsewhere(MessageType::CallCommand, or_empty(name))),
+        Admission::Elsewhere => Err(vm.fail_elsewhere(2, MessageType::CallCommand, or_empty(name))),
         Admission::Stopped(error) => Err(error),
     }
 }

@@ -24,6 +24,7 @@ pub fn sys_get_promise(vm: &mut MachineState, key: ByteStr) -> Result<Notificati
             vm.settle(made)
         }
         Admission::Elsewhere => Err(vm.fail_elsewhere(
+            1,
             MessageType::GetPromiseCommand,
             ByteStr::new(),
         )),
@@ -42,6 +43,7 @@ pub fn sys_peek_promise(vm: &mut MachineState, key: ByteStr) -> Result<Notificat
             vm.settle(made)
         }
         Admission::Elsewhere => Err(vm.fail_elsewhere(
+            1,
             MessageType::PeekPromiseCommand,
             ByteStr::new(),
         )),
@@ -70,6 +72,7 @@ pub fn sys_complete_promise(
             vm.settle(made)
         }
         Admission::Elsewhere => Err(vm.fail_elsewhere(
+            1,
             MessageType::CompletePromiseCommand,
             ByteStr::new(),
         )),

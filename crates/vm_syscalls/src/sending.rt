@@ -74,6 +74,7 @@ pub fn sys_send(
             vm.settle(made)
         }
         Admission::Elsewhere => Err(vm.fail_elsewhere(
+            1,
             MessageType::OneWayCallCommand,
             or_empty(name),
         )),

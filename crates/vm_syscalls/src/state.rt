@@ -33,6 +33,7 @@ pub fn sys_state_set(
             vm.settle(made)
         }
         Admission::Elsewhere => Err(vm.fail_elsewhere(
+            0,
             MessageType::SetStateCommand,
             or_empty(name),
         )),
@@ -55,6 +56,7 @@ pub fn sys_state_clear(
             vm.settle(made)
         }
         Admission::Elsewhere => Err(vm.fail_elsewhere(
+            0,
             MessageType::ClearStateCommand,
             or_empty(name),
         )),
@@ -73,6 +75,7 @@ pub fn sys_state_clear_all(vm: &mut MachineState, name: Option<ByteStr>) -> Resu
             vm.settle(made)
         }
         Admission::Elsewhere => Err(vm.fail_elsewhere(
+            0,
             MessageType::ClearAllStateCommand,
             or_empty(name),
         )),

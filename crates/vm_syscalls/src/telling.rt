@@ -25,6 +25,7 @@ pub fn sys_cancel_invocation(vm: &mut MachineState, target_id: ByteStr) -> Resul
             vm.settle(made)
         }
         Admission::Elsewhere => Err(vm.fail_elsewhere(
+            0,
             MessageType::SendSignalCommand,
             ByteStr::new(),
         )),
@@ -53,6 +54,7 @@ pub fn sys_complete_signal(
             vm.settle(made)
         }
         Admission::Elsewhere => Err(vm.fail_elsewhere(
+            0,
             MessageType::SendSignalCommand,
             ByteStr::new(),
         )),
@@ -81,6 +83,7 @@ pub fn sys_complete_awakeable(
             vm.settle(made)
         }
         Admission::Elsewhere => Err(vm.fail_elsewhere(
+            0,
             MessageType::CompleteAwakeableCommand,
             ByteStr::new(),
         )),
@@ -105,7 +108,7 @@ pub fn sys_write_output(
             let made = vm.active.output(vm.alloc, ignoring, value, options);
             vm.settle(made)
         }
-        Admission::Elsewhere => Err(vm.fail_elsewhere(MessageType::OutputCommand, ByteStr::new())),
+        Admission::Elsewhere => Err(vm.fail_elsewhere(0, MessageType::OutputCommand, ByteStr::new())),
         Admission::Stopped(error) => Err(error),
     }
 }

@@ -18,4 +18,4 @@ pub returns-in-Elsewhere : goal.returns-in-Elsewhere
 returns-in-Elsewhere c =
     let between = record c.args.vm.now { active = c.read.new.active } in
     made c.args.vm.now c.read.new.active Elsewhere (Err c.fail_elsewhere.result) c.fail_elsewhere.new.self c.in-Elsewhere.ensures
-    (subst (λ (name : Text). IsElsewhere InputCommand name between c.fail_elsewhere.result c.fail_elsewhere.new.self) c.new.ensures c.fail_elsewhere.ensures)
+    (subst (λ (name : Text). IsElsewhere 0 InputCommand name between c.fail_elsewhere.result c.fail_elsewhere.new.self) c.new.ensures c.fail_elsewhere.ensures)

@@ -1,15 +1,14 @@
-use Rattle.std.proofs.Common.{None, codes}
+use Rattle.std.proofs.Common.{None}
 use Rattle.vm_machine.proofs.Admitted.{steps_made}
 use Rattle.vm_machine.specs.Passed.{NumberCauses}
-use Rattle.vm_machine.specs.Steps.{IsUnexpected}
 use Rattle.vm_handles.specs.Calling.{IsCalled}
-use Rattle.vm_handles.specs.Handles.{MakesSignal}
+use Rattle.vm_handles.specs.Handles.{MakesSignal, IsNoSignal}
 use Rattle.vm_handles.proofs.Called.{called}
 use Rattle.vm_handles.proofs.signals.create_signal_handle.Goals as goal
 
 pub returns-in-Admitted : goal.returns-in-Admitted
 returns-in-Admitted c =
-    steps_made (IsCalled (MakesSignal c.args.name) NumberCauses) (IsUnexpected (codes "named awakeable")) None c.args.vm.now c.admit.new.self
+    steps_made (IsCalled (MakesSignal c.args.name) NumberCauses) IsNoSignal None c.args.vm.now c.admit.new.self
     c.answer.result c.answer.new.vm c.in-Admitted.ensures
     (called (MakesSignal c.args.name) NumberCauses c.admit.new.self c.create_signal_handle-made.result c.create_signal_handle-made.new.self
     c.answer.result c.answer.new.vm (c.create_signal_handle-made.ensures.made, c.create_signal_handle-made.ensures.told, c.create_signal_handle-made.ensures.gives) c.answer.ensures)
