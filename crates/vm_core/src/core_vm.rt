@@ -1,19 +1,8 @@
 // The machine, closed.
-ghost use Rattle.std.specs.Prelude.{◌≡◌, ◌-ℤ◌, pos, [], not, codes, None, IfOk, IfErr};
+ghost use Rattle.std.specs.Prelude.{◌≡◌, ◌-ℤ◌, pos, IfOk, IfErr};
 ghost use Rattle.journal_model.specs.Future.{tree_of};
-ghost use Rattle.journal_model.specs.Run.{name_or_empty};
-ghost use Rattle.journal_model.specs.declared.call.Answer.{Answer};
-ghost use Rattle.journal_model.specs.declared.call.Call.{Call};
-ghost use Rattle.protocol_differences.specs.Calls.{call_command_difference, one_way_call_command_difference};
-ghost use Rattle.protocol_differences.specs.Control.{output_command_difference, sleep_command_difference};
-ghost use Rattle.protocol_differences.specs.Invocations.{attach_invocation_command_difference, complete_awakeable_command_difference, get_invocation_output_command_difference, send_signal_command_difference};
-ghost use Rattle.protocol_differences.specs.Promises.{complete_promise_command_difference, get_promise_command_difference, peek_promise_command_difference};
-ghost use Rattle.protocol_differences.specs.State.{clear_all_state_command_difference, clear_state_command_difference, set_state_command_difference};
-ghost use Rattle.protocol_types.specs.declared.message_type.MessageType.TheVariants.{AttachInvocationCommand, CallCommand, ClearAllStateCommand, ClearStateCommand, CompleteAwakeableCommand, CompletePromiseCommand, GetInvocationOutputCommand, GetPromiseCommand, OneWayCallCommand, OutputCommand, PeekPromiseCommand, SendSignalCommand, SetStateCommand, SleepCommand};
 ghost use Rattle.vm_beginning.specs.Beginning.{Begins, head_of};
 ghost use Rattle.vm_beginning.specs.Reading.{IsRead};
-ghost use Rattle.vm_causes.specs.Causes.{NumberCauses};
-ghost use Rattle.vm_context.specs.Eager.{is_known};
 ghost use Rattle.vm_ephemeral_calls.specs.Reading.{IsGot, IsTaken};
 ghost use Rattle.vm_errors.specs.Failing.{out_of_memory};
 ghost use Rattle.vm_errors.specs.Phases.{kept_error};
@@ -21,14 +10,12 @@ ghost use Rattle.vm_feeding.specs.Asking.{state_of, IsReady, TakesOutput};
 ghost use Rattle.vm_feeding.specs.Closing.{ClosesInput};
 ghost use Rattle.vm_feeding.specs.Feeding.{IsFed};
 ghost use Rattle.vm_feeding.specs.Telling.{IsTold};
-ghost use Rattle.vm_handles.specs.Calling.{IsCalled};
-ghost use Rattle.vm_handles.specs.Handles.{id_of, IsNamed, IsAwakeable, IsNoAwakeable, IsNoSignal, Looks, MakesSignal, TakesFirst, TakeCauses};
-ghost use Rattle.vm_syscalls.specs.Passed.{Calls, IsUnexpected, Steps};
+ghost use Rattle.vm_handles.specs.Handles.{id_of, IsNamed, Looks};
 ghost use Rattle.vm_progress.specs.Awaiting.{DoesAwait};
 ghost use Rattle.vm_progress.specs.Ending.{EndsAs};
-ghost use Rattle.vm_reading.specs.Reading.{value_read, keys_read, StepsOfRead};
 ghost use Rattle.vm_core.specs.Closed.{state_made};
 ghost use Rattle.vm_start.specs.Negotiation.{content_type};
+ghost use Rattle.vm_core.specs.Calls.{SysStateGet, SysStateGetKeys, SysStateSet, SysStateClear, SysStateClearAll, SysSleep, SysCall, SysSend, SysAwakeable, SysCompleteAwakeable, CreateSignalHandle, SysCompleteSignal, SysGetPromise, SysPeekPromise, SysCompletePromise, SysCancelInvocation, SysAttachInvocation, SysGetInvocationOutput, TakeNotification, SysWriteOutput};
 
 use crate::{VM, VMResult};
 use bytes::{ByteStr, Bytes};
@@ -148,7 +135,7 @@ impl VM for CoreVM {
     }
 
     fn take_notification(&mut self, handle: NotificationHandle) -> VMResult<Option<Value>>
-        ensures { Steps (IsCalled (TakesFirst handle) TakeCauses) (IsUnexpected (codes "TakeNotification")) None self.old.state result self.new.state }
+        ensures { TakeNotification handle self.old.state result self.new.state }
     {
         vm_handles::take_notification(&mut self.state, handle)
     }
@@ -165,13 +152,13 @@ impl VM for CoreVM {
         name: Option<ByteStr>,
         options: PayloadOptions,
     ) -> VMResult<NotificationHandle>
-        ensures { StepsOfRead value_read (Call.StateGet key name options) (λ active. is_known active.state key) (name_or_empty name) self.old.state result self.new.state }
+        ensures { SysStateGet key name options self.old.state result self.new.state }
     {
         vm_reading::sys_state_get(&mut self.state, key, name, options)
     }
 
     fn sys_state_get_keys(&mut self, name: Option<ByteStr>) -> VMResult<NotificationHandle>
-        ensures { StepsOfRead keys_read (Call.StateGetKeys name) (λ active. not active.state.is_partial) (name_or_empty name) self.old.state result self.new.state }
+        ensures { SysStateGetKeys name self.old.state result self.new.state }
     {
         vm_reading::sys_state_get_keys(&mut self.state, name)
     }
@@ -195,19 +182,19 @@ impl VM for CoreVM {
         name: Option<ByteStr>,
         options: PayloadOptions,
     ) -> VMResult<()>
-        ensures { Calls set_state_command_difference (Call.StateSet key value name options) (λ done. Answer.Done) [] SetStateCommand (name_or_empty name) self.old.state result self.new.state }
+        ensures { SysStateSet key value name options self.old.state result self.new.state }
     {
         vm_syscalls::sys_state_set(&mut self.state, key, value, name, options)
     }
 
     fn sys_state_clear(&mut self, key: ByteStr, name: Option<ByteStr>) -> VMResult<()>
-        ensures { Calls clear_state_command_difference (Call.StateClear key name) (λ done. Answer.Done) [] ClearStateCommand (name_or_empty name) self.old.state result self.new.state }
+        ensures { SysStateClear key name self.old.state result self.new.state }
     {
         vm_syscalls::sys_state_clear(&mut self.state, key, name)
     }
 
     fn sys_state_clear_all(&mut self, name: Option<ByteStr>) -> VMResult<()>
-        ensures { Calls clear_all_state_command_difference (Call.StateClearAll name) (λ done. Answer.Done) [] ClearAllStateCommand (name_or_empty name) self.old.state result self.new.state }
+        ensures { SysStateClearAll name self.old.state result self.new.state }
     {
         vm_syscalls::sys_state_clear_all(&mut self.state, name)
     }
@@ -218,7 +205,7 @@ impl VM for CoreVM {
         wake_up: Moment,
         now: Option<Moment>,
     ) -> VMResult<NotificationHandle>
-        ensures { Calls sleep_command_difference (Call.Sleep name wake_up now) (λ handle. Answer.Handle handle) (codes "sleep duration") SleepCommand name self.old.state result self.new.state }
+        ensures { SysSleep name wake_up now self.old.state result self.new.state }
     {
         self.state.sys_sleep(name, wake_up, now)
     }
@@ -230,7 +217,7 @@ impl VM for CoreVM {
         name: Option<ByteStr>,
         options: PayloadOptions,
     ) -> VMResult<CallHandle>
-        ensures { Calls call_command_difference (Call.Call target parameter name options) (λ made. Answer.Handles made.invocation_id_notification_handle made.call_notification_handle) [] CallCommand (name_or_empty name) self.old.state result self.new.state }
+        ensures { SysCall target parameter name options self.old.state result self.new.state }
     {
         vm_syscalls::sys_call(&mut self.state, target, parameter, name, options)
     }
@@ -243,7 +230,7 @@ impl VM for CoreVM {
         name: Option<ByteStr>,
         options: PayloadOptions,
     ) -> VMResult<SendHandle>
-        ensures { Calls one_way_call_command_difference (Call.Send target parameter execution_time name options) (λ made. Answer.Handle made.invocation_id_notification_handle) (codes "send delay") OneWayCallCommand (name_or_empty name) self.old.state result self.new.state }
+        ensures { SysSend target parameter execution_time name options self.old.state result self.new.state }
     {
         vm_syscalls::sys_send(
             &mut self.state,
@@ -257,7 +244,7 @@ impl VM for CoreVM {
 
     fn sys_awakeable(&mut self) -> VMResult<AwakeableHandle>
         ensures text { IsNamed (id_of self.old.state.start) self.old.state.active result }
-        ensures steps { Steps IsAwakeable IsNoAwakeable None self.old.state result self.new.state }
+        ensures steps { SysAwakeable self.old.state result self.new.state }
     {
         vm_handles::sys_awakeable(&mut self.state)
     }
@@ -268,13 +255,13 @@ impl VM for CoreVM {
         value: NonEmptyValue,
         options: PayloadOptions,
     ) -> VMResult<()>
-        ensures { Calls complete_awakeable_command_difference (Call.CompleteAwakeable id value options) (λ done. Answer.Done) [] CompleteAwakeableCommand [] self.old.state result self.new.state }
+        ensures { SysCompleteAwakeable id value options self.old.state result self.new.state }
     {
         vm_syscalls::sys_complete_awakeable(&mut self.state, id, value, options)
     }
 
     fn create_signal_handle(&mut self, name: ByteStr) -> VMResult<NotificationHandle>
-        ensures { Steps (IsCalled (MakesSignal name) NumberCauses) IsNoSignal None self.old.state result self.new.state }
+        ensures { CreateSignalHandle name self.old.state result self.new.state }
     {
         vm_handles::create_signal_handle(&mut self.state, name)
     }
@@ -285,19 +272,19 @@ impl VM for CoreVM {
         name: ByteStr,
         value: NonEmptyValue,
     ) -> VMResult<()>
-        ensures { Calls send_signal_command_difference (Call.CompleteSignal target_id name value) (λ done. Answer.Done) [] SendSignalCommand [] self.old.state result self.new.state }
+        ensures { SysCompleteSignal target_id name value self.old.state result self.new.state }
     {
         vm_syscalls::sys_complete_signal(&mut self.state, target_id, name, value)
     }
 
     fn sys_get_promise(&mut self, key: ByteStr) -> VMResult<NotificationHandle>
-        ensures { Calls get_promise_command_difference (Call.GetPromise key) (λ handle. Answer.Handle handle) [] GetPromiseCommand [] self.old.state result self.new.state }
+        ensures { SysGetPromise key self.old.state result self.new.state }
     {
         vm_syscalls::sys_get_promise(&mut self.state, key)
     }
 
     fn sys_peek_promise(&mut self, key: ByteStr) -> VMResult<NotificationHandle>
-        ensures { Calls peek_promise_command_difference (Call.PeekPromise key) (λ handle. Answer.Handle handle) [] PeekPromiseCommand [] self.old.state result self.new.state }
+        ensures { SysPeekPromise key self.old.state result self.new.state }
     {
         vm_syscalls::sys_peek_promise(&mut self.state, key)
     }
@@ -308,13 +295,13 @@ impl VM for CoreVM {
         value: NonEmptyValue,
         options: PayloadOptions,
     ) -> VMResult<NotificationHandle>
-        ensures { Calls complete_promise_command_difference (Call.CompletePromise key value options) (λ handle. Answer.Handle handle) [] CompletePromiseCommand [] self.old.state result self.new.state }
+        ensures { SysCompletePromise key value options self.old.state result self.new.state }
     {
         vm_syscalls::sys_complete_promise(&mut self.state, key, value, options)
     }
 
     fn sys_cancel_invocation(&mut self, target_id: ByteStr) -> VMResult<()>
-        ensures { Calls send_signal_command_difference (Call.Cancel target_id) (λ done. Answer.Done) [] SendSignalCommand [] self.old.state result self.new.state }
+        ensures { SysCancelInvocation target_id self.old.state result self.new.state }
     {
         vm_syscalls::sys_cancel_invocation(&mut self.state, target_id)
     }
@@ -323,7 +310,7 @@ impl VM for CoreVM {
         &mut self,
         target: AttachInvocationTarget,
     ) -> VMResult<NotificationHandle>
-        ensures { Calls attach_invocation_command_difference (Call.Attach target) (λ handle. Answer.Handle handle) [] AttachInvocationCommand [] self.old.state result self.new.state }
+        ensures { SysAttachInvocation target self.old.state result self.new.state }
     {
         vm_syscalls::sys_attach_invocation(&mut self.state, target)
     }
@@ -332,13 +319,13 @@ impl VM for CoreVM {
         &mut self,
         target: AttachInvocationTarget,
     ) -> VMResult<NotificationHandle>
-        ensures { Calls get_invocation_output_command_difference (Call.GetOutput target) (λ handle. Answer.Handle handle) [] GetInvocationOutputCommand [] self.old.state result self.new.state }
+        ensures { SysGetInvocationOutput target self.old.state result self.new.state }
     {
         vm_syscalls::sys_get_invocation_output(&mut self.state, target)
     }
 
     fn sys_write_output(&mut self, value: NonEmptyValue, options: PayloadOptions) -> VMResult<()>
-        ensures { Calls output_command_difference (Call.Output value options) (λ done. Answer.Done) [] OutputCommand [] self.old.state result self.new.state }
+        ensures { SysWriteOutput value options self.old.state result self.new.state }
     {
         vm_syscalls::sys_write_output(&mut self.state, value, options)
     }

@@ -108,7 +108,11 @@ pub fn sys_write_output(
             let made = vm.active.output(vm.alloc, ignoring, value, options);
             vm.settle(made)
         }
-        Admission::Elsewhere => Err(vm.fail_elsewhere(0, MessageType::OutputCommand, ByteStr::new())),
+        Admission::Elsewhere => Err(vm.fail_elsewhere(
+            0,
+            MessageType::OutputCommand,
+            ByteStr::new(),
+        )),
         Admission::Stopped(error) => Err(error),
     }
 }

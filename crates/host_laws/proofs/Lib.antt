@@ -1,0 +1,5 @@
+mod Keeping
+mod Making
+mod Feeding
+mod Waiting
+mod Hosting

@@ -1,0 +1,214 @@
+-- Awaits, the end, and reads of which nothing is recorded.
+use Rattle.std.proofs.Common.{◌≡◌, inl, inr, ℕ, Bool, true, false, List, ◌++◌, if◌then◌else◌, Option, Some, None, Result, Ok, Err, refl, ap, ◌∙◌, codes}
+use Rattle.journal_model.specs.AwaitTree.{AwaitTree}
+use Rattle.journal_model.specs.Future.{tree_of}
+use Rattle.journal_model.specs.Notification.{Text}
+use Rattle.journal_model.specs.declared.value.Value.{Value}
+use Rattle.journal_model.specs.declared.value.Value.TheVariants as values
+use Rattle.protocol_errors.specs.declared.error.Error.{Error}
+use Rattle.protocol_stream.specs.Frame.{spelled}
+use Rattle.protocol_stream.specs.declared.encoder.EncodingError.{EncodingError}
+use Rattle.protocol_stream.specs.declared.encoder.EncodingError.TheVariants as unsent
+use Rattle.vm_awaits.specs.Views.{AsyncResults, results_of}
+use Rattle.vm_calls.specs.declared.active.Active.{Active}
+use Rattle.vm_context.specs.Eager.{told_value}
+use Rattle.vm_context.specs.Output.{Written, with_frame}
+use Rattle.vm_context.specs.declared.eager_state.EagerGetState.{EagerGetState}
+use Rattle.vm_context.specs.declared.eager_state.EagerGetState.TheVariants as told
+use Rattle.vm_ephemeral.specs.Reads.{asked, known, after_take}
+use Rattle.vm_ephemeral_calls.specs.Reading.{read_message, Registers, Sends, AsksNext, Asks, Refuses, AsksWhere, Gets, GetsBehind, GetsIn, MissesIn, IsGot, TakesWhere, IsTaken}
+use Rattle.vm_ephemeral_calls.specs.Refusals.{lacks_reads}
+use Rattle.vm_ephemeral_calls.specs.declared.refusal.ReadRefusal.{ReadRefusal}
+use Rattle.vm_ephemeral_calls.specs.declared.refusal.ReadRefusal.TheVariants.{Unsupported, InputClosed}
+use Rattle.vm_errors.specs.Phases.{kept_error}
+use Rattle.vm_errors.specs.declared.phase.Phase.TheVariants as phases
+use Rattle.vm_feeding.specs.Passed.{is_active, IsUnexpected, MachineState}
+use Rattle.vm_progress.specs.Asleep.{FailsUnwritten, SettlesStay, ClosesAs, SleepsAs, Sleeps}
+use Rattle.vm_progress.specs.Awaiting.{ready_read, GoesOnAs, IsAwaited, DoesAwaitWhere, DoesAwait}
+use Rattle.vm_progress.specs.Ending.{end_place, closed_active, ClosesEnd, EndsAt, EndsAs}
+use Rattle.vm_progress.specs.declared.asleep.Sleep.{Sleep}
+use Rattle.vm_progress.specs.declared.asleep.Sleep.TheVariants as sleeps
+use Rattle.vm_progress.specs.declared.ending.EndPlace.{EndPlace}
+use Rattle.vm_progress.specs.declared.ending.EndPlace.TheVariants as places
+use Rattle.vm_types.specs.declared.answers.AwaitResponse.{AwaitResponse}
+use Rattle.vm_types.specs.declared.handles.EphemeralCompletionId.{EphemeralCompletionId}
+use Rattle.journal_model.specs.declared.options.ImplicitCancellationOption.{ImplicitCancellationOption}
+use Rattle.vm_waiting.specs.Suspending.{TellsIf, tells_awaiting}
+use Rattle.vm_waiting.specs.Waiting.{ComesTo}
+use Rattle.vm_waiting.specs.declared.awaiting.Awaited.{Awaited}
+use Rattle.vm_waiting.specs.declared.awaiting.Awaited.TheVariants as awaits
+use Rattle.vm_waiting.specs.declared.awaiting.AwaitError.{AwaitError}
+use Rattle.vm_waiting.specs.declared.awaiting.AwaitError.TheVariants as unawaited
+use Rattle.host_laws.proofs.Keeping.{Stands, moved, IsLike, like_again, results_like, same_like, output_like, failed, steps_stand}
+
+-- ---- frames
+
+frame_closed : (closed : Bool) (frame : List ℕ) (written : Written) → written.is_closed ≡ closed
+    → (if closed then written else record written { bytes = written.bytes ++ frame }).is_closed ≡ written.is_closed
+frame_closed true frame written is = refl
+frame_closed false frame written is = refl
+
+-- one more frame does not end the output
+pub frame_keeps : (frame : List ℕ) (written : Written) → (with_frame frame written).is_closed ≡ written.is_closed
+frame_keeps frame written = frame_closed written.is_closed frame written refl
+
+unwritten_stands : (error : EncodingError) (old : MachineState) (told : Error) (new : MachineState) → FailsUnwritten error old told new → Stands new
+unwritten_stands unsent.PayloadTooLong old told new is = failed is.cause old told new is.fails
+unwritten_stands unsent.OutOfMemory old told new is = failed is.cause old told new is.fails
+
+-- ---- awaits that wait
+
+writes_like : (tells : Bool) (left : AwaitTree ℕ) (done : Unit {0}) (old new : Active) → TellsIf tells left old (Ok done) new → IsLike old new
+writes_like true left done old new is = output_like old new is.1 (ap (λ (written : Written). written.is_closed) is.0.1 ∙ frame_keeps _ old.output)
+writes_like false left done old new is = same_like old new is
+
+stay_settled : (tells : Bool) (left : AwaitTree ℕ) (old : MachineState) (written : Result (Unit {0}) EncodingError) (active : Active) (result : Result AwaitResponse Error) (new : MachineState)
+    → TellsIf tells left old.active written active → SettlesStay written (record old { active = active }) result new → Stands old → Stands new
+stay_settled tells left old (Ok done) active (Ok response) new is settles stands = like_again old active new settles.1 (writes_like tells left done old.active active is) stands
+stay_settled tells left old (Ok done) active (Err told) new is settles stands = absurd settles
+stay_settled tells left old (Err error) active (Ok response) new is settles stands = absurd settles
+stay_settled tells left old (Err error) active (Err told) new is settles stands = unwritten_stands error (record old { active = active }) told new settles
+
+closed_as : (written : Result (Unit {0}) EncodingError) (old : MachineState) (told : Error) (new : MachineState) → ClosesAs written old told new → Stands new
+closed_as (Ok done) old told new closes = moved (record old { phase = phases.Closed }) new closes.1 tt
+closed_as (Err error) old told new closes = unwritten_stands error old told new closes
+
+sleep_goes_on : (sleep : Sleep) (left : AwaitTree ℕ) (old : MachineState) (result : Result AwaitResponse Error) (new : MachineState) → SleepsAs sleep left old result new → Stands old → Stands new
+sleep_goes_on sleeps.Stays left old result new is stands =
+    stay_settled (tells_awaiting old.version old.options.awaiting_on_policy false left) left old is.told is.active result new is.tells is.settles stands
+sleep_goes_on sleeps.Unanswered left old (Ok response) new is stands = absurd is
+sleep_goes_on sleeps.Unanswered left old (Err told) new is stands = failed _ old told new is
+sleep_goes_on sleeps.Suspends left old (Ok response) new is stands = absurd is
+sleep_goes_on sleeps.Suspends left old (Err told) new is stands = closed_as is.written (record old { active = is.active }) told new is.closes
+
+-- ---- awaits
+
+comes_delivers : (cancellation : ImplicitCancellationOption) (tree : AwaitTree ℕ) (replaying : Bool) (old : AsyncResults) (awaited : Awaited) (new : AsyncResults)
+    → ComesTo cancellation tree replaying old (Ok awaited) new → new.delivery ≡ old.delivery
+comes_delivers cancellation tree replaying old awaits.AnyCompleted new comes = ap (λ (results : AsyncResults). results.delivery) comes.wakes.1 ∙ comes.resolves.delivery
+comes_delivers cancellation tree replaying old awaits.Cancelled new comes = ap (λ (results : AsyncResults). results.delivery) comes.wakes.1 ∙ comes.resolves.delivery
+comes_delivers cancellation tree replaying old (awaits.Asleep left) new comes = comes.1.delivery
+
+awaited_as : (awaited : Awaited) (between : MachineState) (result : Result AwaitResponse Error) (new : MachineState) → GoesOnAs (Ok awaited) between result new → Stands between → Stands new
+awaited_as awaits.AnyCompleted between (Ok response) new goes_on stands = moved between new goes_on.1 stands
+awaited_as awaits.AnyCompleted between (Err told) new goes_on stands = absurd goes_on
+awaited_as awaits.Cancelled between (Ok response) new goes_on stands = moved between new goes_on.1 stands
+awaited_as awaits.Cancelled between (Err told) new goes_on stands = absurd goes_on
+awaited_as (awaits.Asleep left) between result new goes_on stands = sleep_goes_on goes_on.sleep (tree_of left) between result new goes_on.goes_on stands
+
+unawaited_as : (error : AwaitError) (between : MachineState) (result : Result AwaitResponse Error) (new : MachineState) → GoesOnAs (Err error) between result new → Stands new
+unawaited_as error between (Ok response) new goes_on = absurd goes_on
+unawaited_as (unawaited.UncompletedInReplay left) between (Err told) new goes_on = failed goes_on.cause between told new goes_on.fails
+unawaited_as unawaited.OutOfMemory between (Err told) new goes_on = failed goes_on.cause between told new goes_on.fails
+
+come_to : (tree : AwaitTree ℕ) (old : MachineState) (made : Result Awaited AwaitError) (between : MachineState) (result : Result AwaitResponse Error) (new : MachineState)
+    → between ≡ record old { active = record old.active { results = between.active.results } }
+    → ComesTo old.options.implicit_cancellation tree old.active.is_replaying (results_of old.active.results) made (results_of between.active.results) → GoesOnAs made between result new
+    → Stands old → Stands new
+come_to tree old (Err error) between result new others comes goes_on stands = unawaited_as error between result new goes_on
+come_to tree old (Ok awaited) between result new others comes goes_on stands =
+    let active : Active = record old.active { results = between.active.results } in
+    awaited_as awaited between result new goes_on (
+    like_again old active between others
+    (results_like old.active active refl (comes_delivers old.options.implicit_cancellation tree old.active.is_replaying (results_of old.active.results) awaited (results_of between.active.results) comes))
+    stands
+    )
+
+await_where : (ready : Option EphemeralCompletionId) (tree : AwaitTree ℕ) (old : MachineState) (result : Result AwaitResponse Error) (new : MachineState) → DoesAwaitWhere ready tree old result new
+    → Stands old → Stands new
+await_where (Some id) tree old (Ok response) new is stands = moved old new is.1 stands
+await_where (Some id) tree old (Err told) new is stands = absurd is
+await_where None tree old result new steps stands =
+    steps_stand (IsAwaited tree) (IsUnexpected (codes "await")) old new stands
+    (λ result calls is. come_to tree old is.awaited is.between result new is.others is.held is.goes_on stands) (λ told is. failed is.cause old told new is.fails) None result steps
+
+pub awaits_stand : (tree : AwaitTree ℕ) (old : MachineState) (result : Result AwaitResponse Error) (new : MachineState) → DoesAwait tree old result new → Stands old → Stands new
+awaits_stand tree old result new is stands = await_where (ready_read old.phase old.active.is_replaying old.reads) tree old result new is stands
+
+-- ---- the end
+
+end_closed : (written : Result (Unit {0}) EncodingError) (old : MachineState) (result : Result (Unit {0}) Error) (new : MachineState) → ClosesEnd written old result new → Stands new
+end_closed (Ok done) old (Ok ended) new closes = moved (record old { phase = phases.Closed; active = closed_active old.active }) new closes tt
+end_closed (Ok done) old (Err told) new closes = absurd closes
+end_closed (Err error) old (Ok ended) new closes = absurd closes
+end_closed (Err error) old (Err told) new closes = failed closes.cause old told new closes.fails
+
+end_at : (place : EndPlace) (old : MachineState) (result : Result (Unit {0}) Error) (new : MachineState) → EndsAt place old result new → Stands old → Stands new
+end_at places.Behind old (Ok done) new is stands = moved old new is stands
+end_at places.Behind old (Err told) new is stands = absurd is
+end_at places.Processing old result new is stands = end_closed is.written (record old { active = record old.active { output = is.output } }) result new is.closes
+end_at places.Elsewhere old (Ok done) new is stands = absurd is
+end_at places.Elsewhere old (Err told) new is stands = failed is.cause old told new is.fails
+
+end_as : (kept : Option Error) (old : MachineState) (result : Result (Unit {0}) Error) (new : MachineState) → EndsAs kept old result new → Stands old → Stands new
+end_as (Some kept) old (Ok done) new is stands = absurd is
+end_as (Some kept) old (Err told) new is stands = moved old new is.0 stands
+end_as None old result new is stands = end_at (end_place old.phase old.active.is_replaying) old result new is stands
+
+pub ends_stand : (old : MachineState) (result : Result (Unit {0}) Error) (new : MachineState) → EndsAs (kept_error old.phase) old result new → Stands old → Stands new
+ends_stand old result new is stands = end_as (kept_error old.phase) old result new is stands
+
+-- ---- reads of which nothing is recorded
+
+registers_stand : (value : Value) (old : MachineState) (result : Result EphemeralCompletionId Error) (new : MachineState) → Registers value old result new → Stands old → Stands new
+registers_stand value old (Ok id) new is stands = moved (record old { reads = known value old.reads }) new is.2 stands
+registers_stand value old (Err told) new is stands = failed is.cause old told new is.fails
+
+sends_stand : (id : EphemeralCompletionId) (key : Text) (old : MachineState) (result : Result EphemeralCompletionId Error) (new : MachineState) → Sends id key old result new → Stands old → Stands new
+sends_stand id key old (Ok taken) new is stands =
+    let frame : List ℕ = spelled (read_message old.active.output.version id.number key) in
+    let active : Active = record old.active { output = with_frame frame old.active.output } in
+    like_again old active new is.2 (output_like old.active active refl (frame_keeps frame old.active.output)) stands
+sends_stand id key old (Err told) new is stands = failed is.cause old told new is.fails
+
+asks_next : (key : Text) (old : MachineState) (result : Result EphemeralCompletionId Error) (new : MachineState) → AsksNext key old result new → Stands old → Stands new
+asks_next key old result new is stands = sends_stand is.id key (record old { reads = asked old.reads }) result new is.sends stands
+
+asks_stand : (key : Text) (old : MachineState) (result : Result EphemeralCompletionId Error) (new : MachineState) → Asks key old result new → Stands old → Stands new
+asks_stand key old (Ok id) new is stands = asks_next key old (Ok id) new is stands
+asks_stand key old (Err told) new (inl is) stands = asks_next key old (Err told) new is stands
+asks_stand key old (Err told) new (inr is) stands = failed is.cause old told new is.fails
+
+refuses_stand : (refusal : ReadRefusal) (old : MachineState) (result : Result EphemeralCompletionId Error) (new : MachineState) → Refuses refusal old result new → Stands new
+refuses_stand refusal old (Ok id) new is = absurd is
+refuses_stand refusal old (Err told) new is = failed is.cause old told new is.fails
+
+asks_where : (is_input_closed : Bool) (key : Text) (old : MachineState) (result : Result EphemeralCompletionId Error) (new : MachineState) → AsksWhere is_input_closed key old result new → Stands old
+    → Stands new
+asks_where true key old result new is stands = refuses_stand (InputClosed (record { key = key })) old result new is
+asks_where false key old result new is stands = asks_stand key old result new is stands
+
+gets_stand : (known : EagerGetState) (key : Text) (old : MachineState) (result : Result EphemeralCompletionId Error) (new : MachineState) → Gets known key old result new → Stands old → Stands new
+gets_stand (told.Value value) key old result new is stands = registers_stand (values.Success value) old result new is stands
+gets_stand told.Empty key old result new is stands = registers_stand values.Void old result new is stands
+gets_stand told.Unknown key old result new is stands = asks_where old.is_input_closed key old result new is stands
+
+gets_behind : (replaying : Bool) (key : Text) (old : MachineState) (result : Result EphemeralCompletionId Error) (new : MachineState) → GetsBehind replaying key old result new → Stands old → Stands new
+gets_behind true key old (Ok id) new is stands = absurd is
+gets_behind true key old (Err told) new is stands = failed _ old told new is
+gets_behind false key old result new is stands = gets_stand (told_value old.active.state key) key old result new is stands
+
+gets_in : (lacks : Bool) (key : Text) (old : MachineState) (result : Result EphemeralCompletionId Error) (new : MachineState) → GetsIn lacks key old result new → Stands old → Stands new
+gets_in true key old result new is stands = refuses_stand (Unsupported old.version) old result new is
+gets_in false key old result new is stands = gets_behind old.active.is_replaying key old result new is stands
+
+misses_in : (lacks : Bool) (old : MachineState) (told : Error) (new : MachineState) → MissesIn lacks old told new → Stands new
+misses_in true old told new is = failed is.cause old told new is.fails
+misses_in false old told new (inl is) = failed is.1.cause old told new is.1.fails
+misses_in false old told new (inr is) = failed is.1.cause old told new is.1.fails
+
+pub gets_ephemeral : (key : Text) (old : MachineState) (result : Result EphemeralCompletionId Error) (new : MachineState) → IsGot key old result new → Stands old → Stands new
+gets_ephemeral key old result new steps stands =
+    steps_stand (λ (vm : MachineState). GetsIn (lacks_reads vm.version) key vm) (λ (vm : MachineState). MissesIn (lacks_reads vm.version) vm) old new stands
+    (λ result calls is. gets_in (lacks_reads old.version) key old result new is stands) (λ told is. misses_in (lacks_reads old.version) old told new is) None result steps
+
+takes_where : (replaying : Bool) (id : EphemeralCompletionId) (old : MachineState) (result : Result (Option Value) Error) (new : MachineState) → TakesWhere replaying id old result new → Stands old
+    → Stands new
+takes_where false id old result new is stands = moved (record old { reads = after_take id.number old.reads }) new is.1 stands
+takes_where true id old (Ok taken) new is stands = absurd is
+takes_where true id old (Err told) new is stands = failed is.cause old told new is.fails
+
+pub takes_ephemeral : (id : EphemeralCompletionId) (old : MachineState) (result : Result (Option Value) Error) (new : MachineState) → IsTaken id old result new → Stands old → Stands new
+takes_ephemeral id old result new steps stands =
+    steps_stand (λ (vm : MachineState). TakesWhere vm.active.is_replaying id vm) (IsUnexpected (codes "TakeEphemeralNotification")) old new stands
+    (λ result calls is. takes_where old.active.is_replaying id old result new is stands) (λ told is. failed is.cause old told new is.fails) None result steps

@@ -1,0 +1,35 @@
+-- What the clauses of calls ask of a machine, and that it is so of one that was made and asked any calls.
+use Rattle.std.specs.Prelude.{◌≡◌, ◌⊎◌, List}
+use Rattle.journal_model.specs.Run.{Invocation}
+use Rattle.journal_model.specs.declared.options.ImplicitCancellationOption.{ImplicitCancellationOption}
+use Rattle.attempt_model.specs.Machine.{Machine}
+use Rattle.protocol_types.specs.declared.version.Version.{Version}
+use Rattle.vm_beginning.specs.Beginning.{IsNew}
+use Rattle.vm_calls.specs.Active.{Sees}
+use Rattle.vm_calls.specs.Spent.{IsSpent}
+use Rattle.vm_errors.specs.declared.phase.Phase.TheVariants as phases
+use Rattle.vm_feeding.specs.Passed.{IsOf, MachineState}
+use Rattle.vm_handles.specs.Handles.{id_of}
+use Rattle.vm_types.specs.declared.options.VMOptions.{VMOptions}
+use Rattle.host_laws.specs.Hosting.{HostCall, DoesEach}
+
+-- What a machine keeps for calls is what an abstract machine keeps, and that of an invocation of its version and its id, whichever calls a
+-- cancellation is passed on to: so there is one that tracks no child, of which commands are told, and one with the machine's own option,
+-- of which awaits are.
+pub record IsSeen (vm : MachineState) : Type 0 where
+  pub machine : Machine
+  pub given : ImplicitCancellationOption → Invocation
+  pub version : (option : ImplicitCancellationOption) → IsOf (given option) vm
+  pub id : (option : ImplicitCancellationOption) → (given option).input.invocation_id ≡ id_of vm.start
+  pub cancellation : (option : ImplicitCancellationOption) → (given option).options.implicit_cancellation ≡ option
+  pub sees : (option : ImplicitCancellationOption) → Sees (given option) vm.active machine
+
+-- so it is, or it replays and nothing is left
+abbrev pub IsSpokenOf : MachineState → Type 0
+IsSpokenOf vm = IsSeen vm ⊎ IsSpent vm.active
+
+-- Whatever a machine that was made is told and asked, and whatever it answers: where calls are made of it, their clauses speak of it. Elsewhere
+-- they ask nothing.
+abbrev pub CallsSpeak : Type 0
+CallsSpeak = (version : Version) (options : VMOptions) (calls : List HostCall) (made vm : MachineState) → IsNew version options made → DoesEach calls made vm
+    → vm.phase ≡ phases.Active → IsSpokenOf vm
