@@ -1,4 +1,3 @@
-pub mod Landing
 pub mod Scheduling
 pub mod Moving
 pub mod Holding

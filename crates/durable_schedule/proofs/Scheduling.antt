@@ -1,16 +1,15 @@
 -- What a scheduler's calls do to what it stands for.
-use Rattle.std.proofs.Common.{◌≡◌, refl, sym, ap, subst, ◌∙◌, ℕ, List, ◌∷◌, inr}
+use Rattle.std.proofs.Common.{◌≡◌, refl, sym, ap, subst, ◌∙◌, ℕ, List, inr}
 use Rattle.sqlite_trees.specs.declared.store.Store.{Ghosts}
 use Rattle.sqlite.specs.Held.{state}
 use Rattle.sqlite.specs.State.{HasCleanDisk}
 use Rattle.journal_model.specs.Notification.{Text}
-use Rattle.journal_model.specs.Event as model
 use Rattle.journal_model.specs.Run.{Handler}
 use Rattle.vm_types.specs.declared.options.VMOptions.{VMOptions}
 use Rattle.store_live.specs.Attempts.{Attempts}
 use Rattle.store_refusals.specs.declared.refusal.Refusal.TheVariants.{OutOfMemory}
 use Rattle.journal_store.specs.Stored.{Stored}
-use Rattle.journal_store.specs.Stands.{Stands as StandsFor, Leads, Endures, Outlasts, output_of}
+use Rattle.journal_store.specs.Stands.{Stands as StandsFor, Leads, Endures, output_of}
 use Rattle.schedule_model.specs.declared.event.Event.{Event}
 use Rattle.schedule_model.specs.declared.event.Event.TheVariants as event
 use Rattle.schedule_model.specs.declared.event.Reply.{Reply}
@@ -20,20 +19,9 @@ use Rattle.schedule_model.specs.declared.held.HeldAttempt.{HeldAttempt}
 use Rattle.store_calls.specs.Standing.{Standing}
 use Rattle.schedule_model.specs.Schedule.{Scheduled, Does, Applies}
 use Rattle.durable_schedule.specs.declared.scheduler.Scheduler.{Scheduler}
-use Rattle.durable_schedule.specs.Scheduled.{IsScheduled, IsWritten, LeadsLasting, OutlastsEvent, AppliesWith, CommitsNothing, IsOfHeld, Spares, SparesUnheld}
-use Rattle.journal_store.proofs.Enduring.{BeginsSome, endures_so}
-
--- what lasts of a store behind one more event is what it stands for
-pub lasts_behind : {S : Type 0} (g : Ghosts S) (event : model.Event) (s t : Standing) (store : Stored S) → t.events ≡ event ∷ s.events → Outlasts (event ∷ s.events) (state g store.connection)
-    → Outlasts t.events (state g store.connection)
-lasts_behind g event s t store same lasts = subst (λ (events : List model.Event). Outlasts events (state g store.connection)) (sym same) lasts
-
--- so a call that adds an event, and of which that lasts, leads to what lasts
-pub settles : {S : Type 0} (g : Ghosts S) (event : model.Event) (Relation : Standing → Standing → Type 0) (old new : Stored S) → ((s t : Standing) → Relation s t → t.events ≡ event ∷ s.events) → Leads g Relation old new
-    → (HasCleanDisk (state g new.connection) → (events : List model.Event) → StandsFor events (state g old.connection) old.live.attempts → Outlasts (event ∷ events) (state g new.connection)) → LeadsLasting g Relation old new
-settles g event Relation old new adds does lasting clean s is =
-    let it = does clean s is in
-    (it.0, it.1, (it.2, lasts_behind g event s it.0 new (adds s it.0 it.2) (lasting clean s.events is.stands)))
+use Rattle.durable_schedule.specs.Scheduled.{IsScheduled, IsWritten, OutlastsEvent, AppliesWith, CommitsNothing, IsOfHeld, Spares, SparesUnheld}
+use Rattle.journal_store.specs.Attempts.{BeginsSome}
+use Rattle.journal_store.proofs.Enduring.{endures_so}
 
 module _ {H S : Type 0} (g : Ghosts S) where
   -- what is done to a store and to what is held is done to a scheduler

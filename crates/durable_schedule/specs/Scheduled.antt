@@ -27,11 +27,6 @@ use Rattle.store_calls.specs.Standing.{Standing}
 use Rattle.schedule_model.specs.Schedule.{Scheduled, MovesOne, Does}
 use Rattle.durable_schedule.specs.declared.scheduler.Scheduler.{Scheduler}
 
--- Whatever the store stood for, it stands for something in this relation to it then, and whatever a crash leaves from then on, the
--- tables keep that.
-abbrev pub LeadsLasting : {S : Type 0} → Ghosts S → (Standing → Standing → Type 0) → Stored S → Stored S → Type 0
-LeadsLasting g Relation old new = Leads g (λ s t. Relation s t × Outlasts t.events (state g new.connection)) old new
-
 abbrev pub IsDone : Reply → Type 0
 IsDone reply.Done = Unit {0}
 IsDone _ = ⊥

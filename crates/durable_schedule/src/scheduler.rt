@@ -8,15 +8,15 @@ ghost use Rattle.store_model.specs.Progress.{last_error_of};
 ghost use Rattle.store_invocations.specs.Rows.{Decides, known_tests};
 ghost use Rattle.store_reads.specs.Told.{entries_told};
 ghost use Rattle.store_reads.specs.Answered.{answer_told};
-ghost use Rattle.store_calls.specs.declared.begun.BegunAttempt.{BegunAttempt as Begun};
 ghost use Rattle.store_calls.specs.Standing.{Adds};
-ghost use Rattle.store_calls.specs.Calls.{Begins, Completes, Invokes, Stops, Ticks};
-ghost use Rattle.journal_store.specs.Stands.{Endures, IsQuiet, Leads};
+ghost use Rattle.store_calls.specs.Calls.{Completes, Invokes, Stops, Ticks};
+ghost use Rattle.journal_store.specs.Attempts.{BeginsSome};
+ghost use Rattle.journal_store.specs.Stands.{Endures, IsQuiet, Leads, Settles};
 ghost use Rattle.schedule_model.specs.Held.{held_of};
 ghost use Rattle.schedule_model.specs.Schedule.{RepliesDone, RepliesPlace, RepliesCount, BeginDoes, IfHeld, FeedsOne, ClosesOne, TurnsOne, MovesOne, Applies, Scheduled};
 ghost use Rattle.schedule_model.specs.Fitting.{FitsEvent};
 ghost use Rattle.fitting_events.specs.Fitting.{InvocationFits, ResultFits};
-ghost use Rattle.durable_schedule.specs.Scheduled.{AppliesWith, HasBegun, HasTakenFrames, HasTicked, IsDone, IsLive, IsMovedIfHeld, IsOfHeld, IsPlaced, IsScheduled, IsWritten, LeadsLasting, LeadsMoved, OutlastsEvent, Spares, SparesUnheld, TakesLive};
+ghost use Rattle.durable_schedule.specs.Scheduled.{AppliesWith, HasBegun, HasTakenFrames, HasTicked, IsDone, IsLive, IsMovedIfHeld, IsOfHeld, IsPlaced, IsScheduled, IsWritten, LeadsMoved, OutlastsEvent, Spares, SparesUnheld, TakesLive};
 
 use crate::held::{close, hand_out, make, take_in};
 use bytes::ByteStr;
@@ -59,7 +59,7 @@ impl<H: Handler + Drop, S: Alter + Drop> Scheduler<H, S> {
     fn invoke(&mut self, new: NewInvocation) -> Reply
         ensures does { Leads S.Store (λ s t. RepliesDone (λ answer. Invokes new answer s t) result) self.old.store self.new.store }
         ensures kept { self.new ≡ record self.old { store = self.new.store } }
-        ensures settled { IsDone result → LeadsLasting S.Store (λ s t. RepliesDone (λ answer. Invokes new answer s t) result) self.old.store self.new.store }
+        ensures settled { IsDone result → Settles S.Store (λ s t. RepliesDone (λ answer. Invokes new answer s t) result) self.old.store self.new.store }
         ensures fits { InvocationFits new }
         ensures held { IsOfHeld result }
         ensures crash { Endures S.Store (Adds (Accepted.Invoke new)) self.old.store self.new.store }
@@ -80,7 +80,7 @@ impl<H: Handler + Drop, S: Alter + Drop> Scheduler<H, S> {
     ) -> Reply
         ensures does { Leads S.Store (λ s t. RepliesPlace (λ answer. Completes invocation.now completion value answer s t) result) self.old.store self.new.store }
         ensures kept { self.new ≡ record self.old { store = self.new.store } }
-        ensures settled { IsPlaced result → LeadsLasting S.Store (λ s t. RepliesPlace (λ answer. Completes invocation.now completion value answer s t) result) self.old.store self.new.store }
+        ensures settled { IsPlaced result → Settles S.Store (λ s t. RepliesPlace (λ answer. Completes invocation.now completion value answer s t) result) self.old.store self.new.store }
         ensures fits { ResultFits (completion_of completion value) }
         ensures held { IsOfHeld result }
         ensures crash { Endures S.Store (Adds (Accepted.Complete invocation.now completion value)) self.old.store self.new.store }
@@ -96,7 +96,7 @@ impl<H: Handler + Drop, S: Alter + Drop> Scheduler<H, S> {
     fn tick(&mut self, now: u64) -> Reply
         ensures does { Leads S.Store (λ s t. RepliesCount (λ answer. Ticks now answer s t) result) self.old.store self.new.store }
         ensures kept { self.new ≡ record self.old { store = self.new.store } }
-        ensures settled { HasTicked result → LeadsLasting S.Store (λ s t. RepliesCount (λ answer. Ticks now answer s t) result) self.old.store self.new.store }
+        ensures settled { HasTicked result → Settles S.Store (λ s t. RepliesCount (λ answer. Ticks now answer s t) result) self.old.store self.new.store }
         ensures held { IsOfHeld result }
         ensures crash { Endures S.Store (Adds (Accepted.Tick now)) self.old.store self.new.store }
     {
@@ -124,10 +124,10 @@ impl<H: Handler + Drop, S: Alter + Drop> Scheduler<H, S> {
     fn begin(&mut self, invocation: ByteStr, handler: H, now: u64) -> Reply
         ensures does { Leads S.Store (λ s t. BeginDoes self.old.options invocation handler now s self.old.held result t self.new.held) self.old.store self.new.store }
         ensures options { self.new.options ≡ self.old.options }
-        ensures settled { HasBegun result → LeadsLasting S.Store (λ s t. BeginDoes self.old.options invocation handler now s self.old.held result t self.new.held) self.old.store self.new.store }
+        ensures settled { HasBegun result → Settles S.Store (λ s t. BeginDoes self.old.options invocation handler now s self.old.held result t self.new.held) self.old.store self.new.store }
         ensures moment { now < 2 ^ 64 }
         ensures held { IsOfHeld result }
-        ensures crash { Endures S.Store (λ s t. (begun : Begun) × Begins invocation now begun s t) self.old.store self.new.store }
+        ensures crash { Endures S.Store (BeginsSome invocation now) self.old.store self.new.store }
     {
         let begun = match self.store.begin(&invocation, now) {
             Ok(begun) => begun,

@@ -1,27 +1,24 @@
 -- What crashes leave of calls one after another.
-use Rattle.std.proofs.Common.{refl, sym, subst, ℕ, ◌+◌, List, inl, arith}
+use Rattle.std.proofs.Common.{◌≡◌, refl, ℕ, ◌+◌, Bool, true, false, ◌&&◌, if◌then◌else◌, [], ◌∷◌, Option, None, is_some, inl, arith}
 use Rattle.sqlite_trees.specs.declared.store.Store.{Ghosts}
 use Rattle.sqlite.specs.Held.{state}
-use Rattle.sqlite.specs.State.{HasCleanDisk, Survives}
+use Rattle.sqlite.specs.State.{HasCleanDisk}
 use Rattle.sqlite.proofs.StateLemmas.{survives_then, survives_weaker}
-use Rattle.journal_model.specs.Notification.{Text}
-use Rattle.journal_model.specs.declared.invocation.NewInvocation.{NewInvocation}
+use Rattle.journal_model.specs.Notification.{Bytes, Text}
+use Rattle.journal_model.specs.declared.notification.NotificationResult.{NotificationResult}
 use Rattle.journal_model.specs.Spelling.{frame_bytes}
 use Rattle.journal_model.specs.Event.{Event}
-use Rattle.journal_model.specs.Journal.{version_of}
-use Rattle.journal_model.specs.Attempt.{attempts_begun}
+use Rattle.journal_model.specs.Journal.{is_of, version_of}
+use Rattle.journal_model.specs.Attempt.{attempts_begun, live_attempt}
+use Rattle.journal_model.specs.Cause.{causes_of}
 use Rattle.journal_model.specs.Start.{start_payload}
 use Rattle.protocol_types.specs.declared.message_type.MessageType.{MessageType}
-use Rattle.store_calls.specs.declared.begun.BegunAttempt.{BegunAttempt}
+use Rattle.store_invocations.specs.Rows.{IsStoreOf}
 use Rattle.store_calls.specs.Standing.{Standing, Adds}
-use Rattle.store_calls.specs.Calls.{Begins}
-use Rattle.store_calls.proofs.Landing.{invoked, begun}
+use Rattle.store_calls.proofs.Landing.{begun}
+use Rattle.journal_store.specs.Attempts.{BeginsSome}
 use Rattle.journal_store.specs.Stored.{Stored}
-use Rattle.journal_store.specs.Stands.{Leads, Keeps, KeepsAll, Commits, Endures, IsQuiet}
-
--- an attempt is begun
-abbrev pub BeginsSome : Text → ℕ → Standing → Standing → Type 0
-BeginsSome id now s t = (told : BegunAttempt) × Begins id now told s t
+use Rattle.journal_store.specs.Stands.{Leads, Keeps, KeepsOf, Endures, EnduresAlways, IsQuiet}
 
 module _ {S : Type 0} (g : Ghosts S) where
   -- one behind another, from what the store stands for between them
@@ -58,30 +55,41 @@ module _ {S : Type 0} (g : Ghosts S) where
   pub quiet_endures : (P : Standing → Standing → Type 0) (old new : Stored S) → IsQuiet g old new → Endures g P old new
   quiet_endures P old new lives = survives_weaker (state g old.connection) (state g new.connection) (λ _. ⊥) (Keeps g P old) (λ clean db none. absurd none) lives
 
-  -- ---- the one commit of a call
+  -- whatever the tables kept they keep what the store stood for
+  pub always_endures : (P : Standing → Standing → Type 0) (old new : Stored S) → EnduresAlways g P old new → Endures g P old new
+  always_endures P old new lives =
+      survives_weaker (state g old.connection) (state g new.connection) (KeepsOf (λ s. IsStoreOf s.events (state g old.connection)) P) (Keeps g P old)
+      (λ clean db keeps s is. keeps s is.stands.kept) lives
 
-  pub invoke_endures : (one : NewInvocation) (old new : Stored S) → Survives (state g old.connection) (state g new.connection) (Commits (Event.Invoke one) (state g old.connection))
-      → Endures g (Adds (Event.Invoke one)) old new
-  invoke_endures one old new lives =
-      survives_weaker (state g old.connection) (state g new.connection) (Commits (Event.Invoke one) (state g old.connection)) (Keeps g (Adds (Event.Invoke one)) old)
-      (λ clean db commits s is.
-      let it = commits s.events is.stands.kept in
-      let to = invoked s one it.0 in
-      (to.0, to.1, subst (λ (events : List Event). KeepsAll events db) (sym to.1.events) it.1))
-      lives
+-- ---- what an event whose commit has landed makes of what a store stood for
 
-  pub begin_endures : (id : Text) (now : ℕ) (old new : Stored S) → Survives (state g old.connection) (state g new.connection) (Commits (Event.Begin id now) (state g old.connection))
-      → Endures g (BeginsSome id now) old new
-  begin_endures id now old new lives =
-      survives_weaker (state g old.connection) (state g new.connection) (Commits (Event.Begin id now) (state g old.connection)) (Keeps g (BeginsSome id now) old)
-      (λ clean db commits s is.
-      let it = commits s.events is.stands.kept in
-      let to = begun s id now it.0 in (
-        to.0,
-        (
-          record { number = 1 + attempts_begun s.events id; version = version_of s.events id; start = frame_bytes MessageType.Start (start_payload s.events id now) },
-          record { number = refl; version = refl; start = refl; leaves = to.1 },
-        ),
-        subst (λ (events : List Event). KeepsAll events db) (sym to.1.events) it.1,
-      ))
-      lives
+still_live : (mine : Bool) (before : Option Bytes) (live : Option ℕ) → is_some before ≡ is_some live → is_some before ≡ is_some (if mine && false then None else live)
+still_live true before live same = same
+still_live false before live same = same
+
+pub complete_landed : (s : Standing) (id : Text) (n : ℕ) (value : NotificationResult) → causes_of s.events (Event.Complete id n value) ≡ [] → (t : Standing) × Adds (Event.Complete id n value) s t
+complete_landed s id n value causes = (
+  record {
+    events = Event.Complete id n value ∷ s.events;
+    accepted = (causes, s.accepted);
+    outputs = s.outputs;
+    live = λ other. still_live (is_of other (Event.Complete id n value)) (s.outputs other) (live_attempt s.events other) (s.live other);
+  },
+  record { events = refl; outputs = λ other. refl },
+)
+
+pub tick_landed : (s : Standing) (now : ℕ) → causes_of s.events (Event.Tick now) ≡ [] → (t : Standing) × Adds (Event.Tick now) s t
+tick_landed s now causes = (
+  record { events = Event.Tick now ∷ s.events; accepted = (causes, s.accepted); outputs = s.outputs; live = λ other. s.live other },
+  record { events = refl; outputs = λ other. refl },
+)
+
+pub begin_landed : (s : Standing) (id : Text) (now : ℕ) → causes_of s.events (Event.Begin id now) ≡ [] → (t : Standing) × BeginsSome id now s t
+begin_landed s id now causes =
+    let to = begun s id now causes in (
+      to.0,
+      (
+        record { number = 1 + attempts_begun s.events id; version = version_of s.events id; start = frame_bytes MessageType.Start (start_payload s.events id now) },
+        record { number = refl; version = refl; start = refl; leaves = to.1 },
+      ),
+    )

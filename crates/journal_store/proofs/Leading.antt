@@ -1,5 +1,5 @@
 -- What the store's calls do to what it stands for.
-use Rattle.std.proofs.Common.{◌≡◌, refl, sym, ap, subst, ◌∙◌, ℕ, ◌+◌, length, List, [], ◌∷◌, Option, Some, None, is_some, option_map, Result, Ok, Err, OnOk}
+use Rattle.std.proofs.Common.{◌≡◌, refl, sym, ap, ◌∙◌, ℕ, ◌+◌, length, List, [], ◌∷◌, Option, Some, None, is_some, option_map, Result, Ok, Err, OnOk}
 use Rattle.sqlite_trees.specs.declared.store.Store.{Ghosts}
 use Rattle.sqlite.specs.Held.{state}
 use Rattle.sqlite.specs.State.{State, HasCleanDisk}
@@ -22,7 +22,7 @@ use Rattle.store_calls.specs.declared.begun.BegunAttempt.{BegunAttempt}
 use Rattle.store_calls.specs.Standing.{Standing, Stays, Adds, Leaves, Refuses}
 use Rattle.store_calls.specs.Calls.{Completes, BeginsAttempt}
 use Rattle.journal_store.specs.Stored.{Stored}
-use Rattle.journal_store.specs.Stands.{Stands, IsStanding, Leads, Outlasts, output_of, KeepsOutputs, WaitsNow, WaitsAfter}
+use Rattle.journal_store.specs.Stands.{Stands, IsStanding, Leads, Settles, output_of, KeepsOutputs, WaitsNow, WaitsAfter}
 use Rattle.journal_store.proofs.Lasting.{outlasts_now}
 
 -- An event is accepted, and the store stands for it too; or it is refused, for the least of its causes or for a circumstance, and
@@ -123,13 +123,9 @@ module _ {S : Type 0} (g : Ghosts S) (old new : Stored S) where
       refuses g s old new is (Event.Begin id now) why did.0 did.1 waits
 
   -- what was answered lasts
-  pub settled_so : {A : Type 0} (event : Event) (Relation : Result A Refusal → Standing → Standing → Type 0) (result : Result A Refusal)
-      → ((answer : A) (s t : Standing) → Relation (Ok answer) s t → t.events ≡ event ∷ s.events) → Leads g (Relation result) old new
-      → (HasCleanDisk (state g new.connection) → OnOk result (Lasts (state g new.connection)))
-      → HasCleanDisk (state g new.connection) → (events : List Event) → Stands events (state g old.connection) old.live.attempts → OnOk result (Outlasts (event ∷ events) (state g new.connection))
-  settled_so event Relation (Ok answer) more leads lasts clean events stands =
-      let from = stood g events old stands in
-      let to = leads clean from.0 from.1.standing in
-      subst (λ (es : List Event). Outlasts es (state g new.connection)) (more answer from.0 to.0 to.2 ∙ ap (λ (es : List Event). event ∷ es) from.1.same)
-      (outlasts_now to.0.events (state g new.connection) new.live.attempts clean to.1.stands (lasts clean))
-  settled_so event Relation (Err why) more leads lasts clean events stands = tt
+  pub settled_so : {A : Type 0} (Relation : Standing → Standing → Type 0) (result : Result A Refusal) → Leads g Relation old new
+      → (HasCleanDisk (state g new.connection) → OnOk result (Lasts (state g new.connection))) → OnOk result (Settles g Relation old new)
+  settled_so Relation (Ok answer) leads lasts clean s is =
+      let to = leads clean s is in
+      (to.0, to.1, to.2, outlasts_now to.0.events (state g new.connection) new.live.attempts clean to.1.stands (lasts clean))
+  settled_so Relation (Err why) leads lasts = tt

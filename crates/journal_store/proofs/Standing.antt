@@ -30,7 +30,8 @@ use Rattle.store_live_laws.proofs.Steps.{arrived, elsewhere}
 use Rattle.store_live_laws.proofs.Begun.{invoked}
 use Rattle.store_live.specs.Before.{IsAsBefore, AreAsBefore}
 use Rattle.store_live.proofs.Adding.{as_it_is}
-use Rattle.journal_store.specs.Stands.{Stands, KeepsAll, Commits}
+use Rattle.store_calls.specs.Standing.{Standing}
+use Rattle.journal_store.specs.Stands.{Stands, KeepsAll, KeepsOf}
 
 pub true_or_false : (b : Bool) → (b ≡ true) ⊎ (b ≡ false)
 true_or_false true = inl refl
@@ -183,16 +184,19 @@ stands_invoked events new database attempts accepted before kept live =
 -- ---- crashes
 
 -- what one transaction of an event leaves where a crash comes, if what it writes was made ready before
-pub commits_after : (old mid new : State) (event : Event) (writes : List Write) → IsReadIn event
+pub commits_after : (R : Standing → Standing → Type 0) (old mid new : State) (event : Event) (writes : List Write) → IsReadIn event
+    → ((s : Standing) → causes_of s.events event ≡ [] → (t : Standing) × R s t) → ((s t : Standing) → R s t → t.events ≡ event ∷ s.events)
     → Survives old mid (λ _. ⊥) → Asked old mid → Survives mid new (Lands writes mid)
     → (HasCleanDisk mid → (events : List Event) → IsStoreOf events old → (causes_of events event ≡ []) × (writes ≡ writes_of events event))
-    → ((events : List Event) → writes_of events event ≡ [] → ⊥) → Survives old new (Commits event old)
-commits_after old mid new event writes read before asked lives made some =
-    survives_then old mid new (λ _. ⊥) (Lands writes mid) (Commits event old) (λ _ db none. absurd none)
-    (λ clean db lands events kept.
+    → ((events : List Event) → writes_of events event ≡ [] → ⊥) → Survives old new (KeepsOf (λ (s : Standing). IsStoreOf s.events old) R)
+commits_after R old mid new event writes read made adds before asked lives ready some =
+    survives_then old mid new (λ _. ⊥) (Lands writes mid) (KeepsOf (λ (s : Standing). IsStoreOf s.events old) R) (λ _ db none. absurd none)
+    (λ clean db lands s kept.
     let early : HasCleanDisk mid = omega (arith, lives.clean, clean) in
-    let is = made early events kept in
-    let store = store_kept events old mid before asked kept in
-    let is_open : IsTrue mid.is_open = elim lands.0 [ inl none ↦ absurd (some events (sym is.1 ∙ none)) | inr still ↦ still ] in
-    (is.0, landed events event mid writes db store read early is.0 is.1 is_open lands.1))
+    let is = ready early s.events kept in
+    let store = store_kept s.events old mid before asked kept in
+    let is_open : IsTrue mid.is_open = elim lands.0 [ inl none ↦ absurd (some s.events (sym is.1 ∙ none)) | inr still ↦ still ] in
+    let all = landed s.events event mid writes db store read early is.0 is.1 is_open lands.1 in
+    let to = made s is.0 in
+    (to.0, to.1, subst (λ (events : List Event). KeepsAll events db) (sym (adds s to.0 to.1)) all))
     before lives

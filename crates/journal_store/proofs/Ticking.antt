@@ -1,5 +1,5 @@
 -- A tick is recorded.
-use Rattle.std.proofs.Common.{◌≡◌, ℕ, suc, ◌+◌, ◌≤◌, ◌==◌, refl, sym, ap, subst, ◌∙◌, inl, inr, Bool, true, false, ◌&&◌, if◌then◌else◌, List, [], ◌∷◌, length, map, filter, Option, Some, None, option_map, Result, Ok, Err, IfOk, OnOk, OnErr, IsTrue, bytes_eq, arith}
+use Rattle.std.proofs.Common.{◌≡◌, ℕ, suc, ◌+◌, ◌≤◌, refl, sym, ap, subst, ◌∙◌, inl, inr, Bool, true, false, ◌&&◌, if◌then◌else◌, List, [], ◌∷◌, length, map, filter, Option, Some, None, option_map, Result, Ok, Err, IfOk, OnOk, OnErr, IsTrue, bytes_eq, arith}
 use Rattle.std.specs.List.{AllByRecursion}
 use Rattle.std.specs.Option.{ForSome}
 use Rattle.std.proofs.lemmas.Bool.{eq-eqb}
@@ -10,7 +10,6 @@ use Rattle.sqlite.specs.Held.{Held, state}
 use Rattle.sqlite.specs.State.{State, HasCleanDisk, Survives}
 use Rattle.sqlite.proofs.StateLemmas.{survives_then}
 use Rattle.sqlite_keyed.proofs.ListLemmas.{filter-map}
-use Rattle.sql_tables.specs.Asking.{IsKept as Asked}
 use Rattle.journal_model.specs.Notification.{Text}
 use Rattle.journal_model.specs.Event.{Event}
 use Rattle.journal_model.specs.Journal.{is_open, entries_of}
@@ -36,19 +35,20 @@ use Rattle.store_live.specs.Before.{AreAsBefore}
 use Rattle.store_live.specs.Added.{AreAlone, ArePut, HasRoomFor, HaveRoomFor, is_added_to, put_in_turn}
 use Rattle.store_live_laws.specs.Agrees.{Agrees}
 use Rattle.store_live_laws.proofs.Ticked.{ticked_at_once, unticked}
-use Rattle.store_ticks.specs.Made.{AreFrames, IsTickReady, ids_ended, ready_writes}
+use Rattle.store_ticks.specs.Made.{AreFrames, IsTickReady, ids_ended}
 use Rattle.store_ticks.specs.declared.tick.PreparedTick.{PreparedTick}
 use Rattle.store_ticks.proofs.Keeping.{ready_keeps}
-use Rattle.store_calls.specs.Standing.{Standing}
+use Rattle.store_calls.specs.Standing.{Standing, Adds}
 use Rattle.store_calls.specs.Calls.{Ticks}
 use Rattle.journal_store.specs.Stored.{stored}
 use Rattle.journal_store.specs.Attempts.{PutsAll}
-use Rattle.journal_store.specs.Stands.{Commits, IsStanding, KeepsAll, KeepsOutputs, Leads, Outlasts, Stands}
+use Rattle.journal_store.specs.Stands.{EnduresAlways, KeepsAll, KeepsOf, KeepsOutputs, Leads, Settles}
 use Rattle.journal_store.specs.Taking.{HasWritten, LandsSome}
 use Rattle.journal_store.specs.Writing.{WritesSome}
+use Rattle.journal_store.proofs.Enduring.{tick_landed}
 use Rattle.journal_store.proofs.Found.{found_in, passes}
 use Rattle.journal_store.proofs.Lasting.{outlasts_now}
-use Rattle.journal_store.proofs.Leading.{adds, refuses, stood}
+use Rattle.journal_store.proofs.Leading.{adds, refuses}
 use Rattle.journal_store.proofs.Standing.{agrees_still, stands_still, store_still, stored_still}
 use Rattle.journal_store.proofs.Waiting.{before_waits, put_waits}
 
@@ -205,35 +205,41 @@ module _ {S : Type 0} (g : Ghosts S) (a mid b : Held S) (before after : Attempts
       (record { kept = store; live = is.stands.live })) (tick_waits (Err why) put same)
 
   -- where a crash comes
-  pub tick_lands : Survives (state g mid) (state g b) (LandsSome made.writes.items (state g mid)) → Survives (state g a) (state g b) (Commits (Event.Tick now) (state g a))
+  pub tick_lands : Survives (state g mid) (state g b) (LandsSome made.writes.items (state g mid)) → EnduresAlways g (Adds (Event.Tick now)) (stored a before) (stored b after)
   tick_lands lives =
-      survives_then (state g a) (state g mid) (state g b) (λ _. ⊥) (LandsSome made.writes.items (state g mid)) (Commits (Event.Tick now) (state g a)) (λ _ db none. absurd none)
-      (λ clean db lands events kept.
+      survives_then (state g a) (state g mid) (state g b) (λ _. ⊥) (LandsSome made.writes.items (state g mid)) (KeepsOf (λ s. IsStoreOf s.events (state g a)) (Adds (Event.Tick now)))
+      (λ _ db none. absurd none)
+      (λ clean db lands s kept.
       let early : HasCleanDisk (state g mid) = omega (arith, lives.clean, clean) in
-      let it = ready early events kept in
-      let store = store_kept events (state g a) (state g mid) looks.crash looks.kept kept in
-      (it.0, kept_by events (Event.Tick now) (state g mid) made.writes.items db (store.keeps early lands.0) (tt, store.read) (tick_keeps events now made it.0 it.1) lands.1))
+      let it = ready early s.events kept in
+      let store = store_kept s.events (state g a) (state g mid) looks.crash looks.kept kept in
+      let all = kept_by s.events (Event.Tick now) (state g mid) made.writes.items db (store.keeps early lands.0) (tt, store.read) (tick_keeps s.events now made it.0 it.1) lands.1 in
+      let to = tick_landed s now it.0 in
+      (to.0, to.1, subst (λ (events : List Event). KeepsAll events db) (sym to.1.events) all))
       looks.crash lives
 
   -- what was answered lasts
   pub tick_settled : (result : Result ℕ Refusal) → WritesSome g made.writes.items mid b result → (IsTrue (state g a).is_open → Lasts (state g a))
       → (HasCleanDisk (state g mid) → IsTrue (state g a).is_open) → Leads g (Ticks now result) (stored a before) (stored b after)
-      → HasCleanDisk (state g b) → (events : List Event) → Stands events (state g a) before.attempts → OnOk result (Outlasts (Event.Tick now ∷ events) (state g b))
-  tick_settled (Err why) wrote idle asked leads clean events stands = tt
-  tick_settled (Ok count) wrote idle asked leads clean events stands =
+      → OnOk result (Settles g (Ticks now result) (stored a before) (stored b after))
+  tick_settled (Err why) wrote idle asked leads = tt
+  tick_settled (Ok count) wrote idle asked leads =
+      λ clean s is.
+      let t = leads clean s is in
       let early : HasCleanDisk (state g mid) = omega (arith, wrote.crash.clean, clean) in
       let first : HasCleanDisk (state g a) = omega (arith, looks.crash.clean, early) in
-      let it = ready early events stands.kept in
-      elim (wrote.lasts clean) [
-        | inl nothing ↦ λ trees may.
-            let before_it : (state g a).may_leave trees =
-            elim (looks.crash.crash early trees (subst (λ (held : Held S). (state g held).may_leave trees) nothing.1 may)) [ inl earlier ↦ earlier | inr never ↦ absurd never ] in
-            let same : trees ≡ (state g a).now.trees = (idle (asked early)).left trees before_it in
-            kept_by events (Event.Tick now) (state g a) made.writes.items trees (stands.kept.keeps first (asked early)) (tt, stands.kept.read) (tick_keeps events now made it.0 it.1)
-            (λ records held. subst (λ (writes : List Write). Holds trees (applied_all writes records)) (sym nothing.0) (subst (λ (db : Trees). Holds db records) (sym same) held))
-        | inr all ↦
-            let from = stood g events (stored a before) stands in
-            let to = leads clean from.0 from.1.standing in
-            subst (λ (es : List Event). Outlasts es (state g b)) (to.2.1.events ∙ ap (λ (es : List Event). Event.Tick now ∷ es) from.1.same)
-            (outlasts_now to.0.events (state g b) after.attempts clean to.1.stands all)
-      ]
+      let it = ready early s.events is.stands.kept in (
+        t.0,
+        t.1,
+        t.2,
+        elim (wrote.lasts clean) [
+          | inl nothing ↦ λ trees may.
+              let before_it : (state g a).may_leave trees =
+              elim (looks.crash.crash early trees (subst (λ (held : Held S). (state g held).may_leave trees) nothing.1 may)) [ inl earlier ↦ earlier | inr never ↦ absurd never ] in
+              let same : trees ≡ (state g a).now.trees = (idle (asked early)).left trees before_it in
+              subst (λ (events : List Event). KeepsAll events trees) (sym t.2.1.events)
+              (kept_by s.events (Event.Tick now) (state g a) made.writes.items trees (is.stands.kept.keeps first (asked early)) (tt, is.stands.kept.read) (tick_keeps s.events now made it.0 it.1)
+              (λ records held. subst (λ (writes : List Write). Holds trees (applied_all writes records)) (sym nothing.0) (subst (λ (db : Trees). Holds db records) (sym same) held)))
+          | inr all ↦ outlasts_now t.0.events (state g b) after.attempts clean t.1.stands all
+        ],
+      )

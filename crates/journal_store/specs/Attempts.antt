@@ -14,6 +14,8 @@ use Rattle.store_live.specs.Added.{AreAlone, ArePut, HaveRoomFor}
 use Rattle.store_live.specs.Attempts.{ByInvocation, IsNow}
 use Rattle.store_live_laws.specs.Agrees.{cause_of_stale}
 use Rattle.store_calls.specs.declared.begun.BegunAttempt.{BegunAttempt}
+use Rattle.store_calls.specs.Standing.{Standing}
+use Rattle.store_calls.specs.Calls.{Begins}
 
 -- a call on an attempt that is not live: the invocation is unknown, or closed, or the attempt is over; or a circumstance
 abbrev pub IsStale : List Event → Text → Refusal → Type 0
@@ -36,6 +38,10 @@ pub record PutsAll (added : List AddedFrames) (old new : ByInvocation) : Type 0 
   pub put : ArePut added between new
 
 -- ---- beginning
+
+-- an attempt is begun, with some answer
+abbrev pub BeginsSome : Text → ℕ → Standing → Standing → Type 0
+BeginsSome id now old new = (begun : BegunAttempt) × Begins id now begun old new
 
 -- the attempt as it is kept then: all of its journal is left, and it wrote nothing
 abbrev pub fresh : (number version : ℕ) → Bytes → List ℕ → LiveAttempt

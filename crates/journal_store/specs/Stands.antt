@@ -1,12 +1,11 @@
 -- When a store stands for a list of accepted events, and what a call makes of that.
-use Rattle.std.specs.Prelude.{◌≡◌, false, bytes_eq, List, [], ◌∷◌, Option, Some, None, option_map, Result, Ok, Err}
+use Rattle.std.specs.Prelude.{◌≡◌, false, bytes_eq, List, Option, Some, None, option_map, Result, Ok, Err}
 use Rattle.sqlite_trees.specs.declared.store.Store.{Ghosts}
 use Rattle.sqlite_trees.specs.Tree.{Trees}
 use Rattle.sqlite.specs.Held.{state}
 use Rattle.sqlite.specs.State.{State, HasCleanDisk, Survives}
 use Rattle.journal_model.specs.Notification.{Bytes, Text}
 use Rattle.journal_model.specs.Event.{Event}
-use Rattle.journal_model.specs.Cause.{causes_of}
 use Rattle.store_frames.specs.Read.{AreRead}
 use Rattle.store_tables.specs.Records.{Records, Holds}
 use Rattle.store_model.specs.Kept.{IsKept}
@@ -49,10 +48,9 @@ pub record KeepsAll (events : List Event) (trees : Trees) : Type 0 where
   pub held : Holds trees records
   pub kept : IsKept events records
 
--- What the one commit of a call leaves, also where a crash comes before the call is over: whatever events the tables kept, the
--- event is accepted, and the tables keep it too.
-abbrev pub Commits : Event → State → Trees → Type 0
-Commits event database trees = (events : List Event) → IsStoreOf events database → (causes_of events event ≡ []) × KeepsAll (event ∷ events) trees
+-- whatever is known so, the tables keep the events of something in this relation to it
+abbrev pub KeepsOf : (Standing → Type 0) → (Standing → Standing → Type 0) → Trees → Type 0
+KeepsOf IsKnown Relation trees = (s : Standing) → IsKnown s → (t : Standing) × Relation s t × KeepsAll t.events trees
 
 -- whatever a crash leaves from now on, the tables keep these events
 abbrev pub Outlasts : List Event → State → Type 0
@@ -74,11 +72,17 @@ module _ {S : Type 0} (g : Ghosts S) where
 
   -- the tables keep the events of something in this relation to what the store stood for, whatever that was
   abbrev pub Keeps : (Standing → Standing → Type 0) → Stored S → Trees → Type 0
-  Keeps Relation store trees = (s : Standing) → IsStanding s store → (t : Standing) × Relation s t × KeepsAll t.events trees
+  Keeps Relation store trees = KeepsOf (λ s. IsStanding s store) Relation trees
 
   -- What a crash leaves after some calls: what it could leave before them, or such tables.
   abbrev pub Endures : (Standing → Standing → Type 0) → Stored S → Stored S → Type 0
   Endures Relation old new = Survives (state g old.connection) (state g new.connection) (Keeps Relation old)
+
+  -- The same whatever attempts are in memory, of a call whose commit does not hang on them: the relation is to whatever events the
+  -- tables kept.
+  abbrev pub EnduresAlways : (Standing → Standing → Type 0) → Stored S → Stored S → Type 0
+  EnduresAlways Relation old new =
+      Survives (state g old.connection) (state g new.connection) (KeepsOf (λ s. IsStoreOf s.events (state g old.connection)) Relation)
 
   -- nothing is committed
   abbrev pub IsQuiet : Stored S → Stored S → Type 0

@@ -1,11 +1,12 @@
 // Events that are recorded: each is made ready, and then written in one transaction.
-ghost use Rattle.std.specs.Prelude.{◌≡◌, ◌∷◌, Some, [], ◌+◌, ◌<◌, ◌^◌, false, length, List, IfOk, OnErr, OnOk};
+ghost use Rattle.std.specs.Prelude.{◌≡◌, Some, [], ◌+◌, ◌<◌, ◌^◌, false, length, IfOk, OnErr, OnOk};
 ghost use Rattle.journal_model.specs.Event.{Event};
 ghost use Rattle.store_live.specs.Attempts.{Changes, after_put};
+ghost use Rattle.store_calls.specs.Standing.{Adds};
 ghost use Rattle.store_calls.specs.Calls.{BeginsAttempt, Completes, Invokes};
-ghost use Rattle.journal_store.specs.Attempts.{IsToldAs, TakesIn, fresh};
-ghost use Rattle.journal_store.specs.Stands.{Commits, KeepsOutputs, Leads, Outlasts, Stands, WaitsAfter};
-ghost use Rattle.journal_store.specs.Words.{state, HasCleanDisk, Survives, IsKept, AreAsBefore};
+ghost use Rattle.journal_store.specs.Attempts.{BeginsSome, IsToldAs, TakesIn, fresh};
+ghost use Rattle.journal_store.specs.Stands.{EnduresAlways, KeepsOutputs, Leads, Settles, WaitsAfter};
+ghost use Rattle.journal_store.specs.Words.{state, IsKept, AreAsBefore};
 ghost use Rattle.journal_store.specs.Writing.{WritesAll};
 
 use crate::store::Store;
@@ -188,9 +189,9 @@ impl<S: Alter + Drop> Store<S> {
     pub fn invoke(&mut self, new: NewInvocation) -> Result<(), Refusal>
         ensures does { Leads S.Store (Invokes new result) self.old self.new }
         ensures live { self.new.live ≡ self.old.live }
-        ensures settled { HasCleanDisk (state S.Store self.new.connection) → (events : List Event) → Stands events (state S.Store self.old.connection) self.old.live.attempts → OnOk result (Outlasts (Event.Invoke new ∷ events) (state S.Store self.new.connection)) }
+        ensures settled { OnOk result (Settles S.Store (Invokes new result) self.old self.new) }
         ensures kept { OnErr result (IsKept (state S.Store self.old.connection) (state S.Store self.new.connection)) }
-        ensures crash { Survives (state S.Store self.old.connection) (state S.Store self.new.connection) (Commits (Event.Invoke new) (state S.Store self.old.connection)) }
+        ensures crash { EnduresAlways S.Store (Adds (Event.Invoke new)) self.old self.new }
     {
         let prepared = prepare_invoke(&mut self.tables, &new);
         drop(new);
@@ -209,9 +210,9 @@ impl<S: Alter + Drop> Store<S> {
     ) -> Result<u32, Refusal>
         ensures does { Leads S.Store (Completes id.now completion brought result) self.old self.new }
         ensures waits { KeepsOutputs self.old.live.attempts self.new.live.attempts }
-        ensures settled { HasCleanDisk (state S.Store self.new.connection) → (events : List Event) → Stands events (state S.Store self.old.connection) self.old.live.attempts → OnOk result (Outlasts (Event.Complete id.now completion brought ∷ events) (state S.Store self.new.connection)) }
+        ensures settled { OnOk result (Settles S.Store (Completes id.now completion brought result) self.old self.new) }
         ensures kept { OnErr result (IsKept (state S.Store self.old.connection) (state S.Store self.new.connection)) }
-        ensures crash { Survives (state S.Store self.old.connection) (state S.Store self.new.connection) (Commits (Event.Complete id.now completion brought) (state S.Store self.old.connection)) }
+        ensures crash { EnduresAlways S.Store (Adds (Event.Complete id.now completion brought)) self.old self.new }
     {
         match prepare_result(&mut self.tables, id, completion, brought) {
             Ok(made) => record_arrival(&mut self.tables, &mut self.live, id, made),
@@ -223,9 +224,9 @@ impl<S: Alter + Drop> Store<S> {
     pub fn begin(&mut self, id: &ByteStr, now: u64) -> Result<BegunAttempt, Refusal>
         ensures does { Leads S.Store (BeginsAttempt id.now now result) self.old self.new }
         ensures waits { WaitsAfter id.now (Some []) result self.old.live.attempts self.new.live.attempts }
-        ensures settled { HasCleanDisk (state S.Store self.new.connection) → (events : List Event) → Stands events (state S.Store self.old.connection) self.old.live.attempts → OnOk result (Outlasts (Event.Begin id.now now ∷ events) (state S.Store self.new.connection)) }
+        ensures settled { OnOk result (Settles S.Store (BeginsAttempt id.now now result) self.old self.new) }
         ensures kept { OnErr result (IsKept (state S.Store self.old.connection) (state S.Store self.new.connection)) }
-        ensures crash { Survives (state S.Store self.old.connection) (state S.Store self.new.connection) (Commits (Event.Begin id.now now) (state S.Store self.old.connection)) }
+        ensures crash { EnduresAlways S.Store (BeginsSome id.now now) self.old self.new }
     {
         match prepare_begin(&mut self.tables, id, now) {
             Ok(made) => begin_prepared(&mut self.tables, &mut self.live, id, made),

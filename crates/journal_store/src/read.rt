@@ -6,8 +6,8 @@ ghost use Rattle.store_model.specs.Progress.{last_error_of};
 ghost use Rattle.store_invocations.specs.Rows.{Decides, known_tests};
 ghost use Rattle.store_reads.specs.Told.{entries_told};
 ghost use Rattle.store_reads.specs.Answered.{answer_told};
-ghost use Rattle.journal_store.specs.Stands.{Stands};
-ghost use Rattle.journal_store.specs.Words.{state, HasCleanDisk, Survives};
+ghost use Rattle.journal_store.specs.Stands.{IsQuiet, Stands};
+ghost use Rattle.journal_store.specs.Words.{state, HasCleanDisk};
 
 use crate::store::Store;
 use bytes::ByteStr;
@@ -22,7 +22,7 @@ impl<S: Alter + Drop> Store<S> {
     pub fn entries(&mut self, id: &ByteStr) -> Result<Vec<RecordedEntry>, Refusal>
         ensures told { HasCleanDisk (state S.Store self.new.connection) → (events : List Event) → Stands events (state S.Store self.old.connection) self.old.live.attempts → Decides (known_tests events id.now) (λ entries. entries.items ≡ entries_told events id.now) result × Stands events (state S.Store self.new.connection) self.new.live.attempts }
         ensures live { self.new.live ≡ self.old.live }
-        ensures crash { Survives (state S.Store self.old.connection) (state S.Store self.new.connection) (λ _. ⊥) }
+        ensures crash { IsQuiet S.Store self.old self.new }
     {
         entries(&mut self.tables, id)
     }
@@ -32,7 +32,7 @@ impl<S: Alter + Drop> Store<S> {
     pub fn answer(&mut self, id: &ByteStr) -> Result<Option<NonEmptyValue>, Refusal>
         ensures told { HasCleanDisk (state S.Store self.new.connection) → (events : List Event) → Stands events (state S.Store self.old.connection) self.old.live.attempts → Decides (known_tests events id.now) (λ answer. answer ≡ answer_told events id.now) result × Stands events (state S.Store self.new.connection) self.new.live.attempts }
         ensures live { self.new.live ≡ self.old.live }
-        ensures crash { Survives (state S.Store self.old.connection) (state S.Store self.new.connection) (λ _. ⊥) }
+        ensures crash { IsQuiet S.Store self.old self.new }
     {
         answer(&mut self.tables, id)
     }
@@ -41,7 +41,7 @@ impl<S: Alter + Drop> Store<S> {
     pub fn failure(&mut self, id: &ByteStr) -> Result<Option<LastError>, Refusal>
         ensures told { HasCleanDisk (state S.Store self.new.connection) → (events : List Event) → Stands events (state S.Store self.old.connection) self.old.live.attempts → Decides (known_tests events id.now) (λ error. error ≡ last_error_of events id.now) result × Stands events (state S.Store self.new.connection) self.new.live.attempts }
         ensures live { self.new.live ≡ self.old.live }
-        ensures crash { Survives (state S.Store self.old.connection) (state S.Store self.new.connection) (λ _. ⊥) }
+        ensures crash { IsQuiet S.Store self.old self.new }
     {
         failure(&mut self.tables, id)
     }
@@ -50,7 +50,7 @@ impl<S: Alter + Drop> Store<S> {
     pub fn is_open(&mut self, id: &ByteStr) -> Result<bool, Refusal>
         ensures told { HasCleanDisk (state S.Store self.new.connection) → (events : List Event) → Stands events (state S.Store self.old.connection) self.old.live.attempts → Decides (known_tests events id.now) (λ answer. answer ≡ is_open_after events id.now) result × Stands events (state S.Store self.new.connection) self.new.live.attempts }
         ensures live { self.new.live ≡ self.old.live }
-        ensures crash { Survives (state S.Store self.old.connection) (state S.Store self.new.connection) (λ _. ⊥) }
+        ensures crash { IsQuiet S.Store self.old self.new }
     {
         is_open(&mut self.tables, id)
     }

@@ -1,12 +1,13 @@
 // A tick is recorded: the ends of all sleeps that are due, of all open invocations, in one transaction.
-ghost use Rattle.std.specs.Prelude.{◌≡◌, ◌∷◌, List, IfOk, OnErr, OnOk};
+ghost use Rattle.std.specs.Prelude.{◌≡◌, IfOk, OnErr, OnOk};
 ghost use Rattle.std.specs.List.{AllByRecursion};
 ghost use Rattle.journal_model.specs.Event.{Event};
 ghost use Rattle.store_live.specs.Added.{ArePut, HasPlaces};
+ghost use Rattle.store_calls.specs.Standing.{Adds};
 ghost use Rattle.store_calls.specs.Calls.{Ticks};
 ghost use Rattle.journal_store.specs.Attempts.{PutsAll};
-ghost use Rattle.journal_store.specs.Stands.{Commits, KeepsOutputs, Leads, Outlasts, Stands};
-ghost use Rattle.journal_store.specs.Words.{state, HasCleanDisk, Survives, IsKept, AreAsBefore};
+ghost use Rattle.journal_store.specs.Stands.{EnduresAlways, KeepsOutputs, Leads, Settles};
+ghost use Rattle.journal_store.specs.Words.{state, IsKept, AreAsBefore};
 ghost use Rattle.journal_store.specs.Writing.{WritesSome};
 
 use crate::step::commit_some;
@@ -71,9 +72,9 @@ impl<S: Alter + Drop> Store<S> {
     pub fn tick(&mut self, now: u64) -> Result<u64, Refusal>
         ensures does { Leads S.Store (Ticks now result) self.old self.new }
         ensures waits { KeepsOutputs self.old.live.attempts self.new.live.attempts }
-        ensures settled { HasCleanDisk (state S.Store self.new.connection) → (events : List Event) → Stands events (state S.Store self.old.connection) self.old.live.attempts → OnOk result (Outlasts (Event.Tick now ∷ events) (state S.Store self.new.connection)) }
+        ensures settled { OnOk result (Settles S.Store (Ticks now result) self.old self.new) }
         ensures kept { OnErr result (IsKept (state S.Store self.old.connection) (state S.Store self.new.connection)) }
-        ensures crash { Survives (state S.Store self.old.connection) (state S.Store self.new.connection) (Commits (Event.Tick now) (state S.Store self.old.connection)) }
+        ensures crash { EnduresAlways S.Store (Adds (Event.Tick now)) self.old self.new }
     {
         // It does nothing: its contract says that a tick of which nothing is written lasts too.
         let _settled = self.tables.is_settled();

@@ -1,10 +1,15 @@
 -- What a crash leaves keeps a list of events.
-use Rattle.std.proofs.Common.{refl, inl, inr, List, [], ◌∷◌}
+use Rattle.std.proofs.Common.{◌≡◌, refl, subst, ℕ, inl, inr, List, [], ◌∷◌, Option, Some, None, is_some}
 use Rattle.sqlite_trees.specs.declared.store.Store.{Ghosts}
 use Rattle.sqlite_trees.specs.Tree.{Trees}
 use Rattle.sqlite.specs.Held.{state}
 use Rattle.sqlite.specs.State.{State, HasCleanDisk, Survives}
+use Rattle.journal_model.specs.Notification.{Bytes}
 use Rattle.journal_model.specs.Event.{Event}
+use Rattle.journal_model.specs.Attempt.{live_attempt}
+use Rattle.journal_model.specs.Cause.{IsAccepted}
+use Rattle.store_calls.specs.Standing.{Standing}
+use Rattle.journal_store.specs.Stands.{KeepsAll}
 use Rattle.store_laws.specs.Crashing.{IsImageOf, LeavesOf, CallsLeave, ImagesAreStores, OpensLeave, QuietCallsLeave}
 
 with_one : (lists : List (List Event)) (one : List Event) (trees : Trees) → IsImageOf lists trees → IsImageOf (one ∷ lists) trees
@@ -17,14 +22,28 @@ left_by lists more old new P lives clean before wider after trees may = elim (li
   | inr committed ↦ after trees committed
 ]
 
-pub calls_leave : {S : Type 0} (g : Ghosts S) → CallsLeave g
-calls_leave g lists events event old new store lives clean before =
-    left_by lists ((event ∷ events) ∷ lists) (state g old) (state g new) _ lives clean before (with_one lists (event ∷ events)) (λ trees commits.
-    let it = commits events store in
-    (event ∷ events, inl refl, (it.0, store.accepted), it.1))
+-- tables of these events stand for them, whatever waits in memory
+waits : Option ℕ → Option Bytes
+waits None = None
+waits (Some n) = Some []
+
+alike : (o : Option ℕ) → is_some (waits o) ≡ is_some o
+alike None = refl
+alike (Some n) = refl
+
+standing_of : (events : List Event) → IsAccepted events → Standing
+standing_of events accepted = record { events = events; accepted = accepted; outputs = λ id. waits (live_attempt events id); live = λ id. alike (live_attempt events id) }
+
+pub calls_leave : {S : Type 0} (g : Ghosts S) (Relation : Standing → Standing → Type 0) (event : Event) → ((s t : Standing) → Relation s t → t.events ≡ event ∷ s.events)
+    → CallsLeave g Relation event
+calls_leave g Relation event adds lists events old new store lives clean before =
+    left_by lists ((event ∷ events) ∷ lists) (state g old.connection) (state g new.connection) _ lives clean before (with_one lists (event ∷ events)) (λ trees keeps.
+    let it = keeps (standing_of events store.accepted) store in
+    let same = adds (standing_of events store.accepted) it.0 it.1 in
+    (event ∷ events, inl refl, subst IsAccepted same it.0.accepted, subst (λ (es : List Event). KeepsAll es trees) same it.2))
 
 pub quiet_calls_leave : {S : Type 0} (g : Ghosts S) → QuietCallsLeave g
-quiet_calls_leave g lists old new lives clean before = left_by lists lists (state g old) (state g new) _ lives clean before (λ trees image. image) (λ trees none. absurd none)
+quiet_calls_leave g lists old new lives clean before = left_by lists lists (state g old.connection) (state g new.connection) _ lives clean before (λ trees image. image) (λ trees none. absurd none)
 
 pub opens_leave : {S : Type 0} (g : Ghosts S) → OpensLeave g
 opens_leave g lists old new lives clean before =

@@ -7,7 +7,9 @@ use Rattle.sqlite.specs.State.{State, HasCleanDisk, Survives}
 use Rattle.journal_model.specs.Event.{Event}
 use Rattle.journal_model.specs.Cause.{IsAccepted}
 use Rattle.store_invocations.specs.Rows.{IsStoreOf}
-use Rattle.journal_store.specs.Stands.{Commits, KeepsAll}
+use Rattle.store_calls.specs.Standing.{Standing}
+use Rattle.journal_store.specs.Stored.{Stored}
+use Rattle.journal_store.specs.Stands.{EnduresAlways, IsQuiet, KeepsAll}
 use Rattle.journal_store.specs.Opened.{MakesTables}
 
 abbrev pub IsAmong : List Event → List (List Event) → Type 0
@@ -22,16 +24,16 @@ IsImageOf lists trees = (events : List Event) × IsAmong events lists × IsAccep
 abbrev pub LeavesOf : List (List Event) → State → Type 0
 LeavesOf lists s = (trees : Trees) → s.may_leave trees → IsImageOf lists trees
 
--- a call with one commit, over a store of these events
-abbrev pub CallsLeave : {S : Type 0} → Ghosts S → Type 0
-CallsLeave {S} g = (lists : List (List Event)) (events : List Event) (event : Event) (old new : Held S) → IsStoreOf events (state g old)
-    → Survives (state g old) (state g new) (Commits event (state g old)) → HasCleanDisk (state g new)
-    → LeavesOf lists (state g old) → LeavesOf ((event ∷ events) ∷ lists) (state g new)
+-- a call whose one commit makes something in this relation, of this event more, over tables of these events
+abbrev pub CallsLeave : {S : Type 0} → Ghosts S → (Standing → Standing → Type 0) → Event → Type 0
+CallsLeave {S} g Relation event = (lists : List (List Event)) (events : List Event) (old new : Stored S) → IsStoreOf events (state g old.connection)
+    → EnduresAlways g Relation old new → HasCleanDisk (state g new.connection)
+    → LeavesOf lists (state g old.connection) → LeavesOf ((event ∷ events) ∷ lists) (state g new.connection)
 
 -- a call without a commit
 abbrev pub QuietCallsLeave : {S : Type 0} → Ghosts S → Type 0
-QuietCallsLeave {S} g = (lists : List (List Event)) (old new : Held S) → Survives (state g old) (state g new) (λ _. ⊥) → HasCleanDisk (state g new)
-    → LeavesOf lists (state g old) → LeavesOf lists (state g new)
+QuietCallsLeave {S} g = (lists : List (List Event)) (old new : Stored S) → IsQuiet g old new → HasCleanDisk (state g new.connection)
+    → LeavesOf lists (state g old.connection) → LeavesOf lists (state g new.connection)
 
 -- an open
 abbrev pub OpensLeave : {S : Type 0} → Ghosts S → Type 0

@@ -1,6 +1,11 @@
 //! What crashes leave of a store, said by the accepted events. Each function does nothing: its contract is the law.
 #![tactic(auto)]
 
+ghost use Rattle.std.specs.Prelude.{ℕ};
+ghost use Rattle.journal_model.specs.Notification.{Text};
+ghost use Rattle.journal_model.specs.Event.{Event};
+ghost use Rattle.store_calls.specs.Standing.{Adds};
+ghost use Rattle.journal_store.specs.Attempts.{BeginsSome};
 ghost use Rattle.store_laws.specs.Crashing.{CallsLeave, ImagesAreStores, OpensLeave, QuietCallsLeave};
 
 use sqlite::Alter;
@@ -8,7 +13,8 @@ use sqlite::Alter;
 /// A call leaves what could be left before it, or what keeps its one event too. So does an open, of which the one commit keeps what
 /// is kept of no events.
 pub fn crashes_leave_events<S: Alter>()
-    ensures calls { CallsLeave S.Store }
+    ensures calls { (event : Event) → CallsLeave S.Store (Adds event) event }
+    ensures begins { (id : Text) (now : ℕ) → CallsLeave S.Store (BeginsSome id now) (Event.Begin id now) }
     ensures quiet { QuietCallsLeave S.Store }
     ensures opens { OpensLeave S.Store }
 {}

@@ -1,9 +1,15 @@
 -- The laws are proved in `Leaving`.
+use Rattle.journal_model.specs.Event.{Event}
+use Rattle.store_calls.specs.Standing.{Adds}
+use Rattle.journal_store.specs.Attempts.{BeginsSome}
 use Rattle.store_laws.proofs.Leaving.{calls_leave, opens_leave, quiet_calls_leave}
 use Rattle.store_laws.proofs.crashes_leave_events.Goals as goal
 
 pub returns-clause-calls : goal.returns-clause-calls
-returns-clause-calls g c = calls_leave g.S.Store
+returns-clause-calls g c event = calls_leave g.S.Store (Adds event) event (λ s t it. it.events)
+
+pub returns-clause-begins : goal.returns-clause-begins
+returns-clause-begins g c id now = calls_leave g.S.Store (BeginsSome id now) (Event.Begin id now) (λ s t it. it.1.leaves.events)
 
 pub returns-clause-quiet : goal.returns-clause-quiet
 returns-clause-quiet g c = quiet_calls_leave g.S.Store

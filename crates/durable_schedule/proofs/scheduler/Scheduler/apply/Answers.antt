@@ -9,7 +9,8 @@ use Rattle.schedule_model.specs.declared.event.Reply.TheVariants as reply
 use Rattle.store_calls.specs.Standing.{Adds}
 use Rattle.journal_store.specs.Stands.{Endures}
 use Rattle.durable_schedule.specs.Scheduled.{AppliesWith}
-use Rattle.journal_store.proofs.Enduring.{BeginsSome, quiet_endures, same_endures}
+use Rattle.journal_store.specs.Attempts.{BeginsSome}
+use Rattle.journal_store.proofs.Enduring.{quiet_endures, same_endures}
 use Rattle.durable_schedule.proofs.Scheduling.{applied, applied_lasting, applied_with, begins_with, spared, spares_held, stored, unwritten}
 use Rattle.durable_schedule.proofs.scheduler.Scheduler.apply.Goals as goal
 
@@ -44,11 +45,12 @@ returns-in-Invoke-clause-settled g c =
     applied_lasting g.S.Store g.H.Handler.next_call c.args.self.now c.invoke.new.self c.args.event (event.Invoke c.in-Invoke.new) c.invoke.result c.in-Invoke.is
     (λ written clean s is.
     let it = c.invoke.ensures.settled written clean s is in
-    (it.0, it.1, ((it.2.0, stored g.S.Store c.args.self.now c.invoke.new.self c.invoke.ensures.kept), it.2.1)))
+    (it.0, it.1, ((it.2, stored g.S.Store c.args.self.now c.invoke.new.self c.invoke.ensures.kept), it.3)))
 
 pub returns-in-Begin-clause-settled : goal.returns-in-Begin-clause-settled
 returns-in-Begin-clause-settled g c =
-    applied_lasting g.S.Store g.H.Handler.next_call c.args.self.now c.begin.new.self c.args.event (event.Begin c.in-Begin.invocation c.in-Begin.handler c.in-Begin.now) c.begin.result c.in-Begin.is c.begin.ensures.settled
+    applied_lasting g.S.Store g.H.Handler.next_call c.args.self.now c.begin.new.self c.args.event (event.Begin c.in-Begin.invocation c.in-Begin.handler c.in-Begin.now) c.begin.result c.in-Begin.is
+    (λ written clean s is. let it = c.begin.ensures.settled written clean s is in (it.0, it.1, (it.2, it.3)))
 
 pub returns-in-Feed-clause-settled : goal.returns-in-Feed-clause-settled
 returns-in-Feed-clause-settled g c = unwritten g.S.Store c.args.event (event.Feed c.in-Feed.invocation c.in-Feed.attempt c.in-Feed.count) c.feed.result c.in-Feed.is (λ written. written)
@@ -108,7 +110,7 @@ returns-in-Result-clause-settled g c =
     applied_lasting g.S.Store g.H.Handler.next_call c.args.self.now c.complete.new.self c.args.event (event.Result c.in-Result.invocation c.in-Result.completion c.in-Result.value) c.complete.result c.in-Result.is
     (λ written clean s is.
     let it = c.complete.ensures.settled written clean s is in
-    (it.0, it.1, ((it.2.0, stored g.S.Store c.args.self.now c.complete.new.self c.complete.ensures.kept), it.2.1)))
+    (it.0, it.1, ((it.2, stored g.S.Store c.args.self.now c.complete.new.self c.complete.ensures.kept), it.3)))
 
 pub returns-in-Result-clause-crash : goal.returns-in-Result-clause-crash
 returns-in-Result-clause-crash g c =
@@ -128,7 +130,7 @@ returns-in-Tick-clause-settled g c =
     applied_lasting g.S.Store g.H.Handler.next_call c.args.self.now c.tick.new.self c.args.event (event.Tick c.in-Tick.now) c.tick.result c.in-Tick.is
     (λ written clean s is.
     let it = c.tick.ensures.settled written clean s is in
-    (it.0, it.1, ((it.2.0, stored g.S.Store c.args.self.now c.tick.new.self c.tick.ensures.kept), it.2.1)))
+    (it.0, it.1, ((it.2, stored g.S.Store c.args.self.now c.tick.new.self c.tick.ensures.kept), it.3)))
 
 pub returns-in-Tick-clause-crash : goal.returns-in-Tick-clause-crash
 returns-in-Tick-clause-crash g c =

@@ -2,7 +2,9 @@ use Rattle.std.proofs.Common.{arith}
 use Rattle.sqlite.specs.State.{State}
 use Rattle.sqlite.specs.Held.{state}
 use Rattle.journal_model.specs.Event.{Event}
+use Rattle.store_calls.specs.Standing.{Adds}
 use Rattle.store_calls.specs.Calls.{Invokes}
+use Rattle.store_calls.proofs.Landing.{invoked}
 use Rattle.journal_store.specs.Stored.{stored}
 use Rattle.journal_store.proofs.Lasting.{undone_kept}
 use Rattle.journal_store.proofs.Leading.{settled_so}
@@ -22,13 +24,13 @@ returns-in-Err-clause-does g c =
 
 pub returns-in-Ok-clause-crash : goal.returns-in-Ok-clause-crash
 returns-in-Ok-clause-crash g c =
-    rw (← c.self.view_is) (commits_after (state g.S.Store c.self.inside.tables) (state g.S.Store c.prepare_invoke-prepared.new.tables) (state g.S.Store c.commit_ready.new.tables)
-    (Event.Invoke c.args.new) c.in-Ok.writes.items tt c.prepare_invoke-prepared.ensures.looks.crash c.prepare_invoke-prepared.ensures.looks.kept
+    rw (← c.self.view_is) (commits_after (Adds (Event.Invoke c.args.new)) (state g.S.Store c.self.inside.tables) (state g.S.Store c.prepare_invoke-prepared.new.tables) (state g.S.Store c.commit_ready.new.tables)
+    (Event.Invoke c.args.new) c.in-Ok.writes.items tt (λ s causes. invoked s c.args.new causes) (λ s t it. it.events) c.prepare_invoke-prepared.ensures.looks.crash c.prepare_invoke-prepared.ensures.looks.kept
     c.commit_ready.ensures.crash c.in-Ok.ensures.prepared (λ events none. cc))
 
 pub returns-in-Ok-clause-settled : goal.returns-in-Ok-clause-settled
 returns-in-Ok-clause-settled g c =
-    settled_so g.S.Store c.args.self.now (stored c.commit_ready.new.tables c.self.inside.live) (Event.Invoke c.args.new) (Invokes c.args.new) c.commit_ready.result (λ answer s t it. it.events)
+    settled_so g.S.Store c.args.self.now (stored c.commit_ready.new.tables c.self.inside.live) (Invokes c.args.new c.commit_ready.result) c.commit_ready.result
     (returns-in-Ok-clause-does g c) c.commit_ready.ensures.lasts
 
 pub returns-in-Ok-clause-kept : goal.returns-in-Ok-clause-kept

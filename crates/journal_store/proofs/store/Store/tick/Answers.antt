@@ -2,7 +2,6 @@ use Rattle.std.proofs.Common.{arith}
 use Rattle.sqlite.specs.State.{State}
 use Rattle.sqlite.specs.Held.{state}
 use Rattle.journal_model.specs.Event.{Event}
-use Rattle.journal_store.specs.Stored.{stored}
 use Rattle.journal_store.proofs.Lasting.{undone_kept}
 use Rattle.journal_store.proofs.Recording.{looked}
 use Rattle.journal_store.proofs.Ticking.{tick_lands, tick_settled, tick_waits, ticks}
