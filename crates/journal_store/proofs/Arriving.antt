@@ -1,5 +1,5 @@
 -- An arrival is recorded.
-use Rattle.std.proofs.Common.{◌≡◌, ℕ, ◌+◌, ◌∙◌, length, inr, false, List, [], Some, None, Result, Ok, Err, IfOk, IfErr, OnOk, OnErr, IsTrue, arith}
+use Rattle.std.proofs.Common.{◌≡◌, ℕ, ◌+◌, ◌∙◌, length, inr, false, List, [], Some, None, Result, Ok, Err, IfOk, IfErr, OnOk, OnErr, IsTrue}
 use Rattle.sqlite_trees.specs.Tree.{Trees}
 use Rattle.sqlite.specs.State.{State, HasCleanDisk, Survives}
 use Rattle.sql_tables.specs.Asking.{IsKept as Asked}
@@ -9,8 +9,6 @@ use Rattle.journal_model.specs.Journal.{invocation_of, is_tick, entries_of, vers
 use Rattle.journal_model.specs.Attempt.{acknowledged}
 use Rattle.journal_model.specs.Cause.{causes_of}
 use Rattle.store_frames.specs.Read.{IsReadIn}
-use Rattle.store_tables.specs.Records.{applied_all}
-use Rattle.store_tables.specs.Steps.{Turns}
 use Rattle.store_refusals.specs.declared.refusal.Refusal.{Refusal}
 use Rattle.store_refusals.specs.Refused.{is_circumstance}
 use Rattle.store_arrivals.specs.declared.arrival.PreparedArrival.{PreparedArrival}
@@ -19,8 +17,9 @@ use Rattle.store_live.specs.Attempts.{ByInvocation, Changes, after_put}
 use Rattle.store_live_laws.specs.Agrees.{Brings}
 use Rattle.store_live.specs.Before.{AreAsBefore}
 use Rattle.journal_store.specs.Stands.{Stands}
+use Rattle.journal_store.specs.Writing.{HasWritten}
 use Rattle.journal_store.proofs.Leading.{Does}
-use Rattle.journal_store.proofs.Standing.{store_still, stands_arrived, stands_still, written}
+use Rattle.journal_store.proofs.Standing.{all_stored, store_still, stands_arrived, stands_still}
 
 -- what was made ready of an event that brings an arrival was written and put behind, or nothing was
 pub arrival_recorded : (events : List Event) (event : Event) (id : Text) (arrival : Arrival) (old mid new : State) (P Q : Trees → Type 0) (attempts left : ByInvocation)
@@ -28,14 +27,13 @@ pub arrival_recorded : (events : List Event) (event : Event) (id : Text) (arriva
     → invocation_of event ≡ Some id → is_tick event ≡ false → Brings id event arrival → acknowledged (version_of events id) id event ≡ None → IsReadIn event
     → Survives old mid P → Asked old mid → Survives mid new Q → HasCleanDisk new
     → (causes_of events event ≡ []) × IsMadeReady events event id arrival made
-    → IfOk result (λ place. place ≡ made.place) → OnOk result (IsTrue mid.is_open × Turns (applied_all made.writes.items) mid.now.trees new.now.trees)
+    → IfOk result (λ place. place ≡ made.place) → OnOk result (HasWritten made.writes.items mid new)
     → OnOk result (Changes id (after_put made.place made.frame) attempts left) → IfErr result (λ why. IsTrue (is_circumstance why))
     → OnErr result (Asked mid new) → OnErr result (AreAsBefore attempts left) → Stands events old attempts
     → Does events event (λ place. place ≡ 1 + length (entries_of events id)) result new left
 arrival_recorded events event id arrival old mid new P Q attempts left made (Ok place) of_it no_tick brings plain read before asked lives clean ready place_is wrote put why undone same stands =
-    let early : HasCleanDisk mid = omega (arith, lives.clean, clean) in
     let store = store_still events old mid P before asked stands.kept in
-    let after = written events event mid new made.writes.items store read early ready.0 ready.1.writes wrote.0 wrote.1 in
+    let after = all_stored events event mid new Q made.writes.items lives clean store read ready.0 ready.1.writes wrote in
     (ready.0, place_is ∙ ready.1.place, stands_arrived events event id arrival made.place made.frame new attempts left of_it no_tick brings plain stands.kept.accepted ready.0 after ready.1.place ready.1.frame put stands.live)
 arrival_recorded events event id arrival old mid new P Q attempts left made (Err why) of_it no_tick brings plain read before asked lives clean ready place_is wrote put circumstance undone same stands =
     let store = store_still events old mid P before asked stands.kept in

@@ -1,5 +1,5 @@
 -- An attempt is begun.
-use Rattle.std.proofs.Common.{◌≡◌, ℕ, suc, ◌+◌, ◌++◌, ◌<◌, ◌^◌, refl, sym, ap, ap₂, subst, ◌∙◌, length, map, inr, not, ◌&&◌, is_some, List, [], ◌∷◌, Option, Some, None, option_map, Result, Ok, Err, IfErr, IfOk, OnOk, OnErr, IsTrue, arith}
+use Rattle.std.proofs.Common.{◌≡◌, ℕ, suc, ◌+◌, ◌++◌, ◌<◌, ◌^◌, refl, sym, ap, ap₂, subst, ◌∙◌, length, map, inl, inr, not, ◌&&◌, is_some, List, [], ◌∷◌, Option, Some, None, option_map, Result, Ok, Err, IfErr, IfOk, OnOk, OnErr, IsTrue, arith}
 use Rattle.std.proofs.lemmas.List.{length-map}
 use Rattle.std.specs.Option.{option_to_list}
 use Rattle.sqlite_trees.specs.Tree.{Trees}
@@ -11,10 +11,11 @@ use Rattle.journal_model.specs.Event.{Event}
 use Rattle.journal_model.specs.Journal.{Entry, Recorded, Arrived, invocation_begun, is_open, entries_of}
 use Rattle.journal_model.specs.Cause.{Tests, UnknownInvocation, InvocationClosed, own_tests, those_that_hold, causes_of}
 use Rattle.store_tables.specs.declared.row.EntryRow.{EntryRow}
-use Rattle.store_tables.specs.Records.{FitsInvocation, applied_all}
+use Rattle.store_tables.specs.declared.row.Write.{Write}
+use Rattle.store_tables.specs.Records.{FitsInvocation}
 use Rattle.store_tables.specs.Questions.{AreInPlace, has_id}
-use Rattle.store_tables.specs.Steps.{Turns}
 use Rattle.store_model.specs.Kept.{rows_from, rows_of_journal, journal_rows, invocation_row}
+use Rattle.store_model.specs.Writes.{writes_of}
 use Rattle.store_lookups.specs.Lookups.{row_frame}
 use Rattle.store_lookups.proofs.Finding.{all_found}
 use Rattle.store_refusals.specs.declared.refusal.Refusal.{Refusal}
@@ -31,9 +32,10 @@ use Rattle.store_live_laws.proofs.Begun.{begun}
 use Rattle.store_calls.specs.declared.begun.BegunAttempt.{BegunAttempt}
 use Rattle.journal_store.specs.Stands.{Stands}
 use Rattle.journal_store.specs.Attempts.{IsToldAs, TakesIn, fresh}
+use Rattle.journal_store.specs.Writing.{HasWritten}
 use Rattle.journal_store.proofs.Found.{found_in}
 use Rattle.journal_store.proofs.Leading.{Does, IsBegunAttempt}
-use Rattle.journal_store.proofs.Standing.{store_still, stands_after, written}
+use Rattle.journal_store.proofs.Standing.{all_stored, store_still, stands_after}
 
 -- ---- how many rows a journal has
 
@@ -104,19 +106,28 @@ fits_here events id now s made more k accepted is =
     let fits = rows_fit events id some.0 s k some.1 in
     omega (arith, counted, fits)
 
+-- a begin writes something
+writes_some : (events : List Event) (id : Text) (now : ℕ) → writes_of events (Event.Begin id now) ≡ [] → ⊥
+writes_some events id now none = cc
+
+was_open : (events : List Event) (id : Text) (now : ℕ) (mid new : State) (writes : List Write) → writes ≡ writes_of events (Event.Begin id now) → HasWritten writes mid new → IsTrue mid.is_open
+was_open events id now mid new writes are (inl none) = absurd (writes_some events id now (sym are ∙ none.0))
+was_open events id now mid new writes are (inr all) = all.0
+
 -- what was made ready of a begin was written, and the attempt is taken in; or nothing was done
 pub begin_recorded : (events : List Event) (id : Text) (now : ℕ) (old mid new : State) (P Q : Trees → Type 0) (attempts left : ByInvocation) (made : PreparedAttempt)
     (more : Tests) (result : Result BegunAttempt Refusal)
     → causes_of events (Event.Begin id now) ≡ those_that_hold ((not (is_some (invocation_begun events id)), UnknownInvocation) ∷ more)
     → Survives old mid P → Asked old mid → Survives mid new Q → HasCleanDisk new → (causes_of events (Event.Begin id now) ≡ []) × IsBegun events id now made
-    → IfOk result (IsToldAs made) → OnOk result (IsTrue mid.is_open × Turns (applied_all made.writes.items) mid.now.trees new.now.trees)
+    → IfOk result (IsToldAs made) → OnOk result (HasWritten made.writes.items mid new)
     → OnOk result (TakesIn id made.number made.version made.frames.journal attempts left) → IfErr result (λ why. IsTrue (is_circumstance why)) → OnErr result (Asked mid new) → OnErr result (left ≡ attempts)
     → Stands events old attempts → Does events (Event.Begin id now) (IsBegunAttempt events id now) result new left
 begin_recorded events id now old mid new P Q attempts left made more (Ok told) tests before asked lives clean ready is wrote put why undone same stands =
     let early : HasCleanDisk mid = omega (arith, lives.clean, clean) in
     let store = store_still events old mid P before asked stands.kept in
-    let after = written events (Event.Begin id now) mid new made.writes.items store tt early ready.0 ready.1.writes wrote.0 wrote.1 in
-    let fits = fits_here events id now mid made more (store.keeps early wrote.0) (sym tests ∙ ready.0) ready.1 in
+    let after = all_stored events (Event.Begin id now) mid new Q made.writes.items lives clean store tt ready.0 ready.1.writes wrote in
+    let is_open = was_open events id now mid new made.writes.items ready.1.writes wrote in
+    let fits = fits_here events id now mid made more (store.keeps early is_open) (sym tests ∙ ready.0) ready.1 in
     let agrees = begun events id now _ stands.kept.accepted (begun_as events id now made ready.1) in (
       ready.0,
       record { number = is.0 ∙ ready.1.number; version = is.1 ∙ ready.1.version; start = is.2 ∙ ready.1.start },

@@ -1,22 +1,42 @@
 -- What is committed lasts, and what is refused leaves the tables.
-use Rattle.std.proofs.Common.{◌≡◌, refl, ◌∙◌, sym, subst, List, Result, Ok, Err, OnErr}
+use Rattle.std.proofs.Common.{◌≡◌, refl, ◌∙◌, sym, subst, inl, inr, arith, List, [], Result, Ok, Err, OnErr, OnOk}
 use Rattle.std.proofs.lemmas.Result.{on_err_weaker}
 use Rattle.sqlite_trees.specs.declared.store.Store.{Ghosts}
 use Rattle.sqlite_trees.specs.Tree.{Trees}
-use Rattle.sqlite.specs.Held.{state}
+use Rattle.sqlite.specs.Held.{Held, state}
 use Rattle.sqlite.specs.State.{State, HasCleanDisk}
 use Rattle.journal_model.specs.Event.{Event}
 use Rattle.sql_tables.specs.Asking.{IsKept}
 use Rattle.store_tables.specs.Records.{Holds}
+use Rattle.store_tables.specs.declared.row.Write.{Write}
 use Rattle.store_tables.specs.Looks.{Lasts}
-use Rattle.store_live.specs.Attempts.{ByInvocation}
-use Rattle.journal_store.specs.Stored.{Stored}
-use Rattle.journal_store.specs.Stands.{Outlasts, Stands}
+use Rattle.store_model.specs.Writes.{writes_of}
+use Rattle.store_refusals.specs.declared.refusal.Refusal.{Refusal}
+use Rattle.store_invocations.specs.Rows.{IsStoreOf}
+use Rattle.store_live.specs.Attempts.{Attempts, ByInvocation}
+use Rattle.store_calls.specs.Standing.{Standing}
+use Rattle.journal_store.specs.Stored.{Stored, stored}
+use Rattle.journal_store.specs.Stands.{Leads, Outlasts, Settles, Stands}
+use Rattle.journal_store.specs.Writing.{Writes}
 
 pub outlasts_now : (events : List Event) (database : State) (attempts : ByInvocation) → HasCleanDisk database → Stands events database attempts → Lasts database → Outlasts events database
 outlasts_now events database attempts clean stands lasts trees may =
     let k = stands.kept.keeps clean lasts.is_open in
     record { read = stands.kept.read; records = k.records; held = subst (λ (db : Trees). Holds db k.records) (sym (lasts.left trees may)) k.held; kept = k.kept }
+
+-- what was made ready of an event that writes something was written, so what was answered lasts
+pub settled_written : {S A : Type 0} (g : Ghosts S) (a mid b : Held S) (live after : Attempts) (old : Stored S) → stored a live ≡ old
+    → (event : Event) (writes : List Write) (Relation : Standing → Standing → Type 0) (result : Result A Refusal) → Writes g writes mid b result
+    → (HasCleanDisk (state g mid) → (events : List Event) → IsStoreOf events (state g a) → writes ≡ writes_of events event) → ((events : List Event) → writes_of events event ≡ [] → ⊥)
+    → Leads g Relation old (stored b after) → OnOk result (Settles g Relation old (stored b after))
+settled_written {S} g a mid b live after old view event writes Relation (Ok answer) wrote ready some leads =
+    λ clean s is.
+    let t = leads clean s is in
+    let early : HasCleanDisk (state g mid) = omega (arith, wrote.crash.clean, clean) in
+    let are = ready early s.events (subst (λ (store : Stored S). IsStoreOf s.events (state g store.connection)) (sym view) is.stands.kept) in
+    let lasts : Lasts (state g b) = elim (wrote.lasts clean) [ inl none ↦ absurd (some s.events (sym are ∙ none.0)) | inr all ↦ all ] in
+    (t.0, t.1, t.2, outlasts_now t.0.events (state g b) after.attempts clean t.1.stands lasts)
+settled_written g a mid b live after old view event writes Relation (Err why) wrote ready some leads = tt
 
 pub kept_then : (a b c : State) → (HasCleanDisk c → HasCleanDisk b) → IsKept a b → IsKept b c → IsKept a c
 kept_then a b c earlier one two clean is_open =

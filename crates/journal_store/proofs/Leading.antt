@@ -1,5 +1,5 @@
 -- What the store's calls do to what it stands for.
-use Rattle.std.proofs.Common.{◌≡◌, refl, sym, ap, ◌∙◌, ℕ, ◌+◌, length, List, [], ◌∷◌, Option, Some, None, is_some, option_map, Result, Ok, Err, OnOk}
+use Rattle.std.proofs.Common.{◌≡◌, refl, sym, ap, ◌∙◌, ℕ, ◌+◌, length, List, [], ◌∷◌, Option, Some, None, is_some, option_map, Result, Ok, Err}
 use Rattle.sqlite_trees.specs.declared.store.Store.{Ghosts}
 use Rattle.sqlite.specs.Held.{state}
 use Rattle.sqlite.specs.State.{State, HasCleanDisk}
@@ -12,7 +12,6 @@ use Rattle.journal_model.specs.Attempt.{attempts_begun, live_attempt}
 use Rattle.journal_model.specs.Start.{start_payload}
 use Rattle.journal_model.specs.Cause.{causes_of}
 use Rattle.protocol_types.specs.declared.message_type.MessageType.{MessageType}
-use Rattle.store_tables.specs.Looks.{Lasts}
 use Rattle.store_refusals.specs.declared.refusal.Refusal.{Refusal}
 use Rattle.store_refusals.specs.Refused.{IsRefused}
 use Rattle.store_live.specs.declared.attempt.LiveAttempt.{LiveAttempt}
@@ -22,8 +21,7 @@ use Rattle.store_calls.specs.declared.begun.BegunAttempt.{BegunAttempt}
 use Rattle.store_calls.specs.Standing.{Standing, Stays, Adds, Leaves, Refuses}
 use Rattle.store_calls.specs.Calls.{Completes, BeginsAttempt}
 use Rattle.journal_store.specs.Stored.{Stored}
-use Rattle.journal_store.specs.Stands.{Stands, IsStanding, Leads, Settles, output_of, KeepsOutputs, WaitsNow, WaitsAfter}
-use Rattle.journal_store.proofs.Lasting.{outlasts_now}
+use Rattle.journal_store.specs.Stands.{Stands, IsStanding, Leads, output_of, KeepsOutputs, WaitsNow, WaitsAfter}
 
 -- An event is accepted, and the store stands for it too; or it is refused, for the least of its causes or for a circumstance, and
 -- the store stands as before.
@@ -121,11 +119,3 @@ module _ {S : Type 0} (g : Ghosts S) (old new : Stored S) where
   begins id now (Err why) does waits clean s is =
       let did = does clean s.events is.stands in
       refuses g s old new is (Event.Begin id now) why did.0 did.1 waits
-
-  -- what was answered lasts
-  pub settled_so : {A : Type 0} (Relation : Standing → Standing → Type 0) (result : Result A Refusal) → Leads g Relation old new
-      → (HasCleanDisk (state g new.connection) → OnOk result (Lasts (state g new.connection))) → OnOk result (Settles g Relation old new)
-  settled_so Relation (Ok answer) leads lasts clean s is =
-      let to = leads clean s is in
-      (to.0, to.1, to.2, outlasts_now to.0.events (state g new.connection) new.live.attempts clean to.1.stands (lasts clean))
-  settled_so Relation (Err why) leads lasts = tt

@@ -16,7 +16,7 @@ use Rattle.journal_model.specs.Cause.{causes_of, IsAccepted}
 use Rattle.store_frames.specs.Read.{AreRead, IsReadIn}
 use Rattle.store_tables.specs.Records.{Holds, Records, applied_all}
 use Rattle.store_tables.specs.declared.row.Write.{Write}
-use Rattle.store_tables.specs.Steps.{Turns, Lands}
+use Rattle.store_tables.specs.Steps.{Turns}
 use Rattle.store_model.specs.Kept.{IsKept}
 use Rattle.store_model.specs.Writes.{writes_of}
 use Rattle.store_model.proofs.Keeping.{kept_after}
@@ -32,6 +32,7 @@ use Rattle.store_live.specs.Before.{IsAsBefore, AreAsBefore}
 use Rattle.store_live.proofs.Adding.{as_it_is}
 use Rattle.store_calls.specs.Standing.{Standing}
 use Rattle.journal_store.specs.Stands.{Stands, KeepsAll, KeepsOf}
+use Rattle.journal_store.specs.Writing.{Commits, HasWritten}
 
 pub true_or_false : (b : Bool) → (b ≡ true) ⊎ (b ≡ false)
 true_or_false true = inl refl
@@ -157,6 +158,15 @@ store_still events old new P lives asked store = record {
       record { accepted = k.accepted; records = k.records; held = subst (λ (d : Database). Holds d.trees k.records) (sym it.1) k.held; kept = k.kept };
 }
 
+-- what was made ready of an event was written, or there was nothing to write
+pub all_stored : (events : List Event) (event : Event) (mid new : State) (P : Trees → Type 0) (writes : List Write) → Survives mid new P → HasCleanDisk new → IsStoreOf events mid → IsReadIn event
+    → causes_of events event ≡ [] → writes ≡ writes_of events event → HasWritten writes mid new → IsStoreOf (event ∷ events) new
+all_stored events event mid new P writes lives clean store read accepted are (inl none) =
+    unwritten events event new (store_still events mid new P lives none.1 store) read accepted (sym are ∙ none.0)
+all_stored events event mid new P writes lives clean store read accepted are (inr all) =
+    let early : HasCleanDisk mid = omega (arith, lives.clean, clean) in
+    written events event mid new writes store read early accepted are all.0 all.1
+
 -- a store stands as before
 pub stands_still : (events : List Event) (old new : State) (P : Trees → Type 0) (attempts left : ByInvocation) → Survives old new P → Asked old new → AreAsBefore attempts left
     → Stands events old attempts → Stands events new left
@@ -186,17 +196,16 @@ stands_invoked events new database attempts accepted before kept live =
 -- what one transaction of an event leaves where a crash comes, if what it writes was made ready before
 pub commits_after : (R : Standing → Standing → Type 0) (old mid new : State) (event : Event) (writes : List Write) → IsReadIn event
     → ((s : Standing) → causes_of s.events event ≡ [] → (t : Standing) × R s t) → ((s t : Standing) → R s t → t.events ≡ event ∷ s.events)
-    → Survives old mid (λ _. ⊥) → Asked old mid → Survives mid new (Lands writes mid)
+    → Survives old mid (λ _. ⊥) → Asked old mid → Survives mid new (Commits writes mid)
     → (HasCleanDisk mid → (events : List Event) → IsStoreOf events old → (causes_of events event ≡ []) × (writes ≡ writes_of events event))
-    → ((events : List Event) → writes_of events event ≡ [] → ⊥) → Survives old new (KeepsOf (λ (s : Standing). IsStoreOf s.events old) R)
-commits_after R old mid new event writes read made adds before asked lives ready some =
-    survives_then old mid new (λ _. ⊥) (Lands writes mid) (KeepsOf (λ (s : Standing). IsStoreOf s.events old) R) (λ _ db none. absurd none)
+    → Survives old new (KeepsOf (λ (s : Standing). IsStoreOf s.events old) R)
+commits_after R old mid new event writes read made adds before asked lives ready =
+    survives_then old mid new (λ _. ⊥) (Commits writes mid) (KeepsOf (λ (s : Standing). IsStoreOf s.events old) R) (λ _ db none. absurd none)
     (λ clean db lands s kept.
     let early : HasCleanDisk mid = omega (arith, lives.clean, clean) in
     let is = ready early s.events kept in
     let store = store_kept s.events old mid before asked kept in
-    let is_open : IsTrue mid.is_open = elim lands.0 [ inl none ↦ absurd (some s.events (sym is.1 ∙ none)) | inr still ↦ still ] in
-    let all = landed s.events event mid writes db store read early is.0 is.1 is_open lands.1 in
+    let all = landed s.events event mid writes db store read early is.0 is.1 lands.0 lands.1 in
     let to = made s is.0 in
     (to.0, to.1, subst (λ (events : List Event). KeepsAll events db) (sym (adds s to.0 to.1)) all))
     before lives

@@ -15,11 +15,9 @@ use Rattle.protocol_stream.specs.Item.{Item, unknown, message, item_at}
 use Rattle.store_frames.specs.declared.frame.AttemptFrame.{AttemptFrame}
 use Rattle.store_frames.specs.Answer.{IsFrame}
 use Rattle.store_frames.specs.Meaning.{frame_of}
-use Rattle.store_frames.specs.Read.{IsReadIn}
 use Rattle.store_tables.specs.declared.row.Write.{Write}
 use Rattle.store_tables.specs.Looks.{Lasts, Looks}
 use Rattle.store_tables.specs.Records.{Holds, applied_all}
-use Rattle.store_model.specs.Writes.{writes_of}
 use Rattle.store_refusals.specs.declared.refusal.Refusal.{Refusal}
 use Rattle.store_refusals.specs.declared.refusal.Refusal.TheVariants as refusal
 use Rattle.store_refusals.specs.Refused.{first_of, is_circumstance, IsRefused}
@@ -44,10 +42,10 @@ use Rattle.store_calls.proofs.Live.{told_end}
 use Rattle.store_calls.proofs.Taking.{same_stays}
 use Rattle.journal_store.specs.Stored.{Stored, stored}
 use Rattle.journal_store.specs.Stands.{Stands, IsStanding, Leads, Keeps, KeepsAll, Endures, WaitsNow}
-use Rattle.journal_store.specs.Taking.{HasMessage, HasMessageOf, HasWritten, IsEndedBy, IsFirstOf, IsSeen, LandsSome, SettlesStep, passed}
-use Rattle.journal_store.specs.Writing.{WritesSome}
+use Rattle.journal_store.specs.Taking.{HasMessage, HasMessageOf, IsEndedBy, IsFirstOf, IsSeen, SettlesStep, passed}
+use Rattle.journal_store.specs.Writing.{Commits, Writes}
 use Rattle.journal_store.proofs.Lasting.{outlasts_now}
-use Rattle.journal_store.proofs.Standing.{landed, store_still, stands_after, unwritten, written}
+use Rattle.journal_store.proofs.Standing.{all_stored, landed, store_still, stands_after}
 use Rattle.journal_store.proofs.Quiet.{live_here, stands_stopped, this_one}
 use Rattle.journal_store.proofs.Waiting.{now_waits, same_waits, stopped_waits}
 use Rattle.journal_store.proofs.Leading.{leaves, stays}
@@ -95,16 +93,6 @@ agrees_left events id number frame read reply attempt rest stateless is replied 
 passed_left : (b : Bool) (len : ℕ) (found : Option LiveAttempt) (attempt : LiveAttempt) → found ≡ Some attempt → passed b len found ≡ attempt_left b (drop len attempt.output) attempt
 passed_left true len found attempt is = refl
 passed_left false len found attempt is = ap (option_map (after_take len)) is
-
--- ---- what is written
-
-stands_written : (events : List Event) (event : Event) (mid new : State) (Q : Trees → Type 0) (writes : List Write) → Survives mid new Q → HasCleanDisk new → IsStoreOf events mid → IsReadIn event
-    → causes_of events event ≡ [] → writes ≡ writes_of events event → HasWritten writes mid new → IsStoreOf (event ∷ events) new
-stands_written events event mid new Q writes lives clean store read accepted are (inl none) =
-    unwritten events event new (store_still events mid new Q lives none.1 store) read accepted (sym are ∙ none.0)
-stands_written events event mid new Q writes lives clean store read accepted are (inr all) =
-    let early : HasCleanDisk mid = omega (arith, lives.clean, clean) in
-    written events event mid new writes store read early accepted are all.0 all.1
 
 -- ---- refusals
 
@@ -193,7 +181,7 @@ module _ {S : Type 0} (g : Ghosts S) (a mid b : Held S) (before after : Attempts
       (it.0, it.1, inr it.2)
 
   -- what was made ready was written, and the frame is passed; or nothing was done
-  pub seen_taken : (made : PreparedFrame) (result : Result (Option FrameReply) Refusal) → Looks g a mid → WritesSome g made.writes.items mid b result
+  pub seen_taken : (made : PreparedFrame) (result : Result (Option FrameReply) Refusal) → Looks g a mid → Writes g made.writes.items mid b result
       → LeavesState (frame_of attempt.version seen.message_is)
       → (HasCleanDisk (state g mid) → (events : List Event) → Stands events (state g a) before.attempts
       → (causes_of events event ≡ []) × IsTaken events id n (frame_of attempt.version seen.message_is) made)
@@ -208,7 +196,7 @@ module _ {S : Type 0} (g : Ghosts S) (a mid b : Held S) (before after : Attempts
       let early : HasCleanDisk (state g mid) = omega (arith, wrote.crash.clean, clean) in
       let ready = prepared early s.events is.stands in
       let store = store_still s.events (state g a) (state g mid) (λ _. ⊥) looks.crash looks.kept is.stands.kept in
-      let all = stands_written s.events event (state g mid) (state g b) (LandsSome made.writes.items (state g mid)) made.writes.items wrote.crash clean store (attempt.version, seen.message_is, refl) ready.0 ready.1.writes
+      let all = all_stored s.events event (state g mid) (state g b) (Commits made.writes.items (state g mid)) made.writes.items wrote.crash clean store (attempt.version, seen.message_is, refl) ready.0 ready.1.writes
       (wrote.done clean) in
       let agrees : Agrees s.events id (Some attempt) = subst (Agrees s.events id) found (is.stands.live id) in
       let is_reply : IsReply s.events id frame reply = subst (IsReply s.events id frame) (sym replied) ready.1.reply in
@@ -236,14 +224,14 @@ module _ {S : Type 0} (g : Ghosts S) (a mid b : Held S) (before after : Attempts
   seen_taken made (Err why) looks wrote stateless prepared replied now same clean s is =
       let store = store_still s.events (state g a) (state g mid) (λ _. ⊥) looks.crash looks.kept is.stands.kept in
       let it = item_refused g (stored a before) (stored b after) s is id n attempt (message seen.message_is) left_of found seen.first why here (inr wrote.why)
-      (store_still s.events (state g mid) (state g b) (LandsSome made.writes.items (state g mid)) wrote.crash wrote.undone store) false (not_in_frame why wrote.why) same in
+      (store_still s.events (state g mid) (state g b) (Commits made.writes.items (state g mid)) wrote.crash wrote.undone store) false (not_in_frame why wrote.why) same in
       (it.0, it.1, (inr it.2, tt))
 
   pub steps_so : (result : Result (Option FrameReply) Refusal) → Leads g (StepsBy result) (stored a before) (stored b after) → Leads g (Steps id n result) (stored a before) (stored b after)
   steps_so result leads clean s is = let t = leads clean s is in (t.0, t.1, t.2.0)
 
   -- what was answered lasts
-  pub seen_settled : (made : PreparedFrame) (result : Result (Option FrameReply) Refusal) → Looks g a mid → WritesSome g made.writes.items mid b result
+  pub seen_settled : (made : PreparedFrame) (result : Result (Option FrameReply) Refusal) → Looks g a mid → Writes g made.writes.items mid b result
       → (IsTrue (state g a).is_open → Lasts (state g a)) → (HasCleanDisk (state g mid) → IsTrue (state g a).is_open)
       → (HasCleanDisk (state g mid) → (events : List Event) → Stands events (state g a) before.attempts
       → (causes_of events event ≡ []) × IsTaken events id n (frame_of attempt.version seen.message_is) made)
@@ -272,12 +260,12 @@ module _ {S : Type 0} (g : Ghosts S) (a mid b : Held S) (before after : Attempts
       )
 
   -- where a crash comes
-  pub seen_lands : (made : PreparedFrame) → Looks g a mid → Survives (state g mid) (state g b) (LandsSome made.writes.items (state g mid))
+  pub seen_lands : (made : PreparedFrame) → Looks g a mid → Survives (state g mid) (state g b) (Commits made.writes.items (state g mid))
       → (HasCleanDisk (state g mid) → (events : List Event) → Stands events (state g a) before.attempts
       → (causes_of events event ≡ []) × IsTaken events id n (frame_of attempt.version seen.message_is) made)
       → Endures g (TakesOne id n) (stored a before) (stored b after)
   seen_lands made looks lives prepared =
-      survives_then (state g a) (state g mid) (state g b) (λ _. ⊥) (LandsSome made.writes.items (state g mid)) (Keeps g (TakesOne id n) (stored a before)) (λ _ db none. absurd none)
+      survives_then (state g a) (state g mid) (state g b) (λ _. ⊥) (Commits made.writes.items (state g mid)) (Keeps g (TakesOne id n) (stored a before)) (λ _ db none. absurd none)
       (λ clean db lands s is.
       let early : HasCleanDisk (state g mid) = omega (arith, lives.clean, clean) in
       let ready = prepared early s.events is.stands in

@@ -43,8 +43,7 @@ use Rattle.store_calls.specs.Calls.{Ticks}
 use Rattle.journal_store.specs.Stored.{stored}
 use Rattle.journal_store.specs.Attempts.{PutsAll}
 use Rattle.journal_store.specs.Stands.{EnduresAlways, KeepsAll, KeepsOf, KeepsOutputs, Leads, Settles}
-use Rattle.journal_store.specs.Taking.{HasWritten, LandsSome}
-use Rattle.journal_store.specs.Writing.{WritesSome}
+use Rattle.journal_store.specs.Writing.{Commits, HasWritten, Writes}
 use Rattle.journal_store.proofs.Enduring.{tick_landed}
 use Rattle.journal_store.proofs.Found.{found_in, passes}
 use Rattle.journal_store.proofs.Lasting.{outlasts_now}
@@ -184,7 +183,7 @@ module _ {S : Type 0} (g : Ghosts S) (a mid b : Held S) (before after : Attempts
   tick_waits (Err why) put same id = before_waits before.attempts after.attempts same id
 
   -- what was made ready was written and put behind, or nothing was
-  pub ticks : (result : Result ℕ Refusal) → WritesSome g made.writes.items mid b result → IfOk result (λ count. count ≡ made.count)
+  pub ticks : (result : Result ℕ Refusal) → Writes g made.writes.items mid b result → IfOk result (λ count. count ≡ made.count)
       → OnOk result (PutsAll made.ended.items before.attempts after.attempts) → OnErr result (AreAsBefore before.attempts after.attempts)
       → Leads g (Ticks now result) (stored a before) (stored b after)
   ticks (Ok count) wrote counted put same clean s is =
@@ -192,7 +191,7 @@ module _ {S : Type 0} (g : Ghosts S) (a mid b : Held S) (before after : Attempts
       let it = ready early s.events is.stands.kept in
       let store = store_kept s.events (state g a) (state g mid) looks.crash looks.kept is.stands.kept in
       let added = made.ended.items in
-      let kept = tick_stored s.events now made.writes.items (tick_keeps s.events now made it.0 it.1) it.0 (state g mid) (state g b) (LandsSome made.writes.items (state g mid)) wrote.crash store early (wrote.done clean) in
+      let kept = tick_stored s.events now made.writes.items (tick_keeps s.events now made it.0 it.1) it.0 (state g mid) (state g b) (Commits made.writes.items (state g mid)) wrote.crash store early (wrote.done clean) in
       let live = ticked_live s.events now added put.between after.attempts is.stands.kept.accepted it.0 it.1.ending it.1.ended
       (λ id. agrees_still s.events id (attempt_of before.attempts id) (attempt_of put.between id) (put.before id) (is.stands.live id))
       (put.room (are_alone s.events now added it.1.ending)) put.put in
@@ -201,13 +200,13 @@ module _ {S : Type 0} (g : Ghosts S) (a mid b : Held S) (before after : Attempts
   ticks (Err why) wrote counted put same clean s is =
       let store = store_kept s.events (state g a) (state g mid) looks.crash looks.kept is.stands.kept in
       refuses g s (stored a before) (stored b after) is (Event.Tick now) why (inr wrote.why)
-      (stands_still s.events (state g mid) (state g b) (LandsSome made.writes.items (state g mid)) before.attempts after.attempts wrote.crash wrote.undone same
+      (stands_still s.events (state g mid) (state g b) (Commits made.writes.items (state g mid)) before.attempts after.attempts wrote.crash wrote.undone same
       (record { kept = store; live = is.stands.live })) (tick_waits (Err why) put same)
 
   -- where a crash comes
-  pub tick_lands : Survives (state g mid) (state g b) (LandsSome made.writes.items (state g mid)) → EnduresAlways g (Adds (Event.Tick now)) (stored a before) (stored b after)
+  pub tick_lands : Survives (state g mid) (state g b) (Commits made.writes.items (state g mid)) → EnduresAlways g (Adds (Event.Tick now)) (stored a before) (stored b after)
   tick_lands lives =
-      survives_then (state g a) (state g mid) (state g b) (λ _. ⊥) (LandsSome made.writes.items (state g mid)) (KeepsOf (λ s. IsStoreOf s.events (state g a)) (Adds (Event.Tick now)))
+      survives_then (state g a) (state g mid) (state g b) (λ _. ⊥) (Commits made.writes.items (state g mid)) (KeepsOf (λ s. IsStoreOf s.events (state g a)) (Adds (Event.Tick now)))
       (λ _ db none. absurd none)
       (λ clean db lands s kept.
       let early : HasCleanDisk (state g mid) = omega (arith, lives.clean, clean) in
@@ -219,7 +218,7 @@ module _ {S : Type 0} (g : Ghosts S) (a mid b : Held S) (before after : Attempts
       looks.crash lives
 
   -- what was answered lasts
-  pub tick_settled : (result : Result ℕ Refusal) → WritesSome g made.writes.items mid b result → (IsTrue (state g a).is_open → Lasts (state g a))
+  pub tick_settled : (result : Result ℕ Refusal) → Writes g made.writes.items mid b result → (IsTrue (state g a).is_open → Lasts (state g a))
       → (HasCleanDisk (state g mid) → IsTrue (state g a).is_open) → Leads g (Ticks now result) (stored a before) (stored b after)
       → OnOk result (Settles g (Ticks now result) (stored a before) (stored b after))
   tick_settled (Err why) wrote idle asked leads = tt

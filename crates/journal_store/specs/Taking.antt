@@ -1,20 +1,12 @@
 -- How a frame is taken: what is seen of it first, what is written, and what is left of its attempt.
-use Rattle.std.specs.Prelude.{◌≡◌, ◌⊎◌, ℕ, ◌≤◌, length, drop, Bool, true, false, List, [], Option, Some, None, option_map, Result, Ok, Err, IsTrue}
+use Rattle.std.specs.Prelude.{◌≡◌, ℕ, ◌≤◌, length, drop, Bool, true, false, Option, Some, None, option_map, Result, Ok, Err}
 use Rattle.sqlite_trees.specs.declared.store.Store.{Ghosts}
-use Rattle.sqlite_trees.specs.Tree.{Trees}
-use Rattle.sqlite.specs.Held.{Held, state}
-use Rattle.sqlite.specs.State.{State}
-use Rattle.sql_tables.specs.Asking.{IsKept}
 use Rattle.journal_model.specs.Notification.{Bytes, Text}
 use Rattle.protocol_stream.specs.declared.decoder.RawMessage.{RawMessage}
 use Rattle.protocol_types.specs.declared.message_type.UnknownMessageType.{UnknownMessageType}
 use Rattle.protocol_stream.specs.Item.{unknown, message, item_at}
 use Rattle.store_frames.specs.Answer.{IsFrame}
 use Rattle.store_frames.specs.Meaning.{frame_of}
-use Rattle.store_tables.specs.declared.row.Write.{Write}
-use Rattle.store_tables.specs.Looks.{Lasts}
-use Rattle.store_tables.specs.Records.{applied_all}
-use Rattle.store_tables.specs.Steps.{Turns}
 use Rattle.store_refusals.specs.declared.refusal.Refusal.{Refusal}
 use Rattle.store_steps.specs.declared.frame.FrameReply.{FrameReply}
 use Rattle.store_live.specs.declared.attempt.LiveAttempt.{LiveAttempt}
@@ -58,20 +50,6 @@ HasMessageOf (Some attempt) = HasMessage attempt
 abbrev pub IsSeenOf : Option LiveAttempt → SeenFrame → Type 0
 IsSeenOf None it = ⊥
 IsSeenOf (Some attempt) it = IsSeen attempt it
-
--- ---- what is written
-
--- nothing was to be written, or all was
-abbrev pub HasWritten : List Write → State → State → Type 0
-HasWritten writes old new = ((writes ≡ []) × IsKept old new) ⊎ (IsTrue old.is_open × Turns (applied_all writes) old.now.trees new.now.trees)
-
--- nothing was to be written, and nothing was done; or what was written lasts
-abbrev pub HasSettled : {S : Type 0} → Ghosts S → List Write → Held S → Held S → Type 0
-HasSettled g writes old new = ((writes ≡ []) × (new ≡ old)) ⊎ Lasts (state g new)
-
--- where a crash comes
-abbrev pub LandsSome : List Write → State → Trees → Type 0
-LandsSome writes old trees = IsTrue old.is_open × Turns (applied_all writes) old.now.trees trees
 
 -- ---- what is left
 

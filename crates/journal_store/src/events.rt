@@ -7,7 +7,7 @@ ghost use Rattle.store_calls.specs.Calls.{BeginsAttempt, Completes, Invokes};
 ghost use Rattle.journal_store.specs.Attempts.{BeginsSome, IsToldAs, TakesIn, fresh};
 ghost use Rattle.journal_store.specs.Stands.{EnduresAlways, KeepsOutputs, Leads, Settles, WaitsAfter};
 ghost use Rattle.journal_store.specs.Words.{state, IsKept, AreAsBefore};
-ghost use Rattle.journal_store.specs.Writing.{WritesAll};
+ghost use Rattle.journal_store.specs.Writing.{Writes};
 
 use crate::store::Store;
 use bytes::ByteStr;
@@ -22,10 +22,13 @@ use store_live::{AttemptInput, AttemptOutput, LiveAttempt, LiveAttempts};
 use store_refusals::Refusal;
 use store_tables::{StoreTables, Write, commit_all};
 
-/// Writes in one transaction.
+/// Writes in one transaction what is to be written, if there is anything.
 pub(crate) fn commit<S: Alter>(tables: &mut StoreTables<S>, writes: &[Write]) -> Result<(), Refusal>
-    ensures { WritesAll S.Store writes.now tables.old tables.new result }
+    ensures { Writes S.Store writes.now tables.old tables.new result }
 {
+    if writes.is_empty() {
+        return Ok(());
+    }
     match commit_all(tables, writes) {
         Ok(()) => Ok(()),
         Err(cause) => Err(Refusal::StatementRefused(cause)),
@@ -34,7 +37,7 @@ pub(crate) fn commit<S: Alter>(tables: &mut StoreTables<S>, writes: &[Write]) ->
 
 /// Writes what was made ready of an event.
 fn commit_ready<S: Alter>(tables: &mut StoreTables<S>, writes: Vec<Write>) -> Result<(), Refusal>
-    ensures { WritesAll S.Store writes.items tables.old tables.new result }
+    ensures { Writes S.Store writes.items tables.old tables.new result }
 {
     let done = commit(tables, writes.as_slice());
     drop(writes);
@@ -51,7 +54,7 @@ fn record_arrival<S: Alter>(
 ) -> Result<u32, Refusal>
     requires place { made.place + 1 < 2 ^ 32 }
     ensures place { IfOk result (λ place. place ≡ made.place) }
-    ensures made { WritesAll S.Store made.writes.items tables.old tables.new result }
+    ensures made { Writes S.Store made.writes.items tables.old tables.new result }
     ensures put { OnOk result (Changes id.now (after_put made.place made.frame) live.old.attempts live.new.attempts) }
     ensures stays { OnErr result (AreAsBefore live.old.attempts live.new.attempts) }
 {
@@ -116,7 +119,7 @@ fn take_in<S: Alter>(
     version: u32,
     journal: JournalFrames,
 ) -> Result<(), Refusal>
-    ensures made { WritesAll S.Store writes.now tables.old tables.new result }
+    ensures made { Writes S.Store writes.now tables.old tables.new result }
     ensures put { OnOk result (TakesIn id.now number version journal live.old.attempts live.new.attempts) }
     ensures waits { WaitsAfter id.now (Some []) result live.old.attempts live.new.attempts }
     ensures stays { OnErr result (live.new.attempts ≡ live.old.attempts) }
@@ -149,7 +152,7 @@ fn begin_prepared<S: Alter>(
     made: PreparedAttempt,
 ) -> Result<BegunAttempt, Refusal>
     ensures told { IfOk result (IsToldAs made) }
-    ensures made { WritesAll S.Store made.writes.items tables.old tables.new result }
+    ensures made { Writes S.Store made.writes.items tables.old tables.new result }
     ensures put { OnOk result (TakesIn id.now made.number made.version made.frames.journal live.old.attempts live.new.attempts) }
     ensures waits { WaitsAfter id.now (Some []) result live.old.attempts live.new.attempts }
     ensures stays { OnErr result (live.new.attempts ≡ live.old.attempts) }

@@ -8,7 +8,7 @@ ghost use Rattle.journal_store.specs.Stands.{Endures, Leads};
 ghost use Rattle.journal_store.specs.Stored.{stored};
 ghost use Rattle.journal_store.specs.Taking.{HasMessage, HasMessageOf, IsEndedBy, IsFirstOf, IsFirstSeen, IsSeenOf, SettlesStep, passed};
 ghost use Rattle.journal_store.specs.Words.{state, IsKept, attempt_of, has_number};
-ghost use Rattle.journal_store.specs.Writing.{WritesSome};
+ghost use Rattle.journal_store.specs.Writing.{Writes};
 
 use crate::attempt::{is_live, stale_refusal};
 use crate::events::commit;
@@ -20,7 +20,7 @@ use store_frames::{AttemptFrame, read_frame_at};
 use store_live::{FirstItem, HEADER_LEN, LiveAttempt, LiveAttempts};
 use store_refusals::Refusal;
 use store_steps::{FrameReply, LiveFacts, PreparedFrame, prepare_frame, refusal_ends_attempt};
-use store_tables::{StoreTables, Write};
+use store_tables::StoreTables;
 
 /// A whole frame that stands first.
 #[derive(Debug, Drop)]
@@ -75,19 +75,6 @@ fn first_of(alloc: Global, live: &LiveAttempts, id: &ByteStr) -> Result<FirstSee
     }
 }
 
-/// Writes in one transaction what is to be written, if there is anything.
-pub(crate) fn commit_some<S: Alter>(
-    tables: &mut StoreTables<S>,
-    writes: &[Write],
-) -> Result<(), Refusal>
-    ensures { WritesSome S.Store writes.now tables.old tables.new result }
-{
-    if writes.is_empty() {
-        return Ok(());
-    }
-    commit(tables, writes)
-}
-
 /// Passes a frame of so many bytes that was taken and answered so: its attempt goes on behind it, or is over.
 fn pass_frame(live: &mut LiveAttempts, id: &ByteStr, len: usize, reply: FrameReply)
     requires { ForSome (attempt_of live.old.attempts id.now) (λ attempt. len ≤ length attempt.output) }
@@ -110,12 +97,12 @@ fn take_prepared<S: Alter>(
 ) -> Result<Option<FrameReply>, Refusal>
     requires len { ForSome (attempt_of live.old.attempts id.now) (λ attempt. len ≤ length attempt.output) }
     ensures reply { IfOk result (λ reply. reply ≡ Some made.reply) }
-    ensures made { WritesSome S.Store made.writes.items tables.old tables.new result }
+    ensures made { Writes S.Store made.writes.items tables.old tables.new result }
     ensures left { OnOk result (IsNow id.now (passed (does_end made.reply) len (attempt_of live.old.attempts id.now)) live.old.attempts live.new.attempts) }
     ensures stays { OnErr result (live.new.attempts ≡ live.old.attempts) }
 {
     let reply = made.reply;
-    let done = commit_some(tables, made.writes.as_slice());
+    let done = commit(tables, made.writes.as_slice());
     drop(made);
     match done {
         Ok(()) => {

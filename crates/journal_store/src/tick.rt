@@ -8,9 +8,9 @@ ghost use Rattle.store_calls.specs.Calls.{Ticks};
 ghost use Rattle.journal_store.specs.Attempts.{PutsAll};
 ghost use Rattle.journal_store.specs.Stands.{EnduresAlways, KeepsOutputs, Leads, Settles};
 ghost use Rattle.journal_store.specs.Words.{state, IsKept, AreAsBefore};
-ghost use Rattle.journal_store.specs.Writing.{WritesSome};
+ghost use Rattle.journal_store.specs.Writing.{Writes};
 
-use crate::step::commit_some;
+use crate::events::commit;
 use crate::store::Store;
 use sqlite::Alter;
 use store_live::{LiveAttempts, put_each, reserve_each};
@@ -27,11 +27,11 @@ fn record_in_room<S: Alter>(
 ) -> Result<u64, Refusal>
     requires { AllByRecursion HasPlaces made.ended.items }
     ensures count { IfOk result (λ count. count ≡ made.count) }
-    ensures made { WritesSome S.Store made.writes.items tables.old tables.new result }
+    ensures made { Writes S.Store made.writes.items tables.old tables.new result }
     ensures put { OnOk result (ArePut made.ended.items live.old.attempts live.new.attempts) }
     ensures stays { OnErr result (live.new.attempts ≡ live.old.attempts) }
 {
-    match commit_some(tables, made.writes.as_slice()) {
+    match commit(tables, made.writes.as_slice()) {
         Ok(()) => {
             let count = made.count;
             put_each(live, made.ended.as_slice());
@@ -53,7 +53,7 @@ fn record_tick<S: Alter>(
 ) -> Result<u64, Refusal>
     requires { AllByRecursion HasPlaces made.ended.items }
     ensures count { IfOk result (λ count. count ≡ made.count) }
-    ensures made { WritesSome S.Store made.writes.items tables.old tables.new result }
+    ensures made { Writes S.Store made.writes.items tables.old tables.new result }
     ensures put { OnOk result (PutsAll made.ended.items live.old.attempts live.new.attempts) }
     ensures stays { OnErr result (AreAsBefore live.old.attempts live.new.attempts) }
 {

@@ -6,8 +6,8 @@ use Rattle.store_calls.specs.Calls.{BeginsAttempt}
 use Rattle.journal_store.specs.Attempts.{BeginsSome}
 use Rattle.journal_store.specs.Stored.{stored}
 use Rattle.journal_store.proofs.Enduring.{begin_landed}
-use Rattle.journal_store.proofs.Lasting.{undone_kept}
-use Rattle.journal_store.proofs.Leading.{begins, settled_so}
+use Rattle.journal_store.proofs.Lasting.{settled_written, undone_kept}
+use Rattle.journal_store.proofs.Leading.{begins}
 use Rattle.journal_store.proofs.Recording.{looked}
 use Rattle.journal_store.proofs.Beginning.{begin_recorded, other_tests}
 use Rattle.journal_store.proofs.Standing.{commits_after}
@@ -35,12 +35,13 @@ pub returns-in-Ok-clause-crash : goal.returns-in-Ok-clause-crash
 returns-in-Ok-clause-crash g c =
     rw (← c.self.view_is) (commits_after (BeginsSome c.args.id.now c.args.now) (state g.S.Store c.self.inside.tables) (state g.S.Store c.prepare_begin.new.tables) (state g.S.Store c.begin_prepared.new.tables)
     (Event.Begin c.args.id.now c.args.now) c.in-Ok.made.writes.items tt (λ s causes. begin_landed s c.args.id.now c.args.now causes) (λ s t it. it.1.leaves.events) c.prepare_begin.ensures.looks.crash c.prepare_begin.ensures.looks.kept
-    c.begin_prepared.ensures.made.crash (λ clean events store. let ready = c.in-Ok.ensures.prepared clean events store in (ready.0, ready.1.writes)) (λ events none. cc))
+    c.begin_prepared.ensures.made.crash (λ clean events store. let ready = c.in-Ok.ensures.prepared clean events store in (ready.0, ready.1.writes)))
 
 pub returns-in-Ok-clause-settled : goal.returns-in-Ok-clause-settled
 returns-in-Ok-clause-settled g c =
-    settled_so g.S.Store c.args.self.now (stored c.begin_prepared.new.tables c.begin_prepared.new.live)
-    (BeginsAttempt c.args.id.now c.args.now c.begin_prepared.result) c.begin_prepared.result (returns-in-Ok-clause-does g c) c.begin_prepared.ensures.made.lasts
+    settled_written g.S.Store c.self.inside.tables c.prepare_begin.new.tables c.begin_prepared.new.tables c.self.inside.live c.begin_prepared.new.live c.args.self.now c.self.view_is
+    (Event.Begin c.args.id.now c.args.now) c.in-Ok.made.writes.items (BeginsAttempt c.args.id.now c.args.now c.begin_prepared.result)
+    c.begin_prepared.result c.begin_prepared.ensures.made (λ clean events store. (c.in-Ok.ensures.prepared clean events store).1.writes) (λ events none. cc) (returns-in-Ok-clause-does g c)
 
 pub returns-in-Ok-clause-kept : goal.returns-in-Ok-clause-kept
 returns-in-Ok-clause-kept g c =

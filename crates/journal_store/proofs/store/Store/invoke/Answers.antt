@@ -5,9 +5,7 @@ use Rattle.journal_model.specs.Event.{Event}
 use Rattle.store_calls.specs.Standing.{Adds}
 use Rattle.store_calls.specs.Calls.{Invokes}
 use Rattle.store_calls.proofs.Landing.{invoked}
-use Rattle.journal_store.specs.Stored.{stored}
-use Rattle.journal_store.proofs.Lasting.{undone_kept}
-use Rattle.journal_store.proofs.Leading.{settled_so}
+use Rattle.journal_store.proofs.Lasting.{settled_written, undone_kept}
 use Rattle.journal_store.proofs.Recording.{invokes, looked}
 use Rattle.journal_store.proofs.Standing.{commits_after}
 use Rattle.journal_store.proofs.store.Store.invoke.Goals as goal
@@ -26,12 +24,13 @@ pub returns-in-Ok-clause-crash : goal.returns-in-Ok-clause-crash
 returns-in-Ok-clause-crash g c =
     rw (← c.self.view_is) (commits_after (Adds (Event.Invoke c.args.new)) (state g.S.Store c.self.inside.tables) (state g.S.Store c.prepare_invoke-prepared.new.tables) (state g.S.Store c.commit_ready.new.tables)
     (Event.Invoke c.args.new) c.in-Ok.writes.items tt (λ s causes. invoked s c.args.new causes) (λ s t it. it.events) c.prepare_invoke-prepared.ensures.looks.crash c.prepare_invoke-prepared.ensures.looks.kept
-    c.commit_ready.ensures.crash c.in-Ok.ensures.prepared (λ events none. cc))
+    c.commit_ready.ensures.crash c.in-Ok.ensures.prepared)
 
 pub returns-in-Ok-clause-settled : goal.returns-in-Ok-clause-settled
 returns-in-Ok-clause-settled g c =
-    settled_so g.S.Store c.args.self.now (stored c.commit_ready.new.tables c.self.inside.live) (Invokes c.args.new c.commit_ready.result) c.commit_ready.result
-    (returns-in-Ok-clause-does g c) c.commit_ready.ensures.lasts
+    settled_written g.S.Store c.self.inside.tables c.prepare_invoke-prepared.new.tables c.commit_ready.new.tables c.self.inside.live c.self.inside.live c.args.self.now c.self.view_is
+    (Event.Invoke c.args.new) c.in-Ok.writes.items (Invokes c.args.new c.commit_ready.result) c.commit_ready.result c.commit_ready.ensures
+    (λ clean events store. (c.in-Ok.ensures.prepared clean events store).1) (λ events none. cc) (returns-in-Ok-clause-does g c)
 
 pub returns-in-Ok-clause-kept : goal.returns-in-Ok-clause-kept
 returns-in-Ok-clause-kept g c =

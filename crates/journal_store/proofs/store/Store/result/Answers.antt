@@ -8,8 +8,8 @@ use Rattle.store_calls.specs.Standing.{Adds}
 use Rattle.store_calls.specs.Calls.{Completes}
 use Rattle.journal_store.specs.Stored.{stored}
 use Rattle.journal_store.proofs.Enduring.{complete_landed}
-use Rattle.journal_store.proofs.Lasting.{undone_kept}
-use Rattle.journal_store.proofs.Leading.{completes, settled_so}
+use Rattle.journal_store.proofs.Lasting.{settled_written, undone_kept}
+use Rattle.journal_store.proofs.Leading.{completes}
 use Rattle.journal_store.proofs.Recording.{looked}
 use Rattle.journal_store.proofs.Arriving.{arrival_recorded}
 use Rattle.journal_store.proofs.Standing.{commits_after}
@@ -42,7 +42,7 @@ returns-in-Ok-clause-crash g c =
     rw (← c.self.view_is) (commits_after (Adds (Event.Complete c.args.id.now c.args.completion c.args.brought)) (state g.S.Store c.self.inside.tables) (state g.S.Store c.prepare_result.new.tables) (state g.S.Store c.record_arrival.new.tables)
     (Event.Complete c.args.id.now c.args.completion c.args.brought) c.in-Ok.made.writes.items tt (λ s causes. complete_landed s c.args.id.now c.args.completion c.args.brought causes)
     (λ s t it. it.events) c.prepare_result.ensures.looks.crash c.prepare_result.ensures.looks.kept
-    c.record_arrival.ensures.made.crash (λ clean events store. let ready = c.in-Ok.ensures.prepared clean events store in (ready.0, ready.1.writes)) (λ events none. cc))
+    c.record_arrival.ensures.made.crash (λ clean events store. let ready = c.in-Ok.ensures.prepared clean events store in (ready.0, ready.1.writes)))
 
 pub returns-in-Ok-clause-waits : goal.returns-in-Ok-clause-waits
 returns-in-Ok-clause-waits g c =
@@ -51,8 +51,9 @@ returns-in-Ok-clause-waits g c =
 
 pub returns-in-Ok-clause-settled : goal.returns-in-Ok-clause-settled
 returns-in-Ok-clause-settled g c =
-    settled_so g.S.Store c.args.self.now (stored c.record_arrival.new.tables c.record_arrival.new.live)
-    (Completes c.args.id.now c.args.completion c.args.brought c.record_arrival.result) c.record_arrival.result (returns-in-Ok-clause-does g c) c.record_arrival.ensures.made.lasts
+    settled_written g.S.Store c.self.inside.tables c.prepare_result.new.tables c.record_arrival.new.tables c.self.inside.live c.record_arrival.new.live c.args.self.now c.self.view_is
+    (Event.Complete c.args.id.now c.args.completion c.args.brought) c.in-Ok.made.writes.items (Completes c.args.id.now c.args.completion c.args.brought c.record_arrival.result)
+    c.record_arrival.result c.record_arrival.ensures.made (λ clean events store. (c.in-Ok.ensures.prepared clean events store).1.writes) (λ events none. cc) (returns-in-Ok-clause-does g c)
 
 pub returns-in-Ok-clause-kept : goal.returns-in-Ok-clause-kept
 returns-in-Ok-clause-kept g c =
