@@ -1,14 +1,16 @@
 -- What a scheduler stands for, and what its calls make of that.
-use Rattle.std.specs.Prelude.{◌≡◌, ◌≢◌, ℕ, true, List, length, Option, Ok, Err}
+use Rattle.std.specs.Prelude.{◌≡◌, ◌≢◌, ℕ, true, List, length, Option, Result, Ok, Err}
 use Rattle.sqlite_trees.specs.declared.store.Store.{Ghosts}
 use Rattle.sqlite.specs.Held.{state}
-use Rattle.sqlite.specs.State.{State}
+use Rattle.sqlite.specs.State.{State, HasCleanDisk}
 use Rattle.journal_model.specs.Notification.{Bytes, Text}
+use Rattle.journal_model.specs.Event.{Event}
 use Rattle.journal_model.specs.Run.{Handler}
 use Rattle.vm_types.specs.declared.options.VMOptions.{VMOptions}
 use Rattle.protocol_types.specs.declared.version.Version.{Version}
 use Rattle.store_refusals.specs.declared.refusal.Refusal.{Refusal}
 use Rattle.store_refusals.specs.declared.refusal.Refusal.TheVariants.{OutOfMemory}
+use Rattle.store_invocations.specs.Rows.{Decides, known_tests}
 use Rattle.journal_store.specs.Accepting.{OutlastsFrames}
 use Rattle.journal_store.specs.Stored.{Stored}
 use Rattle.journal_store.specs.Words.{attempt_of, has_number}
@@ -148,3 +150,10 @@ module _ {H S : Type 0} (g : Ghosts S) where
   pub record IsScheduled (s : Scheduled H) (scheduler : Scheduler H S) : Type 0 where
     pub standing : IsStanding g s.standing scheduler.store
     pub held : s.held ≡ scheduler.held
+
+  -- Of whatever it stood for a scheduler tells this where its accepted events know the invocation, and is refused where they do not; and
+  -- it stands for that then.
+  abbrev pub TellsOf : {A : Type 0} → Text → (List Event → A → Type 0) → Result A Refusal → Scheduler H S → Scheduler H S → Type 0
+  TellsOf id IsTold result old new =
+      HasCleanDisk (state g new.store.connection) → (s : Scheduled H) → IsScheduled s old
+      → Decides (known_tests s.standing.events id) (IsTold s.standing.events) result × IsScheduled s new

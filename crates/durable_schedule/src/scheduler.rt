@@ -5,7 +5,6 @@ ghost use Rattle.sqlite.specs.State.{HasCleanDisk};
 ghost use Rattle.journal_model.specs.Event.{Event as Accepted};
 ghost use Rattle.journal_model.specs.Journal.{completion as completion_of, is_open as is_open_after};
 ghost use Rattle.store_model.specs.Progress.{last_error_of};
-ghost use Rattle.store_invocations.specs.Rows.{Decides, known_tests};
 ghost use Rattle.store_reads.specs.Told.{entries_told};
 ghost use Rattle.store_reads.specs.Answered.{answer_told};
 ghost use Rattle.store_calls.specs.Standing.{Adds};
@@ -16,7 +15,7 @@ ghost use Rattle.schedule_model.specs.Held.{held_of};
 ghost use Rattle.schedule_model.specs.Schedule.{RepliesDone, RepliesPlace, RepliesCount, BeginDoes, IfHeld, FeedsOne, ClosesOne, TurnsOne, MovesOne, Applies, Scheduled};
 ghost use Rattle.schedule_model.specs.Fitting.{FitsEvent};
 ghost use Rattle.fitting_events.specs.Fitting.{InvocationFits, ResultFits};
-ghost use Rattle.durable_schedule.specs.Scheduled.{AppliesWith, HasBegun, HasTakenFrames, HasTicked, IsDone, IsLive, IsMovedIfHeld, IsOfHeld, IsPlaced, IsScheduled, IsWritten, LeadsMoved, OutlastsEvent, Spares, SparesUnheld, TakesLive};
+ghost use Rattle.durable_schedule.specs.Scheduled.{AppliesWith, HasBegun, HasTakenFrames, HasTicked, IsDone, IsLive, IsMovedIfHeld, IsOfHeld, IsPlaced, IsScheduled, IsWritten, LeadsMoved, OutlastsEvent, Spares, SparesUnheld, TakesLive, TellsOf};
 
 use crate::held::{close, hand_out, make, take_in};
 use bytes::ByteStr;
@@ -276,7 +275,7 @@ impl<H: Handler + Drop, S: Alter + Drop> Scheduler<H, S> {
 
     /// The recorded requests and arrivals of an invocation, by place.
     pub fn entries(&mut self, id: &ByteStr) -> Result<Vec<RecordedEntry>, store_refusals::Refusal>
-        ensures told { HasCleanDisk (state S.Store self.new.store.connection) → (s : Scheduled H) → IsScheduled S.Store s self.old → Decides (known_tests s.standing.events id.now) (λ entries. entries.items ≡ entries_told s.standing.events id.now) result × IsScheduled S.Store s self.new }
+        ensures told { TellsOf S.Store id.now (λ events entries. entries.items ≡ entries_told events id.now) result self.old self.new }
         ensures kept { self.new ≡ record self.old { store = self.new.store } }
         ensures crash { IsQuiet S.Store self.old.store self.new.store }
     {
@@ -285,7 +284,7 @@ impl<H: Handler + Drop, S: Alter + Drop> Scheduler<H, S> {
 
     /// What a closed invocation answers.
     pub fn answer(&mut self, id: &ByteStr) -> Result<Option<NonEmptyValue>, store_refusals::Refusal>
-        ensures told { HasCleanDisk (state S.Store self.new.store.connection) → (s : Scheduled H) → IsScheduled S.Store s self.old → Decides (known_tests s.standing.events id.now) (λ answer. answer ≡ answer_told s.standing.events id.now) result × IsScheduled S.Store s self.new }
+        ensures told { TellsOf S.Store id.now (λ events answer. answer ≡ answer_told events id.now) result self.old self.new }
         ensures kept { self.new ≡ record self.old { store = self.new.store } }
         ensures crash { IsQuiet S.Store self.old.store self.new.store }
     {
@@ -294,7 +293,7 @@ impl<H: Handler + Drop, S: Alter + Drop> Scheduler<H, S> {
 
     /// The last error that an attempt of an invocation told.
     pub fn failure(&mut self, id: &ByteStr) -> Result<Option<LastError>, store_refusals::Refusal>
-        ensures told { HasCleanDisk (state S.Store self.new.store.connection) → (s : Scheduled H) → IsScheduled S.Store s self.old → Decides (known_tests s.standing.events id.now) (λ error. error ≡ last_error_of s.standing.events id.now) result × IsScheduled S.Store s self.new }
+        ensures told { TellsOf S.Store id.now (λ events error. error ≡ last_error_of events id.now) result self.old self.new }
         ensures kept { self.new ≡ record self.old { store = self.new.store } }
         ensures crash { IsQuiet S.Store self.old.store self.new.store }
     {
@@ -303,7 +302,7 @@ impl<H: Handler + Drop, S: Alter + Drop> Scheduler<H, S> {
 
     /// Whether an invocation is open.
     pub fn is_open(&mut self, id: &ByteStr) -> Result<bool, store_refusals::Refusal>
-        ensures told { HasCleanDisk (state S.Store self.new.store.connection) → (s : Scheduled H) → IsScheduled S.Store s self.old → Decides (known_tests s.standing.events id.now) (λ is_open. is_open ≡ is_open_after s.standing.events id.now) result × IsScheduled S.Store s self.new }
+        ensures told { TellsOf S.Store id.now (λ events is_open. is_open ≡ is_open_after events id.now) result self.old self.new }
         ensures kept { self.new ≡ record self.old { store = self.new.store } }
         ensures crash { IsQuiet S.Store self.old.store self.new.store }
     {

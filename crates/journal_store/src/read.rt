@@ -1,13 +1,10 @@
 // What a store tells of an invocation.
-ghost use Rattle.std.specs.Prelude.{◌≡◌, List};
-ghost use Rattle.journal_model.specs.Event.{Event};
+ghost use Rattle.std.specs.Prelude.{◌≡◌};
 ghost use Rattle.journal_model.specs.Journal.{is_open as is_open_after};
 ghost use Rattle.store_model.specs.Progress.{last_error_of};
-ghost use Rattle.store_invocations.specs.Rows.{Decides, known_tests};
 ghost use Rattle.store_reads.specs.Told.{entries_told};
 ghost use Rattle.store_reads.specs.Answered.{answer_told};
-ghost use Rattle.journal_store.specs.Stands.{IsQuiet, Stands};
-ghost use Rattle.journal_store.specs.Words.{state, HasCleanDisk};
+ghost use Rattle.journal_store.specs.Stands.{IsQuiet, TellsOf};
 
 use crate::store::Store;
 use bytes::ByteStr;
@@ -20,7 +17,7 @@ use store_tables::LastError;
 impl<S: Alter + Drop> Store<S> {
     /// The recorded requests and arrivals, by place.
     pub fn entries(&mut self, id: &ByteStr) -> Result<Vec<RecordedEntry>, Refusal>
-        ensures told { HasCleanDisk (state S.Store self.new.connection) → (events : List Event) → Stands events (state S.Store self.old.connection) self.old.live.attempts → Decides (known_tests events id.now) (λ entries. entries.items ≡ entries_told events id.now) result × Stands events (state S.Store self.new.connection) self.new.live.attempts }
+        ensures told { TellsOf S.Store id.now (λ events entries. entries.items ≡ entries_told events id.now) result self.old self.new }
         ensures live { self.new.live ≡ self.old.live }
         ensures crash { IsQuiet S.Store self.old self.new }
     {
@@ -30,7 +27,7 @@ impl<S: Alter + Drop> Store<S> {
     /// What a closed invocation answers: what its last output put out, or the failure that closed it. Nothing where it is open, and
     /// where it ended with no output.
     pub fn answer(&mut self, id: &ByteStr) -> Result<Option<NonEmptyValue>, Refusal>
-        ensures told { HasCleanDisk (state S.Store self.new.connection) → (events : List Event) → Stands events (state S.Store self.old.connection) self.old.live.attempts → Decides (known_tests events id.now) (λ answer. answer ≡ answer_told events id.now) result × Stands events (state S.Store self.new.connection) self.new.live.attempts }
+        ensures told { TellsOf S.Store id.now (λ events answer. answer ≡ answer_told events id.now) result self.old self.new }
         ensures live { self.new.live ≡ self.old.live }
         ensures crash { IsQuiet S.Store self.old self.new }
     {
@@ -39,7 +36,7 @@ impl<S: Alter + Drop> Store<S> {
 
     /// The last error that an attempt told: its code, what was to be done, its delay and its message.
     pub fn failure(&mut self, id: &ByteStr) -> Result<Option<LastError>, Refusal>
-        ensures told { HasCleanDisk (state S.Store self.new.connection) → (events : List Event) → Stands events (state S.Store self.old.connection) self.old.live.attempts → Decides (known_tests events id.now) (λ error. error ≡ last_error_of events id.now) result × Stands events (state S.Store self.new.connection) self.new.live.attempts }
+        ensures told { TellsOf S.Store id.now (λ events error. error ≡ last_error_of events id.now) result self.old self.new }
         ensures live { self.new.live ≡ self.old.live }
         ensures crash { IsQuiet S.Store self.old self.new }
     {
@@ -48,7 +45,7 @@ impl<S: Alter + Drop> Store<S> {
 
     /// Whether an invocation is open.
     pub fn is_open(&mut self, id: &ByteStr) -> Result<bool, Refusal>
-        ensures told { HasCleanDisk (state S.Store self.new.connection) → (events : List Event) → Stands events (state S.Store self.old.connection) self.old.live.attempts → Decides (known_tests events id.now) (λ answer. answer ≡ is_open_after events id.now) result × Stands events (state S.Store self.new.connection) self.new.live.attempts }
+        ensures told { TellsOf S.Store id.now (λ events answer. answer ≡ is_open_after events id.now) result self.old self.new }
         ensures live { self.new.live ≡ self.old.live }
         ensures crash { IsQuiet S.Store self.old self.new }
     {
