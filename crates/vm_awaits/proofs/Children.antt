@@ -47,7 +47,7 @@ taken_out taken there xs i is found = is ∙ found ∙ ap (λ d. get_or xs i d) 
 
 -- ---- a child of a node
 
-pending_ends_none : (combinator : Combinator) → ends_at_once combinator Trees.Pending ≡ false
+pub pending_ends_none : (combinator : Combinator) → ends_at_once combinator Trees.Pending ≡ false
 pending_ends_none Trees.Unknown = refl
 pending_ends_none Trees.FirstCompleted = refl
 pending_ends_none Trees.AllCompleted = refl
@@ -83,7 +83,7 @@ module _ (leaves : ℕ → AwaitState) where
   one_ends combinator [] = false
   one_ends combinator (tree ∷ trees) = ends combinator tree || one_ends combinator trees
 
-  ended_from : (combinator : Combinator) (trees : List (AwaitTree ℕ)) → has_ended_node (node combinator trees) leaves ≡ one_ends combinator trees
+  pub ended_from : (combinator : Combinator) (trees : List (AwaitTree ℕ)) → has_ended_node (node combinator trees) leaves ≡ one_ends combinator trees
   ended_from combinator [] = refl
   ended_from combinator (tree ∷ trees) =
       swapped (ends_at_once combinator (await_state tree leaves)) (list_any (ends_at_once combinator) (child_states (trees_from trees) leaves)) (has_ended_node tree leaves) (some_has_ended_node (trees_from trees) leaves)
@@ -123,7 +123,7 @@ module _ (leaves : ℕ → AwaitState) where
       let split = none_ends combinator tree trees e in
       λ i. same (await_state tree leaves) split.0 i && all_pass combinator test same trees split.1 i
 
-  all_completed : (trees : List (AwaitTree ℕ)) → list_all is_completed (states_in trees) ≡ (length (kept_trees trees) == 0)
+  pub all_completed : (trees : List (AwaitTree ℕ)) → list_all is_completed (states_in trees) ≡ (length (kept_trees trees) == 0)
   all_completed [] = refl
   all_completed (tree ∷ trees) = by_test (is_completed (await_state tree leaves)) (all_completed trees)
     where
@@ -162,7 +162,7 @@ module _ (leaves : ℕ → AwaitState) where
   succeeded_rest true = refl
   succeeded_rest false = refl
 
-  node_state : (combinator : Combinator) (trees : List (AwaitTree ℕ)) → one_ends combinator trees ≡ false → await_state (node combinator trees) leaves ≡ rest_state combinator (length (kept_trees trees) == 0)
+  pub node_state : (combinator : Combinator) (trees : List (AwaitTree ℕ)) → one_ends combinator trees ≡ false → await_state (node combinator trees) leaves ≡ rest_state combinator (length (kept_trees trees) == 0)
   node_state Trees.Unknown trees e = none_completed Trees.Unknown (λ state. refl) trees e ∙ unknown_rests (length (kept_trees trees) == 0)
   node_state Trees.FirstCompleted trees e = none_completed Trees.FirstCompleted (λ state. refl) trees e ∙ first_rests (length (kept_trees trees) == 0)
   node_state Trees.AllCompleted trees e =

@@ -6,3 +6,5 @@ pub mod Looking
 pub mod Gathering
 pub mod ResolutionRows
 pub mod RecordRows
+pub mod Fates
+pub mod Passed

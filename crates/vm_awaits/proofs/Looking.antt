@@ -8,6 +8,7 @@ use Rattle.journal_model.specs.declared.future.UnresolvedFuture.{UnresolvedFutur
 use Rattle.journal_model.specs.declared.options.SignalDelivery.{SignalDelivery}
 use Rattle.attempt_model.specs.Results.{Ready, Slots, handle_state, ready_after, ready_after_all, Awake, Asleep, resolution_of}
 use Rattle.vm_awaits.specs.Heard.{brought_state}
+use Rattle.vm_awaits.specs.Passing.{IsPassed, Passes}
 use Rattle.vm_awaits.specs.Pruning.{IsLeft}
 use Rattle.vm_awaits.specs.Resolving.{OnTheWay, StopsMidway}
 use Rattle.vm_awaits.proofs.Hearing.{LeavesMeet, IsPending, IsSame, asleep_pends, same_awake, same_left, told_by_one}
@@ -86,24 +87,52 @@ module _ (delivery : SignalDelivery) (slots : Slots) where
       (sleeps.whole, still_on tree queue ready sleeps.whole others rest waiting after sleeps.way same_rest same_ready)
 
   -- one more is looked at, which alone tells what has come of what is left
-  module _ (tree : AwaitTree ℕ) (queue : List Arrival) (ready : Ready) (left : UnresolvedFuture) (arrival : Arrival) (others behind rest : List Arrival) (waiting after : Ready)
-      (sleeps : Sleeps tree queue ready (tree_of left) others waiting) (front : others ≡ arrival ∷ behind) (same_rest : rest ≡ behind) (is_after : after ≡ ready_after delivery waiting arrival) where
-    on : OnTheWay delivery slots tree queue ready (tree_of left) rest after
-    on = one_on tree queue ready sleeps.whole (tree_of left) arrival others behind rest waiting after sleeps.way sleeps.asleep front same_rest sleeps.is_left is_after
+  module _ (tree : AwaitTree ℕ) (queue : List Arrival) (ready : Ready) (left : AwaitTree ℕ) (arrival : Arrival) (others behind rest : List Arrival) (waiting after : Ready)
+      (sleeps : Sleeps tree queue ready left others waiting) (front : others ≡ arrival ∷ behind) (same_rest : rest ≡ behind) (is_after : after ≡ ready_after delivery waiting arrival) where
+    on : OnTheWay delivery slots tree queue ready left rest after
+    on = one_on tree queue ready sleeps.whole left arrival others behind rest waiting after sleeps.way sleeps.asleep front same_rest sleeps.is_left is_after
 
-    told : LeavesMeet (IsSame (handle_state slots after) (brought_state slots arrival)) (tree_of left)
+    told : LeavesMeet (IsSame (handle_state slots after) (brought_state slots arrival)) left
     told =
-        subst (λ (r : Ready). LeavesMeet (IsSame (handle_state slots r) (brought_state slots arrival)) (tree_of left)) (sym is_after)
-        (told_by_one delivery slots waiting arrival (tree_of left)
+        subst (λ (r : Ready). LeavesMeet (IsSame (handle_state slots r) (brought_state slots arrival)) left) (sym is_after)
+        (told_by_one delivery slots waiting arrival left
         (subst (λ (t : AwaitTree ℕ). LeavesMeet (IsPending (handle_state slots waiting)) t) (sym sleeps.is_left) (asleep_pends (handle_state slots waiting) sleeps.whole sleeps.asleep)))
 
+    tree_wakes : is_awake left (brought_state slots arrival) ≡ true → resolution_of delivery slots tree queue ready ≡ Awake rest after
+    tree_wakes awake = awake_on_the_way tree queue ready left rest after on (same_awake (handle_state slots after) (brought_state slots arrival) left told ∙ awake)
+
+    tree_sleeps_on : (next : AwaitTree ℕ) → is_awake left (brought_state slots arrival) ≡ false → next ≡ pruned left (brought_state slots arrival) → Sleeps tree queue ready next rest after
+    tree_sleeps_on next asleep is_next = record {
+      whole = left;
+      way = on;
+      asleep = same_awake (handle_state slots after) (brought_state slots arrival) left told ∙ asleep;
+      is_left = is_next ∙ sym (same_left (handle_state slots after) (brought_state slots arrival) left told);
+    }
+
+  module _ (tree : AwaitTree ℕ) (queue : List Arrival) (ready : Ready) (left : UnresolvedFuture) (arrival : Arrival) (others behind rest : List Arrival) (waiting after : Ready)
+      (sleeps : Sleeps tree queue ready (tree_of left) others waiting) (front : others ≡ arrival ∷ behind) (same_rest : rest ≡ behind) (is_after : after ≡ ready_after delivery waiting arrival) where
     pub wakes : IsLeft (tree_of left) (brought_state slots arrival) None → resolution_of delivery slots tree queue ready ≡ Awake rest after
-    wakes awake = awake_on_the_way tree queue ready (tree_of left) rest after on (same_awake (handle_state slots after) (brought_state slots arrival) (tree_of left) told ∙ awake)
+    wakes awake = tree_wakes tree queue ready (tree_of left) arrival others behind rest waiting after sleeps front same_rest is_after awake
 
     pub sleeps_on : (next : UnresolvedFuture) → IsLeft (tree_of left) (brought_state slots arrival) (Some next) → Sleeps tree queue ready (tree_of next) rest after
-    sleeps_on next is = record {
-      whole = tree_of left;
-      way = on;
-      asleep = same_awake (handle_state slots after) (brought_state slots arrival) (tree_of left) told ∙ is.0;
-      is_left = is.1 ∙ sym (same_left (handle_state slots after) (brought_state slots arrival) (tree_of left) told);
-    }
+    sleeps_on next is = tree_sleeps_on tree queue ready (tree_of left) arrival others behind rest waiting after sleeps front same_rest is_after (tree_of next) is.0 is.1
+
+  -- many are looked at that leave it asleep
+  module _ (tree : AwaitTree ℕ) (queue : List Arrival) (ready : Ready) where
+    passed_on : (passed : List Arrival) (left less : AwaitTree ℕ) (others rest : List Arrival) (waiting after : Ready)
+        → Sleeps tree queue ready left others waiting → others ≡ passed ++ rest → after ≡ ready_after_all delivery waiting passed → IsPassed slots left passed less → Sleeps tree queue ready less rest after
+    passed_on [] left less others rest waiting after sleeps line_is ready_is passes = rw (passes, sym line_is, ready_is) sleeps
+    passed_on (arrival ∷ passed) left less others rest waiting after sleeps line_is ready_is passes =
+        passed_on passed (pruned left (brought_state slots arrival)) less (passed ++ rest) rest (ready_after delivery waiting arrival) after
+        (tree_sleeps_on tree queue ready left arrival others (passed ++ rest) (passed ++ rest) waiting (ready_after delivery waiting arrival) sleeps line_is refl refl (pruned left (brought_state slots arrival)) passes.0 refl)
+        refl ready_is passes.1
+
+    pub passes_on : (left less : AwaitTree ℕ) (others rest : List Arrival) (waiting after : Ready)
+        → Sleeps tree queue ready left others waiting → Passes delivery slots left others waiting less rest after → Sleeps tree queue ready less rest after
+    passes_on left less others rest waiting after sleeps passes = passed_on passes.passed left less others rest waiting after sleeps passes.line_is passes.ready_is passes.leaves
+
+    -- it stops behind some of them
+    pub passes_midway : (left less : AwaitTree ℕ) (others rest : List Arrival) (waiting after : Ready)
+        → Sleeps tree queue ready left others waiting → Passes delivery slots left others waiting less rest after → StopsMidway delivery slots tree queue ready rest after
+    passes_midway left less others rest waiting after sleeps passes =
+        stops tree queue ready less rest rest after after (passes_on left less others rest waiting after sleeps passes) refl refl

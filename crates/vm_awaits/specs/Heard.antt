@@ -7,8 +7,9 @@ use Rattle.journal_model.specs.AwaitTree.{AwaitState, Pending}
 use Rattle.journal_model.specs.Delivery.{state_of_result}
 use Rattle.attempt_model.specs.Results.{Slots, slot_of, handle_state}
 use Rattle.vm_results.specs.Views.{ready_in}
+use Rattle.vm_awaits.specs.Ahead.{firsts_in, state_ahead}
 use Rattle.vm_awaits.specs.declared.heard.Heard.{Heard}
-use Rattle.vm_awaits.specs.declared.heard.Heard.TheVariants.{Waiting, One}
+use Rattle.vm_awaits.specs.declared.heard.Heard.TheVariants.{Waiting, One, Ahead}
 
 -- whether a notification of this id is for a handle that stands for this
 abbrev pub is_for : NotificationId → Option NotificationId → Bool
@@ -25,3 +26,4 @@ brought_state slots arrival handle = if is_for arrival.id (slot_of slots handle)
 abbrev pub state_heard : Slots → Heard → ℕ → AwaitState
 state_heard slots (Waiting ready) = handle_state slots (ready_in ready.now)
 state_heard slots (One notification) = brought_state slots notification.now
+state_heard slots (Ahead firsts count) = state_ahead slots (firsts_in firsts.now) count

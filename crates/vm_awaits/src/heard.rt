@@ -5,8 +5,10 @@ ghost use Rattle.journal_model.specs.Notification.{same_id};
 ghost use Rattle.protocol_trees.specs.Future.{id_meant};
 ghost use Rattle.protocol_trees.specs.Shape.{state_meant};
 ghost use Rattle.attempt_model.specs.Results.{slot_of};
+ghost use Rattle.vm_awaits.specs.Ahead.{firsts_in, state_ahead};
 ghost use Rattle.vm_awaits.specs.Heard.{result_state, is_for, brought_state, state_heard};
 
+use crate::ahead::Firsts;
 use bytes::ByteStr;
 use journal_model::{Notification, NotificationHandle, NotificationId, NotificationResult};
 use protocol_trees::{AwaitState, NotificationIdRef};
@@ -19,6 +21,8 @@ pub(crate) enum Heard<'a> {
     Waiting(&'a ReadyNotifications),
     /// This one, and no other.
     One(&'a Notification),
+    /// So many in line, whose firsts are among these.
+    Ahead(&'a Firsts, usize),
 }
 
 fn is_completion(id: &NotificationId, number: u32) -> bool
@@ -98,6 +102,29 @@ fn brought_state(
     }
 }
 
+// What a handle has come to by so many notifications ahead.
+fn state_ahead(
+    slots: &[Option<NotificationId>],
+    firsts: &Firsts,
+    count: usize,
+    handle: NotificationHandle,
+) -> AwaitState
+    ensures { state_meant result ≡ state_ahead slots.now (firsts_in firsts.now) count handle }
+{
+    match firsts.first_for(slots, handle) {
+        None => AwaitState::Pending,
+        Some(first) => {
+            if count < first.count {
+                AwaitState::Pending
+            } else if first.is_failure {
+                AwaitState::Failed
+            } else {
+                AwaitState::Succeeded
+            }
+        }
+    }
+}
+
 /// What a handle has come to by what is heard: a leaf that stands for nothing stays pending.
 pub(crate) fn state_heard(
     slots: &[Option<NotificationId>],
@@ -109,5 +136,6 @@ pub(crate) fn state_heard(
     match heard {
         Heard::Waiting(ready) => state_for(slots, ready, handle),
         Heard::One(notification) => brought_state(slots, notification, handle),
+        Heard::Ahead(firsts, count) => state_ahead(slots, firsts, count, handle),
     }
 }

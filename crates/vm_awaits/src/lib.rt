@@ -5,7 +5,10 @@
 //! the definitions of an attempt over these.
 #![tactic(auto)]
 
+mod ahead;
+mod fate;
 mod heard;
+mod passing;
 mod pruning;
 mod records;
 mod resolving;

@@ -39,7 +39,7 @@ enum Child {
     Stays(UnresolvedFuture),
 }
 
-fn ends_by_success(combinator: Combinator) -> bool
+pub(crate) fn ends_by_success(combinator: Combinator) -> bool
     ensures { result ≡ ends_at_once (combinator_meant combinator) Trees.Succeeded }
 {
     match combinator {
@@ -51,7 +51,7 @@ fn ends_by_success(combinator: Combinator) -> bool
     }
 }
 
-fn ends_by_failure(combinator: Combinator) -> bool
+pub(crate) fn ends_by_failure(combinator: Combinator) -> bool
     ensures { result ≡ ends_at_once (combinator_meant combinator) Trees.Failed }
 {
     match combinator {
@@ -82,7 +82,7 @@ fn becomes(combinator: Combinator, looked: Looked) -> Child
 }
 
 // What a node has come to that no child ends at once, by whether a child is left of it.
-fn rest_state(combinator: Combinator, is_none_left: bool) -> AwaitState
+pub(crate) fn rest_state(combinator: Combinator, is_none_left: bool) -> AwaitState
     ensures { state_meant result ≡ rest_state (combinator_meant combinator) is_none_left }
 {
     if !is_none_left {

@@ -7,11 +7,15 @@ ghost use Rattle.vm_awaits.specs.Resolving.{resolution_as, line_left, StopsMidwa
 ghost use Rattle.vm_results.specs.Views.{ready_in};
 
 use crate::heard::Heard;
+use crate::passing::pass;
 use crate::pruning::left_of;
 use journal_model::{Notification, NotificationId, SignalDelivery, UnresolvedFuture};
 use std::alloc::AllocError;
 use std::collections::VecDeque;
 use vm_results::ReadyNotifications;
+
+// So many times further is looked ahead each time, while the future sleeps.
+const FURTHER: usize = 64;
 
 /// What looking for an awaited future came to.
 #[derive(Debug, Drop)]
@@ -23,7 +27,7 @@ pub enum ResolveFutureResult {
 }
 
 // A notification that stood first in line is looked at. Where there is no memory for it, it stands there again.
-fn look_at(
+pub(crate) fn look_at(
     line: &mut VecDeque<Notification>,
     ready: &mut ReadyNotifications,
     delivery: SignalDelivery,
@@ -45,7 +49,7 @@ fn look_at(
 /// Looks at one notification a step, until the future is awake; what is completed of it is left out at each step.
 ///
 /// First the future is looked at by all that waits. From then on nothing waits for what is left of it, so that one notification
-/// tells what its leaves have come to.
+/// tells what its leaves have come to. Between two steps those are passed together that leave it asleep.
 pub(crate) fn resolve(
     delivery: SignalDelivery,
     slots: &[Option<NotificationId>],
@@ -61,6 +65,7 @@ pub(crate) fn resolve(
     let Some(mut left) = left_of(future, slots, Heard::Waiting(ready)) else {
         return Ok(ResolveFutureResult::AnyCompleted);
     };
+    let mut ahead = 1usize;
     'steps: loop {
         let Some(notification) = line.pop_front() else {
             return Ok(ResolveFutureResult::WaitExternalInput(left));
@@ -76,6 +81,7 @@ pub(crate) fn resolve(
         let Some(next) = next else {
             return Ok(ResolveFutureResult::AnyCompleted);
         };
-        left = next;
+        ahead = ahead.saturating_mul(FURTHER);
+        left = pass(delivery, slots, line, ready, next, ahead)?;
     }
 }
