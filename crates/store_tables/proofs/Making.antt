@@ -16,9 +16,9 @@ use Rattle.sqlite_tied.specs.Compute.{everything}
 use Rattle.sql_tables.specs.Columns.{no_schema}
 use Rattle.sql_tables.proofs.Making.{IsIndexing, IsMaking, index_made, table_made, has_none}
 use Rattle.sql_tables.proofs.Writes.{cast_int}
-use Rattle.store_tables.specs.Tables.{meta, invocation, entry, state_table, sleep_table, meta_columns, by_open_object, by_completion, by_second_completion, by_answered, by_moment}
-use Rattle.store_tables.specs.Tables.{with_meta, with_invocation, with_open_object, with_entry, with_completion, with_second_completion, with_answered, with_state, with_sleep, store_schema}
-use Rattle.store_tables.specs.Tables.{meta_text, invocation_text, by_open_object_text, entry_text, by_completion_text, by_second_completion_text, by_answered_text, state_text, sleep_text, by_moment_text}
+use Rattle.store_tables.specs.Tables.{meta, invocation, entry, state_table, sleep_table, meta_columns, by_open_object, by_place, by_completion, by_second_completion, by_answered, by_sleeper, by_moment}
+use Rattle.store_tables.specs.Tables.{with_meta, with_invocation, with_open_object, with_entry, with_place, with_completion, with_second_completion, with_answered, with_state, with_sleep, with_sleeper, store_schema}
+use Rattle.store_tables.specs.Tables.{meta_text, invocation_text, by_open_object_text, entry_text, by_place_text, by_completion_text, by_second_completion_text, by_answered_text, state_text, sleep_text, by_sleeper_text, by_moment_text}
 use Rattle.store_tables.specs.Statements.{mark_text}
 use Rattle.store_tables.specs.Records.{Holds, mark_cells, no_records}
 use Rattle.store_tables.specs.Steps.{IsMade}
@@ -40,7 +40,11 @@ makes_entry : IsMaking with_open_object entry_text (record entry { tree = 0 })
 unfolding understood everything
 makes_entry = record { command = refl; text = refl; plain = (refl, refl); defined = refl; uncounted = refl }
 
-makes_by_completion : IsIndexing with_entry by_completion_text 2 entry by_completion
+makes_by_place : IsIndexing with_entry by_place_text 2 entry by_place
+unfolding understood everything
+makes_by_place = record { command = refl; text = refl; plain = (refl, refl); found = refl; defined = refl }
+
+makes_by_completion : IsIndexing with_place by_completion_text 2 entry by_completion
 unfolding understood everything
 makes_by_completion = record { command = refl; text = refl; plain = (refl, refl); found = refl; defined = refl }
 
@@ -60,7 +64,11 @@ makes_sleep : IsMaking with_state sleep_text (record sleep_table { tree = 0 })
 unfolding understood everything
 makes_sleep = record { command = refl; text = refl; plain = (refl, refl); defined = refl; uncounted = refl }
 
-makes_by_moment : IsIndexing with_sleep by_moment_text 4 sleep_table by_moment
+makes_by_sleeper : IsIndexing with_sleep by_sleeper_text 4 sleep_table by_sleeper
+unfolding understood everything
+makes_by_sleeper = record { command = refl; text = refl; plain = (refl, refl); found = refl; defined = refl }
+
+makes_by_moment : IsIndexing with_sleeper by_moment_text 4 sleep_table by_moment
 unfolding understood everything
 makes_by_moment = record { command = refl; text = refl; plain = (refl, refl); found = refl; defined = refl }
 
@@ -100,20 +108,22 @@ invocations_made a b c has p q =
     with_index with_invocation by_open_object_text 1 invocation by_open_object makes_by_open_object b c
     (with_table with_meta invocation_text (record invocation { tree = 0 }) makes_invocation a b has.schema has.bare p) q
 
-pub entries_made : (a b c d e : State) → IsMade with_open_object a → HasRun entry_text [] a b → HasRun by_completion_text [] b c → HasRun by_second_completion_text [] c d → HasRun by_answered_text [] d e → IsMade with_answered e
-entries_made a b c d e has p q r s =
+pub entries_made : (a b c d e f : State) → IsMade with_open_object a → HasRun entry_text [] a b → HasRun by_place_text [] b c → HasRun by_completion_text [] c d → HasRun by_second_completion_text [] d e → HasRun by_answered_text [] e f → IsMade with_answered f
+entries_made a b c d e f has p q r s t =
     let first = with_table with_open_object entry_text (record entry { tree = 0 }) makes_entry a b has.schema has.bare p in
-    let second = with_index with_entry by_completion_text 2 entry by_completion makes_by_completion b c first q in
-    let third = with_index with_completion by_second_completion_text 2 entry by_second_completion makes_by_second_completion c d second r in
-    with_index with_second_completion by_answered_text 2 entry by_answered makes_by_answered d e third s
+    let second = with_index with_entry by_place_text 2 entry by_place makes_by_place b c first q in
+    let third = with_index with_place by_completion_text 2 entry by_completion makes_by_completion c d second r in
+    let fourth = with_index with_completion by_second_completion_text 2 entry by_second_completion makes_by_second_completion d e third s in
+    with_index with_second_completion by_answered_text 2 entry by_answered makes_by_answered e f fourth t
 
 pub states_made : (a b : State) → IsMade with_answered a → HasRun state_text [] a b → IsMade with_state b
 states_made a b has run = with_table with_answered state_text (record state_table { tree = 0 }) makes_state a b has.schema has.bare run
 
-pub sleeps_made : (a b c : State) → IsMade with_state a → HasRun sleep_text [] a b → HasRun by_moment_text [] b c → IsMade store_schema c
-sleeps_made a b c has p q =
-    with_index with_sleep by_moment_text 4 sleep_table by_moment makes_by_moment b c
-    (with_table with_state sleep_text (record sleep_table { tree = 0 }) makes_sleep a b has.schema has.bare p) q
+pub sleeps_made : (a b c d : State) → IsMade with_state a → HasRun sleep_text [] a b → HasRun by_sleeper_text [] b c → HasRun by_moment_text [] c d → IsMade store_schema d
+sleeps_made a b c d has p q r =
+    let first = with_table with_state sleep_text (record sleep_table { tree = 0 }) makes_sleep a b has.schema has.bare p in
+    let second = with_index with_sleep by_sleeper_text 4 sleep_table by_sleeper makes_by_sleeper b c first q in
+    with_index with_sleeper by_moment_text 4 sleep_table by_moment makes_by_moment c d second r
 
 mark_terms : List Term
 mark_terms = lit Null ∷ lit (Text (codes "journal_store")) ∷ lit (Int (pos 1)) ∷ []

@@ -18,7 +18,10 @@ abbrev pub by_open_object_text : List ℕ
 by_open_object_text = codes "CREATE INDEX invocation_by_open_object ON invocation (open_object)"
 
 abbrev pub entry_text : List ℕ
-entry_text = codes "CREATE TABLE entry (invocation TEXT NOT NULL, place INTEGER NOT NULL, kind INTEGER NOT NULL, payload BLOB NOT NULL, completion INTEGER, second_completion INTEGER, answered INTEGER, moment INTEGER NOT NULL, UNIQUE (invocation, place)) STRICT"
+entry_text = codes "CREATE TABLE entry (invocation TEXT NOT NULL, place INTEGER NOT NULL, kind INTEGER NOT NULL, payload BLOB NOT NULL, completion INTEGER, second_completion INTEGER, answered INTEGER, moment INTEGER NOT NULL) STRICT"
+
+abbrev pub by_place_text : List ℕ
+by_place_text = codes "CREATE INDEX entry_by_place ON entry (invocation, place)"
 
 abbrev pub by_completion_text : List ℕ
 by_completion_text = codes "CREATE INDEX entry_by_completion ON entry (invocation, completion)"
@@ -33,7 +36,10 @@ abbrev pub state_text : List ℕ
 state_text = codes "CREATE TABLE state (object TEXT NOT NULL, key BLOB NOT NULL, value BLOB NOT NULL, UNIQUE (object, key)) STRICT"
 
 abbrev pub sleep_text : List ℕ
-sleep_text = codes "CREATE TABLE sleep (moment INTEGER NOT NULL, invocation TEXT NOT NULL, completion INTEGER NOT NULL, UNIQUE (invocation, completion)) STRICT"
+sleep_text = codes "CREATE TABLE sleep (moment INTEGER NOT NULL, invocation TEXT NOT NULL, completion INTEGER NOT NULL) STRICT"
+
+abbrev pub by_sleeper_text : List ℕ
+by_sleeper_text = codes "CREATE INDEX sleep_by_invocation ON sleep (invocation, completion)"
 
 abbrev pub by_moment_text : List ℕ
 by_moment_text = codes "CREATE INDEX sleep_by_moment ON sleep (moment)"
@@ -66,12 +72,16 @@ entry_columns =
     required (codes "invocation") Text ∷ required (codes "place") Integer ∷ required (codes "kind") Integer ∷ required (codes "payload") Blob
     ∷ optional (codes "completion") Integer ∷ optional (codes "second_completion") Integer ∷ optional (codes "answered") Integer ∷ required (codes "moment") Integer ∷ []
 
--- In an invocation a place comes once. By the indexes a completion is found that is asked for, or one that is answered.
+-- By the indexes a journal is found by place, a completion that is asked for, and one that is answered. None is a key, by which each
+-- entry would be tested as it is added.
 abbrev pub entry_keys : List (List ℕ)
-entry_keys = (1 ∷ 2 ∷ []) ∷ []
+entry_keys = []
 
 abbrev pub entry : Table
 entry = table_of 4 (codes "entry") entry_columns entry_keys
+
+abbrev pub by_place : Index
+by_place = plain_index (codes "entry_by_place") 0 4 (1 ∷ 2 ∷ [])
 
 abbrev pub by_completion : Index
 by_completion = plain_index (codes "entry_by_completion") 0 4 (1 ∷ 5 ∷ [])
@@ -94,12 +104,15 @@ state_table = table_of 9 (codes "state") state_columns state_keys
 abbrev pub sleep_columns : List Column
 sleep_columns = required (codes "moment") Integer ∷ required (codes "invocation") Text ∷ required (codes "completion") Integer ∷ []
 
--- By the key those of an invocation are found, by the index those that end by a moment.
+-- By the indexes those of an invocation are found, and those that end by a moment.
 abbrev pub sleep_keys : List (List ℕ)
-sleep_keys = (2 ∷ 3 ∷ []) ∷ []
+sleep_keys = []
 
 abbrev pub sleep_table : Table
 sleep_table = table_of 11 (codes "sleep") sleep_columns sleep_keys
+
+abbrev pub by_sleeper : Index
+by_sleeper = plain_index (codes "sleep_by_invocation") 0 11 (2 ∷ 3 ∷ [])
 
 abbrev pub by_moment : Index
 by_moment = plain_index (codes "sleep_by_moment") 0 11 (1 ∷ [])
@@ -116,8 +129,11 @@ with_open_object = indexed with_invocation invocation by_open_object
 abbrev pub with_entry : Schema
 with_entry = created with_open_object entry
 
+abbrev pub with_place : Schema
+with_place = indexed with_entry entry by_place
+
 abbrev pub with_completion : Schema
-with_completion = indexed with_entry entry by_completion
+with_completion = indexed with_place entry by_completion
 
 abbrev pub with_second_completion : Schema
 with_second_completion = indexed with_completion entry by_second_completion
@@ -131,5 +147,8 @@ with_state = created with_answered state_table
 abbrev pub with_sleep : Schema
 with_sleep = created with_state sleep_table
 
+abbrev pub with_sleeper : Schema
+with_sleeper = indexed with_sleep sleep_table by_sleeper
+
 abbrev pub store_schema : Schema
-store_schema = indexed with_sleep sleep_table by_moment
+store_schema = indexed with_sleeper sleep_table by_moment

@@ -76,7 +76,7 @@ fn is_entry(table: &Table) -> bool
             optional("answered", Kind::Integer),
             required("moment", Kind::Integer),
         ],
-        &[&[1, 2]],
+        &[],
     )
 }
 
@@ -110,7 +110,7 @@ fn is_sleep(table: &Table) -> bool
             required("invocation", Kind::Text),
             required("completion", Kind::Integer),
         ],
-        &[&[2, 3]],
+        &[],
     )
 }
 
@@ -211,12 +211,12 @@ fn are_indexes(indexes: &[Index]) -> bool
         &[
             of_key("sqlite_autoindex_invocation_1", 2, 1, &[1]),
             to_look_up("invocation_by_open_object", 3, 1, &[6]),
-            of_key("sqlite_autoindex_entry_1", 5, 4, &[1, 2]),
+            to_look_up("entry_by_place", 5, 4, &[1, 2]),
             to_look_up("entry_by_completion", 6, 4, &[1, 5]),
             to_look_up("entry_by_second_completion", 7, 4, &[1, 6]),
             to_look_up("entry_by_answered", 8, 4, &[1, 7]),
             of_key("sqlite_autoindex_state_1", 10, 9, &[1, 2]),
-            of_key("sqlite_autoindex_sleep_1", 12, 11, &[2, 3]),
+            to_look_up("sleep_by_invocation", 12, 11, &[2, 3]),
             to_look_up("sleep_by_moment", 13, 11, &[1]),
         ],
     )

@@ -45,7 +45,12 @@ fn make_entries<S: Alter>(tx: &mut Transaction<'_, S>) -> Result<(), Error>
 {
     run(
         tx,
-        "CREATE TABLE entry (invocation TEXT NOT NULL, place INTEGER NOT NULL, kind INTEGER NOT NULL, payload BLOB NOT NULL, completion INTEGER, second_completion INTEGER, answered INTEGER, moment INTEGER NOT NULL, UNIQUE (invocation, place)) STRICT",
+        "CREATE TABLE entry (invocation TEXT NOT NULL, place INTEGER NOT NULL, kind INTEGER NOT NULL, payload BLOB NOT NULL, completion INTEGER, second_completion INTEGER, answered INTEGER, moment INTEGER NOT NULL) STRICT",
+        &[],
+    )?;
+    run(
+        tx,
+        "CREATE INDEX entry_by_place ON entry (invocation, place)",
         &[],
     )?;
     run(
@@ -74,7 +79,12 @@ fn make_sleeps<S: Alter>(tx: &mut Transaction<'_, S>) -> Result<(), Error>
 {
     run(
         tx,
-        "CREATE TABLE sleep (moment INTEGER NOT NULL, invocation TEXT NOT NULL, completion INTEGER NOT NULL, UNIQUE (invocation, completion)) STRICT",
+        "CREATE TABLE sleep (moment INTEGER NOT NULL, invocation TEXT NOT NULL, completion INTEGER NOT NULL) STRICT",
+        &[],
+    )?;
+    run(
+        tx,
+        "CREATE INDEX sleep_by_invocation ON sleep (invocation, completion)",
         &[],
     )?;
     run(tx, "CREATE INDEX sleep_by_moment ON sleep (moment)", &[])

@@ -23,8 +23,8 @@ returns-in_err-run-3-clause-kept g c clean =
     let clean_b : HasCleanDisk b = omega (arith, c.run-2.ensures.survives.clean) in
     keeps_on a d e (keeps_on a b d (c.run.ensures.kept clean_b) (c.run-2.ensures.kept clean_d)) (c.run-3.ensures.kept clean)
 
-pub returns-clause-kept : goal.returns-clause-kept
-returns-clause-kept g c clean =
+pub returns-in_err-run-4-clause-kept : goal.returns-in_err-run-4-clause-kept
+returns-in_err-run-4-clause-kept g c clean =
     let a : State = state g.S.Store c.args.tx.now.conn.now in
     let b : State = state g.S.Store c.run.new.tx.conn.now in
     let d : State = state g.S.Store c.run-2.new.tx.conn.now in
@@ -35,6 +35,20 @@ returns-clause-kept g c clean =
     let clean_b : HasCleanDisk b = omega (arith, c.run-2.ensures.survives.clean) in
     keeps_on a e f (keeps_on a d e (keeps_on a b d (c.run.ensures.kept clean_b) (c.run-2.ensures.kept clean_d)) (c.run-3.ensures.kept clean_e)) (c.run-4.ensures.kept clean)
 
+pub returns-clause-kept : goal.returns-clause-kept
+returns-clause-kept g c clean =
+    let a : State = state g.S.Store c.args.tx.now.conn.now in
+    let b : State = state g.S.Store c.run.new.tx.conn.now in
+    let d : State = state g.S.Store c.run-2.new.tx.conn.now in
+    let e : State = state g.S.Store c.run-3.new.tx.conn.now in
+    let f : State = state g.S.Store c.run-4.new.tx.conn.now in
+    let h : State = state g.S.Store c.run-5.new.tx.conn.now in
+    let clean_f : HasCleanDisk f = omega (arith, c.run-5.ensures.survives.clean) in
+    let clean_e : HasCleanDisk e = omega (arith, c.run-4.ensures.survives.clean) in
+    let clean_d : HasCleanDisk d = omega (arith, c.run-3.ensures.survives.clean) in
+    let clean_b : HasCleanDisk b = omega (arith, c.run-2.ensures.survives.clean) in
+    keeps_on a f h (keeps_on a e f (keeps_on a d e (keeps_on a b d (c.run.ensures.kept clean_b) (c.run-2.ensures.kept clean_d)) (c.run-3.ensures.kept clean_e)) (c.run-4.ensures.kept clean_f)) (c.run-5.ensures.kept clean)
+
 pub returns-clause-ok : goal.returns-clause-ok
 returns-clause-ok g c clean =
     let a : State = state g.S.Store c.args.tx.now.conn.now in
@@ -42,8 +56,10 @@ returns-clause-ok g c clean =
     let d : State = state g.S.Store c.run-2.new.tx.conn.now in
     let e : State = state g.S.Store c.run-3.new.tx.conn.now in
     let f : State = state g.S.Store c.run-4.new.tx.conn.now in
+    let h : State = state g.S.Store c.run-5.new.tx.conn.now in
+    let clean_f : HasCleanDisk f = omega (arith, c.run-5.ensures.survives.clean) in
     let clean_e : HasCleanDisk e = omega (arith, c.run-4.ensures.survives.clean) in
     let clean_d : HasCleanDisk d = omega (arith, c.run-3.ensures.survives.clean) in
     let clean_b : HasCleanDisk b = omega (arith, c.run-2.ensures.survives.clean) in
     let clean_a : HasCleanDisk a = omega (arith, c.run.ensures.survives.clean) in
-    on_ok c.run-4.result (c.run-4.ensures.ran clean) (λ last. entries_made a b d e f (c.requires clean_a) (c.in_ok-run.ensures.ran clean_b) (c.in_ok-run-2.ensures.ran clean_d) (c.in_ok-run-3.ensures.ran clean_e) last)
+    on_ok c.run-5.result (c.run-5.ensures.ran clean) (λ last. entries_made a b d e f h (c.requires clean_a) (c.in_ok-run.ensures.ran clean_b) (c.in_ok-run-2.ensures.ran clean_d) (c.in_ok-run-3.ensures.ran clean_e) (c.in_ok-run-4.ensures.ran clean_f) last)

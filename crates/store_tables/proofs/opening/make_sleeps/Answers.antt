@@ -5,19 +5,31 @@ use Rattle.sql_tables.proofs.Queries.{keeps_on, on_ok}
 use Rattle.store_tables.proofs.Making.{sleeps_made}
 use Rattle.store_tables.proofs.opening.make_sleeps.Goals as goal
 
-pub returns-clause-kept : goal.returns-clause-kept
-returns-clause-kept g c clean =
+pub returns-in_err-run-2-clause-kept : goal.returns-in_err-run-2-clause-kept
+returns-in_err-run-2-clause-kept g c clean =
     let a : State = state g.S.Store c.args.tx.now.conn.now in
     let b : State = state g.S.Store c.run.new.tx.conn.now in
     let d : State = state g.S.Store c.run-2.new.tx.conn.now in
     let clean_b : HasCleanDisk b = omega (arith, c.run-2.ensures.survives.clean) in
     keeps_on a b d (c.run.ensures.kept clean_b) (c.run-2.ensures.kept clean)
 
+pub returns-clause-kept : goal.returns-clause-kept
+returns-clause-kept g c clean =
+    let a : State = state g.S.Store c.args.tx.now.conn.now in
+    let b : State = state g.S.Store c.run.new.tx.conn.now in
+    let d : State = state g.S.Store c.run-2.new.tx.conn.now in
+    let e : State = state g.S.Store c.run-3.new.tx.conn.now in
+    let clean_d : HasCleanDisk d = omega (arith, c.run-3.ensures.survives.clean) in
+    let clean_b : HasCleanDisk b = omega (arith, c.run-2.ensures.survives.clean) in
+    keeps_on a d e (keeps_on a b d (c.run.ensures.kept clean_b) (c.run-2.ensures.kept clean_d)) (c.run-3.ensures.kept clean)
+
 pub returns-clause-ok : goal.returns-clause-ok
 returns-clause-ok g c clean =
     let a : State = state g.S.Store c.args.tx.now.conn.now in
     let b : State = state g.S.Store c.run.new.tx.conn.now in
     let d : State = state g.S.Store c.run-2.new.tx.conn.now in
+    let e : State = state g.S.Store c.run-3.new.tx.conn.now in
+    let clean_d : HasCleanDisk d = omega (arith, c.run-3.ensures.survives.clean) in
     let clean_b : HasCleanDisk b = omega (arith, c.run-2.ensures.survives.clean) in
     let clean_a : HasCleanDisk a = omega (arith, c.run.ensures.survives.clean) in
-    on_ok c.run-2.result (c.run-2.ensures.ran clean) (λ last. sleeps_made a b d (c.requires clean_a) (c.in_ok-run.ensures.ran clean_b) last)
+    on_ok c.run-3.result (c.run-3.ensures.ran clean) (λ last. sleeps_made a b d e (c.requires clean_a) (c.in_ok-run.ensures.ran clean_b) (c.in_ok-run-2.ensures.ran clean_d) last)
