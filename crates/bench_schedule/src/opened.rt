@@ -2,10 +2,10 @@
 use crate::timed::Timed;
 use anyhow::{Result, bail};
 use durable_schedule::Scheduler;
-use journal_store::Store;
-use sqlite::{Alter, Connection, FileFrom, FileStore, Unknown};
+use sqlite::{FileFrom, FileStore, Unknown};
 use std::alloc::Global;
 use std::rt::HostRuntime;
+use store_files::open_file;
 use store_memory::{MemoryFile, open_in_memory};
 use vm_types::VMOptions;
 
@@ -20,20 +20,16 @@ pub fn in_memory(alloc: Global) -> Result<Scheduler<Timed, FileStore<MemoryFile>
     }
 }
 
-fn over<S: Alter + Drop>(alloc: Global, connection: Connection<S>) -> Result<Scheduler<Timed, S>> {
-    match Store::open(alloc, connection) {
-        Ok(store) => Ok(Scheduler::new(alloc, store, VMOptions::default())),
-        Err(not_opened) => {
-            drop(not_opened);
-            bail!("the database is no store's")
-        }
-    }
-}
-
-/// A scheduler over a database in a file, which is made. Each commit is on the disk.
+/// A scheduler over a store in a new file. Each commit is on the disk.
 pub fn in_file(
     rt: &HostRuntime,
     path: &str,
 ) -> Result<Scheduler<Timed, FileStore<FileFrom<Unknown>>>> {
-    over(rt.alloc(), Connection::open(rt, path)?)
+    match open_file(rt, path, Unknown) {
+        Ok(store) => Ok(Scheduler::new(rt.alloc(), store, VMOptions::default())),
+        Err(left) => {
+            drop(left);
+            bail!("no store was made in the file")
+        }
+    }
 }

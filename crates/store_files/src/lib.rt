@@ -5,6 +5,7 @@
 mod close;
 mod laws;
 mod leave;
+mod make;
 mod open;
 
 pub use close::close_file;

@@ -14,6 +14,7 @@ ghost use Rattle.store_files.specs.Refused.{IsNoStore, IsUnopened};
 ghost use Rattle.store_files.specs.Taken.{IsOpenedOver, IsTaken};
 ghost use Rattle.store_files.specs.declared.open.NotTaken.TheVariants.{NoStore, Unopened};
 
+use crate::make::make_file;
 use journal_store::{NotOpened, Store};
 use sqlite::{Connection, Error, FileFrom, FileStore, Leftover, Start};
 use std::rt::HostRuntime;
@@ -31,8 +32,8 @@ pub enum NotTaken<F, C> {
 /// The same, of the files of a `Start`.
 pub type FileNotTaken<S> = NotTaken<Leftover<FileFrom<S>>, NotOpened<FileStore<FileFrom<S>>>>;
 
-/// The store in the file at a path, which is made where it is absent. No attempt is live. `S` stands for what the file and its log
-/// held; that they are those at the path is no clause.
+/// The store in the file at a path. No attempt is live. Where there is none, an empty database is made first, with small pages. `S`
+/// stands for what the file and its log held then; that they are those at the path is no clause.
 pub fn open_file<S: Start>(
     rt: &HostRuntime,
     path: &str,
@@ -47,6 +48,7 @@ pub fn open_file<S: Start>(
     ensures unopened { (error : Error) (left : _) → result ≡ Err (Unopened error left) → IsUnopened (image_at S.Start) error left }
     ensures no_store { (left : _) → result ≡ Err (NoStore left) → IsNoStore (image_at S.Start) left.connection left.refusal }
 {
+    make_file(rt, path);
     let connection = match Connection::open_from(rt, path, false, start) {
         Ok(connection) => connection,
         Err((error, left)) => return Err(NotTaken::Unopened(error, left)),
