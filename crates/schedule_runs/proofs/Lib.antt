@@ -1,4 +1,8 @@
 pub mod Growing
 pub mod Running
+pub mod Quieting
+pub mod Refusing
+pub mod Crashing
+pub mod Settling
 pub mod Schedules
 mod Reopening

@@ -1,5 +1,5 @@
 -- What a schedule answers and leaves.
-use Rattle.std.specs.Prelude.{◌≡◌, ◌≢◌, List, [], ◌++◌, Option, Some, None}
+use Rattle.std.specs.Prelude.{◌≡◌, ◌≢◌, ◌⊎◌, false, List, [], ◌∷◌, ◌++◌, Option, Some, None}
 use Rattle.std.specs.List.{AllByRecursion}
 use Rattle.sqlite_trees.specs.declared.store.Store.{Ghosts}
 use Rattle.sqlite_trees.specs.Tree.{Trees}
@@ -15,14 +15,20 @@ use Rattle.journal_model.specs.Run.{Handler}
 use Rattle.vm_types.specs.Options.{run_options}
 use Rattle.vm_types.specs.declared.options.VMOptions.{VMOptions}
 use Rattle.journal_store.specs.Stored.{Stored}
-use Rattle.journal_store.specs.Stands.{Stands, KeepsAll}
+use Rattle.journal_store.specs.Stands.{Stands, IsStanding, KeepsAll, Outlasts}
 use Rattle.store_calls.specs.Standing.{Standing}
+use Rattle.store_refusals.specs.declared.refusal.Refusal.{Refusal}
+use Rattle.store_refusals.specs.Refused.{is_circumstance}
 use Rattle.schedule_laws.specs.Isolation.{StandsAlike, StandsAlone}
 use Rattle.schedule_laws.specs.Laws.{RefuseNoFrame}
 use Rattle.schedule_laws.specs.Schedules.scheduled
 use Rattle.schedule_laws.specs.Schedules.event
+use Rattle.schedule_laws.specs.Schedules.reply
+use Rattle.schedule_laws.specs.Schedules.refusal
 use Rattle.schedule_laws.specs.Schedules.{Reply, HeldAttempt, Scheduled, AppliesAll, Brings}
 use Rattle.schedule_laws.specs.Words.{ReplaysInLine, HoldsOf, given_of}
+use Rattle.durable_schedule.specs.declared.scheduler.Scheduler.{Scheduler}
+use Rattle.durable_schedule.specs.Scheduled.{IsScheduled}
 
 -- ---- its events, one after another
 
@@ -116,6 +122,44 @@ IsApart id one = IsOther id (invocation_named one)
 pub record LeavesAlone {H : Type 0} (events : List (scheduled.Event H)) (before after : List Event) : Type 0 where
   pub alone : (id : Text) → StandsAlone after id
   pub untouched : (id : Text) → AllByRecursion (IsApart id) events → StandsAlike after before id
+
+-- ---- what lasts
+
+-- It is no want of memory and no statement that was refused: behind these what was asked for may have been written all the same.
+abbrev pub IsCertain : Refusal → Type 0
+IsCertain why = is_circumstance why ≡ false
+
+abbrev pub AreCertain : Option Refusal → Type 0
+AreCertain None = Unit {0}
+AreCertain (Some why) = IsCertain why
+
+-- Whether all lasts that was accepted up to an event which may commit something, by its reply, from whether all before it did. What was
+-- done or taken was written, and all before it; what was refused for a cause was not.
+abbrev pub LastsBy : Type 0 → Reply → Type 0
+LastsBy Before (reply.Refused (refusal.Store why)) = IsCertain why × Before
+LastsBy Before (reply.Refused refusal.AttemptNotHeld) = Before
+LastsBy Before (reply.Moved bytes frames why) = AreCertain why × ((frames ≢ 0) ⊎ Before)
+LastsBy Before _ = Unit {0}
+
+-- what is fed, closed, turned and stopped commits nothing
+abbrev pub LastsNext : {H : Type 0} → Type 0 → scheduled.Event H → Reply → Type 0
+LastsNext Before (event.Feed id attempt count) answer = Before
+LastsNext Before (event.Close id attempt) answer = Before
+LastsNext Before (event.Turn id attempt) answer = Before
+LastsNext Before (event.Stop id attempt) answer = Before
+LastsNext Before _ answer = LastsBy Before answer
+
+-- up to the last of these events, each with its reply
+abbrev pub LastsBehind : {H : Type 0} → Type 0 → List (scheduled.Event H) → List Reply → Type 0
+LastsBehind Before (one ∷ events) (answer ∷ replies) = LastsBehind (LastsNext Before one answer) events replies
+LastsBehind Before _ _ = Before
+
+module _ {H : Type 0} (function : H → Handler) (options : VMOptions) where
+  -- then all that is left lasts: whatever a crash leaves from then on, the tables keep it
+  abbrev pub LeavesLasting : {S : Type 0} → Ghosts S → List (scheduled.Event H) → List Reply → Stored S → Scheduler H S → Type 0
+  LeavesLasting g events replies first new =
+      HasCleanDisk (state g new.store.connection) → (s : Standing) → IsStanding g s first → LastsBehind (Outlasts s.events (state g first.connection)) events replies
+      → (to : Scheduled H) × IsScheduled g to new × AppliesAll function options events replies (at_first s) to × Outlasts to.standing.events (state g new.store.connection)
 
 -- ---- a store that is opened again
 

@@ -9,7 +9,7 @@ ghost use Rattle.store_calls.specs.Standing.{Standing};
 ghost use Rattle.journal_store.specs.Stands.{Endures, IsStanding};
 ghost use Rattle.schedule_laws.specs.Schedules.{AppliesAll, FitsEvent, Scheduled};
 ghost use Rattle.durable_schedule.specs.Scheduled.{IsScheduled};
-ghost use Rattle.schedule_runs.specs.Runs.{AppliesFirst, Extends, FramesTaken, HeadlineAfter, HoldsAfter, LeavesAlone, LeavesMore, NeverLateAfter, RunsLeave, WakesExactlyAfter, at_first};
+ghost use Rattle.schedule_runs.specs.Runs.{AppliesFirst, Extends, FramesTaken, HeadlineAfter, HoldsAfter, LeavesAlone, LeavesLasting, LeavesMore, NeverLateAfter, RunsLeave, WakesExactlyAfter, at_first};
 
 mod laws;
 
@@ -69,6 +69,9 @@ pub fn run_schedule<H: Handler + Drop, S: Alter + Drop>(
     // What each event answers and leaves.
     ensures applies { IfOk result (λ done. HasCleanDisk (state S.Store done.0.store.connection) → (s : Standing) → IsStanding S.Store s store →
         (new : Scheduled H) × IsScheduled S.Store new done.0 × AppliesAll H.next_call options events.items done.1.items (at_first s) new) }
+    // All that is left lasts: whatever a crash leaves from then on, up to the next call, the tables keep it. That is so unless memory or a
+    // statement was refused in the last event that may have written anything; where none may, what was handed in has to last.
+    ensures settled { IfOk result (λ done. LeavesLasting H.next_call options S.Store events.items done.1.items store done.0) }
     ensures count { IfOk result (λ done. length done.1.items ≡ length events.items) }
     ensures options { IfOk result (λ done. done.0.options ≡ options) }
     // What each event brings is within its types, which `schedules_keep` asks of each.

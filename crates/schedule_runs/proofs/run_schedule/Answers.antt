@@ -10,9 +10,10 @@ use Rattle.schedule_laws.proofs.Schedules.{schedules_grow}
 use Rattle.schedule_laws.specs.Schedules.{Event, Reply, Applies, AppliesAll, FitsEvent}
 use Rattle.journal_store.specs.Stands.{IsStanding, Endures}
 use Rattle.durable_schedule.specs.Scheduled.{AppliesWith}
-use Rattle.schedule_runs.specs.Runs.{Extends, LeavesMore, AppliesFirst, RunsLeave, HoldsAfter, HeadlineAfter, NeverLateAfter, WakesExactlyAfter, FramesTaken, LeavesAlone, at_first}
+use Rattle.schedule_runs.specs.Runs.{Extends, LeavesMore, AppliesFirst, RunsLeave, HoldsAfter, HeadlineAfter, NeverLateAfter, WakesExactlyAfter, FramesTaken, LeavesAlone, LeavesLasting, at_first}
 use Rattle.journal_store.proofs.Enduring.{same_endures}
 use Rattle.schedule_runs.proofs.Running.{runs_more, runs_kept, frames_more, alone_more, alone_kept, one_endures, each_more}
+use Rattle.schedule_runs.proofs.Settling.{AppliesOne, SettlesOne, one_settles, none_settles}
 use Rattle.schedule_runs.proofs.run_schedule.Goals as goal
 
 pub loop-event-preserved : goal.loop-event-preserved
@@ -36,6 +37,12 @@ loop-event-preserved g c =
       fits = each_more FitsEvent yielded one inv.fits c.apply.ensures.fits;
       crash = one_endures g.H.Handler.next_call c.args.options g.S.Store yielded c.loop-event.replies.items one c.args.store old new inv.applies inv.crash
           (subst (λ (o : VMOptions). Endures g.S.Store (AppliesWith g.H.Handler.next_call o one old.held) old.store new.store) inv.options c.apply.ensures.crash);
+      settled = subst (λ (rs : List Reply). LeavesLasting g.H.Handler.next_call c.args.options g.S.Store (yielded ++ one ∷ []) rs c.args.store new) (sym c.put.ensures.items)
+          (one_settles g.H.Handler.next_call c.args.options g.S.Store yielded c.loop-event.replies.items one c.apply.result c.args.store old new
+          (λ clean. omega (arith, c.apply.ensures.crash.clean, clean)) inv.applies inv.settled
+          (subst (λ (o : VMOptions). AppliesOne g.H.Handler.next_call o g.S.Store one c.apply.result old new) inv.options c.apply.ensures.does)
+          (subst (λ (o : VMOptions). SettlesOne g.H.Handler.next_call o g.S.Store one c.apply.result old new) inv.options c.apply.ensures.settled) c.apply.ensures.spares
+          (subst (λ (o : VMOptions). Endures g.S.Store (AppliesWith g.H.Handler.next_call o one old.held) old.store new.store) inv.options c.apply.ensures.crash));
       options = c.apply.ensures.options ∙ inv.options;
       count = omega (arith, c.put.ensures.len, inv.count, length-append yielded (one ∷ []));
       room = omega (arith, inv.room, c.put.ensures.capacity);
@@ -54,6 +61,8 @@ loop-event-init g c =
       fits = tt;
       crash = subst (λ (store : Stored g.row.S.Denot). Endures g.S.Store (AppliesFirst g.H.Handler.next_call c.args.options []) c.args.store store) same
           (same_endures g.S.Store (AppliesFirst g.H.Handler.next_call c.args.options []) c.args.store);
+      settled = subst (λ (rs : List Reply). LeavesLasting g.H.Handler.next_call c.args.options g.S.Store [] rs c.args.store first) (sym c.in-Ok.ensures.items)
+          (none_settles g.H.Handler.next_call c.args.options g.S.Store c.args.store first same (sym c.new-scheduler.ensures.held));
       options = c.new-scheduler.ensures.options;
       count = c.in-Ok.ensures.len;
       room = omega (arith, c.in-Ok.ensures.capacity, c.len.ensures, c.args.events.ok.0);
@@ -187,3 +196,10 @@ returns-clause-count g c =
     let e = YieldsList-end (YieldsList-from_vec {s = c.into_iter-event-iterator.result} c.args.events.items h.0 (h.1 ∙ c.args.events.ok.0)) c.loop-event.yielded c.loop-event.event-iterator c.loop-event.yielded_by c.next.result c.next.new.self c.in-None.is c.next.ensures.steps in
     let all : c.loop-event.yielded ≡ c.args.events.items = sym (map-id c.loop-event.yielded) ∙ e.0 in
     omega (arith, c.loop-event.invariant.count, c.loop-event.replies.ok.0, ap (λ (es : List (Event g.row.H.Denot)). length es) all)
+
+pub returns-clause-settled : goal.returns-clause-settled
+returns-clause-settled g c =
+    let h = c.into_iter-event-iterator.ensures.into_iter_gives in
+    let e = YieldsList-end (YieldsList-from_vec {s = c.into_iter-event-iterator.result} c.args.events.items h.0 (h.1 ∙ c.args.events.ok.0)) c.loop-event.yielded c.loop-event.event-iterator c.loop-event.yielded_by c.next.result c.next.new.self c.in-None.is c.next.ensures.steps in
+    let all : c.loop-event.yielded ≡ c.args.events.items = sym (map-id c.loop-event.yielded) ∙ e.0 in
+    subst (λ (es : List (Event g.row.H.Denot)). LeavesLasting g.H.Handler.next_call c.args.options g.S.Store es c.loop-event.replies.items c.args.store c.loop-event.scheduler) all c.loop-event.invariant.settled
