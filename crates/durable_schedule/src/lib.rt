@@ -9,3 +9,12 @@ pub use schedule_model::{
     schedules_grow,
 };
 pub use scheduler::Scheduler;
+
+// What a handler is, what it calls and is answered, and what a schedule is told besides.
+pub use journal_model::{
+    Answer, AttachInvocationTarget, AwaitedFuture, Call, Failure, Handler, Header, Input, Moment,
+    NewInvocation, NonEmptyValue, NotificationHandle, NotificationResult, PayloadOptions,
+    StateMode, Target, TerminalFailure, UnresolvedFuture, Value,
+};
+pub use sequence::Sequence;
+pub use vm_types::VMOptions;

@@ -13,9 +13,13 @@ ghost use Rattle.schedule_runs.specs.Runs.{AppliesFirst, Extends, FramesTaken, H
 
 mod laws;
 
-pub use durable_schedule::{Event, HeldAttempt, Refusal, Reply, Scheduler, Turn};
-use journal_model::Handler;
-use journal_store::Store;
+pub use durable_schedule::{
+    Answer, AttachInvocationTarget, AwaitedFuture, Call, Event, Failure, Handler, Header,
+    HeldAttempt, Input, Moment, NewInvocation, NonEmptyValue, NotificationHandle,
+    NotificationResult, PayloadOptions, Refusal, Reply, Scheduler, Sequence, StateMode, Target,
+    TerminalFailure, Turn, UnresolvedFuture, VMOptions, Value,
+};
+pub use journal_store::Store;
 pub use laws::reopened_stores_hold;
 pub use schedule_laws::{
     frames_are_taken, inputs_are_handed_out, invocations_stand_alone, records_of_runs,
@@ -23,7 +27,6 @@ pub use schedule_laws::{
 };
 use sqlite::Alter;
 use std::alloc::Global;
-use vm_types::VMOptions;
 
 /// Puts a reply behind the others, for which there is room.
 fn put(replies: &mut Vec<Reply>, reply: Reply)
