@@ -1,5 +1,5 @@
 -- Calls that put one command, reads of the state, and calls that put none.
-use Rattle.std.proofs.Common.{◌≡◌, inl, inr, ℕ, true, List, [], Option, None, Result, Ok, Err, refl, ap, ◌∙◌, codes}
+use Rattle.std.proofs.Common.{◌≡◌, inl, inr, ℕ, Bool, true, List, [], Option, None, Result, Ok, Err, refl, ap, ◌∙◌, codes}
 use Rattle.std.specs.declared.alloc.AllocError.{AllocError}
 use Rattle.journal_model.specs.Await.{child_of}
 use Rattle.journal_model.specs.History.{completions_of}

@@ -16,10 +16,8 @@ use Rattle.vm_context.specs.Output.{Written, with_frame}
 use Rattle.vm_context.specs.declared.eager_state.EagerGetState.{EagerGetState}
 use Rattle.vm_context.specs.declared.eager_state.EagerGetState.TheVariants as told
 use Rattle.vm_ephemeral.specs.Reads.{asked, known, after_take}
-use Rattle.vm_ephemeral_calls.specs.Reading.{read_message, Registers, Sends, AsksNext, Asks, Refuses, AsksWhere, Gets, GetsBehind, GetsIn, MissesIn, IsGot, TakesWhere, IsTaken}
+use Rattle.vm_ephemeral_calls.specs.Reading.{read_message, Registers, Sends, AsksNext, Asks, AsksWhere, Gets, GetsBehind, GetsIn, MissesIn, IsGot, TakesWhere, IsTaken}
 use Rattle.vm_ephemeral_calls.specs.Refusals.{lacks_reads}
-use Rattle.vm_ephemeral_calls.specs.declared.refusal.ReadRefusal.{ReadRefusal}
-use Rattle.vm_ephemeral_calls.specs.declared.refusal.ReadRefusal.TheVariants.{Unsupported, InputClosed}
 use Rattle.vm_errors.specs.Phases.{kept_error}
 use Rattle.vm_errors.specs.declared.phase.Phase.TheVariants as phases
 use Rattle.vm_feeding.specs.Passed.{is_active, IsUnexpected, MachineState}
@@ -169,13 +167,10 @@ asks_stand key old (Ok id) new is stands = asks_next key old (Ok id) new is stan
 asks_stand key old (Err told) new (inl is) stands = asks_next key old (Err told) new is stands
 asks_stand key old (Err told) new (inr is) stands = failed is.cause old told new is.fails
 
-refuses_stand : (refusal : ReadRefusal) (old : MachineState) (result : Result EphemeralCompletionId Error) (new : MachineState) → Refuses refusal old result new → Stands new
-refuses_stand refusal old (Ok id) new is = absurd is
-refuses_stand refusal old (Err told) new is = failed is.cause old told new is.fails
-
 asks_where : (is_input_closed : Bool) (key : Text) (old : MachineState) (result : Result EphemeralCompletionId Error) (new : MachineState) → AsksWhere is_input_closed key old result new → Stands old
     → Stands new
-asks_where true key old result new is stands = refuses_stand (InputClosed (record { key = key })) old result new is
+asks_where true key old (Ok id) new is stands = absurd is
+asks_where true key old (Err told) new is stands = failed is.cause old told new is.fails
 asks_where false key old result new is stands = asks_stand key old result new is stands
 
 gets_stand : (known : EagerGetState) (key : Text) (old : MachineState) (result : Result EphemeralCompletionId Error) (new : MachineState) → Gets known key old result new → Stands old → Stands new
@@ -189,7 +184,8 @@ gets_behind true key old (Err told) new is stands = failed _ old told new is
 gets_behind false key old result new is stands = gets_stand (told_value old.active.state key) key old result new is stands
 
 gets_in : (lacks : Bool) (key : Text) (old : MachineState) (result : Result EphemeralCompletionId Error) (new : MachineState) → GetsIn lacks key old result new → Stands old → Stands new
-gets_in true key old result new is stands = refuses_stand (Unsupported old.version) old result new is
+gets_in true key old (Ok id) new is stands = absurd is
+gets_in true key old (Err told) new is stands = failed is.cause old told new is.fails
 gets_in false key old result new is stands = gets_behind old.active.is_replaying key old result new is stands
 
 misses_in : (lacks : Bool) (old : MachineState) (told : Error) (new : MachineState) → MissesIn lacks old told new → Stands new
