@@ -1,5 +1,6 @@
 -- What a line does to what the scheduler stands for, and its text with the line feed.
 use Rattle.std.specs.Prelude.{◌≡◌, ℕ, Bool, true, false, suc, zero, ◌+◌, ◌≤◌, List, [], ◌∷◌, ◌++◌, Some}
+use Rattle.std.specs.List.{AllByRecursion}
 use Rattle.std.specs.declared.alloc.Global.{Global}
 use Rattle.built_in_handlers.specs.declared.built_in.BuiltIn.{BuiltIn}
 use Rattle.built_in_handlers.specs.BuiltIn.{built_in, function_of}
@@ -102,6 +103,19 @@ DoesLine (Turn id attempt count) text old new = TakesTurns id attempt count text
 DoesLine (Move id attempt count) text old new = DoesEvent (event.Move id attempt count) text old new
 DoesLine (Stop id attempt) text old new = DoesEvent (event.Stop id attempt) text old new
 DoesLine (Show id) text old new = Looks (Shows id text) old new
+
+-- the events of a line: turns of its attempt, none where something is shown, and otherwise one
+abbrev pub AreOfLine : Line → List (Event BuiltIn) → Type 0
+AreOfLine (Invoke id object version state seed input) own = own ≡ event.Invoke (new_invocation id object version state seed input) ∷ []
+AreOfLine (Result id completion value) own = own ≡ event.Result id completion (brought value) ∷ []
+AreOfLine (Tick now) own = own ≡ event.Tick now ∷ []
+AreOfLine (Begin id name now) own = (handler : BuiltIn) × IsNamed name handler × (own ≡ event.Begin id handler now ∷ [])
+AreOfLine (Feed id attempt count) own = own ≡ event.Feed id attempt count ∷ []
+AreOfLine (Close id attempt) own = own ≡ event.Close id attempt ∷ []
+AreOfLine (Turn id attempt count) own = AllByRecursion (λ one. one ≡ event.Turn id attempt) own
+AreOfLine (Move id attempt count) own = own ≡ event.Move id attempt count ∷ []
+AreOfLine (Stop id attempt) own = own ≡ event.Stop id attempt ∷ []
+AreOfLine (Show id) own = own ≡ []
 
 -- the same with some text
 abbrev pub DoesSomeLine : Line → Scheduled BuiltIn → Scheduled BuiltIn → Type 0

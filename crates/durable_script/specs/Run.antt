@@ -1,21 +1,20 @@
 -- What the lines of a script do, one after another, and what is written of them.
 use Rattle.std.specs.Prelude.{◌≡◌, ◌⊎◌, ℕ, ◌<◌, ◌≤◌, List, [], ◌∷◌, ◌++◌, length, take, Option, IfSome, Result, Ok, Err}
+use Rattle.std.specs.List.{AllByRecursion}
 use Rattle.std.specs.Io.KnownBytes.{Appends, Keeps, IsAtEnd}
 use Rattle.sqlite_trees.specs.declared.store.Store.{Ghosts}
 use Rattle.sqlite.specs.State.{HasCleanDisk}
 use Rattle.sqlite.specs.Held.{state}
 use Rattle.built_in_handlers.specs.declared.built_in.BuiltIn.{BuiltIn}
 use Rattle.journal_model.specs.Notification.{Text}
-use Rattle.journal_model.specs.Event.{Event}
 use Rattle.journal_model.specs.Run.{Handler}
 use Rattle.vm_types.specs.Options.{default_options}
-use Rattle.vm_types.specs.declared.options.VMOptions.{VMOptions}
 use Rattle.journal_store.specs.Stored.{Stored}
-use Rattle.journal_store.specs.Stands.{IsStanding}
+use Rattle.journal_store.specs.Stands.{Endures, IsStanding}
 use Rattle.store_calls.specs.Standing.{Standing}
 use Rattle.schedule_runs.specs.Passed.{HoldsOf}
-use Rattle.schedule_runs.specs.Runs.{Extends, LeavesMore, HeadlineAfter, HoldsAfter, NeverLateAfter, WakesExactlyAfter, at_first}
-use Rattle.schedule_runs.specs.Schedules.{Scheduled}
+use Rattle.schedule_runs.specs.Runs.{Leaves, at_first}
+use Rattle.schedule_runs.specs.Schedules.{AppliesAll, Brings, Event, HeldAttempt, Reply, Scheduled}
 use Rattle.built_in_handlers.specs.BuiltIn.{function_of}
 use Rattle.built_in_handlers.specs.Handlers.{nap, nap99, race, both, ask, pair}
 use Rattle.script_lines.specs.declared.word.HandlerName.{HandlerName}
@@ -25,7 +24,7 @@ use Rattle.script_lines.specs.Line.{spelled, IsLine}
 use Rattle.script_lines.specs.Script.{numbered_lines}
 use Rattle.durable_script.specs.declared.fault.ScriptFault.{ScriptFault}
 use Rattle.durable_script.specs.declared.fault.ScriptFault.TheVariants.{LineNotUnderstood, ScriptUnreadable, LineOutOfMemory, TextOutOfMemory, OutputUnwritable}
-use Rattle.durable_script.specs.Line.{IsNamed, DoesLine, DoesSomeLine, BringsFunction}
+use Rattle.durable_script.specs.Line.{IsNamed, AreOfLine, DoesLine, DoesSomeLine, BringsFunction}
 use Rattle.durable_script.specs.Runner.{IsNotUnderstood}
 
 -- a line that was done, with its text
@@ -63,11 +62,35 @@ abbrev pub AllBring : Text → Handler → List DoneLine → Type 0
 AllBring id next [] = Unit {0}
 AllBring id next (one ∷ before) = AllBring id next before × BringsFunction id next one.line
 
--- Of each invocation whose begins in these lines all name handlers of one function, if what is recorded of it before them is of the run of
--- that function: this holds of what is recorded behind them. Nothing is recorded of one that is new.
-abbrev pub LinesLeave : List DoneLine → (VMOptions → Handler → Text → List Event → Type 0) → (before after : List Event) → Type 0
-LinesLeave done Left before after =
-    (id : Text) (next : Handler) → AllBring id next done → HoldsOf next default_options id before → Left default_options next id after
+-- these are the events of the lines, in order
+abbrev pub AreOfLines : List DoneLine → List (Event BuiltIn) → Type 0
+AreOfLines [] events = events ≡ []
+AreOfLines (one ∷ before) events = (first own : List (Event BuiltIn)) × (events ≡ first ++ own) × AreOfLines before first × AreOfLine one.line own
+
+-- Such lines are a schedule: of their events, with these replies. Its begins bring what the lines name, and it leaves what a schedule
+-- leaves: of an invocation whose lines all name handlers of one function, if what was recorded of it before is of the run of that function,
+-- all that is recorded behind them is (`leaves.in_run`); nothing is recorded of one that is new.
+pub record AreSchedule (done : List DoneLine) (start end : Scheduled BuiltIn) : Type 0 where
+  pub events : List (Event BuiltIn)
+  pub of_lines : AreOfLines done events
+  pub replies : List Reply
+  pub applies : AppliesAll function_of default_options events replies start end
+  pub brings : (id : Text) (next : Handler) → AllBring id next done → AllByRecursion (Brings function_of id next) events
+  pub leaves : Leaves function_of default_options events replies start end
+
+-- the first of these lines are those before one of them, and that one with some text
+abbrev pub AreFirst : (first done : List DoneLine) → Type 0
+AreFirst first [] = ⊥
+AreFirst first (one ∷ before) = AreFirst first before ⊎ ((text : List ℕ) × (first ≡ record { number = one.number; line = one.line; text = text } ∷ before))
+
+-- the first of these lines were done, where a crash came, on a scheduler that held nothing at first
+pub record AreCut (done : List DoneLine) (s t : Standing) : Type 0 where
+  pub first : List DoneLine
+  pub are_first : AreFirst first done
+  pub brings : (id : Text) (next : Handler) → AllBring id next done → AllBring id next first
+  pub held : List (HeldAttempt BuiltIn)
+  pub does : DoesAll first (at_first s) (record { standing = t; held = held })
+  pub schedule : AreSchedule first (at_first s) (record { standing = t; held = held })
 
 -- What was done is all that `Does` tells of.
 module _ (lines : List (ℕ × List ℕ)) (Does : List DoneLine → Type 0) where
@@ -137,30 +160,15 @@ abbrev pub EndsWith : Result (Unit {0}) ScriptFault → Result (Unit {0}) Script
 EndsWith reached result = (result ≡ reached) ⊎ (result ≡ Err OutputUnwritable)
 
 module _ {S : Type 0} (g : Ghosts S) where
-  -- Whatever a store stood for, unless the disk failed: these lines were done on it by a new scheduler, and what they came to is
-  -- what the store that is left stands for.
-  abbrev pub LeadsAll : Stored S → Stored S → List DoneLine → Type 0
-  LeadsAll store after done =
-      HasCleanDisk (state g after.connection) → (s : Standing) → IsStanding g s store
-      → (end : Scheduled BuiltIn) × IsStanding g end.standing after × DoesAll done (at_first s) end
-
   -- these lines were done on a store, of which this is left
   pub record AreDone (store after : Stored S) (done : List DoneLine) : Type 0 where
-    -- what each of them came to
-    pub leads : LeadsAll store after done
-    -- The events from before stay, and more are put in front of them. Of an invocation all is of the run of the handler that the lines
-    -- name: with this the next script begins, by `schedule_runs::reopened_stores_hold` also over a store that is opened again.
-    pub holds : LeavesMore g (LinesLeave done HoldsAfter) store after
-    -- so the recorded requests are a beginning of those of the one uninterrupted run, and the answer is that of the run
-    pub headline : LeavesMore g (LinesLeave done HeadlineAfter) store after
-    -- waking is never late, and exact
-    pub never_late : LeavesMore g (LinesLeave done NeverLateAfter) store after
-    pub wakes_exactly : LeavesMore g (LinesLeave done WakesExactlyAfter) store after
-    -- a crash leaves what it left before, or accepted events of which the same holds, with those from before behind them
-    pub crash : Extends g (LinesLeave done HoldsAfter) store after
-    pub crash_headline : Extends g (LinesLeave done HeadlineAfter) store after
-    pub crash_never_late : Extends g (LinesLeave done NeverLateAfter) store after
-    pub crash_wakes_exactly : Extends g (LinesLeave done WakesExactlyAfter) store after
+    -- Whatever the store stood for, unless the disk failed: the lines were done on it by a new scheduler, and what they came to is what the
+    -- store that is left stands for. Of that all is said that a schedule leaves: with it the next script begins, by
+    -- `schedule_runs::reopened_stores_hold` also over a store that is opened again.
+    pub leads : HasCleanDisk (state g after.connection) → (s : Standing) → IsStanding g s store
+        → (end : Scheduled BuiltIn) × IsStanding g end.standing after × DoesAll done (at_first s) end × AreSchedule done (at_first s) end
+    -- a crash leaves what it could leave before, or what the first of the lines came to, of which the same is said
+    pub crash : Endures g (AreCut done) store after
 
   -- the script was read whole, and its lines were done
   pub record RunsLines (input left had has : Option (List ℕ)) (store after : Stored S) (result : Result (Unit {0}) ScriptFault) : Type 0 where
@@ -180,7 +188,7 @@ module _ {S : Type 0} (g : Ghosts S) where
 -- It holds behind each line.
 abbrev pub LinesFollow : Type 0
 LinesFollow = (start end : Scheduled BuiltIn) (done : List DoneLine) → start.held ≡ [] → DoesAll done start end
-    → LinesLeave done HoldsAfter start.standing.events end.standing.events
+    → (id : Text) (next : Handler) → AllBring id next done → HoldsOf next default_options id start.standing.events → HoldsOf next default_options id end.standing.events
 
 -- the function of a handler that a line may name
 abbrev pub named_function : HandlerName → Handler

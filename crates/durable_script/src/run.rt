@@ -10,7 +10,9 @@ use crate::output::write_text;
 use crate::runner::Runner;
 use built_in_handlers::BuiltIn;
 use journal_store::Store;
-use schedule_runs::{records_of_runs, schedules_leave};
+use schedule_runs::{
+    frames_are_taken, invocations_stand_alone, records_of_runs, schedules_leave,
+};
 use script_lines::reading::read_script;
 use script_lines::script::ScriptLines;
 use sqlite::Alter;
@@ -64,10 +66,11 @@ pub fn run_script<R: Read, W: Write, S: Alter + Drop>(
     writer: &mut W,
     store: Store<S>,
 ) -> ScriptEnd<S>
-    // What was done and written, and why no more. Of the lines that were done: the events from before stay, and more are put in front of
-    // them; what is recorded of an invocation is of the one uninterrupted run of the handler that they name, if what was recorded before
-    // is, so the headline holds of it, and waking is never late and exact; and what a crash leaves is what it left before, or has
-    // accepted events of which the same holds, with those from before behind them.
+    // What was done and written, and why no more. The lines that were done are a schedule, and leave what one leaves: the events from before
+    // stay, and more are put in front of them; of those accepted events the headline is told of each of an invocation's attempts, where what
+    // was recorded before is of the one uninterrupted run of the handler that the lines name, and that waking is never late and exact, that
+    // none of its frames was refused for a cause that lies in the frame, and what other invocations' events leave of it. What a crash leaves
+    // is what it left before, or what the first of the lines leave, of which the same is told.
     ensures runs { RunsScript S.Store (R.remaining reader.old) (R.remaining reader.new) (W.contents writer.old) (W.contents writer.new) store result.store result.result }
     ensures unread { result.result ≡ Err ScriptFault.ScriptUnreadable → writer.new ≡ writer.old }
 {
@@ -76,7 +79,9 @@ pub fn run_script<R: Read, W: Write, S: Alter + Drop>(
         return ScriptEnd { store, result };
     };
     schedules_leave::<BuiltIn>();
+    frames_are_taken::<BuiltIn>();
     records_of_runs();
+    invocations_stand_alone();
     let mut runner = Runner::new(alloc, store);
     let reached = do_lines(&mut runner, &script, writer);
     let result = finish(writer, reached);

@@ -3,7 +3,7 @@
 //! contracts are the laws.
 #![tactic(auto)]
 
-ghost use Rattle.schedule_laws.specs.Isolation.{AllStandAlone};
+ghost use Rattle.schedule_laws.specs.Isolation.{AllStandAlone, AllStatesAlone};
 ghost use Rattle.schedule_laws.specs.Laws.{FollowsHolds, FramesAreTaken, HoldsFollows, HoldsHeadline, HoldsNeverLate, HoldsWakesExactly, KeptByEach, LeavesHolds, NoneRefused};
 
 pub use following_laws::inputs_are_handed_out;
@@ -11,7 +11,7 @@ use following_laws::{
     attempts_begin, closes_keep, events_keep, feeds_keep, notes_follow, overs_stay, takes_keep,
     turns_keep,
 };
-use journal_laws::invocations_isolated;
+use journal_laws::{invocations_isolated, state_stands};
 use journal_model::Handler;
 use machine_laws::{machines_begin, machines_stay_live};
 
@@ -56,9 +56,12 @@ pub fn records_of_runs()
     ensures wakes_exactly { HoldsWakesExactly }
 {}
 
-/// What stands of an invocation, its answer too, depends on its own events, the ticks and its object's state at its start.
+/// What stands of an invocation, its answer too, depends on its own events, the ticks and its object's state at its start. So does its
+/// object's state while it is open.
 pub fn invocations_stand_alone()
-    ensures { AllStandAlone }
+    ensures stand { AllStandAlone }
+    ensures state { AllStatesAlone }
 {
     invocations_isolated();
+    state_stands();
 }

@@ -1,13 +1,12 @@
 -- The accepted events stay, and more are put in front of them, each of the invocation that the event of the schedule names.
-use Rattle.std.proofs.Common.{◌≡◌, refl, sym, ap, subst, ◌∙◌, ℕ, Bool, true, false, ◌++◌, append_assoc, take, bytes_eq, List, [], ◌∷◌, Option, Some, None, inl, inr, Result, Ok, Err}
+use Rattle.std.proofs.Common.{◌≡◌, refl, sym, ap, subst, ◌∙◌, ℕ, Bool, true, false, ◌++◌, append_assoc, take, List, [], ◌∷◌, Option, Some, None, inl, inr, Result, Ok, Err}
 use Rattle.std.specs.List.{AllByRecursion}
-use Rattle.std.proofs.lemmas.Slice.Eq.{bytes_eq-Decides}
 use Rattle.journal_model.specs.Notification.{Bytes, Text}
 use Rattle.journal_model.specs.declared.invocation.NewInvocation.{NewInvocation}
 use Rattle.journal_model.specs.Run.{Handler}
 use Rattle.journal_model.specs.declared.notification.NotificationResult.{NotificationResult}
 use Rattle.journal_model.specs.Event.{Event}
-use Rattle.journal_model.specs.Journal.{begins, invocation_of, is_of, is_text, is_tick, starting_state, view_of}
+use Rattle.journal_model.specs.Journal.{invocation_of}
 use Rattle.journal_model.specs.Attempt.{is_live}
 use Rattle.vm_types.specs.declared.options.VMOptions.{VMOptions}
 use Rattle.store_refusals.specs.declared.refusal.Refusal.{Refusal}
@@ -24,13 +23,9 @@ use Rattle.store_calls.specs.Standing.{Standing, Stays, Refuses}
 use Rattle.store_calls.specs.Calls.{Completes, Invokes, Stops, Ticks}
 use Rattle.store_calls.specs.Frames.{Accepts, LeavesRefused, Rests, TakesEach}
 use Rattle.store_calls.proofs.Taking.{bytes_stay}
-use Rattle.schedule_runs.specs.Runs.{IsApart, IsOther, invocation_named}
+use Rattle.schedule_runs.specs.Runs.{AppliesEach, IsOneOf, invocation_named}
 
--- it is of this invocation, or of none
-abbrev IsOf : Option Text → Event → Type 0
-IsOf name event = invocation_of event ≡ name
-
-both_are : (name : Option Text) (xs ys : List Event) → AllByRecursion (IsOf name) xs → AllByRecursion (IsOf name) ys → AllByRecursion (IsOf name) (xs ++ ys)
+both_are : (name : Option Text) (xs ys : List Event) → AllByRecursion (IsOneOf name) xs → AllByRecursion (IsOneOf name) ys → AllByRecursion (IsOneOf name) (xs ++ ys)
 both_are name [] ys first second = second
 both_are name (x ∷ xs) ys first second = (first.0, both_are name xs ys first.1 second)
 
@@ -40,7 +35,7 @@ Grows s t = (more : List Event) × (t.events ≡ more ++ s.events)
 
 -- and the others are of this invocation, or of none
 abbrev GrowsBy : Option Text → Standing → Standing → Type 0
-GrowsBy name s t = (more : List Event) × (t.events ≡ more ++ s.events) × AllByRecursion (IsOf name) more
+GrowsBy name s t = (more : List Event) × (t.events ≡ more ++ s.events) × AllByRecursion (IsOneOf name) more
 
 grows_on : (name : Option Text) (s t u : Standing) → GrowsBy name s t → GrowsBy name t u → GrowsBy name s u
 grows_on name s t u one two =
@@ -157,63 +152,25 @@ module _ {H : Type 0} (function : H → Handler) (options : VMOptions) where
   does_grow (event.Move id n count) s t held more answer it = held_grows (MovesOne count) id n s t held more answer (λ one. move_grows count one s t answer) it
   does_grow (event.Stop id n) s t held more answer it = done_grows (λ result. Stops id n result s t) (Some id) answer s t (stop_grows id n s t) it.0
 
-  pub all_grow : (events : List (scheduled.Event H)) (replies : List Reply) (old new : Scheduled H) → AppliesAll function options events replies old new → Grows old.standing new.standing
-  all_grow [] [] old new it = ([], ap (λ (s : Scheduled H). s.standing.events) it)
-  all_grow (one ∷ events) (answer ∷ replies) old new it =
+  -- what each event adds to the accepted events
+  pub all_add : (events : List (scheduled.Event H)) (replies : List Reply) (old new : Scheduled H) → AppliesAll function options events replies old new
+      → (added : List (List Event)) × AppliesEach function options events replies added old new
+  all_add [] [] old new it = ([], it)
+  all_add (one ∷ events) (answer ∷ replies) old new it =
       let first = does_grow one old.standing it.0.standing old.held it.0.held answer it.1 in
-      let rest = all_grow events replies it.0 new it.2 in
-      (rest.0 ++ first.0, rest.1 ∙ ap (λ (es : List Event). rest.0 ++ es) first.1 ∙ sym (append_assoc rest.0 first.0 old.standing.events))
-  all_grow [] (answer ∷ replies) old new it = absurd it
-  all_grow (one ∷ events) [] old new it = absurd it
+      let rest = all_add events replies it.0 new it.2 in
+      (first.0 ∷ rest.0, (it.0, it.1, first.1, first.2, rest.1))
+  all_add [] (answer ∷ replies) old new it = absurd it
+  all_add (one ∷ events) [] old new it = absurd it
 
--- ---- what another invocation is shown of that
-
--- what an invocation is shown of the two is the same
-pub record IsShownAlike (id : Text) (s t : Standing) : Type 0 where
-  pub view : view_of id t.events ≡ view_of id s.events
-  pub start : starting_state t.events id ≡ starting_state s.events id
-
-module _ (id : Text) where
-  not_own : (event : Event) (name : Option Text) → IsOther id name → IsOf name event → is_of id event ≡ false
-  not_own event (Some other) far is = ap (is_text id) is ∙ by_name (bytes_eq other id) refl
-    where
-      by_name : (b : Bool) → bytes_eq other id ≡ b → b ≡ false
-      by_name true e = absurd (far ((bytes_eq-Decides other id).0 e))
-      by_name false e = refl
-  not_own event None far is = absurd far
-
-  not_tick : (event : Event) (name : Option Text) → IsOther id name → IsOf name event → is_tick event ≡ false
-  not_tick (Event.Tick now) (Some other) far is = let clash : None ≡ Some other = is in absurd cc
-  not_tick event None far is = absurd far
-  not_tick _ (Some other) far is = refl
-
-  not_begun : (event : Event) → is_of id event ≡ false → begins id event ≡ false
-  not_begun (Event.Invoke new) e = e
-  not_begun _ e = refl
-
-  -- events of another invocation show nothing
-  view_skips : (name : Option Text) → IsOther id name → (more events : List Event) → AllByRecursion (IsOf name) more → view_of id (more ++ events) ≡ view_of id events
-  view_skips name far [] events all = refl
-  view_skips name far (event ∷ more) events all = rw (not_own event name far all.0, not_tick event name far all.0) (view_skips name far more events all.1)
-
-  start_skips : (name : Option Text) → IsOther id name → (more events : List Event) → AllByRecursion (IsOf name) more → starting_state (more ++ events) id ≡ starting_state events id
-  start_skips name far [] events all = refl
-  start_skips name far (event ∷ more) events all = rw (not_begun event (not_own event name far all.0)) (start_skips name far more events all.1)
-
-  shown_alike : (name : Option Text) → IsOther id name → (s t : Standing) → GrowsBy name s t → IsShownAlike id s t
-  shown_alike name far s t it = record {
-    view = ap (view_of id) it.1 ∙ view_skips name far it.0 s.events it.2;
-    start = ap (λ (events : List Event). starting_state events id) it.1 ∙ start_skips name far it.0 s.events it.2;
-  }
-
-  module _ {H : Type 0} (function : H → Handler) (options : VMOptions) where
-    -- a schedule whose events are all of others shows it nothing
-    pub all_shown_alike : (events : List (scheduled.Event H)) (replies : List Reply) (old new : Scheduled H) → AppliesAll function options events replies old new → AllByRecursion (IsApart id) events
-        → IsShownAlike id old.standing new.standing
-    all_shown_alike [] [] old new it apart = subst (λ (s : Scheduled H). IsShownAlike id old.standing s.standing) (sym it) (record { view = refl; start = refl })
-    all_shown_alike (one ∷ events) (answer ∷ replies) old new it apart =
-        let first = shown_alike (invocation_named one) apart.0 old.standing it.0.standing (does_grow function options one old.standing it.0.standing old.held it.0.held answer it.1) in
-        let rest = all_shown_alike events replies it.0 new it.2 apart.1 in
-        record { view = rest.view ∙ first.view; start = rest.start ∙ first.start }
-    all_shown_alike [] (answer ∷ replies) old new it apart = absurd it
-    all_shown_alike (one ∷ events) [] old new it apart = absurd it
+  -- so those from before stay, and more are put in front of them
+  pub each_grow : (events : List (scheduled.Event H)) (replies : List Reply) (added : List (List Event)) (old new : Scheduled H) → AppliesEach function options events replies added old new
+      → Grows old.standing new.standing
+  each_grow [] [] [] old new it = ([], ap (λ (s : Scheduled H). s.standing.events) it)
+  each_grow (one ∷ events) (answer ∷ replies) (some ∷ added) old new it =
+      let rest = each_grow events replies added it.0 new it.4 in
+      (rest.0 ++ some, rest.1 ∙ ap (λ (es : List Event). rest.0 ++ es) it.2 ∙ sym (append_assoc rest.0 some old.standing.events))
+  each_grow [] [] (some ∷ added) old new it = absurd it
+  each_grow [] (answer ∷ replies) added old new it = absurd it
+  each_grow (one ∷ events) [] added old new it = absurd it
+  each_grow (one ∷ events) (answer ∷ replies) [] old new it = absurd it

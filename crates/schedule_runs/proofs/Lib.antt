@@ -1,4 +1,5 @@
 pub mod Growing
+mod Apart
 pub mod Running
 pub mod Quieting
 pub mod Refusing

@@ -1,31 +1,27 @@
 -- What a schedule answers and leaves.
-use Rattle.std.specs.Prelude.{◌≡◌, ◌≢◌, ◌⊎◌, false, List, [], ◌∷◌, ◌++◌, Option, Some, None}
+use Rattle.std.specs.Prelude.{◌≡◌, ◌≢◌, ◌⊎◌, Bool, true, false, if◌then◌else◌, List, [], ◌∷◌, ◌++◌, Option, Some, None, bytes_eq}
 use Rattle.std.specs.List.{AllByRecursion}
-use Rattle.sqlite_trees.specs.declared.store.Store.{Ghosts}
-use Rattle.sqlite_trees.specs.Tree.{Trees}
-use Rattle.sqlite.specs.Held.{state}
-use Rattle.sqlite.specs.State.{HasCleanDisk, Survives}
 use Rattle.journal_model.specs.Notification.{Text}
 use Rattle.journal_model.specs.declared.invocation.NewInvocation.{NewInvocation}
 use Rattle.journal_model.specs.Event.{Event}
 use Rattle.journal_model.specs.Cause.{IsAccepted, after_open}
-use Rattle.journal_model.specs.Journal.{invocation_begun}
+use Rattle.journal_model.specs.Journal.{begins, invocation_begun, invocation_of}
 use Rattle.journal_model.specs.Headline.{Headline, NeverLate, WakesExactly}
 use Rattle.journal_model.specs.Run.{Handler}
 use Rattle.vm_types.specs.Options.{run_options}
 use Rattle.vm_types.specs.declared.options.VMOptions.{VMOptions}
 use Rattle.journal_store.specs.Stored.{Stored}
-use Rattle.journal_store.specs.Stands.{Stands, IsStanding, KeepsAll, Outlasts}
+use Rattle.journal_store.specs.Stands.{IsStanding, KeepsAll, Outlasts}
 use Rattle.store_calls.specs.Standing.{Standing}
 use Rattle.store_refusals.specs.declared.refusal.Refusal.{Refusal}
 use Rattle.store_refusals.specs.Refused.{is_circumstance}
-use Rattle.schedule_laws.specs.Isolation.{StandsAlike, StandsAlone}
+use Rattle.schedule_laws.specs.Isolation.{IsAlike}
 use Rattle.schedule_laws.specs.Laws.{RefuseNoFrame}
 use Rattle.schedule_laws.specs.Schedules.scheduled
 use Rattle.schedule_laws.specs.Schedules.event
 use Rattle.schedule_laws.specs.Schedules.reply
 use Rattle.schedule_laws.specs.Schedules.refusal
-use Rattle.schedule_laws.specs.Schedules.{Reply, HeldAttempt, Scheduled, AppliesAll, Brings}
+use Rattle.schedule_laws.specs.Schedules.{Reply, HeldAttempt, Scheduled, Applies, AppliesAll, Brings}
 use Rattle.schedule_laws.specs.Words.{ReplaysInLine, HoldsOf, given_of}
 use Rattle.durable_schedule.specs.declared.scheduler.Scheduler.{Scheduler}
 use Rattle.durable_schedule.specs.Scheduled.{IsScheduled}
@@ -46,55 +42,6 @@ module _ {H : Type 0} (function : H → Handler) (options : VMOptions) where
     pub held : List (HeldAttempt H)
     pub applies : AppliesAll function options first answers (at_first s) (record { standing = t; held = held })
 
--- ---- what is left of a store
-
--- Whatever events a store stood for, the one that is left stands for these and further ones in front of them, in this relation to those
--- from before, unless the disk failed.
-abbrev pub LeavesMore : {S : Type 0} → Ghosts S → (List Event → List Event → Type 0) → Stored S → Stored S → Type 0
-LeavesMore g Relation old new =
-    HasCleanDisk (state g new.connection) → (before : List Event) → Stands before (state g old.connection) old.live.attempts
-    → (more : List Event) × Stands (more ++ before) (state g new.connection) new.live.attempts × Relation before (more ++ before)
-
--- the tables keep these events and further ones in front of them, all of which were accepted, in this relation to those from before
-pub record KeepsMore (Relation : List Event → List Event → Type 0) (events : List Event) (trees : Trees) : Type 0 where
-  pub more : List Event
-  pub accepted : IsAccepted (more ++ events)
-  pub related : Relation events (more ++ events)
-  pub kept : KeepsAll (more ++ events) trees
-
--- What a crash leaves after some calls: what it could leave before them, or such tables, whatever events the store stood for.
-abbrev pub Extends : {S : Type 0} → Ghosts S → (List Event → List Event → Type 0) → Stored S → Stored S → Type 0
-Extends g Relation old new =
-    Survives (state g old.connection) (state g new.connection)
-    (λ trees. (events : List Event) → Stands events (state g old.connection) old.live.attempts → KeepsMore Relation events trees)
-
--- ---- what a schedule leaves
-
--- Of each invocation whose begins in it all bring one function, if what is recorded of it before is of the run of that function: this
--- holds of what is recorded behind it.
-abbrev pub RunsLeave : {H : Type 0} → (H → Handler) → VMOptions → List (scheduled.Event H) → (Handler → Text → List Event → Type 0) → (before after : List Event) → Type 0
-RunsLeave function options events Left before after =
-    (id : Text) (next : Handler) → ReplaysInLine options → AllByRecursion (Brings function id next) events → HoldsOf next options id before → Left next id after
-
--- that it is of the run too, with which the next schedule can begin
-abbrev pub HoldsAfter : VMOptions → Handler → Text → List Event → Type 0
-HoldsAfter options next id after = HoldsOf next options id after
-
--- the headline
-abbrev pub HeadlineAfter : VMOptions → Handler → Text → List Event → Type 0
-HeadlineAfter options next id after = Headline next (run_options options) options.fallback_random_seed after id
-
--- waking is never late, and exact
-abbrev pub NeverLateAfter : VMOptions → Handler → Text → List Event → Type 0
-NeverLateAfter options next id after = (new : NewInvocation) → invocation_begun after id ≡ Some new → NeverLate next (given_of options id after new) after id
-
-abbrev pub WakesExactlyAfter : VMOptions → Handler → Text → List Event → Type 0
-WakesExactlyAfter options next id after = (new : NewInvocation) → invocation_begun after id ≡ Some new → WakesExactly next (given_of options id after new) after id
-
--- no frame of it was refused for a cause that lies in the frame
-abbrev pub FramesTaken : {H : Type 0} → List (scheduled.Event H) → List Reply → Handler → Text → List Event → Type 0
-FramesTaken events replies next id after = RefuseNoFrame id events replies
-
 -- ---- apart from others
 
 -- the invocation that an event of a schedule is one of; a tick is one of none
@@ -109,19 +56,89 @@ invocation_named (event.Turn id attempt) = Some id
 invocation_named (event.Move id attempt count) = Some id
 invocation_named (event.Stop id attempt) = Some id
 
-abbrev pub IsOther : Text → Option Text → Type 0
-IsOther id (Some other) = other ≢ id
-IsOther id None = ⊥
+-- an accepted event is one of this invocation; where none is named, it is a tick
+abbrev pub IsOneOf : Option Text → Event → Type 0
+IsOneOf name event = invocation_of event ≡ name
+
+-- whether an event of a schedule is one of the invocation's own, or a tick, by the invocation that it names
+abbrev pub is_seen_by : Text → Option Text → Bool
+is_seen_by id None = true
+is_seen_by id (Some other) = bytes_eq other id
 
 -- it is one of another invocation, and no tick
 abbrev pub IsApart : {H : Type 0} → Text → scheduled.Event H → Type 0
-IsApart id one = IsOther id (invocation_named one)
+IsApart id one = is_seen_by id (invocation_named one) ≡ false
 
--- What stands of each invocation depends on its own events, the ticks and its object's state at its start. So where each event of the
--- schedule is one of another invocation, what stood of it before stands of it.
-pub record LeavesAlone {H : Type 0} (events : List (scheduled.Event H)) (before after : List Event) : Type 0 where
-  pub alone : (id : Text) → StandsAlone after id
-  pub untouched : (id : Text) → AllByRecursion (IsApart id) events → StandsAlike after before id
+-- What an invocation would have been told, had only its own events and the ticks come since the schedule began, or since it was begun in
+-- it. Behind what it was told so far this is what it is told behind an event of the schedule that has added these events to all of them.
+abbrev pub told_alone : Text → (is_seen : Bool) → (added all alone : List Event) → List Event
+told_alone id is_seen [] all alone = alone
+told_alone id is_seen (event ∷ added) all alone =
+    if begins id event then event ∷ (added ++ all)
+    else (if is_seen then event ∷ told_alone id is_seen added all alone else told_alone id is_seen added all alone)
+
+-- behind each of these events, the same stands of the invocation as if it had been told no others
+abbrev pub StandsBehind : Text → (is_seen : Bool) → (added all alone : List Event) → Type 0
+StandsBehind id is_seen [] all alone = IsAlike all alone id
+StandsBehind id is_seen (event ∷ added) all alone = StandsBehind id is_seen added all alone × IsAlike (event ∷ (added ++ all)) (told_alone id is_seen (event ∷ added) all alone) id
+
+-- So it is behind all that each event of a schedule has added.
+abbrev pub StandsApart : {H : Type 0} → Text → List (scheduled.Event H) → (added : List (List Event)) → (all alone : List Event) → Type 0
+StandsApart id (one ∷ events) (some ∷ added) all alone =
+    StandsBehind id (is_seen_by id (invocation_named one)) some all alone
+    × StandsApart id events added (some ++ all) (told_alone id (is_seen_by id (invocation_named one)) some all alone)
+StandsApart id _ _ all alone = IsAlike all alone id
+
+module _ {H : Type 0} (function : H → Handler) (options : VMOptions) where
+  -- Events are applied one after another, with these replies, and each has added these to the accepted events, the last one first: events
+  -- of the invocation that it names, and of no other.
+  abbrev pub AppliesEach : List (scheduled.Event H) → List Reply → (added : List (List Event)) → Scheduled H → Scheduled H → Type 0
+  AppliesEach [] [] [] old new = new ≡ old
+  AppliesEach (one ∷ events) (answer ∷ replies) (some ∷ added) old new =
+      (between : Scheduled H) × Applies function options one answer old between × (between.standing.events ≡ some ++ old.standing.events)
+      × AllByRecursion (IsOneOf (invocation_named one)) some × AppliesEach events replies added between new
+  AppliesEach _ _ _ old new = ⊥
+
+-- ---- what a schedule leaves
+
+-- What stands of an invocation in the run of this function behind these events, each of which was answered so.
+pub record StandsInRun {H : Type 0} (next : Handler) (options : VMOptions) (id : Text) (events : List (scheduled.Event H)) (replies : List Reply) (after : List Event) : Type 0 where
+  -- What is recorded of it is of the run: with this the next schedule begins, by `reopened_stores_hold` also over a store that is opened
+  -- again.
+  pub holds : HoldsOf next options id after
+  -- So its recorded requests are a beginning of those of the one uninterrupted run over its recorded arrivals; at each of its suspensions
+  -- and ends among these accepted events, not at the last one alone, they were all of the run's over the arrivals that its attempt had been
+  -- handed; its answer is that of the run; and while it is open its object's state is its starting state changed by its recorded requests.
+  pub headline : Headline next (run_options options) options.fallback_random_seed after id
+  -- waking is never late, and from version 7 on exact
+  pub never_late : (new : NewInvocation) → invocation_begun after id ≡ Some new → NeverLate next (given_of options id after new) after id
+  pub wakes_exactly : (new : NewInvocation) → invocation_begun after id ≡ Some new → WakesExactly next (given_of options id after new) after id
+  -- no frame of it was refused for a cause that lies in the frame
+  pub frames : RefuseNoFrame id events replies
+
+module _ {H : Type 0} (function : H → Handler) (options : VMOptions) where
+  -- what events leave that were applied with these replies
+  pub record Leaves (events : List (scheduled.Event H)) (replies : List Reply) (old new : Scheduled H) : Type 0 where
+    -- the accepted events from before stay, and more are put in front of them
+    pub more : List Event
+    pub grows : new.standing.events ≡ more ++ old.standing.events
+    -- of each invocation whose begins all bring one function, if what was recorded of it before is of the run of that function
+    pub in_run : (next : Handler) (id : Text) → ReplaysInLine options → AllByRecursion (Brings function id next) events → HoldsOf next options id old.standing.events
+        → StandsInRun next options id events replies new.standing.events
+    -- what each event has added to the accepted events
+    pub added : List (List Event)
+    pub each : AppliesEach function options events replies added old new
+    -- Of each invocation, whatever its begins bring: at each moment of the schedule the same stands of it as if only its own events and the
+    -- ticks had come since. What else was accepted shows in the state that its object has where the invocation is begun, and in nothing of
+    -- this behind that.
+    pub isolated : (id : Text) → StandsApart id events added old.standing.events old.standing.events
+    -- so what stood of it before stands of it, where no event of the schedule is one of its own or a tick
+    pub untouched : (id : Text) → AllByRecursion (IsApart id) events → IsAlike new.standing.events old.standing.events id
+
+  -- what the first of these events leave, which were applied one after another with some answers
+  pub record LeavesFirst (events : List (scheduled.Event H)) (s t : Standing) : Type 0 where
+    pub applied : AppliesFirst function options events s t
+    pub leaves : Leaves applied.first applied.answers (at_first s) (record { standing = t; held = applied.held })
 
 -- ---- what lasts
 

@@ -9,7 +9,7 @@ ghost use Rattle.store_calls.specs.Standing.{Standing};
 ghost use Rattle.journal_store.specs.Stands.{Endures, IsStanding};
 ghost use Rattle.schedule_laws.specs.Schedules.{AppliesAll, FitsEvent, Scheduled};
 ghost use Rattle.durable_schedule.specs.Scheduled.{IsScheduled};
-ghost use Rattle.schedule_runs.specs.Runs.{AppliesFirst, Extends, FramesTaken, HeadlineAfter, HoldsAfter, LeavesAlone, LeavesLasting, LeavesMore, NeverLateAfter, RunsLeave, WakesExactlyAfter, at_first};
+ghost use Rattle.schedule_runs.specs.Runs.{Leaves, LeavesFirst, LeavesLasting, at_first};
 
 mod laws;
 
@@ -53,25 +53,16 @@ pub fn run_schedule<H: Handler + Drop, S: Alter + Drop>(
     options: VMOptions,
     events: Vec<Event<H>>,
 ) -> Result<(Scheduler<H, S>, Vec<Reply>), NoRoom<S>>
-    // The events from before stay, and more are put in front of them. Of each invocation whose begins all bring one function, and of
-    // whose run all is that was recorded before, so is all that is now: with this the next schedule begins, by `reopened_stores_hold` also
-    // over a store that is opened again.
-    ensures holds { IfOk result (λ done. LeavesMore S.Store (RunsLeave H.next_call options events.items (HoldsAfter options)) store done.0.store) }
-    // So its recorded requests are a beginning of those of the one uninterrupted run, all of them where an attempt was suspended or has
-    // ended, and its answer is that of the run.
-    ensures headline { IfOk result (λ done. LeavesMore S.Store (RunsLeave H.next_call options events.items (HeadlineAfter options)) store done.0.store) }
-    // Waking is never late.
-    ensures never_late { IfOk result (λ done. LeavesMore S.Store (RunsLeave H.next_call options events.items (NeverLateAfter options)) store done.0.store) }
-    // From version 7 on it is exact.
-    ensures wakes_exactly { IfOk result (λ done. LeavesMore S.Store (RunsLeave H.next_call options events.items (WakesExactlyAfter options)) store done.0.store) }
-    // No frame of such an invocation is refused for a cause that lies in the frame.
-    ensures frames { IfOk result (λ done. LeavesMore S.Store (RunsLeave H.next_call options events.items (FramesTaken events.items done.1.items)) store done.0.store) }
-    // What stands of an invocation depends on its own events, the ticks and its object's state at its start: other invocations' events
-    // change nothing of it.
-    ensures isolated { IfOk result (λ done. LeavesMore S.Store (LeavesAlone events.items) store done.0.store) }
-    // What each event answers and leaves.
+    // What each event answers and leaves: whatever the store stood for, unless the disk failed, applying the events in order, with these
+    // replies, leads to what the scheduler and its store stand for now. What `Leaves` tells is said of the accepted events of that, of one
+    // list all of it. Those from before stay behind them (`grows`). An invocation whose begins all bring one function stands in the run of
+    // that function, if it did before (`in_run`): the headline holds of it, of the suspensions and the ends of each of its attempts; waking
+    // is never late, and from version 7 on exact; and none of its frames was refused for a cause that lies in the frame. Of each invocation,
+    // whatever its begins bring, at each moment the same stands as if only its own events and the ticks had come since the schedule or it
+    // was begun (`isolated`).
     ensures applies { IfOk result (λ done. HasCleanDisk (state S.Store done.0.store.connection) → (s : Standing) → IsStanding S.Store s store →
-        (new : Scheduled H) × IsScheduled S.Store new done.0 × AppliesAll H.next_call options events.items done.1.items (at_first s) new) }
+        (new : Scheduled H) × IsScheduled S.Store new done.0 × AppliesAll H.next_call options events.items done.1.items (at_first s) new
+        × Leaves H.next_call options events.items done.1.items (at_first s) new) }
     // All that is left lasts: whatever a crash leaves from then on, up to the next call, the tables keep it. That is so unless memory or a
     // statement was refused in the last event that may have written anything; where none may, what was handed in has to last.
     ensures settled { IfOk result (λ done. LeavesLasting H.next_call options S.Store events.items done.1.items store done.0) }
@@ -79,14 +70,8 @@ pub fn run_schedule<H: Handler + Drop, S: Alter + Drop>(
     ensures options { IfOk result (λ done. done.0.options ≡ options) }
     // What each event brings is within its types, which `schedules_keep` asks of each.
     ensures fits { IfOk result (λ done. AllByRecursion FitsEvent events.items) }
-    // What a crash anywhere in it leaves is what it could leave before, or what the first of the events leave.
-    ensures crash { IfOk result (λ done. Endures S.Store (AppliesFirst H.next_call options events.items) store done.0.store) }
-    // So all of that holds of what a crash leaves too.
-    ensures crash_holds { IfOk result (λ done. Extends S.Store (RunsLeave H.next_call options events.items (HoldsAfter options)) store done.0.store) }
-    ensures crash_headline { IfOk result (λ done. Extends S.Store (RunsLeave H.next_call options events.items (HeadlineAfter options)) store done.0.store) }
-    ensures crash_never_late { IfOk result (λ done. Extends S.Store (RunsLeave H.next_call options events.items (NeverLateAfter options)) store done.0.store) }
-    ensures crash_wakes_exactly { IfOk result (λ done. Extends S.Store (RunsLeave H.next_call options events.items (WakesExactlyAfter options)) store done.0.store) }
-    ensures crash_isolated { IfOk result (λ done. Extends S.Store (LeavesAlone events.items) store done.0.store) }
+    // What a crash anywhere in it leaves is what it could leave before, or what the first of the events leave, of which the same is told.
+    ensures crash { IfOk result (λ done. Endures S.Store (LeavesFirst H.next_call options events.items) store done.0.store) }
     ensures err { IfErr result (λ refused. refused.store ≡ store) }
 {
     let Ok(mut replies) = Vec::with_capacity(alloc, events.len()) else {

@@ -1,6 +1,9 @@
--- The law is proved in `Isolation`.
-use Rattle.schedule_laws.proofs.Isolation.{stand_alone}
+-- The laws are proved in `Isolation`.
+use Rattle.schedule_laws.proofs.Isolation.{stand_alone, states_alone}
 use Rattle.schedule_laws.proofs.invocations_stand_alone.Goals as goal
 
-pub returns : goal.returns
-returns c = stand_alone c.invocations_isolated.ensures
+pub returns-clause-stand : goal.returns-clause-stand
+returns-clause-stand c = stand_alone c.invocations_isolated.ensures
+
+pub returns-clause-state : goal.returns-clause-state
+returns-clause-state c = states_alone c.invocations_isolated.ensures c.state_stands.ensures.follows

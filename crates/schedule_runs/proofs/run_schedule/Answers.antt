@@ -1,7 +1,5 @@
-use Rattle.std.proofs.Common.{◌≡◌, refl, ap, length, List, [], ◌∷◌, ◌++◌, sym, subst, ◌∙◌, map-id, arith, length-append}
+use Rattle.std.proofs.Common.{◌≡◌, refl, ap, length, List, [], ◌∷◌, ◌++◌, sym, subst, ◌∙◌, arith, length-append}
 use Rattle.std.specs.List.{AllByRecursion}
-use Rattle.std.proofs.lemmas.Iterator.Consumers.{YieldsList-end}
-use Rattle.std.proofs.lemmas.Iterator.Adapters.{YieldsList-from_vec}
 use Rattle.sqlite.specs.Held.{state}
 use Rattle.sqlite.specs.State.{HasCleanDisk}
 use Rattle.journal_store.specs.Stored.{Stored}
@@ -10,9 +8,9 @@ use Rattle.schedule_laws.proofs.Schedules.{schedules_grow}
 use Rattle.schedule_laws.specs.Schedules.{Event, Reply, Applies, AppliesAll, FitsEvent}
 use Rattle.journal_store.specs.Stands.{IsStanding, Endures}
 use Rattle.durable_schedule.specs.Scheduled.{AppliesWith}
-use Rattle.schedule_runs.specs.Runs.{Extends, LeavesMore, AppliesFirst, RunsLeave, HoldsAfter, HeadlineAfter, NeverLateAfter, WakesExactlyAfter, FramesTaken, LeavesAlone, LeavesLasting, at_first}
+use Rattle.schedule_runs.specs.Runs.{AppliesFirst, LeavesLasting, at_first}
 use Rattle.journal_store.proofs.Enduring.{same_endures}
-use Rattle.schedule_runs.proofs.Running.{runs_more, runs_kept, frames_more, alone_more, alone_kept, one_endures, each_more}
+use Rattle.schedule_runs.proofs.Running.{all_kept, all_left, all_yielded, each_more, one_endures}
 use Rattle.schedule_runs.proofs.Settling.{AppliesOne, SettlesOne, one_settles, none_settles}
 use Rattle.schedule_runs.proofs.run_schedule.Goals as goal
 
@@ -71,135 +69,40 @@ loop-event-init g c =
 pub returns-clause-applies : goal.returns-clause-applies
 returns-clause-applies g c clean s is =
     let h = c.into_iter-event-iterator.ensures.into_iter_gives in
-    let e = YieldsList-end (YieldsList-from_vec {s = c.into_iter-event-iterator.result} c.args.events.items h.0 (h.1 ∙ c.args.events.ok.0)) c.loop-event.yielded c.loop-event.event-iterator c.loop-event.yielded_by c.next.result c.next.new.self c.in-None.is c.next.ensures.steps in
-    let all : c.loop-event.yielded ≡ c.args.events.items = sym (map-id c.loop-event.yielded) ∙ e.0 in
-    let it = c.loop-event.invariant.applies clean s is in (
+    let all = all_yielded c.into_iter-event-iterator.result c.args.events.items h.0 (h.1 ∙ c.args.events.ok.0) c.loop-event.yielded c.loop-event.event-iterator c.loop-event.yielded_by c.next.result c.next.new.self c.in-None.is c.next.ensures.steps in
+    let function = g.H.Handler.next_call in
+    let it = c.loop-event.invariant.applies clean s is in
+    let applies = subst (λ (es : List (Event g.row.H.Denot)). AppliesAll function c.args.options es c.loop-event.replies.items (at_first s) it.0) all it.2 in (
       it.0,
       it.1,
-      subst (λ (es : List (Event g.row.H.Denot)). AppliesAll g.H.Handler.next_call c.args.options es c.loop-event.replies.items (at_first s) it.0) all it.2,
+      applies,
+      all_left function c.args.options c.schedules_leave.ensures c.records_of_runs.ensures.headline c.records_of_runs.ensures.never_late c.records_of_runs.ensures.wakes_exactly c.frames_are_taken.ensures
+          c.invocations_stand_alone.ensures.stand c.invocations_stand_alone.ensures.state c.args.events.items c.loop-event.replies.items s it.0 (subst (λ (es : List (Event g.row.H.Denot)). AllByRecursion FitsEvent es) all c.loop-event.invariant.fits) applies,
     )
-
-pub returns-clause-holds : goal.returns-clause-holds
-returns-clause-holds g c =
-    let h = c.into_iter-event-iterator.ensures.into_iter_gives in
-    let e = YieldsList-end (YieldsList-from_vec {s = c.into_iter-event-iterator.result} c.args.events.items h.0 (h.1 ∙ c.args.events.ok.0)) c.loop-event.yielded c.loop-event.event-iterator c.loop-event.yielded_by c.next.result c.next.new.self c.in-None.is c.next.ensures.steps in
-    let all : c.loop-event.yielded ≡ c.args.events.items = sym (map-id c.loop-event.yielded) ∙ e.0 in
-    let function = g.H.Handler.next_call in
-    subst (λ (es : List (Event g.row.H.Denot)). LeavesMore g.S.Store (RunsLeave function c.args.options es (HoldsAfter c.args.options)) c.args.store c.loop-event.scheduler.store) all
-    (runs_more function c.args.options c.schedules_leave.ensures (HoldsAfter c.args.options) (λ next id after accepted holds. holds) g.S.Store c.loop-event.yielded c.loop-event.replies.items c.loop-event.invariant.fits c.args.store c.loop-event.scheduler c.loop-event.invariant.applies)
-
-pub returns-clause-headline : goal.returns-clause-headline
-returns-clause-headline g c =
-    let h = c.into_iter-event-iterator.ensures.into_iter_gives in
-    let e = YieldsList-end (YieldsList-from_vec {s = c.into_iter-event-iterator.result} c.args.events.items h.0 (h.1 ∙ c.args.events.ok.0)) c.loop-event.yielded c.loop-event.event-iterator c.loop-event.yielded_by c.next.result c.next.new.self c.in-None.is c.next.ensures.steps in
-    let all : c.loop-event.yielded ≡ c.args.events.items = sym (map-id c.loop-event.yielded) ∙ e.0 in
-    let function = g.H.Handler.next_call in
-    subst (λ (es : List (Event g.row.H.Denot)). LeavesMore g.S.Store (RunsLeave function c.args.options es (HeadlineAfter c.args.options)) c.args.store c.loop-event.scheduler.store) all
-    (runs_more function c.args.options c.schedules_leave.ensures (HeadlineAfter c.args.options) (λ next id after accepted holds. c.records_of_runs.ensures.headline next c.args.options id after accepted holds) g.S.Store c.loop-event.yielded c.loop-event.replies.items c.loop-event.invariant.fits c.args.store c.loop-event.scheduler c.loop-event.invariant.applies)
-
-pub returns-clause-never_late : goal.returns-clause-never_late
-returns-clause-never_late g c =
-    let h = c.into_iter-event-iterator.ensures.into_iter_gives in
-    let e = YieldsList-end (YieldsList-from_vec {s = c.into_iter-event-iterator.result} c.args.events.items h.0 (h.1 ∙ c.args.events.ok.0)) c.loop-event.yielded c.loop-event.event-iterator c.loop-event.yielded_by c.next.result c.next.new.self c.in-None.is c.next.ensures.steps in
-    let all : c.loop-event.yielded ≡ c.args.events.items = sym (map-id c.loop-event.yielded) ∙ e.0 in
-    let function = g.H.Handler.next_call in
-    subst (λ (es : List (Event g.row.H.Denot)). LeavesMore g.S.Store (RunsLeave function c.args.options es (NeverLateAfter c.args.options)) c.args.store c.loop-event.scheduler.store) all
-    (runs_more function c.args.options c.schedules_leave.ensures (NeverLateAfter c.args.options) (λ next id after accepted holds new is. c.records_of_runs.ensures.never_late next c.args.options id after new is holds) g.S.Store c.loop-event.yielded c.loop-event.replies.items c.loop-event.invariant.fits c.args.store c.loop-event.scheduler c.loop-event.invariant.applies)
-
-pub returns-clause-wakes_exactly : goal.returns-clause-wakes_exactly
-returns-clause-wakes_exactly g c =
-    let h = c.into_iter-event-iterator.ensures.into_iter_gives in
-    let e = YieldsList-end (YieldsList-from_vec {s = c.into_iter-event-iterator.result} c.args.events.items h.0 (h.1 ∙ c.args.events.ok.0)) c.loop-event.yielded c.loop-event.event-iterator c.loop-event.yielded_by c.next.result c.next.new.self c.in-None.is c.next.ensures.steps in
-    let all : c.loop-event.yielded ≡ c.args.events.items = sym (map-id c.loop-event.yielded) ∙ e.0 in
-    let function = g.H.Handler.next_call in
-    subst (λ (es : List (Event g.row.H.Denot)). LeavesMore g.S.Store (RunsLeave function c.args.options es (WakesExactlyAfter c.args.options)) c.args.store c.loop-event.scheduler.store) all
-    (runs_more function c.args.options c.schedules_leave.ensures (WakesExactlyAfter c.args.options) (λ next id after accepted holds new is. c.records_of_runs.ensures.wakes_exactly next c.args.options id after new is holds) g.S.Store c.loop-event.yielded c.loop-event.replies.items c.loop-event.invariant.fits c.args.store c.loop-event.scheduler c.loop-event.invariant.applies)
 
 pub returns-clause-fits : goal.returns-clause-fits
 returns-clause-fits g c =
     let h = c.into_iter-event-iterator.ensures.into_iter_gives in
-    let e = YieldsList-end (YieldsList-from_vec {s = c.into_iter-event-iterator.result} c.args.events.items h.0 (h.1 ∙ c.args.events.ok.0)) c.loop-event.yielded c.loop-event.event-iterator c.loop-event.yielded_by c.next.result c.next.new.self c.in-None.is c.next.ensures.steps in
-    let all : c.loop-event.yielded ≡ c.args.events.items = sym (map-id c.loop-event.yielded) ∙ e.0 in
+    let all = all_yielded c.into_iter-event-iterator.result c.args.events.items h.0 (h.1 ∙ c.args.events.ok.0) c.loop-event.yielded c.loop-event.event-iterator c.loop-event.yielded_by c.next.result c.next.new.self c.in-None.is c.next.ensures.steps in
     subst (λ (es : List (Event g.row.H.Denot)). AllByRecursion FitsEvent es) all c.loop-event.invariant.fits
 
 pub returns-clause-crash : goal.returns-clause-crash
 returns-clause-crash g c =
     let h = c.into_iter-event-iterator.ensures.into_iter_gives in
-    let e = YieldsList-end (YieldsList-from_vec {s = c.into_iter-event-iterator.result} c.args.events.items h.0 (h.1 ∙ c.args.events.ok.0)) c.loop-event.yielded c.loop-event.event-iterator c.loop-event.yielded_by c.next.result c.next.new.self c.in-None.is c.next.ensures.steps in
-    let all : c.loop-event.yielded ≡ c.args.events.items = sym (map-id c.loop-event.yielded) ∙ e.0 in
-    subst (λ (es : List (Event g.row.H.Denot)). Endures g.S.Store (AppliesFirst g.H.Handler.next_call c.args.options es) c.args.store c.loop-event.scheduler.store) all c.loop-event.invariant.crash
-
-pub returns-clause-crash_holds : goal.returns-clause-crash_holds
-returns-clause-crash_holds g c =
-    let h = c.into_iter-event-iterator.ensures.into_iter_gives in
-    let e = YieldsList-end (YieldsList-from_vec {s = c.into_iter-event-iterator.result} c.args.events.items h.0 (h.1 ∙ c.args.events.ok.0)) c.loop-event.yielded c.loop-event.event-iterator c.loop-event.yielded_by c.next.result c.next.new.self c.in-None.is c.next.ensures.steps in
-    let all : c.loop-event.yielded ≡ c.args.events.items = sym (map-id c.loop-event.yielded) ∙ e.0 in
+    let all = all_yielded c.into_iter-event-iterator.result c.args.events.items h.0 (h.1 ∙ c.args.events.ok.0) c.loop-event.yielded c.loop-event.event-iterator c.loop-event.yielded_by c.next.result c.next.new.self c.in-None.is c.next.ensures.steps in
     let function = g.H.Handler.next_call in
-    subst (λ (es : List (Event g.row.H.Denot)). Extends g.S.Store (RunsLeave function c.args.options es (HoldsAfter c.args.options)) c.args.store c.loop-event.scheduler.store) all
-    (runs_kept function c.args.options c.schedules_leave.ensures (HoldsAfter c.args.options) (λ next id after accepted holds. holds) g.S.Store c.loop-event.yielded c.loop-event.invariant.fits c.args.store c.loop-event.scheduler.store c.loop-event.invariant.crash)
-
-pub returns-clause-crash_headline : goal.returns-clause-crash_headline
-returns-clause-crash_headline g c =
-    let h = c.into_iter-event-iterator.ensures.into_iter_gives in
-    let e = YieldsList-end (YieldsList-from_vec {s = c.into_iter-event-iterator.result} c.args.events.items h.0 (h.1 ∙ c.args.events.ok.0)) c.loop-event.yielded c.loop-event.event-iterator c.loop-event.yielded_by c.next.result c.next.new.self c.in-None.is c.next.ensures.steps in
-    let all : c.loop-event.yielded ≡ c.args.events.items = sym (map-id c.loop-event.yielded) ∙ e.0 in
-    let function = g.H.Handler.next_call in
-    subst (λ (es : List (Event g.row.H.Denot)). Extends g.S.Store (RunsLeave function c.args.options es (HeadlineAfter c.args.options)) c.args.store c.loop-event.scheduler.store) all
-    (runs_kept function c.args.options c.schedules_leave.ensures (HeadlineAfter c.args.options) (λ next id after accepted holds. c.records_of_runs.ensures.headline next c.args.options id after accepted holds) g.S.Store c.loop-event.yielded c.loop-event.invariant.fits c.args.store c.loop-event.scheduler.store c.loop-event.invariant.crash)
-
-pub returns-clause-crash_never_late : goal.returns-clause-crash_never_late
-returns-clause-crash_never_late g c =
-    let h = c.into_iter-event-iterator.ensures.into_iter_gives in
-    let e = YieldsList-end (YieldsList-from_vec {s = c.into_iter-event-iterator.result} c.args.events.items h.0 (h.1 ∙ c.args.events.ok.0)) c.loop-event.yielded c.loop-event.event-iterator c.loop-event.yielded_by c.next.result c.next.new.self c.in-None.is c.next.ensures.steps in
-    let all : c.loop-event.yielded ≡ c.args.events.items = sym (map-id c.loop-event.yielded) ∙ e.0 in
-    let function = g.H.Handler.next_call in
-    subst (λ (es : List (Event g.row.H.Denot)). Extends g.S.Store (RunsLeave function c.args.options es (NeverLateAfter c.args.options)) c.args.store c.loop-event.scheduler.store) all
-    (runs_kept function c.args.options c.schedules_leave.ensures (NeverLateAfter c.args.options) (λ next id after accepted holds new is. c.records_of_runs.ensures.never_late next c.args.options id after new is holds) g.S.Store c.loop-event.yielded c.loop-event.invariant.fits c.args.store c.loop-event.scheduler.store c.loop-event.invariant.crash)
-
-pub returns-clause-crash_wakes_exactly : goal.returns-clause-crash_wakes_exactly
-returns-clause-crash_wakes_exactly g c =
-    let h = c.into_iter-event-iterator.ensures.into_iter_gives in
-    let e = YieldsList-end (YieldsList-from_vec {s = c.into_iter-event-iterator.result} c.args.events.items h.0 (h.1 ∙ c.args.events.ok.0)) c.loop-event.yielded c.loop-event.event-iterator c.loop-event.yielded_by c.next.result c.next.new.self c.in-None.is c.next.ensures.steps in
-    let all : c.loop-event.yielded ≡ c.args.events.items = sym (map-id c.loop-event.yielded) ∙ e.0 in
-    let function = g.H.Handler.next_call in
-    subst (λ (es : List (Event g.row.H.Denot)). Extends g.S.Store (RunsLeave function c.args.options es (WakesExactlyAfter c.args.options)) c.args.store c.loop-event.scheduler.store) all
-    (runs_kept function c.args.options c.schedules_leave.ensures (WakesExactlyAfter c.args.options) (λ next id after accepted holds new is. c.records_of_runs.ensures.wakes_exactly next c.args.options id after new is holds) g.S.Store c.loop-event.yielded c.loop-event.invariant.fits c.args.store c.loop-event.scheduler.store c.loop-event.invariant.crash)
-
-pub returns-clause-frames : goal.returns-clause-frames
-returns-clause-frames g c =
-    let h = c.into_iter-event-iterator.ensures.into_iter_gives in
-    let e = YieldsList-end (YieldsList-from_vec {s = c.into_iter-event-iterator.result} c.args.events.items h.0 (h.1 ∙ c.args.events.ok.0)) c.loop-event.yielded c.loop-event.event-iterator c.loop-event.yielded_by c.next.result c.next.new.self c.in-None.is c.next.ensures.steps in
-    let all : c.loop-event.yielded ≡ c.args.events.items = sym (map-id c.loop-event.yielded) ∙ e.0 in
-    let function = g.H.Handler.next_call in
-    subst (λ (es : List (Event g.row.H.Denot)). LeavesMore g.S.Store (RunsLeave function c.args.options es (FramesTaken es c.loop-event.replies.items)) c.args.store c.loop-event.scheduler.store) all
-    (frames_more function c.args.options g.S.Store c.frames_are_taken.ensures c.loop-event.yielded c.loop-event.replies.items c.loop-event.invariant.fits c.args.store c.loop-event.scheduler c.loop-event.invariant.applies)
-
-pub returns-clause-isolated : goal.returns-clause-isolated
-returns-clause-isolated g c =
-    let h = c.into_iter-event-iterator.ensures.into_iter_gives in
-    let e = YieldsList-end (YieldsList-from_vec {s = c.into_iter-event-iterator.result} c.args.events.items h.0 (h.1 ∙ c.args.events.ok.0)) c.loop-event.yielded c.loop-event.event-iterator c.loop-event.yielded_by c.next.result c.next.new.self c.in-None.is c.next.ensures.steps in
-    let all : c.loop-event.yielded ≡ c.args.events.items = sym (map-id c.loop-event.yielded) ∙ e.0 in
-    subst (λ (es : List (Event g.row.H.Denot)). LeavesMore g.S.Store (LeavesAlone es) c.args.store c.loop-event.scheduler.store) all
-    (alone_more g.H.Handler.next_call c.args.options c.invocations_stand_alone.ensures g.S.Store c.loop-event.yielded c.loop-event.replies.items c.args.store c.loop-event.scheduler c.loop-event.invariant.applies)
-
-pub returns-clause-crash_isolated : goal.returns-clause-crash_isolated
-returns-clause-crash_isolated g c =
-    let h = c.into_iter-event-iterator.ensures.into_iter_gives in
-    let e = YieldsList-end (YieldsList-from_vec {s = c.into_iter-event-iterator.result} c.args.events.items h.0 (h.1 ∙ c.args.events.ok.0)) c.loop-event.yielded c.loop-event.event-iterator c.loop-event.yielded_by c.next.result c.next.new.self c.in-None.is c.next.ensures.steps in
-    let all : c.loop-event.yielded ≡ c.args.events.items = sym (map-id c.loop-event.yielded) ∙ e.0 in
-    subst (λ (es : List (Event g.row.H.Denot)). Extends g.S.Store (LeavesAlone es) c.args.store c.loop-event.scheduler.store) all
-    (alone_kept g.H.Handler.next_call c.args.options c.invocations_stand_alone.ensures g.S.Store c.loop-event.yielded c.args.store c.loop-event.scheduler.store c.loop-event.invariant.crash)
+    all_kept function c.args.options c.schedules_leave.ensures c.records_of_runs.ensures.headline c.records_of_runs.ensures.never_late c.records_of_runs.ensures.wakes_exactly c.frames_are_taken.ensures
+    c.invocations_stand_alone.ensures.stand c.invocations_stand_alone.ensures.state g.S.Store c.args.events.items (subst (λ (es : List (Event g.row.H.Denot)). AllByRecursion FitsEvent es) all c.loop-event.invariant.fits) c.args.store c.loop-event.scheduler.store
+    (subst (λ (es : List (Event g.row.H.Denot)). Endures g.S.Store (AppliesFirst function c.args.options es) c.args.store c.loop-event.scheduler.store) all c.loop-event.invariant.crash)
 
 pub returns-clause-count : goal.returns-clause-count
 returns-clause-count g c =
     let h = c.into_iter-event-iterator.ensures.into_iter_gives in
-    let e = YieldsList-end (YieldsList-from_vec {s = c.into_iter-event-iterator.result} c.args.events.items h.0 (h.1 ∙ c.args.events.ok.0)) c.loop-event.yielded c.loop-event.event-iterator c.loop-event.yielded_by c.next.result c.next.new.self c.in-None.is c.next.ensures.steps in
-    let all : c.loop-event.yielded ≡ c.args.events.items = sym (map-id c.loop-event.yielded) ∙ e.0 in
+    let all = all_yielded c.into_iter-event-iterator.result c.args.events.items h.0 (h.1 ∙ c.args.events.ok.0) c.loop-event.yielded c.loop-event.event-iterator c.loop-event.yielded_by c.next.result c.next.new.self c.in-None.is c.next.ensures.steps in
     omega (arith, c.loop-event.invariant.count, c.loop-event.replies.ok.0, ap (λ (es : List (Event g.row.H.Denot)). length es) all)
 
 pub returns-clause-settled : goal.returns-clause-settled
 returns-clause-settled g c =
     let h = c.into_iter-event-iterator.ensures.into_iter_gives in
-    let e = YieldsList-end (YieldsList-from_vec {s = c.into_iter-event-iterator.result} c.args.events.items h.0 (h.1 ∙ c.args.events.ok.0)) c.loop-event.yielded c.loop-event.event-iterator c.loop-event.yielded_by c.next.result c.next.new.self c.in-None.is c.next.ensures.steps in
-    let all : c.loop-event.yielded ≡ c.args.events.items = sym (map-id c.loop-event.yielded) ∙ e.0 in
+    let all = all_yielded c.into_iter-event-iterator.result c.args.events.items h.0 (h.1 ∙ c.args.events.ok.0) c.loop-event.yielded c.loop-event.event-iterator c.loop-event.yielded_by c.next.result c.next.new.self c.in-None.is c.next.ensures.steps in
     subst (λ (es : List (Event g.row.H.Denot)). LeavesLasting g.H.Handler.next_call c.args.options g.S.Store es c.loop-event.replies.items c.args.store c.loop-event.scheduler) all c.loop-event.invariant.settled
