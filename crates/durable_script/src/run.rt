@@ -10,9 +10,7 @@ use crate::output::write_text;
 use crate::runner::Runner;
 use built_in_handlers::BuiltIn;
 use journal_store::Store;
-use schedule_runs::{
-    frames_are_taken, invocations_stand_alone, records_of_runs, schedules_leave,
-};
+use schedule_runs::{frames_are_taken, invocations_stand_alone, records_of_runs, schedules_leave};
 use script_lines::reading::read_script;
 use script_lines::script::ScriptLines;
 use sqlite::Alter;

@@ -1,13 +1,10 @@
 -- The input of an attempt is closed.
 use Rattle.std.proofs.Common.{◌≡◌, ◌⊎◌, inl, inr, ◌∙◌, ℕ, Bool, true, ◌++◌, map, Option, Some, None, Ok, refl, sym, ap, subst}
 use Rattle.std.specs.List.{AllByRecursion}
-use Rattle.protocol_errors.specs.Error.{plain_error}
-use Rattle.protocol_errors.specs.Fixed.{fixed_code, fixed_text}
-use Rattle.protocol_errors.specs.declared.fixed.FixedError.TheVariants.{InputClosedWhileWaitingEntries}
 use Rattle.vm_errors.specs.Phases.{kept_error}
 use Rattle.serving_laws.specs.Serving.{asking_by_text, kind_where, HasNotRead, HasRead, Serves}
-use Rattle.serving_laws.specs.Keeping.{StaysClosed, ClosesEarly, ClosesServing, WritesNothing}
-use Rattle.serving_laws.proofs.Notes.{TellsNotes, cause_tells, waits_more}
+use Rattle.serving_laws.specs.Keeping.{early_error, StaysClosed, ClosesEarly, ClosesServing, WritesNothing}
+use Rattle.serving_laws.proofs.Notes.{TellsNotes, cause_tells, fails_with, waits_more}
 use Rattle.serving_laws.proofs.Over.{waits_same}
 use Rattle.serving_laws.proofs.Phases.{stage}
 use Rattle.serving_laws.specs.Attempts.{ClosesUnless, Attempt, Finish}
@@ -16,9 +13,6 @@ use Rattle.serving_laws.specs.Machine.{Written, FailsNow, FailsAs, MachineState,
 use Rattle.serving_laws.specs.Reading.{start_told, Kind, kind_of, HasStarted}
 use Rattle.serving_laws.specs.Sending.{sent_stream, AllFit, frame_meant}
 use Rattle.serving_laws.specs.Words.{Error, Version, Handler, Invocation, Machine, LiveAttempt, HasReadJournal, untracked, childless, VMOptions, item_at, IsNote}
-
-abbrev early_error : Error
-early_error = plain_error (fixed_code InputClosedWhileWaitingEntries) (fixed_text InputClosedWhileWaitingEntries)
 
 closes_new : {H : Type 0} (over : Option Finish) (before after : Attempt H) → before.over ≡ over → before.over ≡ None → ClosesUnless over before after
     → ClosesMachine before.vm.state after.vm.state × (after ≡ record before { vm = after.vm })
@@ -106,7 +100,7 @@ module _ {H : Type 0} (function : H → Handler) (next : Handler) (version : Ver
     of_version : before.vm.state.active.output.version ≡ version
     of_version = ap (λ (w : Written). w.version) n.started.output
 
-    told : TellsNotes before.vm.state.active.output now.before
+    told : TellsNotes now.told before.vm.state.active.output now.before
     told =
         cause_tells before.vm.state.version before.vm.state.options.journal_mismatch_retry_behavior (Ok early_error) before.vm.state.active.output now.told now.before
         (ap (λ (w : Written). w.is_closed) n.started.output) now.tells
@@ -116,10 +110,12 @@ module _ {H : Type 0} (function : H → Handler) (next : Handler) (version : Ver
       unread = unread;
       error = now.told;
       failed = now.phase_is;
+      told = fails_with before.vm.state.version before.vm.state.options.journal_mismatch_retry_behavior early_error before.vm.state.active.output now.told now.before refl now.tells;
       sent = told.coming;
       fit = subst (λ (v : Version). AllFit v told.coming) of_version told.fit;
       output = waits_more version told.coming before after (ap (λ (a : Attempt H). a.front ++ a.behind) does.1) written;
       notes = subst (λ (v : Version). AllByRecursion IsNote (map (frame_meant v) told.coming)) of_version told.notes;
+      tells = told.tells;
     }
       where
         written : after.vm.state.active.output.bytes ≡ before.vm.state.active.output.bytes ++ sent_stream version told.coming

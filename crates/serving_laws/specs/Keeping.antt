@@ -1,15 +1,17 @@
 -- What an attempt keeps as it begins, as it is fed and closed, as what it has written is taken, and behind its end.
-use Rattle.std.specs.Prelude.{◌≡◌, ◌⊎◌, ℕ, Bool, true, false, List, [], ◌++◌, map, Result, Ok}
+use Rattle.std.specs.Prelude.{◌≡◌, ◌⊎◌, ℕ, Bool, true, false, List, [], ◌∷◌, ◌++◌, map, Result, Ok}
 use Rattle.std.specs.List.{AllByRecursion}
 use Rattle.std.specs.declared.alloc.AllocError.{AllocError}
+use Rattle.protocol_errors.specs.Fixed.{fixed_code, fixed_text}
+use Rattle.protocol_errors.specs.declared.fixed.FixedError.TheVariants.{InputClosedWhileWaitingEntries}
 use Rattle.vm_attempt.specs.Attempt.{ClosesInput}
 use Rattle.serving_laws.specs.Attempts.{IsBegun, Feeds, output_of, Shows, LetsGo, TakesOutput, Turns, Attempt, Turn}
 use Rattle.serving_laws.specs.Machine.phases
-use Rattle.serving_laws.specs.Machine.{out_of_memory}
+use Rattle.serving_laws.specs.Machine.{Written, IsTooLong, out_of_memory, told_error}
 use Rattle.serving_laws.specs.Reading.{CanBegin, IsRunOf}
-use Rattle.serving_laws.specs.Sending.{Sent, sent_stream, AllFit, frame_meant}
+use Rattle.serving_laws.specs.Sending.{Sent, Fails, sent_stream, AllFit, frame_meant}
 use Rattle.serving_laws.specs.Serving.{asking_by_text, IsFedBy, Serves, IsOver}
-use Rattle.serving_laws.specs.Words.{Error, Version, Bytes, Text, Handler, Invocation, Event, Frame, IsAccepted, InputMessage, FollowsSo, IsNote, AttemptStart, ShowsStart, LiveAttempt, IsLiveMachine, HasReadJournal, attempt_begun, handed_bytes, after_reading, run_options, VMOptions}
+use Rattle.serving_laws.specs.Words.{plain_error, internal, Error, Version, Bytes, Text, Handler, Invocation, Event, Frame, IsAccepted, InputMessage, FollowsSo, IsNote, AttemptStart, ShowsStart, LiveAttempt, IsLiveMachine, HasReadJournal, attempt_begun, handed_bytes, after_reading, run_options, VMOptions}
 pub use Rattle.beginning_laws.specs.Reading.{MayCome}
 
 -- as it is begun, once it has read its start frame
@@ -20,6 +22,18 @@ attempt_started start = record (attempt_begun start) { bytes = [] }
 abbrev pub NotesFollow : Type 0
 NotesFollow = (next : Handler) (given : Invocation) (id : Text) (events : List Event) (coming notes : List Frame) → FollowsSo next given id events coming → AllByRecursion IsNote notes
     → FollowsSo next given id events (coming ++ notes)
+
+-- what a machine fails with by an error, behind what it has written: that error, or, where its frame would be too long, one that says so
+abbrev pub FailsWith : Error → Written → (told : Error) → Type 0
+FailsWith error old told = (told ≡ error) ⊎ (IsTooLong error old × (told ≡ plain_error internal told.message))
+
+-- what it has written by that: the frame of what it fails with, and nothing where memory was refused
+abbrev pub TellsBy : (told : Error) → List Sent → Type 0
+TellsBy told sent = (sent ≡ Fails (told_error told) ∷ []) ⊎ ((told ≡ out_of_memory) × (sent ≡ []))
+
+-- what it fails with whose input is closed before its journal was read
+abbrev pub early_error : Error
+early_error = plain_error (fixed_code InputClosedWhileWaitingEntries) (fixed_text InputClosedWhileWaitingEntries)
 
 -- a turn of an attempt that is over
 abbrev pub IsLast : Turn → Type 0
@@ -77,15 +91,17 @@ module _ {H : Type 0} (function : H → Handler) (next : Handler) (version : Ver
     pub serves : Serves function next version options live true after
     pub nothing : WritesNothing before after
 
-  -- its journal was not read: it fails, and tells that where there is memory for it
+  -- its journal was not read: it fails with that, or for want of memory, and tells so where there is memory for it
   pub record ClosesEarly (live : LiveAttempt) (before after : Attempt H) : Type 0 where
     pub unread : HasReadJournal live → ⊥
     pub error : Error
     pub failed : after.vm.state.phase ≡ phases.Failed error
+    pub told : FailsWith early_error before.vm.state.active.output error ⊎ (error ≡ out_of_memory)
     pub sent : List Sent
     pub fit : AllFit version sent
     pub output : output_of after ≡ output_of before ++ sent_stream version sent
     pub notes : AllByRecursion IsNote (map (frame_meant version) sent)
+    pub tells : TellsBy error sent
 
   abbrev pub ClosesServing : Type 0
   ClosesServing = (id : Text) (events : List Event) (live : LiveAttempt) (is_closed : Bool) (before after : Attempt H) → IsLiveAt id events live

@@ -25,6 +25,8 @@ pub use Rattle.journal_model.specs.declared.options.RunOptions.{RunOptions}
 pub use Rattle.machine_laws.specs.Living.{attempt_begun, LiveAttempt, HasReadJournal, handed_bytes, after_reading, IsLiveMachine, after_turn}
 pub use Rattle.position_laws.specs.Beginning.{AttemptStart, ShowsStart}
 pub use Rattle.position_laws.specs.Reading.{entries_carried, with_messages, IsMachineAt, IsInRun}
+pub use Rattle.protocol_errors.specs.Code.{internal, unsupported_feature, journal_mismatch}
+pub use Rattle.protocol_errors.specs.Error.{plain_error}
 pub use Rattle.protocol_errors.specs.declared.error.Error.{Error}
 pub use Rattle.protocol_stream.specs.Item.{item_at, message}
 pub use Rattle.protocol_types.specs.Version.{version_content_type, version_number}

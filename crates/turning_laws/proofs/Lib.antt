@@ -7,5 +7,6 @@ pub mod Failing
 pub mod Refusing
 pub mod Turning
 pub mod Turns
+pub mod Matching
 pub mod Progress
 pub mod Passed

@@ -1,5 +1,5 @@
 -- A call that is none that is carried out: the machine fails for it, and nothing of the call is done.
-use Rattle.std.proofs.Common.{◌≡◌, ◌∙◌, inr, false, List, ◌++◌, map, sym, ap, subst}
+use Rattle.std.proofs.Common.{◌≡◌, ◌∙◌, inr, false, List, ◌++◌, map, refl, sym, ap, subst}
 use Rattle.std.specs.List.{AllByRecursion}
 use Rattle.serving_laws.specs.Serving.{HasRead, Serves, machine_failed}
 use Rattle.serving_laws.proofs.Covered.{covered_by_text}
@@ -24,7 +24,7 @@ module _ {H : Type 0} (function : H → Handler) (next : Handler) (version : Ver
   fails : FailsNow vm.version vm.options.journal_mismatch_retry_behavior refuses.told.cause vm.active.output refuses.told.fails.answer after.vm.state.phase after.vm.state.active.output
   fails = fails_now refuses.told.cause vm after.vm.state r.driven.phase refuses.told.fails
 
-  told : TellsNotes vm.active.output fails.before
+  told : TellsNotes fails.told vm.active.output fails.before
   told = cause_tells vm.version vm.options.journal_mismatch_retry_behavior refuses.told.cause vm.active.output fails.told fails.before r.driven.sees.opened fails.tells
 
   notes : AllByRecursion IsNote (map (frame_meant version) told.coming)
@@ -39,9 +39,12 @@ module _ {H : Type 0} (function : H → Handler) (next : Handler) (version : Ver
         (ap (λ (o : Written). o.bytes) fails.output ∙ told.written.bytes ∙ ap (λ (v : Version). vm.active.output.bytes ++ sent_stream v told.coming) of_output);
     follows = notes_follow next live.start.given id events live.coming (map (frame_meant version) told.coming) f notes;
     behind = (
-      inr (sym (ap (λ (cancellation : ImplicitCancellationOption). is_covered cancellation (function before.handler live.start.given.input before.answers)) s.cancellation
-          ∙ sym (covered_by_text options.implicit_cancellation (function before.handler live.start.given.input before.answers))
-          ∙ ap (λ (handler : Handler). is_covered options.implicit_cancellation (handler live.start.given.input before.answers)) s.handler) ∙ uncovered),
+      inr (
+        sym (ap (λ (cancellation : ImplicitCancellationOption). is_covered cancellation (function before.handler live.start.given.input before.answers)) s.cancellation
+            ∙ sym (covered_by_text options.implicit_cancellation (function before.handler live.start.given.input before.answers))
+            ∙ ap (λ (handler : Handler). is_covered options.implicit_cancellation (handler live.start.given.input before.answers)) s.handler) ∙ uncovered,
+        refl,
+      ),
       machine_failed fails.told fails.phase_is,
     );
   })

@@ -1,5 +1,9 @@
 -- Each turn of an attempt, by what its machine does.
-use Rattle.std.proofs.Common.{◌≡◌, ◌⊎◌, inl, inr, ◌∙◌, ℕ, suc, List, [], ◌∷◌, ◌++◌, map, Option, Some, sym, ap, subst}
+use Rattle.std.proofs.Common.{◌≡◌, ◌⊎◌, inl, inr, ◌∙◌, ℕ, suc, Bool, true, List, [], ◌∷◌, ◌++◌, map, Option, Some, refl, sym, ap, subst}
+use Rattle.std.proofs.Math.Path.{fun_ext}
+use Rattle.journal_model.specs.AwaitTree.{map_leaves}
+use Rattle.journal_model.specs.History.{stands_for}
+use Rattle.waking_laws.proofs.Awaits.{awaits_tell}
 use Rattle.serving_laws.specs.Serving.{asking_by_text, HasNumbers, HasRead, Serves, finished, machine_failed}
 use Rattle.serving_laws.specs.Keeping.{IsLiveAt}
 use Rattle.serving_laws.proofs.Notes.{notes_follow, waits_more}
@@ -7,14 +11,14 @@ use Rattle.serving_laws.specs.Attempts.finishes
 use Rattle.serving_laws.specs.Attempts.{output_of, FinishesBy, TakesAnswer, Attempt, Turn}
 use Rattle.serving_laws.specs.Machine.{MachineState, Written, out_of_memory, CoreVM, Answers, Waits, Suspends, Ends, Fails, NoMemory, IsDriven}
 use Rattle.serving_laws.specs.Reading.{Kind, kind_of}
-use Rattle.serving_laws.specs.Sending.{sent_stream, frame_meant}
-use Rattle.serving_laws.specs.Words.{item_at, Error, Version, Answer, Input, NotificationId, is_input_closed, AwaitTree, Event, answers_of, Text, Request, Handler, Progress, Waits as WaitsFor, run, arrivals_carried, requests_carried, Machine, AwaitsTree, LiveAttempt, after_turn, untracked, childless, VMOptions}
-use Rattle.turning_laws.specs.Turning.{RunComesTo, turns_answered, GoesOnWith, FailsBy, TurnsBehind, TurnKeeps}
+use Rattle.serving_laws.specs.Sending.{Sent, sent_stream, frame_meant}
+use Rattle.serving_laws.specs.Words.{item_at, Error, Version, Answer, Input, NotificationId, is_input_closed, AwaitTree, Event, Frame, answers_of, Text, Request, Handler, Progress, Waits as WaitsFor, run, arrivals_carried, requests_carried, Machine, Reply, AwaitsTree, LiveAttempt, after_turn, untracked, childless, VMOptions}
+use Rattle.turning_laws.specs.Turning.{RunComesTo, turns_answered, GoesOnWith, FailsBy, FailsFor, SuspendsWith, TurnsBehind, TurnKeeps}
 use Rattle.turning_laws.proofs.Failing.{fails_so}
 use Rattle.turning_laws.proofs.Now.{Now, call_of, reply_at}
 use Rattle.turning_laws.proofs.Stored.{sent_of_store, notes_of_store}
 use Rattle.turning_laws.proofs.Sending.{SendsFor, AnswersSo, answers_so, waits_behind, waits_written, waits_number, waits_send, suspends_send, ends_send}
-use Rattle.turning_laws.specs.Words.{AnswersNext, RepliesAsRun, goes_on}
+use Rattle.turning_laws.specs.Words.{slot_of, AnswersNext, RepliesAsRun, SendsReply, goes_on}
 
 module _ {H : Type 0} (function : H → Handler) (next : Handler) (version : Version) (options : VMOptions) (id : Text) (events : List Event) (live : LiveAttempt) (before : Attempt H)
     (l : IsLiveAt function next version options id events live) (s : Serves function next version options live (is_input_closed events id) before)
@@ -28,8 +32,8 @@ module _ {H : Type 0} (function : H → Handler) (next : Handler) (version : Ver
   same_answers : before.answers ≡ answers_of n.at.stands.steps
   same_answers = r.answers ∙ ap (λ (p : Progress). answers_of p.steps) n.at.stands.going
 
-  pub no_memory : FailsBy function next version options id events live before
-  no_memory = record { cause = NoMemory; own = tt; when = tt }
+  no_memory : (sent : List Sent) (after : Attempt H) → FailsFor function next version options id events live before out_of_memory sent after
+  no_memory sent after = record { cause = NoMemory; own = tt; when = tt; told = refl }
 
   -- the machine has made such a call, and nothing else has changed but what is said
   module _ (vm : CoreVM) (after : Attempt H) (front : after.front ++ after.behind ≡ before.front ++ before.behind) (state_is : after.vm.state ≡ vm.state) (sends : SendsHere vm.state.active.output) where
@@ -107,7 +111,7 @@ module _ {H : Type 0} (function : H → Handler) (next : Handler) (version : Ver
             let is = over.1 in
             subst (λ (t : Turn). Keeps t after) (sym over.0)
             (keeps_turn vm after (ap (λ (a : Attempt H). a.front ++ a.behind) is) (ap (λ (a : Attempt H). a.vm.state) is) so.sends (Turn.Failed out_of_memory)
-            (inl no_memory, finished finishes.OutOfMemory (ap (λ (a : Attempt H). a.over) is)))
+            (inl (no_memory so.sends.coming after), finished finishes.OutOfMemory (ap (λ (a : Attempt H). a.over) is)))
 
     -- what the run waits for
     run_waits : (tree : AwaitTree ℕ) (whole : Machine) → reply_at next live before.vm.state n.at ≡ AwaitsTree tree whole → whole.written ≡ live.machine.written
@@ -115,6 +119,21 @@ module _ {H : Type 0} (function : H → Handler) (next : Handler) (version : Ver
     run_waits tree whole e same =
         let waits = subst (RepliesAsRun next live.start.given (requests_carried live.read) (arrivals_carried live.read) live.calls) e n.as_run in
         (waits.ids, record { over = waits.waits; exactly = waits.exactly ∙ ap (λ (written : List Request). requests_carried live.read ++ written) same })
+
+    -- what is written where it is suspended
+    suspends_with : (tree : AwaitTree ℕ) (whole : Machine) → reply_at next live before.vm.state n.at ≡ AwaitsTree tree whole → whole.written ≡ live.machine.written
+        → (frames : List Frame) → SendsReply live.start.given.version true live.machine (AwaitsTree tree whole) frames → SuspendsWith next live frames
+    suspends_with tree whole e same frames (suspension, frames_are, tells) =
+        let waits = subst (RepliesAsRun next live.start.given (requests_carried live.read) (arrivals_carried live.read) live.calls) e n.as_run in
+        let handles : slot_of whole.slots ≡ stands_for (run next live.start.given (arrivals_carried live.read) live.calls).steps =
+        fun_ext (λ handle. waits.stands.tables.handles handle ∙ ap (λ (p : Progress). stands_for p.steps handle) (sym waits.stands.going)) in
+        record {
+          suspension = suspension;
+          frames_are = frames_are;
+          waits = awaits_tell next live.start.given (arrivals_carried live.read) live.calls (requests_carried live.read ++ live.machine.written) waits.ids (map_leaves (slot_of whole.slots) tree) suspension
+              (ap (λ (p : Progress). p.ending) n.at.stands.going) waits.waits (waits.exactly ∙ ap (λ (written : List Request). requests_carried live.read ++ written) same)
+              (ap (λ (leaf : ℕ → Option NotificationId). map_leaves leaf tree) handles ∙ waits.rest) tells;
+        }
 
     pub waiting : Waits (untracked live.start.given) (childless live.machine) (call_of next live n.at) before.vm.state vm.state → turn ≡ Turn.Waiting → after ≡ record before { vm = vm } → Keeps turn after
     waiting w is_turn is =
@@ -141,11 +160,17 @@ module _ {H : Type 0} (function : H → Handler) (next : Handler) (version : Ver
     suspended p over =
         let is = over.1 in
         let whole = waits_behind next version options id events live before.vm.state n p.tree p.machine p.replies in
+        let written = waits_written next version options id events live before.vm.state n p.tree p.machine p.replies in
+        let closed : is_input_closed events id ≡ true = sym (ap (λ (k : Kind). k.is_input_closed) n.kind) ∙ p.is_closed in
+        let sends = suspends_send next version options id events live before.vm.state n vm.state p in
         subst (λ (t : Turn). Keeps t after) (sym over.0)
-        (keeps_turn vm after (ap (λ (a : Attempt H). a.front ++ a.behind) is) (ap (λ (a : Attempt H). a.vm.state) is) (suspends_send next version options id events live before.vm.state n vm.state p) Turn.Suspended (
-          sym (ap (λ (k : Kind). k.is_input_closed) n.kind) ∙ p.is_closed,
-          run_waits p.tree whole.0 whole.1 (waits_written next version options id events live before.vm.state n p.tree p.machine p.replies),
+        (keeps_turn vm after (ap (λ (a : Attempt H). a.front ++ a.behind) is) (ap (λ (a : Attempt H). a.vm.state) is) sends Turn.Suspended (
+          closed,
+          run_waits p.tree whole.0 whole.1 written,
           finished finishes.Suspended (ap (λ (a : Attempt H). a.over) is),
+          suspends_with p.tree whole.0 whole.1 written (map (frame_meant version) sends.coming)
+              (subst (λ (b : Bool). SendsReply live.start.given.version b live.machine (AwaitsTree p.tree whole.0) (map (frame_meant version) sends.coming)) closed
+              (subst (λ (r : Reply). SendsReply live.start.given.version (is_input_closed events id) live.machine r (map (frame_meant version) sends.coming)) whole.1 sends.sends)),
         ))
 
     pub ended : Ends (untracked live.start.given) (childless live.machine) (call_of next live n.at) before.vm.state vm.state → FinishesBy finishes.Ended (record before { vm = vm }) turn after → Keeps turn after
@@ -157,6 +182,7 @@ module _ {H : Type 0} (function : H → Handler) (next : Handler) (version : Ver
         (keeps_turn vm after (ap (λ (a : Attempt H). a.front ++ a.behind) is) (ap (λ (a : Attempt H). a.vm.state) is) sends.3 Turn.Ended (
           record { over = ends.ended; exactly = ends.exactly ∙ ap (λ (written : List Request). requests_carried live.read ++ written) sends.2 },
           finished finishes.Ended (ap (λ (a : Attempt H). a.over) is),
+          subst (λ (r : Reply). SendsReply live.start.given.version (is_input_closed events id) live.machine r (map (frame_meant version) sends.3.coming)) sends.1 sends.3.sends,
         ))
 
     pub failed : (error : Error) → Fails (untracked live.start.given) (childless live.machine) (call_of next live n.at) before.vm.state error vm.state → turn ≡ Turn.Failed error → after ≡ record before { vm = vm } → Keeps turn after
@@ -169,5 +195,5 @@ module _ {H : Type 0} (function : H → Handler) (next : Handler) (version : Ver
           of_store = notes_of_store version so.coming so.notes;
           output = waits_more version so.coming before after (ap (λ (a : Attempt H). a.front ++ a.behind) is) (ap (λ (m : MachineState). m.active.output.bytes) state_is ∙ so.bytes);
           follows = notes_follow next live.start.given id events live.coming (map (frame_meant version) so.coming) n.follows so.notes;
-          behind = (inl (record { cause = so.cause; own = so.own; when = so.when }), machine_failed so.kept (ap (λ (m : MachineState). m.phase) state_is ∙ so.phase));
+          behind = (inl (subst (λ (m : MachineState). FailsBy next version live (next live.start.given.input before.answers) before.vm.state m error so.coming) (sym state_is) so.by), machine_failed so.kept (ap (λ (m : MachineState). m.phase) state_is ∙ so.phase));
         })

@@ -13,7 +13,7 @@ use Rattle.serving_laws.specs.Machine.outcomes
 use Rattle.serving_laws.specs.Machine.{MachineState, Written, out_of_memory, Phase, Comes, NoMemory, IsDriven, CallOutcome, IsReady}
 use Rattle.serving_laws.specs.Reading.{AnswersInput, RefusesInput, InputsAreAnswered}
 use Rattle.serving_laws.specs.Words.{item_at, Error, Version, Call, Input, is_input_closed, Event, Frame, answers_of, Text, Handler, run, arrivals_carried, FollowsSo, Machine, machine_at_start, with_messages, LiveAttempt, HasReadJournal, after_turn, untracked, childless, VMOptions}
-use Rattle.turning_laws.specs.Turning.{turns_answered, GoesOnWith, FailsBy, TurnsBehind, TurnKeeps, TurnServes}
+use Rattle.turning_laws.specs.Turning.{turns_answered, GoesOnWith, FailsFor, TurnsBehind, TurnKeeps, TurnServes}
 use Rattle.turning_laws.proofs.Now.{Now, call_of, tracks_none, now, called}
 use Rattle.turning_laws.proofs.Refusing.{refused}
 use Rattle.turning_laws.proofs.Turning.{answered, waiting, suspended, ended as has_ended, failed}
@@ -42,8 +42,8 @@ module _ {H : Type 0} (function : H → Handler) (next : Handler) (version : Ver
   abbrev Keeps : Turn → Type 0
   Keeps some = TurnKeeps function next version options id events live before some after
 
-  lacks_memory : FailsBy function next version options id events live before
-  lacks_memory = record { cause = NoMemory; own = tt; when = tt }
+  lacks_memory : FailsFor function next version options id events live before out_of_memory [] after
+  lacks_memory = record { cause = NoMemory; own = tt; when = tt; told = refl }
 
   silent : output_of after ≡ output_of before → (some : Turn) → TurnsBehind function next version options id events live before [] some after → Keeps some
   silent same some behind = record {

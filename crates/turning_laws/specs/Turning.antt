@@ -1,13 +1,17 @@
 -- What each turn of an attempt comes to: the run goes on by one answer, waits, has ended, or the attempt has failed for a cause.
 use Rattle.std.specs.Prelude.{◌≡◌, ◌⊎◌, ◌+◌, ℕ, suc, true, false, List, [], ◌∷◌, ◌++◌, map, length, Option, Some, None}
 use Rattle.std.specs.List.{AllByRecursion}
+use Rattle.journal_model.specs.Event.{Suspension, Frame}
 use Rattle.journal_model.specs.Run.{Handler, Invocation, Ending, Waits, RefusedCall, Ended, run, run_requests}
-use Rattle.serving_laws.specs.Attempts.{output_of, Turns, Attempt, Turn, is_covered}
+use Rattle.waking_laws.specs.Suspended.{WaitsAll}
+use Rattle.vm_awaits.specs.Views.{slots_of}
+use Rattle.vm_outcomes.specs.Causes.{CauseTells}
+use Rattle.serving_laws.specs.Attempts.{output_of, Turns, Attempt, Turn, is_covered, not_carried_out}
 use Rattle.serving_laws.specs.Serving.{Serves, IsOver}
-use Rattle.serving_laws.specs.Keeping.{IsLiveAt}
-use Rattle.serving_laws.specs.Machine.{Cause, ByFault, NoReplay, NoRuns, FailsWhen}
-use Rattle.serving_laws.specs.Sending.{Sent, sent_stream, AllFit, frame_meant, IsOfStore}
-use Rattle.serving_laws.specs.Words.{Version, Input, NotificationId, AwaitTree, Text, Arrival, Request, Event, is_input_closed, arrivals_carried, requests_carried, FollowsSo, Machine, Refused, LiveAttempt, HasReadJournal, after_turn, untracked, childless, VMOptions}
+use Rattle.serving_laws.specs.Keeping.{FailsWith, IsLiveAt}
+use Rattle.serving_laws.specs.Machine.{MachineState, out_of_memory, told_error, Cause, ByFault, NoReplay, NoRuns, NoMemory, FailsWhen}
+use Rattle.serving_laws.specs.Sending.{Sent, Fails, sent_stream, AllFit, frame_meant, IsOfStore}
+use Rattle.serving_laws.specs.Words.{internal, unsupported_feature, Error, Version, Call, Input, NotificationId, AwaitTree, Text, Arrival, Request, Event, is_input_closed, arrivals_carried, requests_carried, FollowsSo, Machine, Refused, LiveAttempt, HasReadJournal, after_turn, untracked, childless, VMOptions}
 use Rattle.turning_laws.specs.Words.{Queued}
 
 -- the run over these arrivals comes to this with one more call, with exactly these requests
@@ -24,6 +28,27 @@ IsOwnCause next given arrivals calls NoReplay = ⊥
 IsOwnCause next given arrivals calls NoRuns = ⊥
 IsOwnCause next given arrivals calls cause = Unit {0}
 
+-- what the machine fails with for this cause in a call, where it was the one before and is the other behind: want of memory is told as that, and
+-- each other cause by its error, of which the frame is sent
+abbrev pub IsToldAs : Version → LiveAttempt → Call → (old new : MachineState) → Cause → Error → List Sent → Type 0
+IsToldAs version live call old new NoMemory error sent = error ≡ out_of_memory
+IsToldAs version live call old new cause error sent =
+    (told : Error) × CauseTells version live.start.given.input.invocation_id live.machine.left new.active.journal (slots_of new.active.results) call cause told
+    × FailsWith told old.active.output error × (sent ≡ Fails (told_error error) ∷ [])
+
+-- there is a cause for which the machine does not carry out this call, and this error tells it
+pub record FailsBy (next : Handler) (version : Version) (live : LiveAttempt) (call : Call) (old new : MachineState) (error : Error) (sent : List Sent) : Type 0 where
+  pub cause : Cause
+  pub own : IsOwnCause next live.start.given (arrivals_carried live.read) live.calls cause
+  pub when : FailsWhen (untracked live.start.given) (childless live.machine) call old cause
+  pub told : IsToldAs version live call old new cause error sent
+
+-- one frame is sent: a suspension, which tells what the run over the arrivals read still waits for
+pub record SuspendsWith (next : Handler) (live : LiveAttempt) (frames : List Frame) : Type 0 where
+  pub suspension : Suspension
+  pub frames_are : frames ≡ Frame.Suspend (Some suspension) ∷ []
+  pub waits : WaitsAll next live.start.given (arrivals_carried live.read) (requests_carried live.read ++ live.machine.written) (Some suspension)
+
 -- how many turns have answered something: the first reads the input, and each further one answers a call
 abbrev pub turns_answered : Option Input → (calls : ℕ) → ℕ
 turns_answered None calls = calls
@@ -39,11 +64,9 @@ module _ {H : Type 0} (function : H → Handler) (next : Handler) (version : Ver
     abbrev pub RunComes : Ending → Type 0
     RunComes ending = RunComesTo next live.start.given (arrivals_carried live.read) live.calls (requests_carried live.read ++ live.machine.written) ending
 
-    -- there is a cause for which its machine does not carry out the call that the handler makes next
-    pub record FailsBy : Type 0 where
-      pub cause : Cause
-      pub own : IsOwnCause next live.start.given (arrivals_carried live.read) live.calls cause
-      pub when : FailsWhen (untracked live.start.given) (childless live.machine) (next live.start.given.input before.answers) before.vm.state cause
+    -- its machine does not carry out the call that the handler makes next
+    abbrev pub FailsFor : Error → List Sent → (after : Attempt H) → Type 0
+    FailsFor error sent after = FailsBy next version live (next live.start.given.input before.answers) before.vm.state after.vm.state error sent
 
     -- that call is none that is carried out: it asks for what no store records so far, or awaits what no frame can tell
     abbrev pub IsUncovered : Type 0
@@ -53,16 +76,18 @@ module _ {H : Type 0} (function : H → Handler) (next : Handler) (version : Ver
     abbrev pub MayWait : Type 0
     MayWait = (HasReadJournal live → ⊥) ⊎ ((is_input_closed events id ≡ false) × ((tree : AwaitTree (Option NotificationId)) × RunComes (Waits tree)))
 
-    -- where it goes on it is live behind the turn, one answer later where it was answered; else it is over
+    -- where it goes on it is live behind the turn, one answer later where it was answered; else it is over, and what it has written or answered
+    -- tells why
     abbrev pub TurnsBehind : List Sent → Turn → (after : Attempt H) → Type 0
     TurnsBehind sent Turn.Answered after =
         (calls : ℕ) × (machine : Machine) × (turns_answered after.input calls ≡ suc (turns_answered before.input live.calls))
         × GoesOnWith (after_turn live (map (frame_meant version) sent) calls machine) after
     TurnsBehind sent Turn.Waiting after =
         MayWait × ((machine : Machine) × GoesOnWith (after_turn live (map (frame_meant version) sent) live.calls machine) after × (after.input ≡ before.input))
-    TurnsBehind sent Turn.Suspended after = (is_input_closed events id ≡ true) × ((tree : AwaitTree (Option NotificationId)) × RunComes (Waits tree)) × IsOver after
-    TurnsBehind sent Turn.Ended after = RunComes Ended × IsOver after
-    TurnsBehind sent (Turn.Failed error) after = (FailsBy ⊎ IsUncovered) × IsOver after
+    TurnsBehind sent Turn.Suspended after =
+        (is_input_closed events id ≡ true) × ((tree : AwaitTree (Option NotificationId)) × RunComes (Waits tree)) × IsOver after × SuspendsWith next live (map (frame_meant version) sent)
+    TurnsBehind sent Turn.Ended after = RunComes Ended × IsOver after × (map (frame_meant version) sent ≡ Frame.End ∷ [])
+    TurnsBehind sent (Turn.Failed error) after = (FailsFor error sent after ⊎ (IsUncovered × (error ≡ not_carried_out))) × IsOver after
 
     -- what a turn has written are frames of the run, which the store reads as what they are meant as
     pub record TurnKeeps (turn : Turn) (after : Attempt H) : Type 0 where
@@ -80,6 +105,13 @@ module _ {H : Type 0} (function : H → Handler) (next : Handler) (version : Ver
       → FollowsSo next live.start.given id events live.coming → IsLiveAt function next version options id events live
       → Serves function next version options live (is_input_closed events id) before → Turns function before turn after
       → TurnKeeps function next version options id events live before turn after
+
+  -- an attempt whose turn fails is told of an internal error, or of what is not supported; so never that its journal does not match
+  abbrev pub TurnsMatch : Type 0
+  TurnsMatch = (id : Text) (events : List Event) (live : LiveAttempt) (before : Attempt H) (error : Error) (after : Attempt H) → options.signal_delivery ≡ Queued
+      → FollowsSo next live.start.given id events live.coming → IsLiveAt function next version options id events live
+      → Serves function next version options live (is_input_closed events id) before → Turns function before (Turn.Failed error) after
+      → (error.code.0 ≡ internal) ⊎ (error.code.0 ≡ unsupported_feature)
 
   -- ---- turns one after the other, the first first
 
@@ -106,6 +138,9 @@ module _ {H : Type 0} (function : H → Handler) (next : Handler) (version : Ver
 module _ {H : Type 0} (function : H → Handler) where
   abbrev pub TurnsKeep : Type 0
   TurnsKeep = (next : Handler) (version : Version) (options : VMOptions) → TurnServes function next version options
+
+  abbrev pub TurnsNeverMismatch : Type 0
+  TurnsNeverMismatch = (next : Handler) (version : Version) (options : VMOptions) → TurnsMatch function next version options
 
   abbrev pub TurnsProgress : Type 0
   TurnsProgress = (next : Handler) (version : Version) (options : VMOptions) → TurnsAnswer function next version options

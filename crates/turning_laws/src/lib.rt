@@ -2,7 +2,7 @@
 //! nothing: its contract is the law.
 #![tactic(auto)]
 
-ghost use Rattle.turning_laws.specs.Turning.{TurnsKeep, TurnsProgress};
+ghost use Rattle.turning_laws.specs.Turning.{TurnsKeep, TurnsNeverMismatch, TurnsProgress};
 
 use journal_model::Handler;
 use machine_laws::{journals_stand, machines_keep_on};
@@ -12,14 +12,21 @@ pub use serving_laws::{
 };
 
 /// Answered continues the run by one answer, or reads the input; Waiting comes only where the journal was not read, or the run waits and
-/// more can come; Suspended and Ended come where the run waits or has ended with exactly its requests; Failed has a cause. What was
-/// written are frames of the run.
+/// more can come; Suspended and Ended come where the run waits or has ended with exactly its requests, and are written; Failed has a cause,
+/// and tells it. What was written are frames of the run.
 pub fn turns_keep<H: Handler>()
     ensures { TurnsKeep H.next_call }
 {
     journals_stand();
     machines_keep_on();
     inputs_are_answered();
+}
+
+/// A turn fails with an internal error, or for what is not supported: never since the journal is not that of the run.
+pub fn turns_never_mismatch<H: Handler>()
+    ensures { TurnsNeverMismatch H.next_call }
+{
+    turns_keep::<H>();
 }
 
 /// With the journal read and the input closed each of any number of turns answers, or the attempt is over.
