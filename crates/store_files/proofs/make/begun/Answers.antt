@@ -1,4 +1,4 @@
-use Rattle.std.proofs.Common.{◌≡◌, subst, rules, IsTrue}
+use Rattle.std.proofs.Common.{◌≡◌, ℕ, subst, rules, IsTrue}
 use Rattle.sqlite_wal.specs.PageSize.{bytes_of}
 use Rattle.sqlite_pool.specs.Opening.{IsBlankFile}
 use Rattle.sqlite.specs.Files.{image_of}
@@ -8,5 +8,7 @@ pub returns : goal.returns
 returns g c =
     let size : bytes_of c.unwrap-size.result ≡ 1024 = search rules in
     let is_blank : IsTrue c.in-Ok.is_blank = search rules in
-    let blank = λ clean. subst (λ n. IsBlankFile n (image_of g.D.Disk c.args.files)) size ((c.in-Ok.ensures.ok (c.with_database.ensures.honest clean)).0 is_blank) in
-    record { spared = λ clean something. absurd (something (blank clean)) }
+    record {
+      spared = λ clean something.
+          absurd (something (subst (λ (n : ℕ). IsBlankFile n (image_of g.D.Disk c.args.files)) size ((c.in-Ok.ensures.ok (c.with_database.ensures.honest clean)).0 is_blank)));
+    }
