@@ -28,6 +28,7 @@ waits None = None
 waits (Some n) = Some []
 
 alike : (o : Option ℕ) → is_some (waits o) ≡ is_some o
+unfolding waits
 alike None = refl
 alike (Some n) = refl
 
@@ -36,6 +37,7 @@ standing_of events accepted = record { events = events; accepted = accepted; out
 
 pub calls_leave : {S : Type 0} (g : Ghosts S) (Relation : Standing → Standing → Type 0) (event : Event) → ((s t : Standing) → Relation s t → t.events ≡ event ∷ s.events)
     → CallsLeave g Relation event
+unfolding standing_of
 calls_leave g Relation event adds lists events old new store lives clean before =
     left_by lists ((event ∷ events) ∷ lists) (state g old.connection) (state g new.connection) _ lives clean before (with_one lists (event ∷ events)) (λ trees keeps.
     let it = keeps (standing_of events store.accepted) store in
