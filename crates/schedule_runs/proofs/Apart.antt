@@ -1,10 +1,10 @@
 -- Beside all accepted events go those that an invocation would have been told, had only its own events and the ticks come since.
-use Rattle.std.proofs.Common.{◌≡◌, refl, sym, ap, subst, ◌∙◌, Bool, true, false, ◌||◌, if◌then◌else◌, List, [], ◌∷◌, ◌++◌, Option, Some, None, bytes_eq}
+use Rattle.std.proofs.Common.{◌≡◌, refl, sym, ap, subst, ◌∙◌, Bool, true, false, ◌||◌, if◌then◌else◌, List, [], ◌∷◌, ◌++◌, Option, Some, None}
 use Rattle.std.specs.List.{AllByRecursion}
 use Rattle.journal_model.specs.Notification.{Text}
 use Rattle.journal_model.specs.Run.{Handler}
 use Rattle.journal_model.specs.Event.{Event}
-use Rattle.journal_model.specs.Journal.{begins, invocation_of, is_of, is_text, is_tick, starting_state, view_of}
+use Rattle.journal_model.specs.Journal.{begins, is_of, is_text, is_tick, starting_state, view_of}
 use Rattle.journal_model.specs.Cause.{IsAccepted}
 use Rattle.vm_types.specs.declared.options.VMOptions.{VMOptions}
 use Rattle.schedule_laws.specs.Isolation.{AllStandAlone, AllStatesAlone, IsAlike}

@@ -1,6 +1,9 @@
 -- What a schedule answers and leaves.
 use Rattle.std.specs.Prelude.{◌≡◌, ◌≢◌, ◌⊎◌, Bool, true, false, if◌then◌else◌, List, [], ◌∷◌, ◌++◌, Option, Some, None, bytes_eq}
 use Rattle.std.specs.List.{AllByRecursion}
+use Rattle.sqlite_trees.specs.declared.store.Store.{Ghosts}
+use Rattle.sqlite.specs.Held.{state}
+use Rattle.sqlite.specs.State.{HasCleanDisk}
 use Rattle.journal_model.specs.Notification.{Text}
 use Rattle.journal_model.specs.declared.invocation.NewInvocation.{NewInvocation}
 use Rattle.journal_model.specs.Event.{Event}
@@ -11,7 +14,7 @@ use Rattle.journal_model.specs.Run.{Handler}
 use Rattle.vm_types.specs.Options.{run_options}
 use Rattle.vm_types.specs.declared.options.VMOptions.{VMOptions}
 use Rattle.journal_store.specs.Stored.{Stored}
-use Rattle.journal_store.specs.Stands.{IsStanding, KeepsAll, Outlasts}
+use Rattle.journal_store.specs.Stands.{IsStanding, Outlasts}
 use Rattle.store_calls.specs.Standing.{Standing}
 use Rattle.store_refusals.specs.declared.refusal.Refusal.{Refusal}
 use Rattle.store_refusals.specs.Refused.{is_circumstance}
