@@ -1,5 +1,5 @@
 -- A handler as a function: its next call, by what the calls before were answered.
-use Rattle.std.specs.Prelude.{ℕ, List, [], ◌∷◌, None, codes}
+use Rattle.std.specs.Prelude.{ℕ, false, [], ◌∷◌, None, codes}
 use Rattle.journal_model.specs.declared.value.NonEmptyValue.{NonEmptyValue}
 use Rattle.journal_model.specs.AwaitTree.{Single}
 use Rattle.journal_model.specs.declared.call.Call.{Call}

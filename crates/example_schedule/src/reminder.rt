@@ -1,5 +1,6 @@
 //! A handler of one's own.
 ghost use Rattle.std.specs.Prelude.{◌≡◌};
+ghost use Rattle.example_schedule.specs.Reminder as reminding;
 
 use bytes::{ByteStr, Bytes};
 use schedule_runs::{
@@ -13,7 +14,7 @@ use std::alloc::AllocError;
 pub struct Reminder;
 
 fn sleep_of(answer: &Answer) -> NotificationHandle
-    ensures { result ≡ crate::specs::Reminder::sleep_of answer.now }
+    ensures { result ≡ reminding.sleep_of answer.now }
 {
     match answer {
         Answer::Handle(handle) => *handle,
