@@ -6,7 +6,8 @@ use Rattle.journal_model.specs.State.{StateMap}
 use Rattle.journal_model.specs.declared.invocation.NewInvocation.{NewInvocation}
 use Rattle.journal_model.specs.Event.{Suspension, Frame, Event}
 use Rattle.journal_model.specs.Headline.{IsIsolated}
-use Rattle.journal_model.specs.Attempt.{is_none, is_woken, arrivals_within, is_due, Piece, ends_live, live_attempt, journal_pieces, later_pieces, acknowledged, event_pieces, input_from, input_bytes, handed_after, handed_from, suspension_in, or_before, suspension_of, begins_attempt, attempts_begun, bytes_asked}
+use Rattle.journal_model.specs.Attempt.{is_none, is_woken, arrivals_within, is_due, Piece, ends_live, live_attempt, journal_pieces, later_pieces, acknowledged, event_pieces, input_from, input_pieces, input_bytes, handed_after, handed_from, bytes_handed, suspension_in, or_before, suspension_of, begins_attempt, attempts_begun, bytes_asked, closes_input, is_input_closed}
+use Rattle.journal_model.specs.Start.{is_some_entry, moment_begun, begun_since_entry, attempts_since_entry}
 use Rattle.journal_model.specs.Journal.{entries_of, starting_state, Entry, entries_added, arrivals_in, version_of, is_of, is_tick, view_of, invoked_by, invocation_begun, closes, frame_of, frames_of, is_open, entries_of_event, entries_from}
 
 -- a list filtered by one of two tests, and then by the first
@@ -171,6 +172,37 @@ module _ (id : Text) where
       by_cases false e true h = kept h
       by_cases false e false h = rw (is_of-begins event e, no_suspension event e) h
 
+  is_input_closed-view : (events : List Event) → is_input_closed (view_of id events) id ≡ is_input_closed events id
+  is_input_closed-view [] = refl
+  is_input_closed-view (event ∷ events) = by_cases (is_of id event) refl (is_tick event) (is_input_closed-view events)
+    where
+      kept : is_input_closed (view_of id events) id ≡ is_input_closed events id → is_input_closed (event ∷ view_of id events) id ≡ is_input_closed (event ∷ events) id
+      kept h = ap (λ (b : Bool). if begins_attempt id event then false else ((is_of id event && closes_input event) || b)) h
+
+      by_cases : (a : Bool) → is_of id event ≡ a → (b : Bool) → is_input_closed (view_of id events) id ≡ is_input_closed events id
+          → is_input_closed (if a || b then event ∷ view_of id events else view_of id events) id ≡ is_input_closed (event ∷ events) id
+      by_cases true e b h = kept h
+      by_cases false e true h = kept h
+      by_cases false e false h = rw (is_of-begins event e, e) h
+
+  begun_since_entry-view : (start : StateMap) (events : List Event) → begun_since_entry start (view_of id events) id ≡ begun_since_entry start events id
+  begun_since_entry-view start [] = refl
+  begun_since_entry-view start (event ∷ events) = by_cases (is_of id event) refl (is_tick event) refl (begun_since_entry-view start events)
+    where
+      added : entries_added start (view_of id events) id event (entries_from start (view_of id events) id) ≡ entries_added start events id event (entries_from start events id)
+      added =
+          ap₂ (λ (opened : Bool) (entries : List Entry). if is_of id event || (is_tick event && opened) then entries_of_event start entries event else [])
+          (is_open-view events) (entries_from-view start events)
+
+      kept : begun_since_entry start (view_of id events) id ≡ begun_since_entry start events id → begun_since_entry start (event ∷ view_of id events) id ≡ begun_since_entry start (event ∷ events) id
+      kept h = ap₂ (λ (entries : List Entry) (moments : List ℕ). if is_some_entry entries then [] else moments ++ (if is_of id event then moment_begun event else [])) added h
+
+      by_cases : (a : Bool) → is_of id event ≡ a → (b : Bool) → is_tick event ≡ b → begun_since_entry start (view_of id events) id ≡ begun_since_entry start events id
+          → begun_since_entry start (if a || b then event ∷ view_of id events else view_of id events) id ≡ begun_since_entry start (event ∷ events) id
+      by_cases true e b f h = kept h
+      by_cases false e true f h = kept h
+      by_cases false e false f h = rw (e, f) (h ∙ sym (append-nil (begun_since_entry start events id)))
+
   module _ (events others : List Event) (views : view_of id events ≡ view_of id others) (starts : starting_state events id ≡ starting_state others id) where
     -- what is the same of a view is the same of two lists with one view
     carried : {A : Type 0} (read : StateMap → List Event → A) → ((start : StateMap) (some : List Event) → read start (view_of id some) ≡ read start some)
@@ -195,6 +227,33 @@ module _ (id : Text) where
         (ap₂ arrivals_within (carried (λ start some. input_from start some id) input_from-view) (carried (λ start some. handed_from start some id) handed_from-view))
         (ap arrivals_in same_entries))
         (carried (λ start some. suspension_of some id) (λ start some. suspension_of-view some))))
+
+-- what two lists of events tell of an invocation and of its last attempt is the same
+pub record IsToldAlike (events others : List Event) (id : Text) : Type 0 where
+  pub begun : invocation_begun events id ≡ invocation_begun others id
+  pub openness : is_open events id ≡ is_open others id
+  pub start : starting_state events id ≡ starting_state others id
+  pub entries : entries_of events id ≡ entries_of others id
+  pub attempts : attempts_begun events id ≡ attempts_begun others id
+  pub live : live_attempt events id ≡ live_attempt others id
+  pub input : input_pieces events id ≡ input_pieces others id
+  pub handed : bytes_handed events id ≡ bytes_handed others id
+  pub input_closed : is_input_closed events id ≡ is_input_closed others id
+  pub moments : attempts_since_entry events id ≡ attempts_since_entry others id
+
+pub told_alike : (events others : List Event) (id : Text) → view_of id events ≡ view_of id others → starting_state events id ≡ starting_state others id → IsToldAlike events others id
+told_alike events others id views starts = record {
+  begun = carried id events others views starts (λ start some. invocation_begun some id) (λ start some. invocation_begun-view id some);
+  openness = same_open id events others views starts;
+  start = starts;
+  entries = same_entries id events others views starts;
+  attempts = carried id events others views starts (λ start some. attempts_begun some id) (λ start some. attempts_begun-view id some);
+  live = carried id events others views starts (λ start some. live_attempt some id) (λ start some. live_attempt-view id some);
+  input = carried id events others views starts (λ start some. input_from start some id) (input_from-view id);
+  handed = carried id events others views starts (λ start some. handed_from start some id) (handed_from-view id);
+  input_closed = carried id events others views starts (λ start some. is_input_closed some id) (λ start some. is_input_closed-view id some);
+  moments = carried id events others views starts (λ start some. begun_since_entry start some id) (begun_since_entry-view id);
+}
 
 pub isolated : (events others : List Event) (id : Text) → IsIsolated events others id
 isolated events others id views starts = (same_entries id events others views starts, same_open id events others views starts, same_due id events others views starts)

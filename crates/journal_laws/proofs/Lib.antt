@@ -6,6 +6,7 @@ pub mod WakingRows
 pub mod Leaving
 pub mod Pruning
 pub mod Isolation
+pub mod Refusing
 pub mod Applying
 pub mod ObjectState
 pub mod Asking

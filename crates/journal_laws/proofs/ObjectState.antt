@@ -7,7 +7,7 @@ use Rattle.journal_model.specs.Request.{Request}
 use Rattle.journal_model.specs.State.{StateMap, state_after}
 use Rattle.journal_model.specs.declared.invocation.NewInvocation.{NewInvocation}
 use Rattle.journal_model.specs.Event.{Frame, Event}
-use Rattle.journal_model.specs.Journal.{Entry, Recorded, Arrived, is_text, is_of, is_tick, invoked_by, invocation_begun, closes, frame_of, frames_of, is_open, is_busy, request_of_frame, object_of, requests_for, object_state, starting_state, requests_in, slept, read_answer, entries_of_event, entries_added, entries_from, recorded_requests}
+use Rattle.journal_model.specs.Journal.{Entry, Recorded, Arrived, invocation_of, is_text, is_of, is_tick, invoked_by, invocation_begun, closes, frame_of, frames_of, is_open, is_busy, request_of_frame, object_of, requests_for, object_state, starting_state, requests_in, slept, read_answer, entries_of_event, entries_added, entries_from, entries_of, recorded_requests}
 use Rattle.journal_model.specs.Cause.{Cause, Tests, those_that_hold, open_tests, own_tests, causes_of, IsAccepted}
 use Rattle.journal_laws.proofs.Applying.{state_after-append}
 
@@ -275,27 +275,49 @@ pub requests_if : (b : Bool) (entries : List Entry) → requests_in (if b then e
 requests_if true entries = refl
 requests_if false entries = refl
 
--- what an event records for an object is what it records for the object's open invocation
-same_requests : (earlier : List Event) → IsAccepted earlier → (event : Event) → causes_of earlier event ≡ [] → invoked_by event ≡ None → (id object : Text)
-    → is_open earlier id ≡ true → object_in earlier id ≡ Some object → (start : StateMap) (entries : List Entry)
+-- what an event records for an object is what it records for an invocation, where a frame is one of the one exactly if it is one of the other
+requests_alike : (earlier : List Event) (event : Event) → invoked_by event ≡ None → (id object : Text)
+    → ((other : Text) → invocation_of event ≡ Some other → is_text object (object_in earlier other) ≡ bytes_eq other id) → (start : StateMap) (entries : List Entry)
     → requests_for object earlier event ≡ requests_in (entries_added start earlier id event entries)
 unfolding object_in
-same_requests earlier accepted (Event.Take other attempt frame) causes e id object opened is start entries =
-    ap (λ (b : Bool). if b then request_of_frame (Some frame) else [])
-    (same_test earlier accepted other id object
-    (open_when_accepted earlier (Event.Take other attempt frame) other refl ((bytes_eq-Decides other other).1 refl) causes) opened is
-    ∙ sym (or-false_right (bytes_eq other id) (is_open earlier id)))
+requests_alike earlier (Event.Take other attempt frame) e id object test start entries =
+    ap (λ (b : Bool). if b then request_of_frame (Some frame) else []) (test other refl ∙ sym (or-false_right (bytes_eq other id) (is_open earlier id)))
     ∙ sym (requests_if (bytes_eq other id || (false && is_open earlier id)) (entries_of_event start entries (Event.Take other attempt frame))
     ∙ ap (λ (requests : List Request). if bytes_eq other id || (false && is_open earlier id) then requests else []) (requests_of_event start entries (Event.Take other attempt frame)))
-same_requests earlier accepted event causes e id object opened is start entries =
+requests_alike earlier event e id object test start entries =
     both_nothing (is_text object (object_of earlier event))
     ∙ sym (requests_if (is_of id event || (is_tick event && is_open earlier id)) (entries_of_event start entries event)
     ∙ ap (λ (requests : List Request). if is_of id event || (is_tick event && is_open earlier id) then requests else []) (requests_of_event start entries event)
     ∙ both_nothing (is_of id event || (is_tick event && is_open earlier id)))
 
+of_its_own : (event : Event) (other : Text) → invocation_of event ≡ Some other → is_of other event ≡ true
+of_its_own event other is = ap (is_text other) is ∙ (bytes_eq-Decides other other).1 refl
+
+-- so it is of the object's open invocation
+same_requests : (earlier : List Event) → IsAccepted earlier → (event : Event) → causes_of earlier event ≡ [] → invoked_by event ≡ None → (id object : Text)
+    → is_open earlier id ≡ true → object_in earlier id ≡ Some object → (start : StateMap) (entries : List Entry)
+    → requests_for object earlier event ≡ requests_in (entries_added start earlier id event entries)
+same_requests earlier accepted event causes e id object opened is =
+    requests_alike earlier event e id object
+    (λ other of. same_test earlier accepted other id object (open_when_accepted earlier event other e (of_its_own event other of) causes) opened is)
+
 pub none_of : (o : Option NewInvocation) → is_some o ≡ false → o ≡ None
 none_of None e = refl
 none_of (Some new) e = cc
+
+-- one more event, which records for the object what it records for the invocation
+state_goes_on : (event : Event) (earlier : List Event) → invoked_by event ≡ None → (id object : Text)
+    → object_state earlier object ≡ state_after (recorded_requests earlier id) (starting_state earlier id)
+    → requests_for object earlier event ≡ requests_in (entries_added (starting_state earlier id) earlier id event (entries_of earlier id))
+    → object_state (event ∷ earlier) object ≡ state_after (recorded_requests (event ∷ earlier) id) (starting_state (event ∷ earlier) id)
+state_goes_on (Event.Invoke new) earlier e id object before records = cc
+state_goes_on event earlier e id object before records =
+    let start = starting_state earlier id in
+    let entries = entries_of earlier id in
+    ap (state_after (requests_for object earlier event)) before
+    ∙ sym (state_after-append (requests_in entries) (requests_for object earlier event) start)
+    ∙ ap (λ (added : List Request). state_after (requests_in entries ++ added) start) records
+    ∙ ap (λ (all : List Request). state_after all start) (sym (requests_in-append entries (entries_added start earlier id event entries)))
 
 -- while an invocation is open its object's state is what its requests make of the state at its start
 state_kept : (events : List Event) → IsAccepted events → (id object : Text) → is_open events id ≡ true → object_in events id ≡ Some object
@@ -326,17 +348,47 @@ state_kept (Event.Invoke new ∷ earlier) accepted id object opened is =
         later o i
         ∙ ap (λ (entries : List Entry). state_after (requests_in entries) (starting_state earlier id)) (sym (append-nil (entries_from (starting_state earlier id) earlier id)))
 state_kept (event ∷ earlier) accepted id object opened is =
-    let start = starting_state earlier id in
-    let entries = entries_from (starting_state earlier id) earlier id in
     let opened_before : is_open earlier id ≡ true = open_before event earlier id refl opened in
     let is_before : object_in earlier id ≡ Some object = sym (object_in-before event earlier id refl) ∙ is in
-    ap (state_after (requests_for object earlier event)) (state_kept earlier accepted.1 id object opened_before is_before)
-    ∙ sym (state_after-append (requests_in entries) (requests_for object earlier event) start)
-    ∙ ap (λ (added : List Request). state_after (requests_in entries ++ added) start) (same_requests earlier accepted.1 event accepted.0 refl id object opened_before is_before start entries)
-    ∙ ap (λ (all : List Request). state_after all start) (sym (requests_in-append entries (entries_added start earlier id event entries)))
+    state_goes_on event earlier refl id object (state_kept earlier accepted.1 id object opened_before is_before)
+    (same_requests earlier accepted.1 event accepted.0 refl id object opened_before is_before (starting_state earlier id) (entries_of earlier id))
 
 pub state_of_open : (events : List Event) (new : NewInvocation) → IsAccepted events → invocation_begun events new.id ≡ Some new → is_open events new.id ≡ true
     → object_state events new.object ≡ state_after (recorded_requests events new.id) (starting_state events new.id)
 unfolding object_in
 state_of_open events new accepted is opened =
     state_kept events accepted new.id new.object opened (ap (λ (o : Option NewInvocation). option_map (λ (begun : NewInvocation). begun.object) o) is)
+
+-- ---- behind which only its own events and ticks come
+
+-- while it is open its object's state is what its recorded requests make of the state at its start
+abbrev pub StateFollowed : List Event → Text → Type 0
+StateFollowed events id = (new : NewInvocation) → invocation_begun events id ≡ Some new → is_open events id ≡ true
+    → object_state events new.object ≡ state_after (recorded_requests events id) (starting_state events id)
+
+pub accepted_followed : (events : List Event) → IsAccepted events → (id : Text) → StateFollowed events id
+unfolding object_in
+accepted_followed events accepted id new is opened =
+    state_kept events accepted id new.object opened (ap (λ (o : Option NewInvocation). option_map (λ (begun : NewInvocation). begun.object) o) is)
+
+named_no_tick : (event : Event) (other : Text) → invocation_of event ≡ Some other → is_tick event ≡ false
+named_no_tick (Event.Tick now) other is = cc
+named_no_tick event other is = refl
+
+first_holds : (a b : Bool) → b ≡ false → (a || b) ≡ true → a ≡ true
+first_holds true b e f = refl
+first_holds false b e f = sym e ∙ f
+
+-- one of its own, or a tick
+pub own_followed : (event : Event) (events : List Event) (id : Text) → invoked_by event ≡ None → (is_of id event || is_tick event) ≡ true → StateFollowed events id → StateFollowed (event ∷ events) id
+unfolding object_in
+own_followed event events id e own before new is opened =
+    let is_before : invocation_begun events id ≡ Some new = sym (begun_before event events id e) ∙ is in
+    let object_is : object_in events id ≡ Some new.object = ap (λ (o : Option NewInvocation). option_map (λ (begun : NewInvocation). begun.object) o) is_before in
+    state_goes_on event events e id new.object (before new is_before (open_before event events id e opened))
+    (requests_alike events event e id new.object (λ other of. of_object other of object_is) (starting_state events id) (entries_of events id))
+  where
+    of_object : (other : Text) → invocation_of event ≡ Some other → object_in events id ≡ Some new.object → is_text new.object (object_in events other) ≡ bytes_eq other id
+    of_object other of object_is =
+        let of_id : bytes_eq other id ≡ true = sym (ap (is_text id) of) ∙ first_holds (is_of id event) (is_tick event) (named_no_tick event other of) own in
+        ap (is_text new.object) (ap (object_in events) ((bytes_eq-Decides other id).0 of_id) ∙ object_is) ∙ (bytes_eq-Decides new.object new.object).1 refl ∙ sym of_id
