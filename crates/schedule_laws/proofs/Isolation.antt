@@ -1,17 +1,22 @@
--- What stands of an invocation, and its object's state while it is open, is read off its own events.
-use Rattle.std.proofs.Common.{◌≡◌, sym, ap, ap₂, subst, ◌∙◌, ℕ, true, List, Some, filter_map, option_and_then, bytes_eq}
+-- What stands of an invocation, and what it is answered, is read off its own events.
+use Rattle.std.proofs.Common.{◌≡◌, refl, sym, ap, ap₂, ◌∙◌, ℕ, true, List, [], ◌∷◌, take, Some, None, option_and_then, option_map}
 use Rattle.std.specs.List.{find}
-use Rattle.std.proofs.lemmas.Slice.Eq.{bytes_eq-Decides}
-use Rattle.journal_model.specs.Notification.{Text}
+use Rattle.journal_model.specs.Notification.{Arrival, Text}
 use Rattle.journal_model.specs.Request.{Request}
 use Rattle.journal_model.specs.State.{StateMap, state_after}
 use Rattle.journal_model.specs.declared.invocation.NewInvocation.{NewInvocation}
 use Rattle.journal_model.specs.Event.{Event, Frame}
-use Rattle.journal_model.specs.Headline.{AllIsolated, StateFollows}
-use Rattle.journal_model.specs.Journal.{view_of, invoked_by, invocation_begun, starting_state, object_state, recorded_requests, version_of, frames_of, closes, closing_frame, closing_of, requests_in, is_open, answer_at_close}
-use Rattle.journal_laws.proofs.Isolation.{frames_of-view, version_of-view}
-use Rattle.journal_laws.proofs.ObjectState.{find-passes}
-use Rattle.schedule_laws.specs.Isolation.{AllStandAlone, AllStatesAlone}
+use Rattle.journal_model.specs.Headline.{AllIsolated}
+use Rattle.journal_model.specs.Journal.{view_of, invocation_of, invoked_by, invocation_begun, object_state, closes, closing_frame, closing_of, requests_in, arrivals_in, is_open, answer_at_close}
+use Rattle.journal_model.specs.Attempt.{arrivals_within}
+use Rattle.journal_model.specs.Cause.{Cause, causes_of}
+use Rattle.store_refusals.specs.Refused.{refusal_of, first_of}
+use Rattle.journal_laws.proofs.Isolation.{frames_of-view, version_of-view, told_alike}
+use Rattle.journal_laws.proofs.ObjectState.{accepted_followed}
+use Rattle.journal_laws.proofs.Refusing.{first_cause, left_alike, refused_alike}
+use Rattle.schedule_laws.specs.Isolation.{AllAnswerAlone, AllKeepState, AllStandAlone, IsOwn}
+-- passed on, so that crates above name this one alone
+pub use Rattle.journal_laws.proofs.ObjectState.{own_followed}
 
 module _ (id : Text) where
   closing_of-view : (events : List Event) → closing_of (view_of id events) id ≡ closing_of events id
@@ -21,14 +26,45 @@ module _ (id : Text) where
 pub stand_alone : AllIsolated → AllStandAlone
 stand_alone isolated events id others views starts =
     let it = isolated events others id views starts in
+    let told = told_alike events others id views starts in
     let closing : closing_of events id ≡ closing_of others id =
     sym (closing_of-view id events) ∙ ap (λ (view : List Event). closing_of view id) views ∙ closing_of-view id others in
-    record { start = starts; entries = it.0; closing = closing; answer = ap₂ answer_at_close (ap requests_in it.0) closing; openness = it.1; dueness = it.2 }
+    record {
+      begun = told.begun;
+      start = starts;
+      entries = it.0;
+      closing = closing;
+      answer = ap₂ answer_at_close (ap requests_in it.0) closing;
+      openness = it.1;
+      dueness = it.2;
+      attempts = told.attempts;
+      live = told.live;
+      handed = ap₂ (λ (n : ℕ) (arrivals : List Arrival). take n arrivals) (ap₂ arrivals_within told.input told.handed) (ap arrivals_in it.0);
+      left = left_alike events others id told;
+    }
 
-pub states_alone : AllIsolated → StateFollows → AllStatesAlone
-states_alone isolated follows events others id accepted views starts new is opened =
-    let it = isolated events others id views starts in
-    let named : new.id ≡ id = (bytes_eq-Decides new.id id).0 (find-passes (λ (begun : NewInvocation). bytes_eq begun.id id) (filter_map invoked_by events) new is) in
-    let own = follows events new accepted (subst (λ (x : Text). invocation_begun events x ≡ Some new) (sym named) is) (subst (λ (x : Text). is_open events x ≡ true) (sym named) opened) in
-    subst (λ (x : Text). object_state events new.object ≡ state_after (recorded_requests events x) (starting_state events x)) named own
-    ∙ ap₂ (λ (requests : List Request) (start : StateMap). state_after requests start) (ap requests_in it.0) starts
+pub keep_state : AllKeepState
+keep_state events id accepted = accepted_followed events accepted id
+
+first_is : (causes : List Cause) → first_of causes ≡ option_map refusal_of (first_cause causes)
+first_is [] = refl
+first_is (cause ∷ causes) = refl
+
+own_is : (id : Text) (event : Event) → IsOwn id event → (invocation_of event ≡ Some id) × (invoked_by event ≡ None)
+own_is id (Event.Invoke new) own = absurd own
+own_is id event own = (own, refl)
+
+pub answer_alone : AllAnswerAlone
+answer_alone events others id kept kept' views starts =
+    let told = told_alike events others id views starts in
+    let states : (new : NewInvocation) → invocation_begun events id ≡ Some new → is_open events id ≡ true → object_state events new.object ≡ object_state others new.object = λ new is opened.
+    kept new is opened ∙ ap₂ (λ (requests : List Request) (start : StateMap). state_after requests start) (ap requests_in told.entries) starts
+    ∙ sym (kept' new (sym told.begun ∙ is) (sym told.openness ∙ opened)) in
+    record {
+      state = states;
+      refusal = λ event own.
+          let is = own_is id event own in
+          first_is (causes_of events event)
+          ∙ ap (option_map refusal_of) (refused_alike events others id told (λ opened new begun. states new begun opened) event is.0 is.1)
+          ∙ sym (first_is (causes_of others event));
+    }

@@ -2,4 +2,4 @@ pub mod Moving
 pub mod Keeping
 pub mod Leaving
 pub mod Schedules
-mod Isolation
+pub mod Isolation

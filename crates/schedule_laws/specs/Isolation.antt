@@ -1,22 +1,30 @@
--- What stands of an invocation, and what that depends on.
+-- What stands of an invocation, what it is answered, and what that depends on.
 use Rattle.std.specs.Prelude.{◌≡◌, true, List, Some}
 use Rattle.journal_model.specs.Notification.{Text}
 use Rattle.journal_model.specs.State.{state_after}
 use Rattle.journal_model.specs.declared.invocation.NewInvocation.{NewInvocation}
 use Rattle.journal_model.specs.Event.{Event}
-use Rattle.journal_model.specs.Journal.{view_of, invocation_begun, starting_state, object_state, entries_of, recorded_requests, closing_of, recorded_answer, is_open}
-use Rattle.journal_model.specs.Attempt.{is_due}
-use Rattle.journal_model.specs.Cause.{IsAccepted}
+use Rattle.journal_model.specs.Journal.{view_of, invocation_of, invocation_begun, starting_state, object_state, entries_of, recorded_requests, closing_of, recorded_answer, is_open}
+use Rattle.journal_model.specs.Attempt.{attempts_begun, live_attempt, input_left, is_due}
+use Rattle.journal_model.specs.Headline.{arrivals_handed}
+use Rattle.journal_model.specs.Cause.{causes_of, IsAccepted}
+use Rattle.store_refusals.specs.Refused.{first_of}
 
--- The same stands of an invocation behind two lists of events: the state of its object at its start, its entries, how it was closed and what
--- it answers, whether it is open, and whether it is due.
+-- The same stands of an invocation behind two lists of events: how it was begun and the state of its object then, its entries, how it was
+-- closed and what it answers, whether it is open, whether it is due, how many attempts were begun, which of them is live, which arrivals
+-- the last one was handed, and the bytes that are left to be handed to it.
 pub record StandsAlike (events others : List Event) (id : Text) : Type 0 where
+  pub begun : invocation_begun events id ≡ invocation_begun others id
   pub start : starting_state events id ≡ starting_state others id
   pub entries : entries_of events id ≡ entries_of others id
   pub closing : closing_of events id ≡ closing_of others id
   pub answer : recorded_answer events id ≡ recorded_answer others id
   pub openness : is_open events id ≡ is_open others id
   pub dueness : is_due events id ≡ is_due others id
+  pub attempts : attempts_begun events id ≡ attempts_begun others id
+  pub live : live_attempt events id ≡ live_attempt others id
+  pub handed : arrivals_handed events id ≡ arrivals_handed others id
+  pub left : input_left events id ≡ input_left others id
 
 -- that depends on its own events and the ticks, and on its object's state at its start
 abbrev pub StandsAlone : List Event → Text → Type 0
@@ -25,16 +33,33 @@ StandsAlone events id = (others : List Event) → view_of id events ≡ view_of 
 abbrev pub AllStandAlone : Type 0
 AllStandAlone = (events : List Event) (id : Text) → StandsAlone events id
 
--- while it is open, its object's state is what its requests behind the others have made of the state at its start
-abbrev pub StateAlike : List Event → List Event → Text → Type 0
-StateAlike events others id = (new : NewInvocation) → invocation_begun events id ≡ Some new → is_open events id ≡ true
-    → object_state events new.object ≡ state_after (recorded_requests others id) (starting_state others id)
+-- ---- its object's state, and what it is answered
 
--- so it is of accepted events
-abbrev pub AllStatesAlone : Type 0
-AllStatesAlone = (events others : List Event) (id : Text) → IsAccepted events → view_of id events ≡ view_of id others → starting_state events id ≡ starting_state others id
-    → StateAlike events others id
+-- one of its own, but for the one that begins it, which is refused while another invocation of its object is open
+abbrev pub IsOwn : Text → Event → Type 0
+IsOwn id (Event.Invoke new) = ⊥
+IsOwn id event = invocation_of event ≡ Some id
 
--- what stands of it is the same, and its object's state while it is open
+-- While it is open its object's state is the same too; and one more event of its own is refused behind the one as behind the other: for the
+-- same least cause, or for none.
+pub record AnswersAlike (events others : List Event) (id : Text) : Type 0 where
+  pub state : (new : NewInvocation) → invocation_begun events id ≡ Some new → is_open events id ≡ true → object_state events new.object ≡ object_state others new.object
+  pub refusal : (event : Event) → IsOwn id event → first_of (causes_of events event) ≡ first_of (causes_of others event)
+
+-- while an invocation is open, its object's state is its starting state changed by its recorded requests
+abbrev pub KeepsState : List Event → Text → Type 0
+KeepsState events id = (new : NewInvocation) → invocation_begun events id ≡ Some new → is_open events id ≡ true
+    → object_state events new.object ≡ state_after (recorded_requests events id) (starting_state events id)
+
+-- so it is in each list of accepted events
+abbrev pub AllKeepState : Type 0
+AllKeepState = (events : List Event) (id : Text) → IsAccepted events → KeepsState events id
+
+-- and where it is so, that depends on the same
+abbrev pub AllAnswerAlone : Type 0
+AllAnswerAlone = (events others : List Event) (id : Text) → KeepsState events id → KeepsState others id
+    → view_of id events ≡ view_of id others → starting_state events id ≡ starting_state others id → AnswersAlike events others id
+
+-- what stands of it is the same, and what it is answered
 abbrev pub IsAlike : List Event → List Event → Text → Type 0
-IsAlike events others id = StandsAlike events others id × StateAlike events others id
+IsAlike events others id = StandsAlike events others id × AnswersAlike events others id

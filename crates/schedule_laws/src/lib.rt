@@ -3,7 +3,7 @@
 //! contracts are the laws.
 #![tactic(auto)]
 
-ghost use Rattle.schedule_laws.specs.Isolation.{AllStandAlone, AllStatesAlone};
+ghost use Rattle.schedule_laws.specs.Isolation.{AllAnswerAlone, AllKeepState, AllStandAlone};
 ghost use Rattle.schedule_laws.specs.Laws.{FollowsHolds, FramesAreTaken, HoldsFollows, HoldsHeadline, HoldsNeverLate, HoldsWakesExactly, KeptByEach, LeavesHolds, NoneRefused};
 
 pub use following_laws::inputs_are_handed_out;
@@ -11,7 +11,7 @@ use following_laws::{
     attempts_begin, closes_keep, events_keep, feeds_keep, notes_follow, overs_stay, takes_keep,
     turns_keep,
 };
-use journal_laws::{invocations_isolated, state_stands};
+use journal_laws::invocations_isolated;
 use journal_model::Handler;
 use machine_laws::{machines_begin, machines_stay_live};
 
@@ -57,11 +57,11 @@ pub fn records_of_runs()
 {}
 
 /// What stands of an invocation, its answer too, depends on its own events, the ticks and its object's state at its start. So does its
-/// object's state while it is open.
+/// object's state while it is open, and why one more event of its own is refused.
 pub fn invocations_stand_alone()
     ensures stand { AllStandAlone }
-    ensures state { AllStatesAlone }
+    ensures state { AllKeepState }
+    ensures answer { AllAnswerAlone }
 {
     invocations_isolated();
-    state_stands();
 }

@@ -16,7 +16,7 @@ use Rattle.journal_store.specs.Stored.{Stored}
 use Rattle.journal_store.specs.Stands.{IsStanding, Keeps, Endures}
 use Rattle.store_calls.specs.Standing.{Standing}
 use Rattle.schedule_laws.proofs.Schedules.{schedules_grow}
-use Rattle.schedule_laws.specs.Isolation.{AllStandAlone, AllStatesAlone}
+use Rattle.schedule_laws.specs.Isolation.{AllAnswerAlone, AllKeepState, AllStandAlone}
 use Rattle.schedule_laws.specs.Laws.{FramesAreTaken, HoldsHeadline, HoldsNeverLate, HoldsWakesExactly, LeavesHolds}
 use Rattle.schedule_laws.specs.Schedules.{Event, Reply, HeldAttempt, Scheduled, AppliesAll, Brings, FitsEvent}
 use Rattle.schedule_laws.specs.Words.{HoldsOf, ReplaysInLine}
@@ -50,7 +50,7 @@ module _ {H : Type 0} (function : H → Handler) (options : VMOptions) where
 
   -- what the laws of schedules give of all that is applied
   module _ (leaves : LeavesHolds function) (headline : HoldsHeadline) (late : HoldsNeverLate) (exact : HoldsWakesExactly) (taken : FramesAreTaken function)
-      (stand : AllStandAlone) (states : AllStatesAlone) where
+      (stand : AllStandAlone) (keep : AllKeepState) (answer : AllAnswerAlone) where
     leaves_in_run : (events : List (Event H)) (replies : List Reply) (s : Standing) (new : Scheduled H) → AllByRecursion FitsEvent events → AppliesAll function options events replies (at_first s) new
         → (next : Handler) (id : Text) → ReplaysInLine options → AllByRecursion (Brings function id next) events → HoldsOf next options id s.events → StandsInRun next options id events replies new.standing.events
     leaves_in_run events replies s new fits applies next id in_line brings before =
@@ -74,8 +74,8 @@ module _ {H : Type 0} (function : H → Handler) (options : VMOptions) where
           in_run = leaves_in_run events replies s new fits applies;
           added = each.0;
           each = each.1;
-          isolated = λ id. stands_apart id stand states function options events replies each.0 (at_first s) new each.1;
-          untouched = λ id apart. stands_still id stand states function options events replies each.0 (at_first s) new each.1 apart;
+          isolated = λ id. stands_apart id stand keep answer function options events replies each.0 (at_first s) new each.1;
+          untouched = λ id apart. stands_still id stand keep answer function options events replies each.0 (at_first s) new each.1 apart;
         }
 
     -- and of the first of the events

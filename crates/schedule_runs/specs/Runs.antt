@@ -80,7 +80,7 @@ told_alone id is_seen (event ∷ added) all alone =
     if begins id event then event ∷ (added ++ all)
     else (if is_seen then event ∷ told_alone id is_seen added all alone else told_alone id is_seen added all alone)
 
--- behind each of these events, the same stands of the invocation as if it had been told no others
+-- behind each of these events, the same stands of the invocation as if it had been told no others, and it is answered alike
 abbrev pub StandsBehind : Text → (is_seen : Bool) → (added all alone : List Event) → Type 0
 StandsBehind id is_seen [] all alone = IsAlike all alone id
 StandsBehind id is_seen (event ∷ added) all alone = StandsBehind id is_seen added all alone × IsAlike (event ∷ (added ++ all)) (told_alone id is_seen (event ∷ added) all alone) id
@@ -132,8 +132,8 @@ module _ {H : Type 0} (function : H → Handler) (options : VMOptions) where
     pub added : List (List Event)
     pub each : AppliesEach function options events replies added old new
     -- Of each invocation, whatever its begins bring: at each moment of the schedule the same stands of it as if only its own events and the
-    -- ticks had come since. What else was accepted shows in the state that its object has where the invocation is begun, and in nothing of
-    -- this behind that.
+    -- ticks had come since, and one more event of its own is refused alike. What else was accepted shows in the state that its object has
+    -- where the invocation is begun, and in nothing behind that.
     pub isolated : (id : Text) → StandsApart id events added old.standing.events old.standing.events
     -- so what stood of it before stands of it, where no event of the schedule is one of its own or a tick
     pub untouched : (id : Text) → AllByRecursion (IsApart id) events → IsAlike new.standing.events old.standing.events id

@@ -58,8 +58,8 @@ pub fn run_schedule<H: Handler + Drop, S: Alter + Drop>(
     // list all of it. Those from before stay behind them (`grows`). An invocation whose begins all bring one function stands in the run of
     // that function, if it did before (`in_run`): the headline holds of it, of the suspensions and the ends of each of its attempts; waking
     // is never late, and from version 7 on exact; and none of its frames was refused for a cause that lies in the frame. Of each invocation,
-    // whatever its begins bring, at each moment the same stands as if only its own events and the ticks had come since the schedule or it
-    // was begun (`isolated`).
+    // whatever its begins bring, at each moment the same stands, and its own events are refused alike, as if only these and the ticks had
+    // come since the schedule or it was begun (`isolated`).
     ensures applies { IfOk result (λ done. HasCleanDisk (state S.Store done.0.store.connection) → (s : Standing) → IsStanding S.Store s store →
         (new : Scheduled H) × IsScheduled S.Store new done.0 × AppliesAll H.next_call options events.items done.1.items (at_first s) new
         × Leaves H.next_call options events.items done.1.items (at_first s) new) }
