@@ -1,5 +1,5 @@
 -- What a tree comes to, by what its children bring.
-use Rattle.std.proofs.Common.{◌≡◌, refl, sym, ap, ◌∙◌, ℕ, zero, suc, ◌+◌, ◌-◌, ◌<◌, ◌≤◌, min, max, nat_lt, subst, arith, Bool, true, false, not, ◌||◌, ◌&&◌, if◌then◌else◌, List, [], ◌∷◌, map, drop, length, get_or, Option, Some, None, option_and_then}
+use Rattle.std.proofs.Common.{◌≡◌, refl, sym, ap, ◌∙◌, ℕ, suc, ◌+◌, ◌-◌, ◌<◌, ◌≤◌, min, max, nat_lt, subst, arith, Bool, true, false, not, ◌||◌, ◌&&◌, if◌then◌else◌, List, [], ◌∷◌, map, drop, length, get_or, Option, Some, None, option_and_then}
 use Rattle.std.specs.List.{list_all}
 use Rattle.std.proofs.lemmas.Bool.{lt-ltb, le-ltb, ltb-true, ltb-false}
 use Rattle.std.proofs.lemmas.List.{at_drop_more, at_drop_all}
@@ -15,7 +15,7 @@ use Rattle.vm_awaits.specs.declared.ahead.First.{First}
 use Rattle.vm_awaits.specs.declared.fate.Fate.TheVariants as fates
 use Rattle.vm_awaits.specs.declared.fate.Comes.{Comes}
 use Rattle.vm_awaits.specs.declared.fate.Comes.TheVariants.{Never, Ends, Completes}
-use Rattle.vm_awaits.proofs.Children.{true_or_false, both_false, pending_ends_none, ends, one_ends, kept_trees, ended_from, all_completed, node_state}
+use Rattle.vm_awaits.proofs.Children.{pending_ends_none, ends, one_ends, ended_from, all_completed, node_state}
 
 or_false : (b : Bool) → (b || false) ≡ b
 or_false true = refl

@@ -1,9 +1,9 @@
 -- What notifications ahead tell is what they tell one by one, as far as the tree stays asleep.
-use Rattle.std.proofs.Common.{◌≡◌, refl, sym, ap, ◌∙◌, subst, ℕ, zero, suc, ◌+◌, ◌<◌, ◌≤◌, nat_lt, arith, Bool, true, false, true≢false, if◌then◌else◌, List, [], ◌∷◌, ◌++◌, append_assoc, length, take, drop, get_or, Option, Some, None, Result, Ok, Err, OnErr}
+use Rattle.std.proofs.Common.{◌≡◌, refl, sym, ap, ◌∙◌, subst, ℕ, zero, suc, ◌+◌, ◌<◌, ◌≤◌, nat_lt, arith, Bool, true, false, true≢false, if◌then◌else◌, List, [], ◌∷◌, ◌++◌, length, take, drop, get_or, Option, Some, None, Result, Ok, Err, OnErr}
 use Rattle.std.proofs.Math.Path.{fun_ext}
 use Rattle.std.specs.Prelude.{option_and_then}
 use Rattle.std.proofs.lemmas.Bool.{lt-ltb, le-ltb}
-use Rattle.std.proofs.lemmas.List.{take-take, take-append-drop, length-take-le, get_or-take, at_drop_more, at_drop_all, take_more, drop_more}
+use Rattle.std.proofs.lemmas.List.{take-take, take-append-drop, length-take-le, get_or-take, at_drop_more, at_drop_all, take_more}
 use Rattle.journal_model.specs.declared.notification.NotificationId.{NotificationId}
 use Rattle.journal_model.specs.declared.notification.NotificationResult.{NotificationResult}
 use Rattle.journal_model.specs.declared.notification.NotificationResult.TheVariants as results

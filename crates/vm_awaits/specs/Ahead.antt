@@ -1,5 +1,5 @@
 -- What notifications in line tell first of each id, and what leaves have come to by so many of them.
-use Rattle.std.specs.Prelude.{ℕ, ◌+◌, nat_lt, nat_eq, bytes_eq, Bool, true, false, if◌then◌else◌, List, [], ◌∷◌, Option, Some, None, option_and_then}
+use Rattle.std.specs.Prelude.{ℕ, ◌+◌, nat_lt, nat_eq, bytes_eq, Bool, if◌then◌else◌, List, [], ◌∷◌, Option, Some, None, option_and_then}
 use Rattle.std.specs.HashMap.{get}
 use Rattle.journal_model.specs.declared.notification.NotificationId.{NotificationId}
 use Rattle.journal_model.specs.declared.notification.NotificationId.TheVariants.{CompletionId, SignalId, SignalName}

@@ -1,4 +1,4 @@
-use Rattle.std.proofs.Common.{◌≡◌, ◌∙◌, sym, ap, subst, ℕ, ◌<◌, ◌≤◌, arith, length, List}
+use Rattle.std.proofs.Common.{◌≡◌, ◌∙◌, sym, ap, subst, ℕ, ◌<◌, arith, length, List}
 use Rattle.journal_model.specs.Notification.{Arrival}
 use Rattle.vm_results.specs.Views.{ready_in}
 use Rattle.vm_awaits.specs.Passing.{LooksAt}
