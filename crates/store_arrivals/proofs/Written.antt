@@ -13,7 +13,7 @@ use Rattle.store_tables.specs.declared.row.Progress.{Progress}
 use Rattle.store_tables.specs.declared.row.Write.{Write}
 use Rattle.store_tables.specs.declared.row.Write.TheVariants.{SetProgress, AddEntry}
 use Rattle.store_model.specs.Progress.{progress_of}
-use Rattle.store_model.specs.Kept.{answered_by, entry_row}
+use Rattle.store_model.specs.Kept.{plain_row, answered_by, entry_row}
 use Rattle.store_model.specs.Writes.{invocation_writes, state_writes, writes_of}
 use Rattle.store_lookups.proofs.Opening.{or_nothing}
 use Rattle.store_model.specs.Steps.{grown}
@@ -84,16 +84,8 @@ made_ready events id n brought row kind made of typed is =
     let far = row_progress events id row of in
     record {
       writes = is.writes
-          ∙ (λ i. AddEntry (record {
-            invocation = named i;
-            place = (far i).entries;
-            kind = typed i;
-            payload = notification_payload (completion n brought);
-            completion = None;
-            second_completion = None;
-            answered = Some n;
-            moment = 0;
-          }) ∷ SetProgress (named i) (grown 1 (far i)) ∷ [])
+          ∙ (λ i. AddEntry (record (plain_row (named i) (far i).entries (typed i) (notification_payload (completion n brought))) { answered = Some n })
+          ∷ SetProgress (named i) (grown 1 (far i)) ∷ [])
           ∙ sym (writes_are events id n brought);
       place = is.place ∙ ap (λ (p : Progress). p.entries) far;
       frame = is.frame ∙ ap (λ (k : MessageType). frame_bytes k (notification_payload (completion n brought))) typed;

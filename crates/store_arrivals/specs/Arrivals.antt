@@ -1,5 +1,5 @@
 -- What an arrival makes ready.
-use Rattle.std.specs.Prelude.{◌≡◌, ℕ, ◌+◌, ◌-◌, ◌^◌, nat_lt, List, [], ◌∷◌, drop, length, Option, Some, None}
+use Rattle.std.specs.Prelude.{◌≡◌, ℕ, ◌+◌, ◌-◌, ◌^◌, nat_lt, List, [], ◌∷◌, drop, length, Option, Some}
 use Rattle.journal_model.specs.Notification.{Bytes, Text, Arrival}
 use Rattle.journal_model.specs.Event.{Event}
 use Rattle.journal_model.specs.Spelling.{frame_bytes, notification_payload}
@@ -12,7 +12,7 @@ use Rattle.protocol_spellings.specs.Records.{id_record, result_record}
 use Rattle.store_tables.specs.declared.row.InvocationRow.{InvocationRow}
 use Rattle.store_tables.specs.declared.row.EntryRow.{EntryRow}
 use Rattle.store_tables.specs.declared.row.Write.TheVariants.{SetProgress, AddEntry}
-use Rattle.store_model.specs.Kept.{answered_by}
+use Rattle.store_model.specs.Kept.{plain_row, answered_by}
 use Rattle.store_model.specs.Writes.{writes_of}
 use Rattle.store_model.specs.Steps.{grown}
 use Rattle.store_invocations.specs.Rows.{payload_tests}
@@ -24,16 +24,7 @@ message_of_arrival arrival = record { id = Some (id_record arrival.id); result =
 
 -- its entry, behind those of the invocation that has this row
 abbrev pub entry_of_arrival : InvocationRow → MessageType → Option ℕ → Bytes → EntryRow
-entry_of_arrival row kind answered payload = record {
-  invocation = row.id;
-  place = row.progress.entries;
-  kind = kind;
-  payload = payload;
-  completion = None;
-  second_completion = None;
-  answered = answered;
-  moment = 0;
-}
+entry_of_arrival row kind answered payload = record (plain_row row.id row.progress.entries kind payload) { answered = answered }
 
 -- the tests of one more entry
 abbrev pub arrival_tests : InvocationRow → Arrival → Tests

@@ -1,5 +1,5 @@
 -- What is recorded of a new invocation.
-use Rattle.std.specs.Prelude.{◌==◌, length, Bool, ◌||◌, List, [], ◌∷◌, Some, None, is_some}
+use Rattle.std.specs.Prelude.{◌==◌, length, Bool, ◌||◌, List, [], ◌∷◌, is_some}
 use Rattle.journal_model.specs.Notification.{Bytes}
 use Rattle.journal_model.specs.declared.invocation.NewInvocation.{NewInvocation}
 use Rattle.journal_model.specs.Event.{Event}
@@ -14,23 +14,12 @@ use Rattle.store_tables.specs.declared.row.InvocationRow.{InvocationRow}
 use Rattle.store_tables.specs.declared.row.EntryRow.{EntryRow}
 use Rattle.store_tables.specs.declared.row.Write.{Write}
 use Rattle.store_tables.specs.declared.row.Write.TheVariants.{AddInvocation, AddEntry}
-use Rattle.store_model.specs.Kept.{input_row, is_shown_whole}
+use Rattle.store_model.specs.Kept.{plain_row, input_row, is_shown_whole}
+use Rattle.store_model.specs.Progress.{begun_progress}
 
--- how far an invocation is that was just begun: it is open, and its input is the one entry
+-- how far it is when it was just begun
 abbrev pub first_progress : NewInvocation → Progress
-first_progress new = record {
-  open_object = Some new.object;
-  suspension = None;
-  handed = None;
-  closing = None;
-  answer = None;
-  last_error = None;
-  attempts = 0;
-  attempts_since_entry = 0;
-  first_moment = 0;
-  last_completion = 0;
-  entries = 1;
-}
+first_progress new = begun_progress new.object
 
 abbrev pub first_row : Version → NewInvocation → InvocationRow
 first_row version new = record {
@@ -44,16 +33,7 @@ first_row version new = record {
 
 -- the entry of an input, by its payload
 abbrev pub entry_of_input : NewInvocation → Bytes → EntryRow
-entry_of_input new payload = record {
-  invocation = new.id;
-  place = 0;
-  kind = InputCommand;
-  payload = payload;
-  completion = None;
-  second_completion = None;
-  answered = None;
-  moment = 0;
-}
+entry_of_input new payload = plain_row new.id 0 InputCommand payload
 
 -- the version is that of the number that came
 abbrev pub first_writes : Version → NewInvocation → List Write

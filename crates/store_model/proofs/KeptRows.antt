@@ -12,38 +12,18 @@ use Rattle.store_tables.specs.declared.row.Progress.{Progress}
 use Rattle.store_tables.specs.declared.row.EntryRow.{EntryRow}
 use Rattle.store_tables.specs.declared.row.Closing.TheVariants.{Ended}
 use Rattle.store_tables.specs.declared.row.Write.TheVariants.{AddInvocation, SetProgress, AddEntry, PutState, OpenSleep, CloseSleeps, CloseSleepsUntil}
-use Rattle.store_model.specs.Kept.{version_kept}
+use Rattle.store_model.specs.Kept.{version_kept, plain_row}
+use Rattle.store_model.specs.Progress.{begun_progress}
 use Rattle.store_model.specs.Writes.{writes_of}
 
 abbrev nap : NewInvocation
 nap = record { id = codes "nap"; object = codes "bed"; input = 1 ∷ 2 ∷ []; headers = []; version = 5; seed = 7; state = StateMode.Whole }
 
 abbrev start : Progress
-start = record {
-  open_object = Some (codes "bed");
-  suspension = None;
-  handed = None;
-  closing = None;
-  answer = None;
-  last_error = None;
-  attempts = 0;
-  attempts_since_entry = 0;
-  first_moment = 0;
-  last_completion = 0;
-  entries = 1;
-}
+start = begun_progress (codes "bed")
 
 abbrev row : ℕ → MessageType → List ℕ → EntryRow
-row place kind payload = record {
-  invocation = codes "nap";
-  place = place;
-  kind = kind;
-  payload = payload;
-  completion = None;
-  second_completion = None;
-  answered = None;
-  moment = 0;
-}
+row = plain_row (codes "nap")
 
 -- the events, the last one first
 abbrev invoked : List Event

@@ -31,6 +31,19 @@ abbrev pub moment_of : List (ℕ × ℕ) → ℕ
 moment_of [] = 0
 moment_of (sleep ∷ sleeps) = sleep.0
 
+-- the row of an entry that asks for nothing and answers nothing
+abbrev pub plain_row : Text → ℕ → MessageType → Bytes → EntryRow
+plain_row id place kind payload = record {
+  invocation = id;
+  place = place;
+  kind = kind;
+  payload = payload;
+  completion = None;
+  second_completion = None;
+  answered = None;
+  moment = 0;
+}
+
 -- the row of an entry at a place; an arrival's kind is that of the request that asked for it, which is among the entries before it
 abbrev pub entry_row : Text → List Entry → ℕ → Entry → EntryRow
 entry_row id before place (Recorded request) = record {
@@ -43,16 +56,8 @@ entry_row id before place (Recorded request) = record {
   answered = None;
   moment = moment_of (sleep_in request);
 }
-entry_row id before place (Arrived arrival) = record {
-  invocation = id;
-  place = place;
-  kind = notification_type before arrival.id;
-  payload = notification_payload arrival;
-  completion = None;
-  second_completion = None;
-  answered = answered_by arrival.id;
-  moment = 0;
-}
+entry_row id before place (Arrived arrival) =
+    record (plain_row id place (notification_type before arrival.id) (notification_payload arrival)) { answered = answered_by arrival.id }
 
 -- the rows of entries that stand behind others, from a place on
 abbrev pub rows_from : Text → List Entry → ℕ → List Entry → List EntryRow
@@ -60,16 +65,7 @@ rows_from id before place [] = []
 rows_from id before place (entry ∷ entries) = entry_row id before place entry ∷ rows_from id (before ++ entry ∷ []) (place + 1) entries
 
 abbrev pub input_row : NewInvocation → EntryRow
-input_row new = record {
-  invocation = new.id;
-  place = 0;
-  kind = InputCommand;
-  payload = input_payload new.headers new.input;
-  completion = None;
-  second_completion = None;
-  answered = None;
-  moment = 0;
-}
+input_row new = plain_row new.id 0 InputCommand (input_payload new.headers new.input)
 
 abbrev pub rows_of_journal : Option NewInvocation → Text → List Entry → List EntryRow
 rows_of_journal None id entries = []

@@ -88,6 +88,22 @@ error_in _ = None
 abbrev pub last_error_of : List Event → Text → Option LastError
 last_error_of events id = first_of (filter_map error_in (frames_of events id))
 
+-- of an invocation of an object that was just begun: it is open, and its input is the one entry
+abbrev pub begun_progress : Text → Progress
+begun_progress object = record {
+  open_object = Some object;
+  suspension = None;
+  handed = None;
+  closing = None;
+  answer = None;
+  last_error = None;
+  attempts = 0;
+  attempts_since_entry = 0;
+  first_moment = 0;
+  last_completion = 0;
+  entries = 1;
+}
+
 abbrev pub progress_of : List Event → Text → Progress
 progress_of events id = record {
   open_object = if is_open events id then object_of_invocation events id else None;

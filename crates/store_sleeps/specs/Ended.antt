@@ -1,27 +1,19 @@
 -- What a tick writes of the sleeps of one invocation that it ends, and which frames a live attempt of it is handed.
-use Rattle.std.specs.Prelude.{◌≡◌, ℕ, ◌+◌, List, [], ◌∷◌, map, None, Some}
+use Rattle.std.specs.Prelude.{◌≡◌, ℕ, ◌+◌, List, [], ◌∷◌, map, Some}
 use Rattle.journal_model.specs.Notification.{Bytes, Text}
 use Rattle.journal_model.specs.declared.notification.NotificationResult.{NotificationResult}
 use Rattle.journal_model.specs.Journal.{completion}
 use Rattle.journal_model.specs.Spelling.{frame_bytes, notification_payload}
 use Rattle.protocol_types.specs.declared.message_type.MessageType.TheVariants.{SleepCompletionNotification}
 use Rattle.store_tables.specs.declared.row.EntryRow.{EntryRow}
+use Rattle.store_model.specs.Kept.{plain_row}
 
 -- the payload of a sleep's end
 abbrev pub end_payload : ℕ → Bytes
 end_payload n = notification_payload (completion n NotificationResult.Void)
 
 abbrev pub end_row : Text → ℕ → ℕ → EntryRow
-end_row id place n = record {
-  invocation = id;
-  place = place;
-  kind = SleepCompletionNotification;
-  payload = end_payload n;
-  completion = None;
-  second_completion = None;
-  answered = Some n;
-  moment = 0;
-}
+end_row id place n = record (plain_row id place SleepCompletionNotification (end_payload n)) { answered = Some n }
 
 -- from a place on
 abbrev pub end_rows : Text → ℕ → List ℕ → List EntryRow
