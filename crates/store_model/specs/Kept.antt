@@ -12,6 +12,7 @@ use Rattle.journal_model.specs.Journal.{Entry, Recorded, Arrived, invocation_beg
 use Rattle.journal_model.specs.Attempt.{notification_type}
 use Rattle.protocol_types.specs.declared.version.Version.{Version}
 use Rattle.protocol_types.specs.Version.{oldest_version, version_at}
+use Rattle.protocol_types.specs.declared.message_type.MessageType.{MessageType}
 use Rattle.protocol_types.specs.declared.message_type.MessageType.TheVariants.{InputCommand}
 use Rattle.store_tables.specs.Records.{Records, is_of_object}
 use Rattle.store_tables.specs.declared.row.InvocationRow.{InvocationRow}
