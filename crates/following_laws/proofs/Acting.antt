@@ -31,7 +31,7 @@ use Rattle.schedule_model.specs.Held.{is_held, held_of}
 use Rattle.schedule_model.specs.Schedule.{Advances}
 use Rattle.following_laws.specs.Following.{ReplaysInLine, given_of, IsServed, Flies, FollowsBegun}
 use Rattle.fitting_laws.proofs.Fits.{may_come}
-use Rattle.following_laws.proofs.Following.{IsFlown, flown}
+use Rattle.following_laws.proofs.Following.{IsFlown, flown, flown_still}
 use Rattle.following_laws.proofs.Serving.{ServingLaws}
 
 never : (b : Bool) → (b && false) ≡ false
@@ -134,16 +134,10 @@ module _ {H : Type 0} (function : H → Handler) (next : Handler) (options : VMO
       pub fed : FollowsBegun function next options id (handing ∷ events) output (changed_to changed) new
       fed =
           flown function next options id (handing ∷ events) held new output waits n one (record one { attempt = changed }) (tt, f.typed)
-          (λ m above. f.numbered m (subst (λ (k : ℕ). k < m) (zero-add (attempts_begun events id)) above)) live_then there refl refl (record {
-            version = f.version;
-            coming = f.coming;
-            fit = f.fit;
-            of_store = f.of_store;
-            follows = subst (λ (run : Invocation). FollowsSo next run id (handing ∷ events) (map (frame_meant f.version) f.coming)) given_then
-                (one_event next (given_of options id events new) id handing events (map (frame_meant f.version) f.coming) (map (frame_meant f.version) f.coming) accepted.0 refl f.follows);
-            output_is = output_is;
-            flies = fed_flight;
-          })
+          (λ m above. f.numbered m (subst (λ (k : ℕ). k < m) (zero-add (attempts_begun events id)) above)) live_then there refl refl
+          (flown_still function next options id (handing ∷ events) held new events output f output waits (record one { attempt = changed })
+          (subst (λ (run : Invocation). FollowsSo next run id (handing ∷ events) (map (frame_meant f.version) f.coming)) given_then
+          (one_event next (given_of options id events new) id handing events (map (frame_meant f.version) f.coming) (map (frame_meant f.version) f.coming) accepted.0 refl f.follows)) output_is fed_flight)
 
     -- ---- its input is closed
 
@@ -174,15 +168,9 @@ module _ {H : Type 0} (function : H → Handler) (next : Handler) (options : VMO
       -- nothing was written
       quiet : output_of changed ≡ output_of one.attempt → IsOver changed ⊎ IsServed function next options id (closing ∷ events) new f.version f.coming changed
           → IsFlown function next options id (closing ∷ events) held new output waits (record one { attempt = changed })
-      quiet wrote stands = record {
-        version = f.version;
-        coming = f.coming;
-        fit = f.fit;
-        of_store = f.of_store;
-        follows = follows_still;
-        output_is = output_is;
-        flies = record { version_is = flight.version_is; bytes = ap (λ (bytes : Bytes). waits ++ bytes) wrote ∙ flight.bytes; stands = stands };
-      }
+      quiet wrote stands =
+          flown_still function next options id (closing ∷ events) held new events output f output waits (record one { attempt = changed }) follows_still output_is
+          (record { version_is = flight.version_is; bytes = ap (λ (bytes : Bytes). waits ++ bytes) wrote ∙ flight.bytes; stands = stands })
 
       close_served : (s : IsServed function next options id events new f.version f.coming one.attempt) → StaysClosed function next f.version options s.live one.attempt changed
           → IsServed function next options id (closing ∷ events) new f.version f.coming changed
@@ -279,15 +267,8 @@ module _ {H : Type 0} (function : H → Handler) (next : Handler) (options : VMO
       turned = flown_turned (elim flight.stands [
         | inl over ↦
             let same : changed ≡ one.attempt = ((laws.over one.attempt over).turned turn changed turns).1 in
-            record {
-              version = f.version;
-              coming = f.coming;
-              fit = f.fit;
-              of_store = f.of_store;
-              follows = f.follows;
-              output_is = output_is;
-              flies = subst (λ (a : Attempt H). Flies function next options id events new f.version f.coming waits a) (sym same) flight;
-            }
+            flown_still function next options id events held new events output f output waits (record one { attempt = changed }) f.follows output_is
+            (subst (λ (a : Attempt H). Flies function next options id events new f.version f.coming waits a) (sym same) flight)
         | inr s ↦ turned_served s
       ])
 
@@ -324,12 +305,6 @@ module _ {H : Type 0} (function : H → Handler) (next : Handler) (options : VMO
 
     pub advanced : FollowsBegun function next options id events after (with_first (is_held id n) held (record one { attempt = changed })) new
     advanced =
-        flown function next options id events held new after (behind.waited ++ take count (output_of one.attempt)) n one (record one { attempt = changed }) f.typed f.numbered live there refl refl (record {
-          version = f.version;
-          coming = f.coming;
-          fit = f.fit;
-          of_store = f.of_store;
-          follows = f.follows;
-          output_is = behind.now_is;
-          flies = record { version_is = leaving.version_is; bytes = moved_bytes; stands = moved_stands leaving.stands };
-        })
+        flown function next options id events held new after (behind.waited ++ take count (output_of one.attempt)) n one (record one { attempt = changed }) f.typed f.numbered live there refl refl
+        (flown_still function next options id events held new events before f after (behind.waited ++ take count (output_of one.attempt)) (record one { attempt = changed }) f.follows behind.now_is
+        (record { version_is = leaving.version_is; bytes = moved_bytes; stands = moved_stands leaving.stands }))

@@ -155,21 +155,31 @@ module _ {H : Type 0} (function : H → Handler) (next : Handler) (options : VMO
       abbrev start : AttemptStart
       start = start_after (run_options options) options.fallback_random_seed s.events id now new
 
-      -- the attempt could not be held
-      pub begun_alone : (output : Option Bytes) (held : List (HeldAttempt H)) → FollowsBegun function next options id s.events (s.outputs id) held new
-          → FollowsBegun function next options id (beginning ∷ s.events) output held new
-      begun_alone output held f = record {
-        version = f.version;
+      -- nothing is on its way of it
+      begun_anew : (version : Version) (output : Option Bytes) (held more : List (HeldAttempt H)) → FollowsBegun function next options id s.events (s.outputs id) held new
+          → ((m : ℕ) → attempts_begun (beginning ∷ s.events) id < m → held_of more id m ≡ None)
+          → ((m : ℕ) (waits : Bytes) (one : HeldAttempt H) → live_attempt (beginning ∷ s.events) id ≡ Some m → output ≡ Some waits → held_of more id m ≡ Some one
+          → Flies function next options id (beginning ∷ s.events) new version [] waits one.attempt)
+          → FollowsBegun function next options id (beginning ∷ s.events) output more new
+      begun_anew version output held more f numbered flies = record {
+        version = version;
         coming = [];
         typed = (λ same. moment, f.typed);
         fit = tt;
         of_store = tt;
         follows = follows_anew (map (frame_meant f.version) f.coming) f.follows;
-        numbered = λ m above. f.numbered m (omega (arith, one_more));
-        flies = λ m waits one live is_out found.
-            let same : attempts_begun (beginning ∷ s.events) id ≡ m = some_is (attempts_begun (beginning ∷ s.events) id) m (sym live_now ∙ live) in
-            some_none (sym found ∙ f.numbered m (omega (arith, one_more, same)));
+        numbered = numbered;
+        flies = flies;
       }
+
+      -- the attempt could not be held
+      pub begun_alone : (output : Option Bytes) (held : List (HeldAttempt H)) → FollowsBegun function next options id s.events (s.outputs id) held new
+          → FollowsBegun function next options id (beginning ∷ s.events) output held new
+      begun_alone output held f =
+          begun_anew f.version output held held f (λ m above. f.numbered m (omega (arith, one_more)))
+          (λ m waits one live is_out found.
+          let same : attempts_begun (beginning ∷ s.events) id ≡ m = some_is (attempts_begun (beginning ∷ s.events) id) m (sym live_now ∙ live) in
+          some_none (sym found ∙ f.numbered m (omega (arith, one_more, same))))
 
       module _ (handler : H) (answer : BegunAttempt) (held more : List (HeldAttempt H)) (in_line : ReplaysInLine options) (brings : asking_by_text (function handler) ≡ next)
           (number_is : answer.number ≡ 1 + attempts_begun s.events id) (speaks : answer.version ≡ version_of s.events id) (told : answer.start ≡ start.frame)
@@ -213,24 +223,18 @@ module _ {H : Type 0} (function : H → Handler) (next : Handler) (options : VMO
         begun_flies = record { version_is = speaks_version; bytes = has_begun.0; stands = begun_stands has_begun.1 }
 
         begun_with : FollowsBegun function next options id (beginning ∷ s.events) (Some []) (held ++ new_held ∷ []) new
-        begun_with = record {
-          version = h.version;
-          coming = [];
-          typed = (λ same. moment, f.typed);
-          fit = tt;
-          of_store = tt;
-          follows = follows_anew (map (frame_meant f.version) f.coming) f.follows;
-          numbered = λ m above. first_push_other (is_held id m) held new_held (not_held_number id m new_held (λ e. absurd (omega (arith, one_more, number_is)))) ∙ f.numbered m (omega (arith, one_more));
-          flies = λ m waits one live is_out found.
-              let same : attempts_begun (beginning ∷ s.events) id ≡ m = some_is (attempts_begun (beginning ∷ s.events) id) m (sym live_now ∙ live) in
-              let own : answer.number ≡ m = omega (arith, number_is, one_more, same) in
-              let none : held_of held id m ≡ None = f.numbered m (omega (arith, one_more, same)) in
-              let here : held_of (held ++ new_held ∷ []) id m ≡ Some new_held = first_push_none (is_held id m) held new_held none ∙ rw (is_held_by id m new_held refl own) refl in
-              let it : new_held ≡ one = some_is new_held one (sym here ∙ found) in
-              let empty : [] ≡ waits = some_is [] waits is_out in
-              subst (λ (k : HeldAttempt H). Flies function next options id (beginning ∷ s.events) new h.version [] waits k.attempt) it
-              (subst (λ (b : Bytes). Flies function next options id (beginning ∷ s.events) new h.version [] b h.attempt) empty begun_flies);
-        }
+        begun_with =
+            begun_anew h.version (Some []) held (held ++ new_held ∷ []) f
+            (λ m above. first_push_other (is_held id m) held new_held (not_held_number id m new_held (λ e. absurd (omega (arith, one_more, number_is)))) ∙ f.numbered m (omega (arith, one_more)))
+            (λ m waits one live is_out found.
+            let same : attempts_begun (beginning ∷ s.events) id ≡ m = some_is (attempts_begun (beginning ∷ s.events) id) m (sym live_now ∙ live) in
+            let own : answer.number ≡ m = omega (arith, number_is, one_more, same) in
+            let none : held_of held id m ≡ None = f.numbered m (omega (arith, one_more, same)) in
+            let here : held_of (held ++ new_held ∷ []) id m ≡ Some new_held = first_push_none (is_held id m) held new_held none ∙ rw (is_held_by id m new_held refl own) refl in
+            let it : new_held ≡ one = some_is new_held one (sym here ∙ found) in
+            let empty : [] ≡ waits = some_is [] waits is_out in
+            subst (λ (k : HeldAttempt H). Flies function next options id (beginning ∷ s.events) new h.version [] waits k.attempt) it
+            (subst (λ (b : Bytes). Flies function next options id (beginning ∷ s.events) new h.version [] b h.attempt) empty begun_flies))
 
         pub begun_held : FollowsBegun function next options id (beginning ∷ s.events) (Some []) more new
         begun_held = subst (λ (some : List (HeldAttempt H)). FollowsBegun function next options id (beginning ∷ s.events) (Some []) some new) (sym h.held) begun_with

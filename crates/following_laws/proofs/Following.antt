@@ -19,24 +19,26 @@ use Rattle.fitting_laws.specs.Fitting.{AllFit}
 use Rattle.following_laws.specs.Following.{given_of, Flies, FollowsBegun, FollowsWhere}
 
 module _ {H : Type 0} (function : H → Handler) (next : Handler) (options : VMOptions) (id : Text) where
-  -- what is held of the invocation is all that counts
-  same_held_begun : (events : List Event) (output : Option Bytes) (held more : List (HeldAttempt H)) (new : NewInvocation) → ((n : ℕ) → held_of more id n ≡ held_of held id n)
+  -- what is held of the live attempt, and of those beyond, is all that counts
+  kept_begun : (events : List Event) (output : Option Bytes) (held more : List (HeldAttempt H)) (new : NewInvocation)
+      → ((n : ℕ) → held_of held id n ≡ None → held_of more id n ≡ None)
+      → ((n : ℕ) (one : HeldAttempt H) → live_attempt events id ≡ Some n → held_of more id n ≡ Some one → held_of held id n ≡ Some one)
       → FollowsBegun function next options id events output held new → FollowsBegun function next options id events output more new
-  same_held_begun events output held more new same f = record {
+  kept_begun events output held more new unheld live f = record {
     version = f.version;
     coming = f.coming;
     typed = f.typed;
     fit = f.fit;
     of_store = f.of_store;
     follows = f.follows;
-    numbered = λ n above. same n ∙ f.numbered n above;
-    flies = λ n waits one live is found. f.flies n waits one live is (sym (same n) ∙ found);
+    numbered = λ n above. unheld n (f.numbered n above);
+    flies = λ n waits one live_is is found. f.flies n waits one live_is is (live n one live_is found);
   }
 
   pub same_held : (events : List Event) (output : Option Bytes) (held more : List (HeldAttempt H)) (new : Option NewInvocation) → ((n : ℕ) → held_of more id n ≡ held_of held id n)
       → FollowsWhere function next options id events output held new → FollowsWhere function next options id events output more new
   same_held events output held more None same f = λ n. same n ∙ f n
-  same_held events output held more (Some new) same f = same_held_begun events output held more new same f
+  same_held events output held more (Some new) same f = kept_begun events output held more new (λ n none. same n ∙ none) (λ n one live found. sym (same n) ∙ found) f
 
   module _ (events : List Event) (held : List (HeldAttempt H)) (new : NewInvocation) where
     -- the live attempt, and its frames on their way
@@ -48,6 +50,13 @@ module _ {H : Type 0} (function : H → Handler) (next : Handler) (options : VMO
       pub follows : FollowsSo next (given_of options id events new) id events (map (frame_meant version) coming)
       pub output_is : output ≡ Some waits
       pub flies : Flies function next options id events new version coming waits one.attempt
+
+    -- what was on its way still is
+    pub flown_still : (before : List Event) (was : Option Bytes) (f : FollowsBegun function next options id before was held new) (output : Option Bytes) (waits : Bytes) (one : HeldAttempt H)
+        → FollowsSo next (given_of options id events new) id events (map (frame_meant f.version) f.coming) → output ≡ Some waits
+        → Flies function next options id events new f.version f.coming waits one.attempt → IsFlown output waits one
+    flown_still before was f output waits one follows output_is flies =
+        record { version = f.version; coming = f.coming; fit = f.fit; of_store = f.of_store; follows = follows; output_is = output_is; flies = flies }
 
     -- it has changed
     pub flown : (output : Option Bytes) (waits : Bytes) (number : ℕ) (h g : HeldAttempt H) → AllFit id events → ((n : ℕ) → attempts_begun events id < n → held_of held id n ≡ None)
@@ -75,15 +84,7 @@ module _ {H : Type 0} (function : H → Handler) (next : Handler) (options : VMO
     -- one that is not live has changed
     pub beside : (output : Option Bytes) (number : ℕ) (h g : HeldAttempt H) → ((n : ℕ) → live_attempt events id ≡ Some n → n ≢ number) → held_of held id number ≡ Some h → g.invocation ≡ h.invocation → g.number ≡ h.number
         → FollowsBegun function next options id events output held new → FollowsBegun function next options id events output (with_first (is_held id number) held g) new
-    beside output number h g not_live found invocation same_number f = record {
-      version = f.version;
-      coming = f.coming;
-      typed = f.typed;
-      fit = f.fit;
-      of_store = f.of_store;
-      follows = f.follows;
-      numbered = λ m above.
-          let none : held_of held id m ≡ None = f.numbered m above in
-          held_other_number id number m held h g found same_number (λ e. some_none (sym found ∙ ap (λ (k : ℕ). held_of held id k) (sym e) ∙ none)) ∙ none;
-      flies = λ n waits one live is there. f.flies n waits one live is (sym (held_other_number id number n held h g found same_number (not_live n live)) ∙ there);
-    }
+    beside output number h g not_live found invocation same_number f =
+        let other : (n : ℕ) → n ≢ number → held_of (with_first (is_held id number) held g) id n ≡ held_of held id n = λ n far. held_other_number id number n held h g found same_number far in
+        kept_begun events output held (with_first (is_held id number) held g) new
+        (λ n none. other n (λ e. some_none (sym found ∙ ap (λ (k : ℕ). held_of held id k) (sym e) ∙ none)) ∙ none) (λ n one live there. sym (other n (not_live n live)) ∙ there) f

@@ -3,7 +3,7 @@ use Rattle.journal_model.specs.Run.{Handler}
 use Rattle.protocol_types.specs.declared.version.Version.{Version}
 use Rattle.vm_types.specs.declared.options.VMOptions.{VMOptions}
 use Rattle.machine_laws.specs.Laws.{MachinesBegin, MachinesStayLive}
-use Rattle.turning_laws.specs.Servings.{NotesFollow, BeginsServing, StaysServing, FeedsServing, ClosesServing, TakesServing, OversStay}
+use Rattle.turning_laws.specs.Servings.{asking_by_text, OfEach, NotesFollow, BeginsServing, StaysServing, FeedsServing, ClosesServing, TakesServing, OversStay}
 use Rattle.turning_laws.specs.Turning.{TurnServes}
 
 pub record ServingLaws {H : Type 0} (function : H → Handler) (next : Handler) (options : VMOptions) : Type 0 where
@@ -17,3 +17,20 @@ pub record ServingLaws {H : Type 0} (function : H → Handler) (next : Handler) 
   pub notes : NotesFollow
   pub live_begins : MachinesBegin
   pub stays : MachinesStayLive
+
+-- those of a handler as it asks by text
+pub laws_by_text : {H : Type 0} (function : H → Handler) (next : Handler) (options : VMOptions) → OfEach (BeginsServing function) → OfEach (StaysServing function) → OfEach (FeedsServing function)
+    → OfEach (ClosesServing function) → OfEach (TakesServing function) → OfEach (TurnServes function) → OversStay function → NotesFollow → MachinesBegin → MachinesStayLive
+    → ServingLaws function (asking_by_text next) options
+laws_by_text function next options begins events feeds closes takes turns over notes live_begins stays = record {
+  begins = λ version. begins (asking_by_text next) version options;
+  events = λ version. events (asking_by_text next) version options;
+  feeds = λ version. feeds (asking_by_text next) version options;
+  closes = λ version. closes (asking_by_text next) version options;
+  takes = λ version. takes (asking_by_text next) version options;
+  turns = λ version. turns (asking_by_text next) version options;
+  over = over;
+  notes = notes;
+  live_begins = live_begins;
+  stays = stays;
+}

@@ -2,10 +2,10 @@
 use Rattle.std.proofs.Common.{◌≡◌, ◌⊎◌, inl, inr, ◌∙◌, ℕ, Bool, true, ◌++◌, map, Option, Some, None, Ok, refl, sym, ap, subst}
 use Rattle.std.specs.List.{AllByRecursion}
 use Rattle.vm_errors.specs.Phases.{kept_error}
-use Rattle.serving_laws.specs.Serving.{asking_by_text, kind_where, HasNotRead, HasRead, Serves}
+use Rattle.serving_laws.specs.Serving.{kind_where, HasNotRead, HasRead, Serves}
 use Rattle.serving_laws.specs.Keeping.{early_error, StaysClosed, ClosesEarly, ClosesServing, WritesNothing}
 use Rattle.serving_laws.proofs.Notes.{TellsNotes, cause_tells, fails_with, waits_more}
-use Rattle.serving_laws.proofs.Over.{waits_same}
+use Rattle.serving_laws.proofs.Over.{serves_by, waits_same}
 use Rattle.serving_laws.proofs.Phases.{stage}
 use Rattle.serving_laws.specs.Attempts.{ClosesUnless, Attempt, Finish}
 use Rattle.serving_laws.specs.Machine.phases
@@ -42,18 +42,8 @@ module _ {H : Type 0} (function : H → Handler) (next : Handler) (version : Ver
     stays : HasNotRead function next version options live true after ⊎ HasRead function next version options live after → StaysClosed function next version options live before after
     stays stands = record {
       journal = journal;
-      serves = record {
-        handler = ap (λ (a : Attempt H). asking_by_text (function a.handler)) does.1 ∙ s.handler;
-        going = ap (λ (a : Attempt H). a.over) does.1 ∙ s.going;
-        cancellation = ap (λ (a : Attempt H). a.cancellation) does.1 ∙ s.cancellation;
-        kind = closed_kind;
-        of_run = s.of_run;
-        fed = s.fed;
-        started = s.started;
-        bytes = ap (λ (vm : MachineState). vm.decoder) same ∙ s.bytes;
-        whole = ap (λ (vm : MachineState). item_at vm.decoder) same ∙ s.whole;
-        stands = stands;
-      };
+      serves = serves_by function next version options live live is_closed true before after does.1 s closed_kind s.of_run s.fed s.started
+          (ap (λ (vm : MachineState). vm.decoder) same ∙ s.bytes) (ap (λ (vm : MachineState). item_at vm.decoder) same ∙ s.whole) stands;
       nothing = nothing;
     }
 

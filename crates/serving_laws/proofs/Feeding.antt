@@ -7,12 +7,12 @@ use Rattle.input_laws.proofs.Telling.{arrivals_carried-append}
 use Rattle.machine_laws.specs.Laws.{MachinesStayLive}
 use Rattle.beginning_laws.proofs.Messages.{arrivals_waited_for, arrivals_gathered, all_in_front}
 use Rattle.beginning_laws.proofs.Passed.{stays_active}
-use Rattle.serving_laws.specs.Serving.{asking_by_text, IsFedBy, kind_where, HasNotRead, HasRead, Serves}
+use Rattle.serving_laws.specs.Serving.{IsFedBy, kind_where, HasNotRead, HasRead, Serves}
 use Rattle.serving_laws.specs.Keeping.{IsLiveAt, StaysServing, ServesOn, LacksMemory, WritesNothing, FeedsServing}
 use Rattle.serving_laws.proofs.Beginning.{bytes_append, feeds_new}
 use Rattle.serving_laws.proofs.Driven.{messages_number}
 use Rattle.serving_laws.proofs.Messages.{messages_append, messages_childless, unread_arrive, unread_fit, journal_more, fed_same, fed_more}
-use Rattle.serving_laws.proofs.Over.{waits_same}
+use Rattle.serving_laws.proofs.Over.{serves_by, waits_same}
 use Rattle.serving_laws.specs.Attempts.{Attempt}
 use Rattle.serving_laws.specs.Machine.{Sees, Written, Phase, MachineState, has_failed, IsFed, IsDriven}
 use Rattle.serving_laws.specs.Reading.{bytes_of, IsFedEach, AreWaitedFor, phase_behind, TakesFirst, InputsAreKept, FailsForMemory, IsInputOf, start_told, Kind, kind_of, ReadsOn, JournalsAreRead, IsArrival}
@@ -76,18 +76,8 @@ module _ {H : Type 0} (function : H → Handler) (next : Handler) (version : Ver
       still = still;
       kept = after.vm.state.decoder;
       lives = lives;
-      serves = record {
-        handler = ap (λ (a : Attempt H). asking_by_text (function a.handler)) does.1 ∙ s.handler;
-        going = ap (λ (a : Attempt H). a.over) does.1 ∙ s.going;
-        cancellation = ap (λ (a : Attempt H). a.cancellation) does.1 ∙ s.cancellation;
-        kind = kind;
-        of_run = s.of_run;
-        fed = fed_by;
-        started = refl;
-        bytes = refl;
-        whole = whole;
-        stands = stands;
-      };
+      serves = serves_by function next version options live (after_reading (handed_bytes live bytes) some still after.vm.state.decoder) is_closed is_closed before after does.1 s
+          kind s.of_run fed_by refl refl whole stands;
     }
 
   lacks : FailsForMemory before.vm.state after.vm.state → Outcome

@@ -4,11 +4,12 @@ use Rattle.std.specs.declared.alloc.AllocError.{AllocError}
 use Rattle.beginning_laws.proofs.Passed.{failed_fed}
 use Rattle.vm_attempt.specs.declared.turn.Finish.TheVariants as finishes
 use Rattle.serving_laws.specs.Attempts.{FeedsUnless, ClosesUnless, output_of, OnlyTaken, OnlyMoves, Shows, LetsGo, TakesOutput, again, TurnsWhere, TurnsUnless, Attempt, Finish, Turn}
-use Rattle.serving_laws.specs.Serving.{IsOver, finished, machine_failed}
+use Rattle.serving_laws.specs.Reading.{IsRunOf, kind_of}
+use Rattle.serving_laws.specs.Serving.{IsOver, finished, machine_failed, kind_where, HasNotRead, HasRead, IsFedBy, Serves}
 use Rattle.serving_laws.specs.Keeping.{IsLast, WritesNothing, OversStay}
 use Rattle.serving_laws.specs.Machine.phases
 use Rattle.serving_laws.specs.Machine.{Phase, MachineState, IsReady, is_waiting, input_closed, ClosesWhere, with_input, CoreVM}
-use Rattle.serving_laws.specs.Words.{Error, Bytes, Handler}
+use Rattle.serving_laws.specs.Words.{Error, Bytes, Handler, LiveAttempt, Version, VMOptions, item_at}
 
 again_last : (finish : Finish) → IsLast (again finish)
 again_last finishes.Suspended = tt
@@ -20,6 +21,17 @@ module _ {H : Type 0} where
   pub waits_same : (before after : Attempt H) → after ≡ record before { vm = after.vm } → after.vm.state.active.output.bytes ≡ before.vm.state.active.output.bytes → WritesNothing before after
   waits_same before after others same =
       ap (λ (a : Attempt H). (a.front ++ a.behind) ++ after.vm.state.active.output.bytes) others ∙ ap (λ (bytes : List ℕ). (before.front ++ before.behind) ++ bytes) same
+
+  -- and that machine tells what it serves
+  module _ (function : H → Handler) (next : Handler) (version : Version) (options : VMOptions) where
+    pub serves_by : (live now : LiveAttempt) (is_closed closed_now : Bool) (before after : Attempt H) → after ≡ record before { vm = after.vm } → Serves function next version options live is_closed before
+        → kind_of after.vm.state ≡ kind_where version options closed_now → IsRunOf now.start version options → IsFedBy now → now.bytes ≡ now.held → after.vm.state.decoder ≡ now.held
+        → item_at after.vm.state.decoder ≡ None → HasNotRead function next version options now closed_now after ⊎ HasRead function next version options now after
+        → Serves function next version options now closed_now after
+    serves_by live now is_closed closed_now before after others s kind of_run fed started bytes whole stands =
+        let there = subst (λ (a : Attempt H). HasNotRead function next version options now closed_now a ⊎ HasRead function next version options now a) others stands in
+        subst (λ (a : Attempt H). Serves function next version options now closed_now a) (sym others)
+        (record { handler = s.handler; going = s.going; cancellation = s.cancellation; kind = kind; of_run = of_run; fed = fed; started = started; bytes = bytes; whole = whole; stands = there })
 
   never : {A : Type 0} (finish : Finish) (before : Attempt H) → before.over ≡ None → before.over ≡ Some finish → A
   never finish before none some = cc

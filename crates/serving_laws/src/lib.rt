@@ -2,8 +2,8 @@
 //! what it has written is taken, and behind its end. Each function does nothing: its contract is the law.
 #![tactic(auto)]
 
-ghost use Rattle.serving_laws.specs.Keeping.{NotesFollow, OversStay};
-ghost use Rattle.serving_laws.specs.Laws.{AttemptsBegin, EventsKeep, FeedsKeep, ClosesKeep, TakesKeep};
+ghost use Rattle.serving_laws.specs.Keeping.{BeginsServing, ClosesServing, FeedsServing, NotesFollow, OversStay, StaysServing, TakesServing};
+ghost use Rattle.serving_laws.specs.Laws.{OfEach};
 
 pub use beginning_laws::inputs_are_answered;
 use beginning_laws::{inputs_are_kept, journals_are_read, starts_are_read};
@@ -12,20 +12,20 @@ use machine_laws::machines_stay_live;
 
 /// A new attempt that is fed its start frame serves the live attempt that is begun so, or it has failed for want of memory.
 pub fn attempts_begin<H: Handler>()
-    ensures { AttemptsBegin H.next_call }
+    ensures { OfEach (BeginsServing H.next_call) }
 {
     starts_are_read();
 }
 
 /// It serves as well with more messages on their way to it, and other frames on their way from it.
 pub fn events_keep<H: Handler>()
-    ensures { EventsKeep H.next_call }
+    ensures { OfEach (StaysServing H.next_call) }
 {}
 
 /// Fed the next bytes, in any cut, it reads the messages that have come whole, and serves the live attempt that has read those; or it has
 /// failed for want of memory.
 pub fn feeds_keep<H: Handler>()
-    ensures { FeedsKeep H.next_call }
+    ensures { OfEach (FeedsServing H.next_call) }
 {
     machines_stay_live();
     journals_are_read();
@@ -34,12 +34,12 @@ pub fn feeds_keep<H: Handler>()
 
 /// With its input closed it serves on, if its journal was read; else it fails, and tells so.
 pub fn closes_keep<H: Handler>()
-    ensures { ClosesKeep H.next_call }
+    ensures { OfEach (ClosesServing H.next_call) }
 {}
 
 /// Handing out what it has written changes nothing else.
 pub fn takes_keep<H: Handler>()
-    ensures { TakesKeep H.next_call }
+    ensures { OfEach (TakesServing H.next_call) }
 {}
 
 /// An attempt that is over stays so, and writes nothing.

@@ -132,15 +132,3 @@ module _ {H : Type 0} (function : H → Handler) (next : Handler) (version : Ver
       → FollowsSo next live.start.given id events live.coming → IsLiveAt function next version options id events live → HasReadJournal live → is_input_closed events id ≡ true
       → Serves function next version options live true before → TurnsEach turns before after
       → IsOver after ⊎ AnswersEach id events live before turns after
-
--- ---- of a handler with each function, version and options
-
-module _ {H : Type 0} (function : H → Handler) where
-  abbrev pub TurnsKeep : Type 0
-  TurnsKeep = (next : Handler) (version : Version) (options : VMOptions) → TurnServes function next version options
-
-  abbrev pub TurnsNeverMismatch : Type 0
-  TurnsNeverMismatch = (next : Handler) (version : Version) (options : VMOptions) → TurnsMatch function next version options
-
-  abbrev pub TurnsProgress : Type 0
-  TurnsProgress = (next : Handler) (version : Version) (options : VMOptions) → TurnsAnswer function next version options

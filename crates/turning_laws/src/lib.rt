@@ -2,7 +2,8 @@
 //! nothing: its contract is the law.
 #![tactic(auto)]
 
-ghost use Rattle.turning_laws.specs.Turning.{TurnsKeep, TurnsNeverMismatch, TurnsProgress};
+ghost use Rattle.serving_laws.specs.Laws.{OfEach};
+ghost use Rattle.turning_laws.specs.Turning.{TurnServes, TurnsAnswer, TurnsMatch};
 
 use journal_model::Handler;
 use machine_laws::{journals_stand, machines_keep_on};
@@ -15,7 +16,7 @@ pub use serving_laws::{
 /// more can come; Suspended and Ended come where the run waits or has ended with exactly its requests, and are written; Failed has a cause,
 /// and tells it. What was written are frames of the run.
 pub fn turns_keep<H: Handler>()
-    ensures { TurnsKeep H.next_call }
+    ensures { OfEach (TurnServes H.next_call) }
 {
     journals_stand();
     machines_keep_on();
@@ -24,14 +25,14 @@ pub fn turns_keep<H: Handler>()
 
 /// A turn fails with an internal error, or for what is not supported: never since the journal is not that of the run.
 pub fn turns_never_mismatch<H: Handler>()
-    ensures { TurnsNeverMismatch H.next_call }
+    ensures { OfEach (TurnsMatch H.next_call) }
 {
     turns_keep::<H>();
 }
 
 /// With the journal read and the input closed each of any number of turns answers, or the attempt is over.
 pub fn turns_progress<H: Handler>()
-    ensures { TurnsProgress H.next_call }
+    ensures { OfEach (TurnsAnswer H.next_call) }
 {
     turns_keep::<H>();
 }
