@@ -10,6 +10,7 @@ use Rattle.schedule_model.specs.declared.event.Reply.{Reply}
 use Rattle.schedule_model.specs.declared.event.Reply.TheVariants as reply
 use Rattle.schedule_model.specs.declared.event.Refusal.TheVariants as refusal
 use Rattle.schedule_model.specs.declared.held.HeldAttempt.{HeldAttempt}
+use Rattle.store_steps.specs.declared.frame.FrameReply.{FrameReply}
 use Rattle.schedule_model.specs.Schedule.{Advances, MovesOne}
 use Rattle.schedule_model.proofs.Advancing.{advances, shown_count, shown_bytes}
 use Rattle.schedule_model.specs.Attempts.{Attempt, output_of, Gathers, LetsGo, ShowsFirst}
@@ -20,7 +21,14 @@ use Rattle.store_calls.proofs.Taking.{live_or_over, same_stays}
 use Rattle.journal_store.specs.Stored.{Stored}
 use Rattle.journal_store.specs.Stands.{Endures}
 use Rattle.journal_store.proofs.Enduring.{endures_so}
-use Rattle.durable_schedule.specs.Scheduled.{AcceptsOne, MovesSome}
+use Rattle.durable_schedule.specs.Scheduled.{MovesSome}
+
+-- these bytes were moved, and leave the attempt; or they are refused, and it is as it was
+abbrev AcceptsOne : {H : Type 0} → Bytes → HeldAttempt H → Standing → Reply → Standing → Attempt H → Type 0
+AcceptsOne bytes one old (reply.Moved moved frames why) new changed =
+    (replies : List FrameReply) × (frames ≡ length replies) × (moved ≡ length bytes) × Accepts one.invocation one.number bytes (Ok (replies, why)) old new × LetsGo moved one.attempt changed
+AcceptsOne bytes one old (reply.Refused (refusal.Store why)) new changed = Accepts one.invocation one.number bytes (Err why) old new × (changed ≡ one.attempt)
+AcceptsOne bytes one old _ new changed = ⊥
 
 -- bytes that were shown first are what the move asks for
 pub moves_shown : {H : Type 0} (count : ℕ) (bytes : Bytes) (one : HeldAttempt H) (between : Attempt H) → ShowsFirst count bytes one.attempt between → (s t : Standing) (answer : Reply) (changed : Attempt H)

@@ -1,15 +1,16 @@
 -- What a scheduler's calls do to what it stands for.
-use Rattle.std.proofs.Common.{◌≡◌, refl, sym, ap, subst, ◌∙◌, ℕ, List, inr}
+use Rattle.std.proofs.Common.{◌≡◌, refl, sym, ap, subst, ◌∙◌, ℕ, List, Result, Ok, Err, OnOk, inl, inr, arith}
 use Rattle.sqlite_trees.specs.declared.store.Store.{Ghosts}
 use Rattle.sqlite.specs.Held.{state}
-use Rattle.sqlite.specs.State.{HasCleanDisk}
+use Rattle.sqlite.specs.State.{State, HasCleanDisk}
 use Rattle.journal_model.specs.Notification.{Text}
 use Rattle.journal_model.specs.Run.{Handler}
 use Rattle.vm_types.specs.declared.options.VMOptions.{VMOptions}
 use Rattle.store_live.specs.Attempts.{Attempts}
+use Rattle.store_refusals.specs.declared.refusal.Refusal.{Refusal}
 use Rattle.store_refusals.specs.declared.refusal.Refusal.TheVariants.{OutOfMemory}
 use Rattle.journal_store.specs.Stored.{Stored}
-use Rattle.journal_store.specs.Stands.{Stands as StandsFor, Leads, Endures, output_of}
+use Rattle.journal_store.specs.Stands.{Stands as StandsFor, Leads, Endures, EnduresAlways, IsQuiet, Outlasts, Settles, output_of}
 use Rattle.schedule_model.specs.declared.event.Event.{Event}
 use Rattle.schedule_model.specs.declared.event.Event.TheVariants as event
 use Rattle.schedule_model.specs.declared.event.Reply.{Reply}
@@ -18,14 +19,15 @@ use Rattle.schedule_model.specs.declared.event.Refusal.TheVariants as refusal
 use Rattle.schedule_model.specs.declared.held.HeldAttempt.{HeldAttempt}
 use Rattle.store_calls.specs.Standing.{Standing}
 use Rattle.schedule_model.specs.Schedule.{Scheduled, Does, Applies}
+use Rattle.schedule_model.specs.Fitting.{FitsEvent}
 use Rattle.durable_schedule.specs.declared.scheduler.Scheduler.{Scheduler}
-use Rattle.durable_schedule.specs.Scheduled.{IsScheduled, IsWritten, OutlastsEvent, AppliesWith, CommitsNothing, IsOfHeld, Spares, SparesUnheld}
+use Rattle.durable_schedule.specs.Scheduled.{IsScheduled, IsWritten, OutlastsEvent, AppliesWith, CommitsNothing, IsOfHeld, LastsBy, LeadsBy, Performs, SparesUnheld, TakesLive, reply_to}
 use Rattle.journal_store.specs.Attempts.{BeginsSome}
-use Rattle.journal_store.proofs.Enduring.{endures_so}
+use Rattle.journal_store.proofs.Enduring.{always_endures, endures_so, quiet_endures}
 
 module _ {H S : Type 0} (g : Ghosts S) where
   -- what is done to a store and to what is held is done to a scheduler
-  pub led : (old new : Scheduler H S) (Relation : Standing → List (HeldAttempt H) → Standing → List (HeldAttempt H) → Type 0)
+  led : (old new : Scheduler H S) (Relation : Standing → List (HeldAttempt H) → Standing → List (HeldAttempt H) → Type 0)
       → Leads g (λ (s t : Standing). Relation s old.held t new.held) old.store new.store
       → HasCleanDisk (state g new.store.connection) → (from : Scheduled H) → IsScheduled g from old
       → (to : Scheduled H) × IsScheduled g to new × Relation from.standing from.held to.standing to.held
@@ -36,42 +38,6 @@ module _ {H S : Type 0} (g : Ghosts S) where
         subst (λ (held : List (HeldAttempt H)). Relation from.standing held it.0 new.held) (sym is.held) it.2,
       )
 
-  -- where a crash comes into it
-  pub applied_with : (function : H → Handler) (options : VMOptions) (asked one : Event H) (held : List (HeldAttempt H)) (old new : Stored S) → asked ≡ one
-      → (P : Standing → Standing → Type 0) → ((s t : Standing) → P s t → AppliesWith function options one held s t) → Endures g P old new → Endures g (AppliesWith function options asked held) old new
-  applied_with function options asked one held old new same P so lives =
-      subst (λ (event : Event H). Endures g (AppliesWith function options event held) old new) (sym same) (endures_so g P (AppliesWith function options one held) old new so lives)
-
-  -- where nothing but the store was changed
-  pub stored : (old new : Scheduler H S) → new ≡ record old { store = new.store } → new.held ≡ old.held
-  stored old new kept = ap (λ (scheduler : Scheduler H S). scheduler.held) kept
-
-  -- one event was applied
-  pub applied : (function : H → Handler) (old new : Scheduler H S) (asked one : Event H) (answer : Reply) → asked ≡ one
-      → Leads g (λ (s t : Standing). Does function old.options one s old.held answer t new.held) old.store new.store
-      → HasCleanDisk (state g new.store.connection) → (from : Scheduled H) → IsScheduled g from old
-      → (to : Scheduled H) × IsScheduled g to new × Applies function old.options asked answer from to
-  applied function old new asked one answer same does clean from is =
-      let it = led old new (λ s held t more. Does function old.options one s held answer t more) does clean from is in
-      (it.0, it.1, subst (λ (event : Event H). Applies function old.options event answer from it.0) (sym same) it.2)
-
-  -- and what is written of it lasts
-  pub applied_lasting : (function : H → Handler) (old new : Scheduler H S) (asked one : Event H) (answer : Reply) → asked ≡ one
-      → (IsWritten one answer
-      → Leads g (λ (s t : Standing). Does function old.options one s old.held answer t new.held × OutlastsEvent one answer t (state g new.store.connection)) old.store new.store)
-      → IsWritten asked answer → HasCleanDisk (state g new.store.connection) → (from : Scheduled H) → IsScheduled g from old
-      → (to : Scheduled H) × IsScheduled g to new × Applies function old.options asked answer from to × OutlastsEvent asked answer to.standing (state g new.store.connection)
-  applied_lasting function old new asked one answer same does written clean from is =
-      let lasts = does (subst (λ (event : Event H). IsWritten event answer) same written) in
-      let database = state g new.store.connection in
-      let it = led old new (λ s held t more. Does function old.options one s held answer t more × OutlastsEvent one answer t database) lasts clean from is in
-      let did = subst (λ (event : Event H). Applies function old.options event answer from it.0 × OutlastsEvent event answer it.0.standing database) (sym same) it.2 in
-      (it.0, it.1, did.0, did.1)
-
-  -- nothing is written of another event
-  pub unwritten : (asked one : Event H) (answer : Reply) → asked ≡ one → (IsWritten one answer → ⊥) → {P : Type 0} → IsWritten asked answer → P
-  unwritten asked one answer same none written = absurd (none (subst (λ (event : Event H). IsWritten event answer) same written))
-
   -- a read leaves what it stands for
   pub read_still : (s : Scheduled H) (old : Scheduler H S) (store : Stored S) → IsScheduled g s old → StandsFor s.standing.events (state g store.connection) store.live.attempts
       → store.live ≡ old.store.live → IsScheduled g s (record old { store = store })
@@ -80,19 +46,92 @@ module _ {H S : Type 0} (g : Ghosts S) where
     held = is.held;
   }
 
+-- nothing was done to a store
+pub same_quiet : {S : Type 0} (g : Ghosts S) (store : Stored S) → IsQuiet g store store
+same_quiet g store = record { clean = omega arith; shield = λ it. it; counts = omega arith; limit = refl; closes = λ clean is_open. inl is_open; crash = λ clean db may. inl may }
+
+-- ---- an event
+
+-- what is not answered so asks nothing
+pub spares_held : {H S : Type 0} (answer : Reply) (old new : Scheduler H S) → IsOfHeld answer → SparesUnheld answer old new
+spares_held answer old new held is = absurd (subst IsOfHeld is held)
+
+abbrev unheld : Reply
+unheld = reply.Refused refusal.AttemptNotHeld
+
+module _ {H S : Type 0} (g : Ghosts S) (function : H → Handler) where
+  -- it was applied to what the scheduler stood for
+  pub applied : (old new : Scheduler H S) (one : Event H) (answer : Reply) → LeadsBy g function one answer old new → HasCleanDisk (state g new.store.connection) → (from : Scheduled H) → IsScheduled g from old
+      → (to : Scheduled H) × IsScheduled g to new × Applies function old.options one answer from to
+  applied old new one answer does = led g old new (λ s held t more. Does function old.options one s held answer t more) does
+
+  -- and what is written of it lasts
+  pub applied_lasting : (old new : Scheduler H S) (one : Event H) (answer : Reply) → LastsBy g function one answer old new → HasCleanDisk (state g new.store.connection) → (from : Scheduled H) → IsScheduled g from old
+      → (to : Scheduled H) × IsScheduled g to new × Applies function old.options one answer from to × OutlastsEvent one answer to.standing (state g new.store.connection)
+  applied_lasting old new one answer lasts clean from is =
+      let it = led g old new (λ s held t more. Does function old.options one s held answer t more × OutlastsEvent one answer t (state g new.store.connection)) lasts clean from is in
+      (it.0, it.1, it.2.0, it.2.1)
+
+  module _ (one : Event H) (old : Scheduler H S) where
+    -- nothing of it is written
+    pub performs_quiet : (answer : Reply) (new : Scheduler H S) → (IsWritten one answer → ⊥) → new.options ≡ old.options → FitsEvent one → TakesLive one answer old.store → SparesUnheld answer old new
+        → CommitsNothing g one old.store new.store → IsQuiet g old.store new.store → LeadsBy g function one answer old new → Performs g function one answer old new
+    performs_quiet answer new never options fits live spares nothing quiet does = record {
+      does = does;
+      lasts = λ written. absurd (never written);
+      options = options;
+      fits = fits;
+      live = live;
+      spares = record { unheld = spares; quiet = nothing };
+      crash = quiet_endures g (AppliesWith function old.options one old.held) old.store new.store quiet;
+    }
+
+    -- nobody holds the attempt that it names
+    pub performs_unheld : (IsWritten one unheld → ⊥) → FitsEvent one → TakesLive one unheld old.store → CommitsNothing g one old.store old.store → LeadsBy g function one unheld old old
+        → Performs g function one unheld old old
+    performs_unheld never fits live nothing does = performs_quiet unheld old never refl fits live (λ is. refl) nothing (same_quiet g old.store) does
+
+    -- where a crash comes into it
+    pub crashes : (P : Standing → Standing → Type 0) (store : Stored S) → ((s t : Standing) → P s t → AppliesWith function old.options one old.held s t) → EnduresAlways g P old.store store
+        → Endures g (AppliesWith function old.options one old.held) old.store store
+    crashes P store so lives = endures_so g P (AppliesWith function old.options one old.held) old.store store so (always_endures g P old.store store lives)
+
+    -- the store alone does it, and tells what it did
+    module _ {A : Type 0} (store : Stored S) (says : A → Reply) (Did : Result A Refusal → Standing → Standing → Type 0)
+        (so : (told : Result A Refusal) (s t : Standing) → Did told s t → Does function old.options one s old.held (reply_to says told) t old.held) (held : (done : A) → IsOfHeld (says done)) where
+      abbrev new : Scheduler H S
+      new = record old { store = store }
+
+      pub stored_leads : (told : Result A Refusal) → Leads g (Did told) old.store store → LeadsBy g function one (reply_to says told) old new
+      stored_leads told does clean s is =
+          let it = does clean s is in
+          (it.0, it.1, so told s it.0 it.2)
+
+      pub stored_spares : (told : Result A Refusal) → SparesUnheld (reply_to says told) old new
+      stored_spares (Ok done) = spares_held (says done) old new (held done)
+      stored_spares (Err why) = spares_held (reply.Refused (refusal.Store why)) old new tt
+
+      module _ (never : (why : Refusal) → IsWritten one (reply.Refused (refusal.Store why)) → ⊥)
+          (outlasts : (answer : Reply) (t : Standing) (database : State) → Outlasts t.events database → OutlastsEvent one answer t database) where
+        stored_lasts : (told : Result A Refusal) → OnOk told (Settles g (Did told) old.store store) → IsWritten one (reply_to says told) → LastsBy g function one (reply_to says told) old new
+        stored_lasts (Ok done) settled written clean s is =
+            let it = settled clean s is in
+            (it.0, it.1, (so (Ok done) s it.0 it.2, outlasts (says done) it.0 (state g store.connection) it.3))
+        stored_lasts (Err why) settled written clean s is = absurd (never why written)
+
+        pub performs_stored : FitsEvent one → ((answer : Reply) → TakesLive one answer old.store) → CommitsNothing g one old.store store → Endures g (AppliesWith function old.options one old.held) old.store store
+            → (told : Result A Refusal) → Leads g (Did told) old.store store → OnOk told (Settles g (Did told) old.store store) → Performs g function one (reply_to says told) old new
+        performs_stored fits live nothing crash told does settled = record {
+          does = stored_leads told does;
+          lasts = stored_lasts told settled;
+          options = refl;
+          fits = fits;
+          live = live (reply_to says told);
+          spares = record { unheld = stored_spares told; quiet = nothing };
+          crash = crash;
+        }
+
 module _ {H : Type 0} (function : H → Handler) (options : VMOptions) where
   -- a begin of which the answer is not known
   pub begins_with : (id : Text) (handler : H) (now : ℕ) (held : List (HeldAttempt H)) (s t : Standing) → BeginsSome id now s t → AppliesWith function options (event.Begin id handler now) held s t
   begins_with id handler now held s t it = (reply.Refused (refusal.Store OutOfMemory), held, inr (it.0, refl, it.1, refl))
-
--- ---- what is spared
-
-module _ {H S : Type 0} where
-  -- what is not answered so asks nothing
-  pub spares_held : (answer : Reply) (old new : Scheduler H S) → IsOfHeld answer → SparesUnheld answer old new
-  spares_held answer old new held is = absurd (subst IsOfHeld is held)
-
-  -- an event that is applied is the one that was asked for
-  pub spared : (g : Ghosts S) (asked one : Event H) (answer : Reply) (old new : Scheduler H S) → asked ≡ one → SparesUnheld answer old new → CommitsNothing g one old.store new.store → Spares g asked answer old new
-  spared g asked one answer old new same unheld quiet =
-      record { unheld = unheld; quiet = subst (λ (event : Event H). CommitsNothing g event old.store new.store) (sym same) quiet }

@@ -1,5 +1,5 @@
 -- What a scheduler stands for, and what its calls make of that.
-use Rattle.std.specs.Prelude.{◌≡◌, ◌≢◌, ℕ, true, List, length, Option, Result, Ok, Err}
+use Rattle.std.specs.Prelude.{◌≡◌, ◌≢◌, ℕ, true, List, Option, Result, Ok, Err}
 use Rattle.sqlite_trees.specs.declared.store.Store.{Ghosts}
 use Rattle.sqlite.specs.Held.{state}
 use Rattle.sqlite.specs.State.{State, HasCleanDisk}
@@ -14,19 +14,19 @@ use Rattle.store_invocations.specs.Rows.{Decides, known_tests}
 use Rattle.journal_store.specs.Accepting.{OutlastsFrames}
 use Rattle.journal_store.specs.Stored.{Stored}
 use Rattle.journal_store.specs.Words.{attempt_of, has_number}
-use Rattle.journal_store.specs.Stands.{IsQuiet, IsStanding, Leads, Outlasts}
+use Rattle.journal_store.specs.Stands.{Endures, IsQuiet, IsStanding, Leads, Outlasts}
 use Rattle.schedule_model.specs.Attempts.attempts
-use Rattle.schedule_model.specs.Attempts.{Attempt, LetsGo}
+use Rattle.schedule_model.specs.Attempts.{Attempt}
 use Rattle.schedule_model.specs.declared.event.Event as scheduled
 use Rattle.schedule_model.specs.declared.event.Event.TheVariants as event
 use Rattle.schedule_model.specs.declared.event.Reply.{Reply}
 use Rattle.schedule_model.specs.declared.event.Reply.TheVariants as reply
 use Rattle.schedule_model.specs.declared.event.Refusal.TheVariants as refusal
-use Rattle.store_steps.specs.declared.frame.FrameReply.{FrameReply}
 use Rattle.schedule_model.specs.declared.held.HeldAttempt.{HeldAttempt}
-use Rattle.store_calls.specs.Frames.{Accepts, Rests}
+use Rattle.store_calls.specs.Frames.{Rests}
 use Rattle.store_calls.specs.Standing.{Standing}
 use Rattle.schedule_model.specs.Schedule.{Scheduled, MovesOne, Does}
+use Rattle.schedule_model.specs.Fitting.{FitsEvent}
 use Rattle.durable_schedule.specs.declared.scheduler.Scheduler.{Scheduler}
 
 abbrev pub IsDone : Reply → Type 0
@@ -127,13 +127,6 @@ pub record IsMadeAndFed {H : Type 0} (version : Version) (options : VMOptions) (
   pub begun : attempts.IsBegun version options handler (Ok made)
   pub fed : attempts.Feeds start made attempt
 
--- these bytes were moved, and leave the attempt; or they are refused, and it is as it was
-abbrev pub AcceptsOne : {H : Type 0} → Bytes → HeldAttempt H → Standing → Reply → Standing → Attempt H → Type 0
-AcceptsOne bytes one old (reply.Moved moved frames why) new changed =
-    (replies : List FrameReply) × (frames ≡ length replies) × (moved ≡ length bytes) × Accepts one.invocation one.number bytes (Ok (replies, why)) old new × LetsGo moved one.attempt changed
-AcceptsOne bytes one old (reply.Refused (refusal.Store why)) new changed = Accepts one.invocation one.number bytes (Err why) old new × (changed ≡ one.attempt)
-AcceptsOne bytes one old _ new changed = ⊥
-
 -- so many bytes at most were moved, with some answer
 abbrev pub MovesSome : {H : Type 0} → (count : ℕ) → HeldAttempt H → Standing → Standing → Type 0
 MovesSome {H} count one s t = (answer : Reply) × (changed : Attempt H) × MovesOne count one s answer t changed
@@ -142,6 +135,33 @@ module _ {H : Type 0} (function : H → Handler) (options : VMOptions) where
   -- an event is applied, with some answer
   abbrev pub AppliesWith : scheduled.Event H → (held : List (HeldAttempt H)) → Standing → Standing → Type 0
   AppliesWith one held s t = (answer : Reply) × (more : List (HeldAttempt H)) × Does function options one s held answer t more
+
+-- ---- an event that is applied
+
+-- what the store did is told, or why it refused
+abbrev pub reply_to : {A : Type 0} → (A → Reply) → Result A Refusal → Reply
+reply_to says (Ok done) = says done
+reply_to says (Err why) = reply.Refused (refusal.Store why)
+
+module _ {H S : Type 0} (g : Ghosts S) (function : H → Handler) where
+  -- it is applied to whatever the scheduler stood for, with this answer
+  abbrev pub LeadsBy : scheduled.Event H → Reply → Scheduler H S → Scheduler H S → Type 0
+  LeadsBy one answer old new = Leads g (λ s t. Does function old.options one s old.held answer t new.held) old.store new.store
+
+  -- and what is written of it lasts
+  abbrev pub LastsBy : scheduled.Event H → Reply → Scheduler H S → Scheduler H S → Type 0
+  LastsBy one answer old new =
+      Leads g (λ s t. Does function old.options one s old.held answer t new.held × OutlastsEvent one answer t (state g new.store.connection)) old.store new.store
+
+  -- all that is promised of an event, of which `apply` says what each clause is for
+  pub record Performs (one : scheduled.Event H) (answer : Reply) (old new : Scheduler H S) : Type 0 where
+    pub does : LeadsBy one answer old new
+    pub lasts : IsWritten one answer → LastsBy one answer old new
+    pub options : new.options ≡ old.options
+    pub fits : FitsEvent one
+    pub live : TakesLive one answer old.store
+    pub spares : Spares g one answer old new
+    pub crash : Endures g (AppliesWith function old.options one old.held) old.store new.store
 
 -- ---- what a scheduler stands for
 

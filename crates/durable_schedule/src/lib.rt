@@ -2,6 +2,7 @@
 #![tactic(auto)]
 
 mod held;
+mod replies;
 mod scheduler;
 
 pub use schedule_model::{

@@ -2,22 +2,18 @@
 ghost use Rattle.std.specs.Prelude.{◌≡◌, ◌<◌, ◌^◌, []};
 ghost use Rattle.sqlite.specs.Held.{state};
 ghost use Rattle.sqlite.specs.State.{HasCleanDisk};
-ghost use Rattle.journal_model.specs.Event.{Event as Accepted};
-ghost use Rattle.journal_model.specs.Journal.{completion as completion_of, is_open as is_open_after};
+ghost use Rattle.journal_model.specs.Journal.{is_open as is_open_after};
 ghost use Rattle.store_model.specs.Progress.{last_error_of};
 ghost use Rattle.store_reads.specs.Told.{entries_told};
 ghost use Rattle.store_reads.specs.Answered.{answer_told};
-ghost use Rattle.store_calls.specs.Standing.{Adds};
-ghost use Rattle.store_calls.specs.Calls.{Completes, Invokes, Stops, Ticks};
 ghost use Rattle.journal_store.specs.Attempts.{BeginsSome};
-ghost use Rattle.journal_store.specs.Stands.{Endures, IsQuiet, Leads, Settles};
-ghost use Rattle.schedule_model.specs.Held.{held_of};
-ghost use Rattle.schedule_model.specs.Schedule.{RepliesDone, RepliesPlace, RepliesCount, BeginDoes, IfHeld, FeedsOne, ClosesOne, TurnsOne, MovesOne, Applies, Scheduled};
+ghost use Rattle.journal_store.specs.Stands.{Endures, EnduresAlways, IsQuiet, Leads, Settles};
+ghost use Rattle.schedule_model.specs.Schedule.{BeginDoes, Applies, Scheduled};
 ghost use Rattle.schedule_model.specs.Fitting.{FitsEvent};
-ghost use Rattle.fitting_events.specs.Fitting.{InvocationFits, ResultFits};
-ghost use Rattle.durable_schedule.specs.Scheduled.{AppliesWith, HasBegun, HasTakenFrames, HasTicked, IsDone, IsLive, IsMovedIfHeld, IsOfHeld, IsPlaced, IsScheduled, IsWritten, LeadsMoved, OutlastsEvent, Spares, SparesUnheld, TakesLive, TellsOf};
+ghost use Rattle.durable_schedule.specs.Scheduled.{AppliesWith, HasBegun, IsOfHeld, IsScheduled, IsWritten, OutlastsEvent, Performs, Spares, SparesUnheld, TakesLive, TellsOf};
 
-use crate::held::{close, hand_out, make, take_in};
+use crate::held::{make, take_in};
+use crate::replies::{done, placed, ticked};
 use bytes::ByteStr;
 use fitting_events::{invocation_fits, result_fits};
 use journal_model::{Handler, NewInvocation, NonEmptyValue, NotificationResult};
@@ -56,18 +52,10 @@ impl<H: Handler + Drop, S: Alter + Drop> Scheduler<H, S> {
 
     /// An invocation is made.
     fn invoke(&mut self, new: NewInvocation) -> Reply
-        ensures does { Leads S.Store (λ s t. RepliesDone (λ answer. Invokes new answer s t) result) self.old.store self.new.store }
-        ensures kept { self.new ≡ record self.old { store = self.new.store } }
-        ensures settled { IsDone result → Settles S.Store (λ s t. RepliesDone (λ answer. Invokes new answer s t) result) self.old.store self.new.store }
-        ensures fits { InvocationFits new }
-        ensures held { IsOfHeld result }
-        ensures crash { Endures S.Store (Adds (Accepted.Invoke new)) self.old.store self.new.store }
+        ensures { Performs S.Store H.next_call (Event.Invoke new) result self.old self.new }
     {
         invocation_fits(&new);
-        match self.store.invoke(new) {
-            Ok(()) => Reply::Done,
-            Err(refusal) => Reply::Refused(Refusal::Store(refusal)),
-        }
+        done(self.store.invoke(new))
     }
 
     /// A request's completion has this result.
@@ -77,46 +65,24 @@ impl<H: Handler + Drop, S: Alter + Drop> Scheduler<H, S> {
         completion: u32,
         value: NotificationResult,
     ) -> Reply
-        ensures does { Leads S.Store (λ s t. RepliesPlace (λ answer. Completes invocation.now completion value answer s t) result) self.old.store self.new.store }
-        ensures kept { self.new ≡ record self.old { store = self.new.store } }
-        ensures settled { IsPlaced result → Settles S.Store (λ s t. RepliesPlace (λ answer. Completes invocation.now completion value answer s t) result) self.old.store self.new.store }
-        ensures fits { ResultFits (completion_of completion value) }
-        ensures held { IsOfHeld result }
-        ensures crash { Endures S.Store (Adds (Accepted.Complete invocation.now completion value)) self.old.store self.new.store }
+        ensures { Performs S.Store H.next_call (Event.Result invocation.now completion value) result self.old self.new }
     {
         result_fits(completion, &value);
-        match self.store.result(invocation, completion, value) {
-            Ok(place) => Reply::Placed(place),
-            Err(refusal) => Reply::Refused(Refusal::Store(refusal)),
-        }
+        placed(self.store.result(invocation, completion, value))
     }
 
     /// The sleeps that are due are over.
     fn tick(&mut self, now: u64) -> Reply
-        ensures does { Leads S.Store (λ s t. RepliesCount (λ answer. Ticks now answer s t) result) self.old.store self.new.store }
-        ensures kept { self.new ≡ record self.old { store = self.new.store } }
-        ensures settled { HasTicked result → Settles S.Store (λ s t. RepliesCount (λ answer. Ticks now answer s t) result) self.old.store self.new.store }
-        ensures held { IsOfHeld result }
-        ensures crash { Endures S.Store (Adds (Accepted.Tick now)) self.old.store self.new.store }
+        ensures { Performs S.Store H.next_call (Event.Tick now) result self.old self.new }
     {
-        match self.store.tick(now) {
-            Ok(count) => Reply::Ticked(count),
-            Err(refusal) => Reply::Refused(Refusal::Store(refusal)),
-        }
+        ticked(self.store.tick(now))
     }
 
     /// An attempt is stopped.
     fn stop(&mut self, invocation: &ByteStr, number: u32) -> Reply
-        ensures does { Leads S.Store (λ s t. RepliesDone (λ answer. Stops invocation.now number answer s t) result) self.old.store self.new.store }
-        ensures live { IsLive invocation.now number self.old.store → IsDone result }
-        ensures kept { self.new ≡ record self.old { store = self.new.store } }
-        ensures held { IsOfHeld result }
-        ensures crash { IsQuiet S.Store self.old.store self.new.store }
+        ensures { Performs S.Store H.next_call (Event.Stop invocation.now number) result self.old self.new }
     {
-        match self.store.stop(invocation, number) {
-            Ok(()) => Reply::Done,
-            Err(refusal) => Reply::Refused(Refusal::Store(refusal)),
-        }
+        done(self.store.stop(invocation, number))
     }
 
     /// An attempt is begun, and held. Where memory is refused for that, it stays begun, and nobody holds it.
@@ -126,7 +92,7 @@ impl<H: Handler + Drop, S: Alter + Drop> Scheduler<H, S> {
         ensures settled { HasBegun result → Settles S.Store (λ s t. BeginDoes self.old.options invocation handler now s self.old.held result t self.new.held) self.old.store self.new.store }
         ensures moment { now < 2 ^ 64 }
         ensures held { IsOfHeld result }
-        ensures crash { Endures S.Store (BeginsSome invocation now) self.old.store self.new.store }
+        ensures crash { EnduresAlways S.Store (BeginsSome invocation now) self.old.store self.new.store }
     {
         let begun = match self.store.begin(&invocation, now) {
             Ok(begun) => begun,
@@ -159,36 +125,40 @@ impl<H: Handler + Drop, S: Alter + Drop> Scheduler<H, S> {
 
     /// Bytes of its input go to an attempt.
     fn feed(&mut self, invocation: &ByteStr, number: u32, count: usize) -> Reply
-        ensures does { Leads S.Store (λ s t. IfHeld (FeedsOne count) (held_of self.old.held invocation.now number) s self.old.held result t self.new.held) self.old.store self.new.store }
-        ensures unheld { SparesUnheld result self.old self.new }
-        ensures options { self.new.options ≡ self.old.options }
-        ensures crash { IsQuiet S.Store self.old.store self.new.store }
+        ensures { Performs S.Store H.next_call (Event.Feed invocation.now number count) result self.old self.new }
     {
-        match self.held.get_mut(invocation, number) {
-            None => Reply::Refused(Refusal::AttemptNotHeld),
-            Some(attempt) => hand_out(&mut self.store, invocation, number, attempt, count),
+        let Some(attempt) = self.held.get_mut(invocation, number) else {
+            return Reply::Refused(Refusal::AttemptNotHeld);
+        };
+        match self.store.next_input(invocation, number, count) {
+            Ok(bytes) => {
+                let len = bytes.len();
+                attempt.feed(bytes);
+                Reply::Fed(len)
+            }
+            Err(refusal) => Reply::Refused(Refusal::Store(refusal)),
         }
     }
 
     /// The input of an attempt is closed.
     fn close(&mut self, invocation: &ByteStr, number: u32) -> Reply
-        ensures does { Leads S.Store (λ s t. IfHeld ClosesOne (held_of self.old.held invocation.now number) s self.old.held result t self.new.held) self.old.store self.new.store }
-        ensures unheld { SparesUnheld result self.old self.new }
-        ensures options { self.new.options ≡ self.old.options }
-        ensures crash { IsQuiet S.Store self.old.store self.new.store }
+        ensures { Performs S.Store H.next_call (Event.Close invocation.now number) result self.old self.new }
     {
-        match self.held.get_mut(invocation, number) {
-            None => Reply::Refused(Refusal::AttemptNotHeld),
-            Some(attempt) => close(&mut self.store, invocation, number, attempt),
+        let Some(attempt) = self.held.get_mut(invocation, number) else {
+            return Reply::Refused(Refusal::AttemptNotHeld);
+        };
+        match self.store.close_input(invocation, number) {
+            Ok(()) => {
+                attempt.close_input();
+                Reply::Done
+            }
+            Err(refusal) => Reply::Refused(Refusal::Store(refusal)),
         }
     }
 
     /// An attempt makes a turn.
     fn turn(&mut self, invocation: &ByteStr, number: u32) -> Reply
-        ensures does { Leads S.Store (λ s t. IfHeld (TurnsOne H.next_call) (held_of self.old.held invocation.now number) s self.old.held result t self.new.held) self.old.store self.new.store }
-        ensures unheld { SparesUnheld result self.old self.new }
-        ensures store { self.new.store ≡ self.old.store }
-        ensures options { self.new.options ≡ self.old.options }
+        ensures { Performs S.Store H.next_call (Event.Turn invocation.now number) result self.old self.new }
     {
         match self.held.get_mut(invocation, number) {
             None => Reply::Refused(Refusal::AttemptNotHeld),
@@ -198,12 +168,7 @@ impl<H: Handler + Drop, S: Alter + Drop> Scheduler<H, S> {
 
     /// Bytes of its output go from an attempt to the store.
     fn transfer(&mut self, invocation: &ByteStr, number: u32, count: usize) -> Reply
-        ensures does { Leads S.Store (λ s t. IfHeld (MovesOne count) (held_of self.old.held invocation.now number) s self.old.held result t self.new.held) self.old.store self.new.store }
-        ensures unheld { SparesUnheld result self.old self.new }
-        ensures options { self.new.options ≡ self.old.options }
-        ensures settled { HasTakenFrames result → LeadsMoved S.Store invocation.now number result (λ s t. IfHeld (MovesOne count) (held_of self.old.held invocation.now number) s self.old.held result t self.new.held) self.old.store self.new.store }
-        ensures live { IsLive invocation.now number self.old.store → IsMovedIfHeld result }
-        ensures crash { Endures S.Store (AppliesWith H.next_call self.old.options (Event.Move invocation.now number count) self.old.held) self.old.store self.new.store }
+        ensures { Performs S.Store H.next_call (Event.Move invocation.now number count) result self.old self.new }
     {
         match self.held.get_mut(invocation, number) {
             None => Reply::Refused(Refusal::AttemptNotHeld),
@@ -211,19 +176,9 @@ impl<H: Handler + Drop, S: Alter + Drop> Scheduler<H, S> {
         }
     }
 
-    /// One event. A refused one is used up too.
-    pub fn apply(&mut self, event: Event<H>) -> Reply
-        ensures does { HasCleanDisk (state S.Store self.new.store.connection) → (old : Scheduled H) → IsScheduled S.Store old self.old → (new : Scheduled H) × IsScheduled S.Store new self.new × Applies H.next_call self.old.options event result old new }
-        ensures options { self.new.options ≡ self.old.options }
-        // What is answered as written lasts: whatever a crash leaves from then on, the tables keep it.
-        ensures settled { IsWritten event result → HasCleanDisk (state S.Store self.new.store.connection) → (old : Scheduled H) → IsScheduled S.Store old self.old → (new : Scheduled H) × IsScheduled S.Store new self.new × Applies H.next_call self.old.options event result old new × OutlastsEvent event result new.standing (state S.Store self.new.store.connection) }
-        ensures fits { FitsEvent event }
-        // A stop of a live attempt is never refused, nor are its bytes but for want of memory, whatever the store stands for.
-        ensures live { TakesLive event result self.old.store }
-        // Where nobody holds the attempt that it names (X2), all is as it was; a turn leaves the store as it was; and bytes that are handed
-        // out, an input that is closed and a stop commit nothing: this too whatever the store stands for, and whatever the disk returned.
-        ensures spares { Spares S.Store event result self.old self.new }
-        ensures crash { Endures S.Store (AppliesWith H.next_call self.old.options event self.old.held) self.old.store self.new.store }
+    /// Does what an event says.
+    fn perform(&mut self, event: Event<H>) -> Reply
+        ensures { Performs S.Store H.next_call event result self.old self.new }
     {
         match event {
             Event::Invoke(new) => self.invoke(new),
@@ -261,6 +216,23 @@ impl<H: Handler + Drop, S: Alter + Drop> Scheduler<H, S> {
                 attempt,
             } => self.stop(&invocation, attempt),
         }
+    }
+
+    /// One event. A refused one is used up too.
+    pub fn apply(&mut self, event: Event<H>) -> Reply
+        ensures does { HasCleanDisk (state S.Store self.new.store.connection) → (old : Scheduled H) → IsScheduled S.Store old self.old → (new : Scheduled H) × IsScheduled S.Store new self.new × Applies H.next_call self.old.options event result old new }
+        ensures options { self.new.options ≡ self.old.options }
+        // What is answered as written lasts: whatever a crash leaves from then on, the tables keep it.
+        ensures settled { IsWritten event result → HasCleanDisk (state S.Store self.new.store.connection) → (old : Scheduled H) → IsScheduled S.Store old self.old → (new : Scheduled H) × IsScheduled S.Store new self.new × Applies H.next_call self.old.options event result old new × OutlastsEvent event result new.standing (state S.Store self.new.store.connection) }
+        ensures fits { FitsEvent event }
+        // A stop of a live attempt is never refused, nor are its bytes but for want of memory, whatever the store stands for.
+        ensures live { TakesLive event result self.old.store }
+        // Where nobody holds the attempt that it names (X2), all is as it was; a turn leaves the store as it was; and bytes that are handed
+        // out, an input that is closed and a stop commit nothing: this too whatever the store stands for, and whatever the disk returned.
+        ensures spares { Spares S.Store event result self.old self.new }
+        ensures crash { Endures S.Store (AppliesWith H.next_call self.old.options event self.old.held) self.old.store self.new.store }
+    {
+        self.perform(event)
     }
 
     /// One turn of an attempt: what `apply` does for `Event::Turn`, for a caller that keeps the id.

@@ -1,6 +1,4 @@
 use Rattle.std.proofs.Common.{refl, sym, ◌∙◌, inl, inr}
-use Rattle.journal_store.specs.Attempts.{BeginsSome}
-use Rattle.journal_store.proofs.Enduring.{always_endures}
 use Rattle.schedule_model.proofs.Speaking.{never_begun}
 use Rattle.durable_schedule.proofs.scheduler.Scheduler.begin.Goals as goal
 
@@ -10,7 +8,7 @@ returns-in-Err-clause-does g c clean s is =
     (it.0, it.1, inl (it.2, refl {a = c.args.self.now.held}))
 
 pub returns-in-Err-clause-crash : goal.returns-in-Err-clause-crash
-returns-in-Err-clause-crash g c = always_endures g.S.Store (BeginsSome c.args.invocation c.args.now) c.args.self.now.store c.begin.new.self c.begin.ensures.crash
+returns-in-Err-clause-crash g c = c.begin.ensures.crash
 
 pub returns-in_default-clause-does : goal.returns-in_default-clause-does
 returns-in_default-clause-does g c clean s is =
@@ -18,7 +16,7 @@ returns-in_default-clause-does g c clean s is =
     absurd (never_begun c.args.invocation c.args.now c.in-Ok.begun s it.0 it.2 (sym c.with_number.ensures ∙ c.in_default.is))
 
 pub returns-in_default-clause-crash : goal.returns-in_default-clause-crash
-returns-in_default-clause-crash g c = always_endures g.S.Store (BeginsSome c.args.invocation c.args.now) c.args.self.now.store c.begin.new.self c.begin.ensures.crash
+returns-in_default-clause-crash g c = c.begin.ensures.crash
 
 pub returns-in_default-make-clause-does : goal.returns-in_default-make-clause-does
 returns-in_default-make-clause-does g c clean s is =
@@ -26,7 +24,7 @@ returns-in_default-make-clause-does g c clean s is =
     (it.0, it.1, inr (c.in-Ok.begun, refl, it.2, refl {a = c.args.self.now.held}))
 
 pub returns-in_default-make-clause-crash : goal.returns-in_default-make-clause-crash
-returns-in_default-make-clause-crash g c = always_endures g.S.Store (BeginsSome c.args.invocation c.args.now) c.args.self.now.store c.begin.new.self c.begin.ensures.crash
+returns-in_default-make-clause-crash g c = c.begin.ensures.crash
 
 pub returns-in-Ok-push-clause-settled : goal.returns-in-Ok-push-clause-settled
 returns-in-Ok-push-clause-settled g c written clean s is =
@@ -55,7 +53,7 @@ pub returns-in-Ok-push-clause-does : goal.returns-in-Ok-push-clause-does
 returns-in-Ok-push-clause-does g c clean s is = let it = returns-in-Ok-push-clause-settled g c tt clean s is in (it.0, it.1, it.2)
 
 pub returns-in-Ok-push-clause-crash : goal.returns-in-Ok-push-clause-crash
-returns-in-Ok-push-clause-crash g c = always_endures g.S.Store (BeginsSome c.args.invocation c.args.now) c.args.self.now.store c.begin.new.self c.begin.ensures.crash
+returns-in-Ok-push-clause-crash g c = c.begin.ensures.crash
 
 pub returns-in-Err-push-clause-does : goal.returns-in-Err-push-clause-does
 returns-in-Err-push-clause-does g c clean s is =
@@ -63,4 +61,4 @@ returns-in-Err-push-clause-does g c clean s is =
     (it.0, it.1, inr (c.in-Ok.begun, refl, it.2, c.in-Err-push.ensures.err))
 
 pub returns-in-Err-push-clause-crash : goal.returns-in-Err-push-clause-crash
-returns-in-Err-push-clause-crash g c = always_endures g.S.Store (BeginsSome c.args.invocation c.args.now) c.args.self.now.store c.begin.new.self c.begin.ensures.crash
+returns-in-Err-push-clause-crash g c = c.begin.ensures.crash

@@ -1,28 +1,24 @@
+use Rattle.std.proofs.Common.{◌+◌, length, refl}
 use Rattle.journal_model.specs.Event as model
+use Rattle.journal_model.specs.Journal.{entries_of}
+use Rattle.schedule_model.specs.declared.event.Event.TheVariants as event
+use Rattle.schedule_model.specs.declared.event.Reply.TheVariants as reply
 use Rattle.store_calls.specs.Standing.{Adds}
-use Rattle.journal_store.proofs.Enduring.{always_endures}
+use Rattle.store_calls.specs.Calls.{Completes}
+use Rattle.durable_schedule.proofs.Replying.{replies_place}
+use Rattle.durable_schedule.proofs.Scheduling.{crashes, performs_stored}
 use Rattle.durable_schedule.proofs.scheduler.Scheduler.complete.Goals as goal
 
-pub returns-in-Ok-clause-does : goal.returns-in-Ok-clause-does
-returns-in-Ok-clause-does g c = c.in-Ok.ensures.does
-
-pub returns-in-Err-clause-does : goal.returns-in-Err-clause-does
-returns-in-Err-clause-does g c = c.in-Err.ensures.does
-
-pub returns-in-Ok-clause-settled : goal.returns-in-Ok-clause-settled
-returns-in-Ok-clause-settled g c written = c.in-Ok.ensures.settled
-
-pub returns-in-Err-clause-settled : goal.returns-in-Err-clause-settled
-returns-in-Err-clause-settled g c written = absurd written
-
-pub returns-in-Ok-clause-crash : goal.returns-in-Ok-clause-crash
-returns-in-Ok-clause-crash g c = always_endures g.S.Store (Adds (model.Event.Complete c.args.invocation.now c.args.completion c.args.value)) c.args.self.now.store c.result.new.self c.result.ensures.crash
-
-pub returns-in-Err-clause-crash : goal.returns-in-Err-clause-crash
-returns-in-Err-clause-crash g c = always_endures g.S.Store (Adds (model.Event.Complete c.args.invocation.now c.args.completion c.args.value)) c.args.self.now.store c.result.new.self c.result.ensures.crash
-
-pub returns-in-Ok-clause-fits : goal.returns-in-Ok-clause-fits
-returns-in-Ok-clause-fits g c = c.result_fits.ensures
-
-pub returns-in-Err-clause-fits : goal.returns-in-Err-clause-fits
-returns-in-Err-clause-fits g c = c.result_fits.ensures
+pub returns : goal.returns
+returns g c =
+    let old = c.args.self.now in
+    let id = c.args.invocation.now in
+    let n = c.args.completion in
+    let value = c.args.value in
+    rw c.placed.ensures
+    (performs_stored g.S.Store g.H.Handler.next_call (event.Result id n value) old c.result.new.self (λ place. reply.Placed place) (Completes id n value)
+    (λ told s t it. (replies_place (λ told. Completes id n value told s t) told it, refl)) (λ place. tt) (λ why never. never) (λ answer t database all. all)
+    c.result_fits.ensures (λ answer. tt) tt
+    (crashes g.S.Store g.H.Handler.next_call (event.Result id n value) old (Adds (model.Event.Complete id n value)) c.result.new.self
+    (λ s t it. (reply.Placed (1 + length (entries_of s.events id)), old.held, ((refl, it), refl))) c.result.ensures.crash)
+    c.result.result c.result.ensures.does c.result.ensures.settled)

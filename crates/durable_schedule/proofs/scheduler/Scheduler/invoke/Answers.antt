@@ -1,28 +1,21 @@
+use Rattle.std.proofs.Common.{refl}
 use Rattle.journal_model.specs.Event as model
+use Rattle.schedule_model.specs.declared.event.Event.TheVariants as event
+use Rattle.schedule_model.specs.declared.event.Reply.TheVariants as reply
 use Rattle.store_calls.specs.Standing.{Adds}
-use Rattle.journal_store.proofs.Enduring.{always_endures}
+use Rattle.store_calls.specs.Calls.{Invokes}
+use Rattle.durable_schedule.proofs.Replying.{replies_done}
+use Rattle.durable_schedule.proofs.Scheduling.{crashes, performs_stored}
 use Rattle.durable_schedule.proofs.scheduler.Scheduler.invoke.Goals as goal
 
-pub returns-in-Ok-clause-does : goal.returns-in-Ok-clause-does
-returns-in-Ok-clause-does g c = c.in-Ok.ensures.does
-
-pub returns-in-Err-clause-does : goal.returns-in-Err-clause-does
-returns-in-Err-clause-does g c = c.in-Err.ensures.does
-
-pub returns-in-Ok-clause-settled : goal.returns-in-Ok-clause-settled
-returns-in-Ok-clause-settled g c written = c.in-Ok.ensures.settled
-
-pub returns-in-Err-clause-settled : goal.returns-in-Err-clause-settled
-returns-in-Err-clause-settled g c written = absurd written
-
-pub returns-in-Ok-clause-crash : goal.returns-in-Ok-clause-crash
-returns-in-Ok-clause-crash g c = always_endures g.S.Store (Adds (model.Event.Invoke c.args.new)) c.args.self.now.store c.invoke.new.self c.invoke.ensures.crash
-
-pub returns-in-Err-clause-crash : goal.returns-in-Err-clause-crash
-returns-in-Err-clause-crash g c = always_endures g.S.Store (Adds (model.Event.Invoke c.args.new)) c.args.self.now.store c.invoke.new.self c.invoke.ensures.crash
-
-pub returns-in-Ok-clause-fits : goal.returns-in-Ok-clause-fits
-returns-in-Ok-clause-fits g c = record { id = c.invocation_fits.ensures.id; object = c.invocation_fits.ensures.object; seed = c.invocation_fits.ensures.seed; input = c.invocation_fits.ensures.input }
-
-pub returns-in-Err-clause-fits : goal.returns-in-Err-clause-fits
-returns-in-Err-clause-fits g c = record { id = c.invocation_fits.ensures.id; object = c.invocation_fits.ensures.object; seed = c.invocation_fits.ensures.seed; input = c.invocation_fits.ensures.input }
+pub returns : goal.returns
+returns g c =
+    let old = c.args.self.now in
+    let new = c.args.new in
+    let fit = c.invocation_fits.ensures in
+    rw c.done.ensures
+    (performs_stored g.S.Store g.H.Handler.next_call (event.Invoke new) old c.invoke.new.self (λ _. reply.Done) (Invokes new)
+    (λ told s t it. (replies_done (λ told. Invokes new told s t) told it, refl)) (λ done. tt) (λ why never. never) (λ answer t database all. all)
+    (record { id = fit.id; object = fit.object; seed = fit.seed; input = fit.input }) (λ answer. tt) tt
+    (crashes g.S.Store g.H.Handler.next_call (event.Invoke new) old (Adds (model.Event.Invoke new)) c.invoke.new.self (λ s t it. (reply.Done, old.held, (it, refl))) c.invoke.ensures.crash)
+    c.invoke.result c.invoke.ensures.does c.invoke.ensures.settled)

@@ -1,22 +1,21 @@
+use Rattle.std.proofs.Common.{refl}
 use Rattle.journal_model.specs.Event as model
+use Rattle.journal_model.specs.Attempt.{completions_of_tick}
+use Rattle.schedule_model.specs.declared.event.Event.TheVariants as event
+use Rattle.schedule_model.specs.declared.event.Reply.TheVariants as reply
 use Rattle.store_calls.specs.Standing.{Adds}
-use Rattle.journal_store.proofs.Enduring.{always_endures}
+use Rattle.store_calls.specs.Calls.{Ticks}
+use Rattle.durable_schedule.proofs.Replying.{replies_count}
+use Rattle.durable_schedule.proofs.Scheduling.{crashes, performs_stored}
 use Rattle.durable_schedule.proofs.scheduler.Scheduler.tick.Goals as goal
 
-pub returns-in-Ok-clause-does : goal.returns-in-Ok-clause-does
-returns-in-Ok-clause-does g c = c.in-Ok.ensures.does
-
-pub returns-in-Err-clause-does : goal.returns-in-Err-clause-does
-returns-in-Err-clause-does g c = c.in-Err.ensures.does
-
-pub returns-in-Ok-clause-settled : goal.returns-in-Ok-clause-settled
-returns-in-Ok-clause-settled g c written = c.in-Ok.ensures.settled
-
-pub returns-in-Err-clause-settled : goal.returns-in-Err-clause-settled
-returns-in-Err-clause-settled g c written = absurd written
-
-pub returns-in-Ok-clause-crash : goal.returns-in-Ok-clause-crash
-returns-in-Ok-clause-crash g c = always_endures g.S.Store (Adds (model.Event.Tick c.args.now)) c.args.self.now.store c.tick.new.self c.tick.ensures.crash
-
-pub returns-in-Err-clause-crash : goal.returns-in-Err-clause-crash
-returns-in-Err-clause-crash g c = always_endures g.S.Store (Adds (model.Event.Tick c.args.now)) c.args.self.now.store c.tick.new.self c.tick.ensures.crash
+pub returns : goal.returns
+returns g c =
+    let old = c.args.self.now in
+    let now = c.args.now in
+    rw c.ticked.ensures
+    (performs_stored g.S.Store g.H.Handler.next_call (event.Tick now) old c.tick.new.self (λ sleeps. reply.Ticked sleeps) (Ticks now)
+    (λ told s t it. (replies_count (λ told. Ticks now told s t) told it, refl)) (λ sleeps. tt) (λ why never. never) (λ answer t database all. all) tt (λ answer. tt) tt
+    (crashes g.S.Store g.H.Handler.next_call (event.Tick now) old (Adds (model.Event.Tick now)) c.tick.new.self
+    (λ s t it. (reply.Ticked (completions_of_tick s.events now), old.held, ((refl, it), refl))) c.tick.ensures.crash)
+    c.tick.result c.tick.ensures.does c.tick.ensures.settled)

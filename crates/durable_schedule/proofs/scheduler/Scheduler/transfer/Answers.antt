@@ -1,44 +1,31 @@
-use Rattle.std.proofs.Common.{refl, subst}
+use Rattle.std.proofs.Common.{refl}
 use Rattle.schedule_model.specs.declared.event.Event.TheVariants as event
 use Rattle.schedule_model.specs.Schedule.{MovesOne}
-use Rattle.durable_schedule.specs.Scheduled.{AppliesWith, IsOfHeld}
-use Rattle.journal_store.proofs.Enduring.{same_endures}
 use Rattle.durable_schedule.proofs.Holding.{misses, finds, finds_lasting, finds_crashed}
+use Rattle.durable_schedule.proofs.Scheduling.{performs_unheld, spares_held}
 use Rattle.durable_schedule.proofs.scheduler.Scheduler.transfer.Goals as goal
 
-pub returns-in-None-clause-does : goal.returns-in-None-clause-does
-returns-in-None-clause-does g c =
+pub returns-in-None : goal.returns-in-None
+returns-in-None g c =
     let old = c.args.self.now in
-    misses g.S.Store (MovesOne c.args.count) c.args.invocation.now c.args.number old.held c.get_mut.result c.get_mut.ensures.found c.in-None.is old.store
+    performs_unheld g.S.Store g.H.Handler.next_call (event.Move c.args.invocation.now c.args.number c.args.count) old (λ never. never) tt (λ live. tt) tt
+    (misses g.S.Store (MovesOne c.args.count) c.args.invocation.now c.args.number old.held c.get_mut.result c.get_mut.ensures.found c.in-None.is old.store)
 
-pub returns-in-None-clause-settled : goal.returns-in-None-clause-settled
-returns-in-None-clause-settled g c taken = absurd taken
-
-pub returns-in-None-clause-crash : goal.returns-in-None-clause-crash
-returns-in-None-clause-crash g c =
+pub returns-in-Some : goal.returns-in-Some
+returns-in-Some g c =
     let old = c.args.self.now in
-    same_endures g.S.Store (AppliesWith g.H.Handler.next_call old.options (event.Move c.args.invocation.now c.args.number c.args.count) old.held) old.store
-
-pub returns-in-Some-clause-does : goal.returns-in-Some-clause-does
-returns-in-Some-clause-does g c =
-    let old = c.args.self.now in
-    finds g.S.Store (MovesOne c.args.count) c.args.invocation.now c.args.number old.held c.get_mut.result c.get_mut.ensures.found
-    c.in-Some.attempt c.in-Some.is old.store c.take_in.new.store c.take_in.new.attempt c.take_in.result c.take_in.ensures.does
-
-pub returns-in-Some-clause-settled : goal.returns-in-Some-clause-settled
-returns-in-Some-clause-settled g c taken =
-    let old = c.args.self.now in
-    finds_lasting g.S.Store (MovesOne c.args.count) c.args.invocation.now c.args.number old.held c.get_mut.result c.get_mut.ensures.found
-    c.in-Some.attempt c.in-Some.is old.store c.take_in.new.store c.take_in.new.attempt c.take_in.result (c.take_in.ensures.settled taken)
-
-pub returns-in-Some-clause-crash : goal.returns-in-Some-clause-crash
-returns-in-Some-clause-crash g c =
-    let old = c.args.self.now in
-    finds_crashed g.S.Store (MovesOne c.args.count) c.args.invocation.now c.args.number old.held c.get_mut.result c.get_mut.ensures.found
-    c.in-Some.attempt c.in-Some.is old.store c.take_in.new.store c.take_in.ensures.crash
-
-pub returns-in-None-clause-unheld : goal.returns-in-None-clause-unheld
-returns-in-None-clause-unheld g c is = refl
-
-pub returns-in-Some-clause-unheld : goal.returns-in-Some-clause-unheld
-returns-in-Some-clause-unheld g c is = absurd (subst IsOfHeld is c.take_in.ensures.held)
+    let id = c.args.invocation.now in
+    let n = c.args.number in
+    let Moves = MovesOne c.args.count in
+    let attempt = c.in-Some.attempt in
+    let taken = c.take_in in
+    let there = c.get_mut in
+    record {
+      does = finds g.S.Store Moves id n old.held there.result there.ensures.found attempt c.in-Some.is old.store taken.new.store taken.new.attempt taken.result taken.ensures.does;
+      lasts = λ some. finds_lasting g.S.Store Moves id n old.held there.result there.ensures.found attempt c.in-Some.is old.store taken.new.store taken.new.attempt taken.result (taken.ensures.settled some);
+      options = refl;
+      fits = tt;
+      live = taken.ensures.live;
+      spares = record { unheld = spares_held _ _ _ taken.ensures.held; quiet = tt };
+      crash = finds_crashed g.S.Store Moves id n old.held there.result there.ensures.found attempt c.in-Some.is old.store taken.new.store taken.ensures.crash;
+    }

@@ -1,0 +1,24 @@
+-- What a store did, as a scheduler tells it.
+use Rattle.std.proofs.Common.{ℕ, Result, Ok, Err}
+use Rattle.std.specs.Prelude.{IfErr}
+use Rattle.store_refusals.specs.declared.refusal.Refusal.{Refusal}
+use Rattle.schedule_model.specs.declared.event.Reply.TheVariants as reply
+use Rattle.schedule_model.specs.Schedule.{RepliesCount, RepliesDone, RepliesPlace}
+use Rattle.durable_schedule.specs.Scheduled.{IsDone, reply_to}
+
+pub replies_done : (Did : Result (Unit {0}) Refusal → Type 0) (told : Result (Unit {0}) Refusal) → Did told → RepliesDone Did (reply_to (λ _. reply.Done) told)
+replies_done Did (Ok done) it = it
+replies_done Did (Err why) it = it
+
+-- it cannot be refused
+pub is_done : (told : Result (Unit {0}) Refusal) → IfErr told (λ why. ⊥) → IsDone (reply_to (λ _. reply.Done) told)
+is_done (Ok done) never = tt
+is_done (Err why) never = absurd never
+
+pub replies_place : (Did : Result ℕ Refusal → Type 0) (told : Result ℕ Refusal) → Did told → RepliesPlace Did (reply_to (λ place. reply.Placed place) told)
+replies_place Did (Ok place) it = it
+replies_place Did (Err why) it = it
+
+pub replies_count : (Did : Result ℕ Refusal → Type 0) (told : Result ℕ Refusal) → Did told → RepliesCount Did (reply_to (λ sleeps. reply.Ticked sleeps) told)
+replies_count Did (Ok sleeps) it = it
+replies_count Did (Err why) it = it
