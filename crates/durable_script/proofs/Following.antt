@@ -1,6 +1,5 @@
 -- Lines are a schedule, so each invocation is in the run of the handler that they name.
 use Rattle.std.proofs.Common.{◌≡◌, ℕ, suc, zero, List, [], ◌∷◌, ◌++◌, append_assoc, append-nil, refl, sym, ap, subst, ◌∙◌, inl, inr}
-use Rattle.std.specs.List.{AllByRecursion}
 use Rattle.built_in_handlers.specs.declared.built_in.BuiltIn.{BuiltIn}
 use Rattle.built_in_handlers.specs.BuiltIn.{function_of}
 use Rattle.journal_model.specs.Notification.{Text}
@@ -15,18 +14,9 @@ use Rattle.schedule_runs.specs.Schedules.{FitsEvent, Event, Reply, Turned, Sched
 use Rattle.script_lines.specs.declared.line.Line.{Line}
 use Rattle.script_lines.specs.declared.line.Line.TheVariants.{Invoke, Result, Tick, Begin, Feed, Close, Turn, Move, Stop, Show}
 use Rattle.durable_script.specs.Line.{brought, new_invocation, AppliesOne, AnsweredTurns, AreOfLine, DoesLine}
-use Rattle.durable_script.specs.Run.{DoneLine, AllBring, AreFirst, AreOfLines, DoesAll, DoesFirst, LinesFollow}
+use Rattle.durable_script.specs.Run.{DoneLine, AllBring, AreFirst, AreOfLines, DoesAll, DoesFirst, IsSchedule, LinesFollow}
 
 -- ---- events one after another
-
--- some events lead from the one to the other, they are those of the lines, and their begins bring what these name
-pub record IsSchedule (done : List DoneLine) (start end : Scheduled BuiltIn) : Type 0 where
-  pub events : List (Event BuiltIn)
-  pub replies : List Reply
-  pub of_lines : AreOfLines done events
-  pub applies : AppliesAll function_of default_options events replies start end
-  pub fits : AllByRecursion FitsEvent events
-  pub brings : (id : Text) (next : Handler) → AllBring id next done → AllByRecursion (Brings function_of id next) events
 
 module _ (done more : List DoneLine) (told : (id : Text) (next : Handler) → AllBring id next more → AllBring id next done) (start old new : Scheduled BuiltIn) (s : IsSchedule done start old) where
   -- one more event

@@ -1,11 +1,12 @@
 -- The text of what was done, also where there is no memory for it.
-use Rattle.std.proofs.Common.{◌≡◌, ℕ, List, [], ◌∷◌, ◌++◌, Result, refl, subst}
+use Rattle.std.proofs.Common.{◌≡◌, ℕ, List, [], ◌∷◌, ◌++◌, Result, refl, subst, sym}
 use Rattle.sqlite_trees.specs.declared.store.Store.{Ghosts}
 use Rattle.built_in_handlers.specs.declared.built_in.BuiltIn.{BuiltIn}
 use Rattle.journal_model.specs.Notification.{Text}
 use Rattle.schedule_runs.specs.Passed.{Scheduler}
 use Rattle.schedule_runs.specs.Schedules.event
-use Rattle.schedule_runs.specs.Schedules.{Event, Reply, Scheduled}
+use Rattle.schedule_runs.specs.Schedules.{Event, Reply}
+use Rattle.script_lines.specs.declared.line.Line.{Line}
 use Rattle.script_lines.specs.declared.line.Line.TheVariants as line
 use Rattle.script_lines.specs.declared.word.HandlerName.{HandlerName}
 use Rattle.durable_script.specs.Line.{AppliesOne, IsBegin, DoesEvent, DoesSomeEvent, TookTurns, TakesTurns, DoesLine, DoesSomeLine}
@@ -43,8 +44,10 @@ module _ {T E : Type 0} (bytes_of : T → List ℕ) (r : Result T E) where
               (λ x y p. (p.0, (is.0, is.1, p.1))) (λ x y p. (is.0, is.1, p)) does,
         )
 
-    -- what commits nothing leaves nothing more in a crash
-    pub makes_quiet : (C : Scheduled BuiltIn → Scheduled BuiltIn → Type 0) (P : List ℕ → Scheduled BuiltIn → Scheduled BuiltIn → Type 0)
-        → Makes bytes_of r (λ text. Reaches g Nowhere (P text) old new) → Makes bytes_of r (λ text. Reaches g C (P text) old new)
-    makes_quiet C P = makes_so (λ text. Reaches g Nowhere (P text) old new) (λ text. Reaches g C (P text) old new)
-        (λ text does. reaches_so g Nowhere C (P text) (P text) old new (λ x y none. absurd none) (λ x y p. p) does)
+    -- a line that commits nothing leaves nothing more in a crash
+    pub makes_quiet : (asked it : Line) → asked ≡ it → Makes bytes_of r (λ text. Reaches g Nowhere (DoesLine it text) old new)
+        → Makes bytes_of r (λ text. Reaches g (DoesSomeLine asked) (DoesLine asked text) old new)
+    makes_quiet asked it is made =
+        subst (λ (line : Line). Makes bytes_of r (λ text. Reaches g (DoesSomeLine line) (DoesLine line text) old new)) (sym is)
+        (makes_so (λ text. Reaches g Nowhere (DoesLine it text) old new) (λ text. Reaches g (DoesSomeLine it) (DoesLine it text) old new)
+        (λ text does. reaches_so g Nowhere (DoesSomeLine it) (DoesLine it text) (DoesLine it text) old new (λ x y none. absurd none) (λ x y p. p) does) made)

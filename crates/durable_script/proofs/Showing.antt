@@ -1,6 +1,10 @@
 -- What is shown of an invocation.
-use Rattle.std.proofs.Common.{◌≡◌, Bool, List, [], ◌∷◌, ◌++◌, Option, refl, inl, inr, subst}
+use Rattle.std.proofs.Common.{◌≡◌, Bool, List, [], ◌∷◌, ◌++◌, Option, Result, Ok, Err, refl, sym, inl, inr, subst}
+use Rattle.std.specs.Prelude.{IfErr, IfOk, IsErrAnd}
+use Rattle.std.proofs.lemmas.Result.{IfErr-weaker, IfOk-weaker}
 use Rattle.sqlite_trees.specs.declared.store.Store.{Ghosts}
+use Rattle.sqlite.specs.Held.{state}
+use Rattle.sqlite.specs.State.{HasCleanDisk}
 use Rattle.built_in_handlers.specs.declared.built_in.BuiltIn.{BuiltIn}
 use Rattle.journal_model.specs.Notification.{Text}
 use Rattle.journal_model.specs.declared.value.NonEmptyValue.{NonEmptyValue}
@@ -14,13 +18,15 @@ use Rattle.journal_model.specs.Cause.{those_that_hold}
 use Rattle.store_reads.specs.declared.recorded.RecordedEntry.{RecordedEntry}
 use Rattle.store_reads.specs.Told.{entries_told}
 use Rattle.store_reads.specs.Answered.{answer_told}
-use Rattle.schedule_runs.specs.Passed.{Scheduler}
+use Rattle.journal_store.specs.Stands.{IsQuiet}
+use Rattle.schedule_runs.specs.Passed.{Scheduler, IsScheduled}
+use Rattle.schedule_runs.specs.Schedules.{Scheduled}
 use Rattle.script_lines.specs.Text.{refused_text}
 use Rattle.script_entries.specs.declared.entry.ShownEntry.{ShownEntry}
 use Rattle.script_entries.specs.Entries.{AreShown, SomeUnread}
 use Rattle.durable_script.specs.Reaching.{Reaches, Nowhere}
 use Rattle.durable_script.specs.Shown.{shown_text, HasEntries, HasRecords, IsKnown, Looks, RefusesShow, Shows}
-use Rattle.durable_script.proofs.Reaching.{reaches_both, reaches_so}
+use Rattle.durable_script.proofs.Reaching.{reaches_both, reaches_so, reaches_told}
 
 -- ---- what is told, question by question
 
@@ -39,23 +45,36 @@ Unknown id why events = IsRefused (those_that_hold (known_tests events id)) why
 abbrev KnownBoth : Text → Bool → Option NonEmptyValue → List Event → Type 0
 KnownBoth id now answer events = KnownOpen id now events × KnownAnswer id answer events
 
-module _ {S : Type 0} (g : Ghosts S) (id : Text) (a b : Scheduler BuiltIn S) where
+-- what a question is refused for is what is answered
+pub refused_as : {T : Type 0} (result : Result T Refusal) (why : Refusal) → IsErrAnd result (λ refusal. refusal ≡ why) → (Holds : Refusal → Type 0) → Holds why → IfErr result Holds
+refused_as (Ok told) why is Holds holds = tt
+refused_as (Err refusal) why is Holds holds = subst Holds (sym is) holds
+
+module _ {S : Type 0} (g : Ghosts S) (id : Text) (a b : Scheduler BuiltIn S) (quiet : IsQuiet g a.store b.store) (kept : b ≡ record a { store = b.store }) where
   -- a question is refused
-  pub refused_so : (why : Refusal) → Reaches g Nowhere (Looks (Unknown id why)) a b → Reaches g Nowhere (Looks (RefusesShow id why)) a b
-  refused_so why is = reaches_so g Nowhere Nowhere (Looks (Unknown id why)) (Looks (RefusesShow id why)) a b (λ x y none. none) (λ x y p. (inl p.0, p.1)) is
+  pub refused_so : (why : Refusal) → (HasCleanDisk (state g b.store.connection) → (s : Scheduled BuiltIn) → IsScheduled g s a → Unknown id why s.standing.events × IsScheduled g s b)
+      → Reaches g Nowhere (Looks (RefusesShow id why)) a b
+  refused_so why tells =
+      reaches_so g Nowhere Nowhere (Looks (Unknown id why)) (Looks (RefusesShow id why)) a b (λ x y none. none) (λ x y p. (inl p.0, p.1)) (reaches_told g (Unknown id why) a b quiet tells kept)
 
   -- what was told is read, or not
-  pub entries_read : (entries : List RecordedEntry) (shown : List ShownEntry) → AreShown entries shown → Reaches g Nowhere (Looks (KnownRecorded id entries)) a b
-      → Reaches g Nowhere (Looks (HasEntries id shown)) a b
-  entries_read entries shown read told =
-      reaches_so g Nowhere Nowhere (Looks (KnownRecorded id entries)) (Looks (HasEntries id shown)) a b (λ x y none. none)
-      (λ x y p. ((p.0.0, subst (λ (told : List RecordedEntry). AreShown told shown) p.0.1 read), p.1)) told
+  module _ (entries : List RecordedEntry)
+      (tells : HasCleanDisk (state g b.store.connection) → (s : Scheduled BuiltIn) → IsScheduled g s a → KnownRecorded id entries s.standing.events × IsScheduled g s b) where
+    recorded : Reaches g Nowhere (Looks (KnownRecorded id entries)) a b
+    recorded = reaches_told g (KnownRecorded id entries) a b quiet tells kept
 
-  pub entries_unread : (entries : List RecordedEntry) (why : Refusal) → SomeUnread entries why → Reaches g Nowhere (Looks (KnownRecorded id entries)) a b
-      → Reaches g Nowhere (Looks (RefusesShow id why)) a b
-  entries_unread entries why unread told =
-      reaches_so g Nowhere Nowhere (Looks (KnownRecorded id entries)) (Looks (RefusesShow id why)) a b (λ x y none. none)
-      (λ x y p. (inr (subst (λ (told : List RecordedEntry). SomeUnread told why) p.0.1 unread), p.1)) told
+    pub entries_read : {T : Type 0} (items : T → List ShownEntry) (result : Result T Refusal) → IfOk result (λ shown. AreShown entries (items shown))
+        → IfOk result (λ shown. Reaches g Nowhere (Looks (HasEntries id (items shown))) a b)
+    entries_read items result =
+        IfOk-weaker result (λ shown. AreShown entries (items shown)) (λ shown. Reaches g Nowhere (Looks (HasEntries id (items shown))) a b)
+        (λ shown read. reaches_so g Nowhere Nowhere (Looks (KnownRecorded id entries)) (Looks (HasEntries id (items shown))) a b (λ x y none. none)
+        (λ x y p. ((p.0.0, subst (λ (told : List RecordedEntry). AreShown told (items shown)) p.0.1 read), p.1)) recorded)
+
+    pub entries_unread : {T : Type 0} (result : Result T Refusal) → IfErr result (SomeUnread entries) → IfErr result (λ why. Reaches g Nowhere (Looks (RefusesShow id why)) a b)
+    entries_unread result =
+        IfErr-weaker result (SomeUnread entries) (λ why. Reaches g Nowhere (Looks (RefusesShow id why)) a b)
+        (λ why unread. reaches_so g Nowhere Nowhere (Looks (KnownRecorded id entries)) (Looks (RefusesShow id why)) a b (λ x y none. none)
+        (λ x y p. (inr (subst (λ (told : List RecordedEntry). SomeUnread told why) p.0.1 unread), p.1)) recorded)
 
 module _ {S : Type 0} (g : Ghosts S) (id : Text) (a b c d : Scheduler BuiltIn S) where
   pub shown_all : (entries : List ShownEntry) (answer : Option NonEmptyValue) (now : Bool) → Reaches g Nowhere (Looks (KnownOpen id now)) a b

@@ -14,7 +14,7 @@ use Rattle.journal_store.specs.Stands.{Endures, IsStanding}
 use Rattle.store_calls.specs.Standing.{Standing}
 use Rattle.schedule_runs.specs.Passed.{HoldsOf}
 use Rattle.schedule_runs.specs.Runs.{Leaves, at_first}
-use Rattle.schedule_runs.specs.Schedules.{AppliesAll, Brings, Event, HeldAttempt, Reply, Scheduled}
+use Rattle.schedule_runs.specs.Schedules.{AppliesAll, Brings, Event, FitsEvent, HeldAttempt, Reply, Scheduled}
 use Rattle.built_in_handlers.specs.BuiltIn.{function_of}
 use Rattle.built_in_handlers.specs.Handlers.{nap, nap99, race, both, ask, pair}
 use Rattle.script_lines.specs.declared.word.HandlerName.{HandlerName}
@@ -67,16 +67,22 @@ abbrev pub AreOfLines : List DoneLine → List (Event BuiltIn) → Type 0
 AreOfLines [] events = events ≡ []
 AreOfLines (one ∷ before) events = (first own : List (Event BuiltIn)) × (events ≡ first ++ own) × AreOfLines before first × AreOfLine one.line own
 
--- Such lines are a schedule: of their events, with these replies. Its begins bring what the lines name, and it leaves what a schedule
--- leaves: of an invocation whose lines all name handlers of one function, if what was recorded of it before is of the run of that function,
--- all that is recorded behind them is (`leaves.in_run`); nothing is recorded of one that is new.
-pub record AreSchedule (done : List DoneLine) (start end : Scheduled BuiltIn) : Type 0 where
+-- some events lead from the one to the other, with these replies; they are those of the lines, such as a caller can bring, and their begins
+-- bring what the lines name
+pub record IsSchedule (done : List DoneLine) (start end : Scheduled BuiltIn) : Type 0 where
   pub events : List (Event BuiltIn)
-  pub of_lines : AreOfLines done events
   pub replies : List Reply
+  pub of_lines : AreOfLines done events
   pub applies : AppliesAll function_of default_options events replies start end
+  pub fits : AllByRecursion FitsEvent events
   pub brings : (id : Text) (next : Handler) → AllBring id next done → AllByRecursion (Brings function_of id next) events
-  pub leaves : Leaves function_of default_options events replies start end
+
+-- Such lines are a schedule, and it leaves what a schedule leaves: of an invocation whose lines all name handlers of one function, if what
+-- was recorded of it before is of the run of that function, all that is recorded behind them is (`leaves.in_run`); nothing is recorded of
+-- one that is new.
+pub record AreSchedule (done : List DoneLine) (start end : Scheduled BuiltIn) : Type 0 where
+  pub schedule : IsSchedule done start end
+  pub leaves : Leaves function_of default_options schedule.events schedule.replies start end
 
 -- the first of these lines are those before one of them, and that one with some text
 abbrev pub AreFirst : (first done : List DoneLine) → Type 0

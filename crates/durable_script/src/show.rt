@@ -61,10 +61,7 @@ fn shown_entries<S: Alter + Drop>(
 {
     let alloc = scheduler.alloc;
     let entries = scheduler.entries(id)?;
-    match read_entries(alloc, entries) {
-        Ok(shown) => Ok(shown),
-        Err(refusal) => Err(refusal),
-    }
+    read_entries(alloc, entries)
 }
 
 /// What the store holds of an invocation.

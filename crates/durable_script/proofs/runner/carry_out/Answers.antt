@@ -5,7 +5,7 @@ use Rattle.journal_model.specs.declared.notification.NotificationResult.{Notific
 use Rattle.schedule_runs.specs.Schedules.event
 use Rattle.schedule_runs.specs.Schedules.{Event}
 use Rattle.script_lines.specs.declared.line.Line.TheVariants as line
-use Rattle.durable_script.specs.Line.{DoesEvent, DoesSomeEvent, DoesLine, DoesSomeLine}
+use Rattle.durable_script.specs.Line.{DoesEvent, DoesSomeEvent}
 use Rattle.durable_script.specs.Printed.{Makes}
 use Rattle.durable_script.specs.Reaching.{Reaches}
 use Rattle.durable_script.proofs.Printing.{makes_begun, makes_quiet}
@@ -39,10 +39,7 @@ pub returns-in-Close : goal.returns-in-Close
 returns-in-Close g c = rw c.in-Close.is c.do_event-in-Close.ensures
 
 pub returns-in-Turn : goal.returns-in-Turn
-returns-in-Turn g c =
-    let it = line.Turn c.in-Turn.id c.in-Turn.attempt c.in-Turn.count in
-    rw c.in-Turn.is
-    (makes_quiet string_bytes c.do_turns.result g.S.Store c.args.scheduler.now c.do_turns.new.scheduler (DoesSomeLine it) (λ text. DoesLine it text) c.do_turns.ensures)
+returns-in-Turn g c = makes_quiet string_bytes c.do_turns.result g.S.Store c.args.scheduler.now c.do_turns.new.scheduler c.args.line (line.Turn c.in-Turn.id c.in-Turn.attempt c.in-Turn.count) c.in-Turn.is c.do_turns.ensures
 
 pub returns-in-Move : goal.returns-in-Move
 returns-in-Move g c = rw c.in-Move.is c.do_event-in-Move.ensures
@@ -51,7 +48,4 @@ pub returns-in-Stop : goal.returns-in-Stop
 returns-in-Stop g c = rw c.in-Stop.is c.do_event-in-Stop.ensures
 
 pub returns-in-Show : goal.returns-in-Show
-returns-in-Show g c =
-    let it = line.Show c.in-Show.id in
-    rw c.in-Show.is
-    (makes_quiet string_bytes c.show.result g.S.Store c.args.scheduler.now c.show.new.scheduler (DoesSomeLine it) (λ text. DoesLine it text) c.show.ensures)
+returns-in-Show g c = makes_quiet string_bytes c.show.result g.S.Store c.args.scheduler.now c.show.new.scheduler c.args.line (line.Show c.in-Show.id) c.in-Show.is c.show.ensures
