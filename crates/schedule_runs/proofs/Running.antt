@@ -1,4 +1,4 @@
--- What is applied in a row, what that leaves of each invocation, and where a crash comes into it.
+-- What is applied in a row, what that leaves of each invocation, when it lasts, and where a crash comes into it.
 use Rattle.std.proofs.Common.{◌≡◌, refl, sym, ap, subst, ◌∙◌, ◌++◌, append_assoc, append-nil, map-id, length, List, [], ◌∷◌, Option, None}
 use Rattle.std.proofs.lemmas.Iterator.Consumers.{YieldsList-end}
 use Rattle.std.proofs.lemmas.Iterator.Adapters.{YieldsList-from_vec}
@@ -13,7 +13,7 @@ use Rattle.journal_model.specs.Notification.{Text}
 use Rattle.journal_model.specs.Run.{Handler}
 use Rattle.vm_types.specs.declared.options.VMOptions.{VMOptions}
 use Rattle.journal_store.specs.Stored.{Stored}
-use Rattle.journal_store.specs.Stands.{IsStanding, Keeps, Endures}
+use Rattle.journal_store.specs.Stands.{IsStanding, Keeps, Endures, Outlasts}
 use Rattle.store_calls.specs.Standing.{Standing}
 use Rattle.schedule_laws.proofs.Schedules.{schedules_grow}
 use Rattle.schedule_laws.specs.Isolation.{AllAnswerAlone, AllKeepState, AllStandAlone}
@@ -22,7 +22,7 @@ use Rattle.schedule_laws.specs.Schedules.{Event, Reply, HeldAttempt, Scheduled, 
 use Rattle.schedule_laws.specs.Words.{HoldsOf, ReplaysInLine}
 use Rattle.durable_schedule.specs.declared.scheduler.Scheduler.{Scheduler}
 use Rattle.durable_schedule.specs.Scheduled.{IsScheduled, AppliesWith}
-use Rattle.schedule_runs.specs.Runs.{AppliesFirst, Leaves, LeavesFirst, StandsInRun, at_first}
+use Rattle.schedule_runs.specs.Runs.{AppliesFirst, LastsBehind, Leaves, LeavesFirst, StandsInRun, at_first}
 use Rattle.journal_store.proofs.Enduring.{endures_on}
 use Rattle.schedule_runs.proofs.Apart.{stands_apart, stands_still}
 use Rattle.schedule_runs.proofs.Growing.{all_add, each_grow}
@@ -42,11 +42,12 @@ all_yielded {A} {Z} first items is len yielded last yields end behind none step 
     sym (map-id yielded) ∙ (YieldsList-end (YieldsList-from_vec {A = A} {Z = Z} {s = first} items is len) yielded last yields end behind none step).0
 
 module _ {H : Type 0} (function : H → Handler) (options : VMOptions) where
-  -- what is applied to a store, by a scheduler that held nothing at first
+  -- what is applied to a store, by a scheduler that held nothing at first, and when all of that lasts
   abbrev pub LeadsFirst : {S : Type 0} → Ghosts S → List (Event H) → List Reply → Stored S → Scheduler H S → Type 0
   LeadsFirst g events replies first new =
       HasCleanDisk (state g new.store.connection) → (s : Standing) → IsStanding g s first
       → (to : Scheduled H) × IsScheduled g to new × AppliesAll function options events replies (at_first s) to
+      × (LastsBehind (Outlasts s.events (state g first.connection)) events replies → Outlasts to.standing.events (state g new.store.connection))
 
   -- what the laws of schedules give of all that is applied
   module _ (leaves : LeavesHolds function) (headline : HoldsHeadline) (late : HoldsNeverLate) (exact : HoldsWakesExactly) (taken : FramesAreTaken function)

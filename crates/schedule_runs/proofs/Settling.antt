@@ -1,13 +1,12 @@
--- What lasts of a schedule, one event after another.
-use Rattle.std.proofs.Common.{◌≡◌, ◌⊎◌, refl, sym, ap, subst, ◌++◌, ℕ, zero, suc, arith, List, [], ◌∷◌, inl, inr}
+-- What a schedule leads to and what of it lasts, one event after another.
+use Rattle.std.proofs.Common.{◌≡◌, ◌≢◌, ◌⊎◌, refl, sym, ap, subst, ◌++◌, ℕ, zero, suc, arith, List, [], ◌∷◌, Option, inl, inr}
 use Rattle.sqlite_trees.specs.declared.store.Store.{Ghosts}
 use Rattle.sqlite.specs.Held.{state}
 use Rattle.sqlite.specs.State.{HasCleanDisk}
 use Rattle.journal_model.specs.Notification.{Text}
-use Rattle.journal_model.specs.declared.invocation.NewInvocation.{NewInvocation}
-use Rattle.journal_model.specs.declared.notification.NotificationResult.{NotificationResult}
 use Rattle.journal_model.specs.Run.{Handler}
 use Rattle.vm_types.specs.declared.options.VMOptions.{VMOptions}
+use Rattle.store_refusals.specs.declared.refusal.Refusal.{Refusal}
 use Rattle.journal_store.specs.Stored.{Stored}
 use Rattle.journal_store.specs.Stands.{Endures, IsQuiet, IsStanding, Outlasts}
 use Rattle.store_calls.specs.Standing.{Standing}
@@ -18,7 +17,7 @@ use Rattle.schedule_laws.specs.Schedules.refusal
 use Rattle.schedule_laws.specs.Schedules.{Event, Reply, HeldAttempt, Scheduled, held_of, Applies, AppliesAll}
 use Rattle.durable_schedule.specs.declared.scheduler.Scheduler.{Scheduler}
 use Rattle.durable_schedule.specs.Scheduled.{AppliesWith, IsScheduled, IsWritten, OutlastsEvent, Spares}
-use Rattle.schedule_runs.specs.Runs.{LastsNext, LastsBehind, LeavesLasting, at_first}
+use Rattle.schedule_runs.specs.Runs.{AreCertain, IsCertain, LastsNext, LastsBehind, at_first}
 use Rattle.schedule_runs.proofs.Quieting.{KeepsAsWell, fed_kept, shut_kept, turned_kept, stop_kept}
 use Rattle.schedule_runs.proofs.Refusing.{rest_lasts}
 use Rattle.schedule_runs.proofs.Crashing.{IsUnwritten, invoke_unwritten, complete_unwritten, tick_unwritten, begin_unwritten, refused_unwritten, moved_unwritten, unheld_kept, move_replies}
@@ -40,10 +39,6 @@ module _ {H : Type 0} (function : H → Handler) (options : VMOptions) where
         (from to : Scheduled H) → IsScheduled g from old → Applies function options one answer from to → Outlasts from.standing.events (state g old.store.connection)
         → Outlasts to.standing.events (state g new.store.connection)
 
-    -- it was written, and all that is left lasts
-    abbrev LastsWhole : Event H → Reply → Scheduler H S → Type 0
-    LastsWhole one answer new = IsWritten one answer × ((t : Standing) → OutlastsEvent one answer t (state g new.store.connection) → Outlasts t.events (state g new.store.connection))
-
     module _ (one : Event H) (answer : Reply) (old new : Scheduler H S) where
       same_carries : new.store ≡ old.store → ((from to : Scheduled H) → Applies function options one answer from to → KeepsAsWell from.standing to.standing) → Carries one answer old new
       same_carries same keeps from to is applies lasts trees may = keeps from to applies trees (lasts trees (subst (λ (store : Stored S). (state g store.connection).may_leave trees) same may))
@@ -63,99 +58,102 @@ module _ {H : Type 0} (function : H → Handler) (options : VMOptions) where
                   both.1 it.0 (subst (λ (held : List (HeldAttempt H)). AppliesWith function options one held from.standing it.0) (sym is.held) it.1) trees it.2
             ]
 
-    -- it commits nothing, or it was written
+    -- Where all is to last behind an event, all before it has to, and lasts behind it as well; or the event was written, and so was all before.
     module _ (Before : Type 0) (old new : Scheduler H S) (clean : HasCleanDisk (state g new.store.connection)) where
+      abbrev LastsOn : Event H → Reply → Type 0
+      LastsOn one answer = LastsNext Before one answer → Before × Carries one answer old new
+
+      abbrev LastsWhole : Event H → Reply → Type 0
+      LastsWhole one answer =
+          IsWritten one answer
+          × (LastsNext Before one answer → (t : Standing) → OutlastsEvent one answer t (state g new.store.connection) → Outlasts t.events (state g new.store.connection))
+
       abbrev Either : Event H → Reply → Type 0
-      Either one answer = (Before × Carries one answer old new) ⊎ LastsWhole one answer new
+      Either one answer = LastsOn one answer ⊎ LastsWhole one answer
 
       abbrev Told : Event H → Reply → Type 0
       Told one answer =
           Spares g one answer old new → Endures g (AppliesWith function options one old.held) old.store new.store → (from to : Scheduled H) → Applies function options one answer from to
-          → LastsNext Before one answer → Either one answer
+          → Either one answer
 
-      by_invoke : (one : NewInvocation) (answer : Reply) → Told (event.Invoke one) answer
-      by_invoke one reply.Done spares lives from to applies it = inr (tt, λ t lasts. lasts)
-      by_invoke one (reply.Refused (refusal.Store why)) spares lives from to applies it =
-          let unwritten = invoke_unwritten (state g new.store.connection) clean function options one why it.0 in
-          inl (it.1, unwritten_carries (event.Invoke one) (reply.Refused (refusal.Store why)) old new clean lives unwritten)
-      by_invoke one _ spares lives from to applies it = absurd applies.0
+      -- what was refused or moved for certain was not written
+      certain_lasts : (one : Event H) (answer : Reply) (Certain : Type 0) → (LastsNext Before one answer → Certain × Before) → (Certain → IsUnwritten (state g new.store.connection) clean function options one answer)
+          → Endures g (AppliesWith function options one old.held) old.store new.store → Either one answer
+      certain_lasts one answer Certain parts unwritten lives =
+          inl (λ it. let both = parts it in (both.1, unwritten_carries one answer old new clean lives (unwritten both.0)))
 
-      by_result : (id : Text) (n : ℕ) (value : NotificationResult) (answer : Reply) → Told (event.Result id n value) answer
-      by_result id n value (reply.Placed place) spares lives from to applies it = inr (tt, λ t lasts. lasts)
-      by_result id n value (reply.Refused (refusal.Store why)) spares lives from to applies it =
-          let unwritten = complete_unwritten (state g new.store.connection) clean function options id n value why it.0 in
-          inl (it.1, unwritten_carries (event.Result id n value) (reply.Refused (refusal.Store why)) old new clean lives unwritten)
-      by_result id n value _ spares lives from to applies it = absurd applies.0
+      refused_lasts : (one : Event H) (why : Refusal) → (LastsNext Before one (reply.Refused (refusal.Store why)) → IsCertain why × Before)
+          → (IsCertain why → IsUnwritten (state g new.store.connection) clean function options one (reply.Refused (refusal.Store why)))
+          → Endures g (AppliesWith function options one old.held) old.store new.store → Either one (reply.Refused (refusal.Store why))
+      refused_lasts one why = certain_lasts one (reply.Refused (refusal.Store why)) (IsCertain why)
 
-      by_tick : (now : ℕ) (answer : Reply) → Told (event.Tick now) answer
-      by_tick now (reply.Ticked count) spares lives from to applies it = inr (tt, λ t lasts. lasts)
-      by_tick now (reply.Refused (refusal.Store why)) spares lives from to applies it =
-          let unwritten = tick_unwritten (state g new.store.connection) clean function options now why it.0 in
-          inl (it.1, unwritten_carries (event.Tick now) (reply.Refused (refusal.Store why)) old new clean lives unwritten)
-      by_tick now _ spares lives from to applies it = absurd applies.0
-
-      by_begin : (id : Text) (handler : H) (now : ℕ) (answer : Reply) → Told (event.Begin id handler now) answer
-      by_begin id handler now (reply.Begun number) spares lives from to applies it = inr (tt, λ t lasts. lasts)
-      by_begin id handler now (reply.Refused (refusal.Store why)) spares lives from to applies it =
-          let unwritten = begin_unwritten (state g new.store.connection) clean function options id handler now why it.0 in
-          inl (it.1, unwritten_carries (event.Begin id handler now) (reply.Refused (refusal.Store why)) old new clean lives unwritten)
-      by_begin id handler now _ spares lives from to applies it = absurd applies
+      -- no frame was taken
+      none_was : (why : Option Refusal) → AreCertain why × ((zero ≢ 0) ⊎ Before) → AreCertain why × Before
+      none_was why it = (it.0, elim it.1 [ inl some ↦ absurd (some refl) | inr before ↦ before ])
 
       by_move : (id : Text) (n count : ℕ) (answer : Reply) → Told (event.Move id n count) answer
-      by_move id n count (reply.Refused refusal.AttemptNotHeld) spares lives from to applies it =
-          inl (
+      by_move id n count (reply.Refused refusal.AttemptNotHeld) spares lives from to applies =
+          inl (λ it. (
             it,
             same_carries (event.Move id n count) (reply.Refused refusal.AttemptNotHeld) old new (ap (λ (scheduler : Scheduler H S). scheduler.store) (spares.unheld refl))
                 (λ before behind. unheld_kept count before.standing behind.standing (held_of before.held id n) before.held behind.held),
-          )
-      by_move id n count (reply.Refused (refusal.Store why)) spares lives from to applies it =
-          let unwritten = refused_unwritten (state g new.store.connection) clean function options id n count why it.0 in
-          inl (it.1, unwritten_carries (event.Move id n count) (reply.Refused (refusal.Store why)) old new clean lives unwritten)
-      by_move id n count (reply.Moved bytes zero why) spares lives from to applies it = elim it.1 [
-        | inl some ↦ absurd (some refl)
-        | inr before ↦
-            let unwritten = moved_unwritten (state g new.store.connection) clean function options id n count bytes why it.0 in
-            inl (before, unwritten_carries (event.Move id n count) (reply.Moved bytes 0 why) old new clean lives unwritten)
-      ]
-      by_move id n count (reply.Moved bytes (suc frames) why) spares lives from to applies it =
-          inr ((λ none. omega (arith, none)), λ t lasts. rest_lasts (state g new.store.connection) clean id n why lasts.0 t it.0 lasts.1 lasts.2)
-      by_move id n count reply.Done spares lives from to applies it = absurd (move_replies count from.standing to.standing (held_of from.held id n) from.held to.held reply.Done applies)
-      by_move id n count (reply.Placed place) spares lives from to applies it = absurd (move_replies count from.standing to.standing (held_of from.held id n) from.held to.held (reply.Placed place) applies)
-      by_move id n count (reply.Ticked ended) spares lives from to applies it = absurd (move_replies count from.standing to.standing (held_of from.held id n) from.held to.held (reply.Ticked ended) applies)
-      by_move id n count (reply.Begun number) spares lives from to applies it = absurd (move_replies count from.standing to.standing (held_of from.held id n) from.held to.held (reply.Begun number) applies)
-      by_move id n count (reply.Fed bytes) spares lives from to applies it = absurd (move_replies count from.standing to.standing (held_of from.held id n) from.held to.held (reply.Fed bytes) applies)
-      by_move id n count (reply.Turned turn) spares lives from to applies it = absurd (move_replies count from.standing to.standing (held_of from.held id n) from.held to.held (reply.Turned turn) applies)
+          ))
+      by_move id n count (reply.Refused (refusal.Store why)) spares lives from to applies =
+          refused_lasts (event.Move id n count) why (λ it. it) (refused_unwritten (state g new.store.connection) clean function options id n count why) lives
+      by_move id n count (reply.Moved bytes zero why) spares lives from to applies =
+          certain_lasts (event.Move id n count) (reply.Moved bytes 0 why) (AreCertain why) (none_was why)
+          (moved_unwritten (state g new.store.connection) clean function options id n count bytes why) lives
+      by_move id n count (reply.Moved bytes (suc frames) why) spares lives from to applies =
+          inr ((λ none. omega (arith, none)), λ it t lasts. rest_lasts (state g new.store.connection) clean id n why lasts.0 t it.0 lasts.1 lasts.2)
+      by_move id n count reply.Done spares lives from to applies = absurd (move_replies count from.standing to.standing (held_of from.held id n) from.held to.held reply.Done applies)
+      by_move id n count (reply.Placed place) spares lives from to applies = absurd (move_replies count from.standing to.standing (held_of from.held id n) from.held to.held (reply.Placed place) applies)
+      by_move id n count (reply.Ticked ended) spares lives from to applies = absurd (move_replies count from.standing to.standing (held_of from.held id n) from.held to.held (reply.Ticked ended) applies)
+      by_move id n count (reply.Begun number) spares lives from to applies = absurd (move_replies count from.standing to.standing (held_of from.held id n) from.held to.held (reply.Begun number) applies)
+      by_move id n count (reply.Fed bytes) spares lives from to applies = absurd (move_replies count from.standing to.standing (held_of from.held id n) from.held to.held (reply.Fed bytes) applies)
+      by_move id n count (reply.Turned turn) spares lives from to applies = absurd (move_replies count from.standing to.standing (held_of from.held id n) from.held to.held (reply.Turned turn) applies)
 
       by_event : (one : Event H) (answer : Reply) → Told one answer
-      by_event (event.Invoke one) answer spares lives from to applies it = by_invoke one answer spares lives from to applies it
-      by_event (event.Result id n value) answer spares lives from to applies it = by_result id n value answer spares lives from to applies it
-      by_event (event.Tick now) answer spares lives from to applies it = by_tick now answer spares lives from to applies it
-      by_event (event.Begin id handler now) answer spares lives from to applies it = by_begin id handler now answer spares lives from to applies it
-      by_event (event.Feed id n count) answer spares lives from to applies it =
-          inl (
+      by_event (event.Invoke one) reply.Done spares lives from to applies = inr (tt, λ it t lasts. lasts)
+      by_event (event.Result id n value) (reply.Placed place) spares lives from to applies = inr (tt, λ it t lasts. lasts)
+      by_event (event.Tick now) (reply.Ticked count) spares lives from to applies = inr (tt, λ it t lasts. lasts)
+      by_event (event.Begin id handler now) (reply.Begun number) spares lives from to applies = inr (tt, λ it t lasts. lasts)
+      by_event (event.Invoke one) (reply.Refused (refusal.Store why)) spares lives from to applies =
+          refused_lasts (event.Invoke one) why (λ it. it) (invoke_unwritten (state g new.store.connection) clean function options one why) lives
+      by_event (event.Result id n value) (reply.Refused (refusal.Store why)) spares lives from to applies =
+          refused_lasts (event.Result id n value) why (λ it. it) (complete_unwritten (state g new.store.connection) clean function options id n value why) lives
+      by_event (event.Tick now) (reply.Refused (refusal.Store why)) spares lives from to applies =
+          refused_lasts (event.Tick now) why (λ it. it) (tick_unwritten (state g new.store.connection) clean function options now why) lives
+      by_event (event.Begin id handler now) (reply.Refused (refusal.Store why)) spares lives from to applies =
+          refused_lasts (event.Begin id handler now) why (λ it. it) (begin_unwritten (state g new.store.connection) clean function options id handler now why) lives
+      by_event (event.Invoke one) _ spares lives from to applies = absurd applies.0
+      by_event (event.Result id n value) _ spares lives from to applies = absurd applies.0
+      by_event (event.Tick now) _ spares lives from to applies = absurd applies.0
+      by_event (event.Begin id handler now) _ spares lives from to applies = absurd applies
+      by_event (event.Feed id n count) answer spares lives from to applies =
+          inl (λ it. (
             it,
             quiet_carries (event.Feed id n count) answer old new clean spares.quiet
                 (λ before behind. fed_kept (state g new.store.connection) clean before.standing behind.standing (held_of before.held id n) before.held behind.held answer count),
-          )
-      by_event (event.Close id n) answer spares lives from to applies it =
-          inl (
+          ))
+      by_event (event.Close id n) answer spares lives from to applies =
+          inl (λ it. (
             it,
             quiet_carries (event.Close id n) answer old new clean spares.quiet
                 (λ before behind. shut_kept (state g new.store.connection) clean before.standing behind.standing (held_of before.held id n) before.held behind.held answer),
-          )
-      by_event (event.Turn id n) answer spares lives from to applies it =
-          inl (
+          ))
+      by_event (event.Turn id n) answer spares lives from to applies =
+          inl (λ it. (
             it,
             same_carries (event.Turn id n) answer old new spares.quiet
                 (λ before behind. turned_kept (state g new.store.connection) clean before.standing behind.standing (held_of before.held id n) before.held behind.held answer function),
-          )
-      by_event (event.Move id n count) answer spares lives from to applies it = by_move id n count answer spares lives from to applies it
-      by_event (event.Stop id n) answer spares lives from to applies it =
-          inl (
+          ))
+      by_event (event.Move id n count) answer spares lives from to applies = by_move id n count answer spares lives from to applies
+      by_event (event.Stop id n) answer spares lives from to applies =
+          inl (λ it. (
             it,
             quiet_carries (event.Stop id n) answer old new clean spares.quiet
                 (λ before behind is. stop_kept (state g new.store.connection) clean before.standing behind.standing id n answer is.0),
-          )
+          ))
 
     -- what is applied to a scheduler, and what lasts of it
     abbrev pub AppliesOne : Event H → Reply → Scheduler H S → Scheduler H S → Type 0
@@ -167,31 +165,36 @@ module _ {H : Type 0} (function : H → Handler) (options : VMOptions) where
         IsWritten one answer → HasCleanDisk (state g new.store.connection) → (from : Scheduled H) → IsScheduled g from old
         → (to : Scheduled H) × IsScheduled g to new × Applies function options one answer from to × OutlastsEvent one answer to.standing (state g new.store.connection)
 
-    pub one_settles : (events : List (Event H)) (replies : List Reply) (one : Event H) (answer : Reply) (first : Stored S) (old new : Scheduler H S)
-        → (HasCleanDisk (state g new.store.connection) → HasCleanDisk (state g old.store.connection)) → LeadsFirst function options g events replies first old → LeavesLasting function options g events replies first old
+    -- One more event: of what it leads to then, all lasts. What was written is told with what lasts of it, anything else is what it does.
+    pub one_leads : (events : List (Event H)) (replies : List Reply) (one : Event H) (answer : Reply) (first : Stored S) (old new : Scheduler H S)
+        → (HasCleanDisk (state g new.store.connection) → HasCleanDisk (state g old.store.connection)) → LeadsFirst function options g events replies first old
         → AppliesOne one answer old new → SettlesOne one answer old new → Spares g one answer old new → Endures g (AppliesWith function options one old.held) old.store new.store
-        → LeavesLasting function options g (events ++ one ∷ []) (replies ++ answer ∷ []) first new
-    one_settles events replies one answer first old new earlier leads settles does settled spares lives clean s is it =
-        let early = earlier clean in
-        let before = leads early s is in
+        → LeadsFirst function options g (events ++ one ∷ []) (replies ++ answer ∷ []) first new
+    one_leads events replies one answer first old new earlier leads does settled spares lives clean s is =
+        let before = leads (earlier clean) s is in
         let after = does clean before.0 before.1 in
         let First : Type 0 = Outlasts s.events (state g first.connection) in
-        let last = behind_next First events replies one answer (at_first s) before.0 before.2 it in
-        elim (by_event (LastsBehind First events replies) old new clean one answer spares lives before.0 after.0 after.2 last) [
-          | inl was ↦
-              let from = settles early s is was.0 in
-              let to = does clean from.0 from.1 in
-              (to.0, to.1, schedules_grow function options events replies (at_first s) from.0 to.0 one answer from.2 to.2, was.1 from.0 to.0 from.1 to.2 from.3)
+        elim (by_event (LastsBehind First events replies) old new clean one answer spares lives before.0 after.0 after.2) [
+          | inl kept ↦ (
+            after.0,
+            after.1,
+            schedules_grow function options events replies (at_first s) before.0 after.0 one answer before.2 after.2,
+            λ it. let was = kept (behind_next First events replies one answer (at_first s) before.0 before.2 it) in was.1 before.0 after.0 before.1 after.2 (before.3 was.0),
+          )
           | inr whole ↦
-              let to = settled whole.0 clean before.0 before.1 in
-              (to.0, to.1, schedules_grow function options events replies (at_first s) before.0 to.0 one answer before.2 to.2, whole.1 to.0.standing to.3)
+              let to = settled whole.0 clean before.0 before.1 in (
+                to.0,
+                to.1,
+                schedules_grow function options events replies (at_first s) before.0 to.0 one answer before.2 to.2,
+                λ it. whole.1 (behind_next First events replies one answer (at_first s) before.0 before.2 it) to.0.standing to.3,
+              )
         ]
 
     -- nothing has been done
-    pub none_settles : (first : Stored S) (new : Scheduler H S) → first ≡ new.store → [] ≡ new.held → LeavesLasting function options g [] [] first new
-    none_settles first new same none clean s is it = (
+    pub none_leads : (first : Stored S) (new : Scheduler H S) → first ≡ new.store → [] ≡ new.held → LeadsFirst function options g [] [] first new
+    none_leads first new same none clean s is = (
       at_first s,
       record { standing = subst (λ (store : Stored S). IsStanding g s store) same is; held = none },
       refl,
-      subst (λ (store : Stored S). Outlasts s.events (state g store.connection)) same it,
+      λ it. subst (λ (store : Stored S). Outlasts s.events (state g store.connection)) same it,
     )

@@ -1,9 +1,6 @@
 -- What a schedule answers and leaves.
 use Rattle.std.specs.Prelude.{◌≡◌, ◌≢◌, ◌⊎◌, Bool, true, false, if◌then◌else◌, List, [], ◌∷◌, ◌++◌, Option, Some, None, bytes_eq}
 use Rattle.std.specs.List.{AllByRecursion}
-use Rattle.sqlite_trees.specs.declared.store.Store.{Ghosts}
-use Rattle.sqlite.specs.Held.{state}
-use Rattle.sqlite.specs.State.{HasCleanDisk}
 use Rattle.journal_model.specs.Notification.{Text}
 use Rattle.journal_model.specs.declared.invocation.NewInvocation.{NewInvocation}
 use Rattle.journal_model.specs.Event.{Event}
@@ -13,8 +10,6 @@ use Rattle.journal_model.specs.Headline.{Headline, NeverLate, WakesExactly}
 use Rattle.journal_model.specs.Run.{Handler}
 use Rattle.vm_types.specs.Options.{run_options}
 use Rattle.vm_types.specs.declared.options.VMOptions.{VMOptions}
-use Rattle.journal_store.specs.Stored.{Stored}
-use Rattle.journal_store.specs.Stands.{IsStanding, Outlasts}
 use Rattle.store_calls.specs.Standing.{Standing}
 use Rattle.store_refusals.specs.declared.refusal.Refusal.{Refusal}
 use Rattle.store_refusals.specs.Refused.{is_circumstance}
@@ -26,8 +21,6 @@ use Rattle.schedule_laws.specs.Schedules.reply
 use Rattle.schedule_laws.specs.Schedules.refusal
 use Rattle.schedule_laws.specs.Schedules.{Reply, HeldAttempt, Scheduled, Applies, AppliesAll, Brings}
 use Rattle.schedule_laws.specs.Words.{ReplaysInLine, HoldsOf, given_of}
-use Rattle.durable_schedule.specs.declared.scheduler.Scheduler.{Scheduler}
-use Rattle.durable_schedule.specs.Scheduled.{IsScheduled}
 
 -- ---- its events, one after another
 
@@ -173,13 +166,6 @@ LastsNext Before _ answer = LastsBy Before answer
 abbrev pub LastsBehind : {H : Type 0} → Type 0 → List (scheduled.Event H) → List Reply → Type 0
 LastsBehind Before (one ∷ events) (answer ∷ replies) = LastsBehind (LastsNext Before one answer) events replies
 LastsBehind Before _ _ = Before
-
-module _ {H : Type 0} (function : H → Handler) (options : VMOptions) where
-  -- then all that is left lasts: whatever a crash leaves from then on, the tables keep it
-  abbrev pub LeavesLasting : {S : Type 0} → Ghosts S → List (scheduled.Event H) → List Reply → Stored S → Scheduler H S → Type 0
-  LeavesLasting g events replies first new =
-      HasCleanDisk (state g new.store.connection) → (s : Standing) → IsStanding g s first → LastsBehind (Outlasts s.events (state g first.connection)) events replies
-      → (to : Scheduled H) × IsScheduled g to new × AppliesAll function options events replies (at_first s) to × Outlasts to.standing.events (state g new.store.connection)
 
 -- ---- a store that is opened again
 

@@ -6,10 +6,10 @@ ghost use Rattle.std.specs.List.{AllByRecursion};
 ghost use Rattle.sqlite.specs.Held.{state};
 ghost use Rattle.sqlite.specs.State.{HasCleanDisk};
 ghost use Rattle.store_calls.specs.Standing.{Standing};
-ghost use Rattle.journal_store.specs.Stands.{Endures, IsStanding};
+ghost use Rattle.journal_store.specs.Stands.{Endures, IsStanding, Outlasts};
 ghost use Rattle.schedule_laws.specs.Schedules.{AppliesAll, FitsEvent, Scheduled};
 ghost use Rattle.durable_schedule.specs.Scheduled.{IsScheduled};
-ghost use Rattle.schedule_runs.specs.Runs.{Leaves, LeavesFirst, LeavesLasting, at_first};
+ghost use Rattle.schedule_runs.specs.Runs.{LastsBehind, Leaves, LeavesFirst, at_first};
 
 mod laws;
 
@@ -60,12 +60,12 @@ pub fn run_schedule<H: Handler + Drop, S: Alter + Drop>(
     // is never late, and from version 7 on exact; and none of its frames was refused for a cause that lies in the frame. Of each invocation,
     // whatever its begins bring, at each moment the same stands, and its own events are refused alike, as if only these and the ticks had
     // come since the schedule or it was begun (`isolated`).
+    // All of this list lasts: whatever a crash leaves from then on, up to the next call, the tables keep it. That is so unless memory or a
+    // statement was refused in the last event that may have written anything; where none may, what was handed in has to last.
     ensures applies { IfOk result (λ done. HasCleanDisk (state S.Store done.0.store.connection) → (s : Standing) → IsStanding S.Store s store →
         (new : Scheduled H) × IsScheduled S.Store new done.0 × AppliesAll H.next_call options events.items done.1.items (at_first s) new
-        × Leaves H.next_call options events.items done.1.items (at_first s) new) }
-    // All that is left lasts: whatever a crash leaves from then on, up to the next call, the tables keep it. That is so unless memory or a
-    // statement was refused in the last event that may have written anything; where none may, what was handed in has to last.
-    ensures settled { IfOk result (λ done. LeavesLasting H.next_call options S.Store events.items done.1.items store done.0) }
+        × Leaves H.next_call options events.items done.1.items (at_first s) new
+        × (LastsBehind (Outlasts s.events (state S.Store store.connection)) events.items done.1.items → Outlasts new.standing.events (state S.Store done.0.store.connection))) }
     ensures count { IfOk result (λ done. length done.1.items ≡ length events.items) }
     ensures options { IfOk result (λ done. done.0.options ≡ options) }
     // What each event brings is within its types, which `schedules_keep` asks of each.

@@ -1,17 +1,14 @@
 use Rattle.std.proofs.Common.{◌≡◌, refl, ap, length, List, [], ◌∷◌, ◌++◌, sym, subst, ◌∙◌, arith, length-append}
 use Rattle.std.specs.List.{AllByRecursion}
-use Rattle.sqlite.specs.Held.{state}
-use Rattle.sqlite.specs.State.{HasCleanDisk}
 use Rattle.journal_store.specs.Stored.{Stored}
 use Rattle.vm_types.specs.declared.options.VMOptions.{VMOptions}
-use Rattle.schedule_laws.proofs.Schedules.{schedules_grow}
-use Rattle.schedule_laws.specs.Schedules.{Event, Reply, Applies, AppliesAll, FitsEvent}
-use Rattle.journal_store.specs.Stands.{IsStanding, Endures}
+use Rattle.schedule_laws.specs.Schedules.{Event, Reply, FitsEvent}
+use Rattle.journal_store.specs.Stands.{Endures}
 use Rattle.durable_schedule.specs.Scheduled.{AppliesWith}
-use Rattle.schedule_runs.specs.Runs.{AppliesFirst, LeavesLasting, at_first}
+use Rattle.schedule_runs.specs.Runs.{AppliesFirst}
 use Rattle.journal_store.proofs.Enduring.{same_endures}
-use Rattle.schedule_runs.proofs.Running.{all_kept, all_left, all_yielded, each_more, one_endures}
-use Rattle.schedule_runs.proofs.Settling.{AppliesOne, SettlesOne, one_settles, none_settles}
+use Rattle.schedule_runs.proofs.Running.{LeadsFirst, all_kept, all_left, all_yielded, each_more, one_endures}
+use Rattle.schedule_runs.proofs.Settling.{AppliesOne, SettlesOne, one_leads, none_leads}
 use Rattle.schedule_runs.proofs.run_schedule.Goals as goal
 
 pub loop-event-preserved : goal.loop-event-preserved
@@ -22,25 +19,15 @@ loop-event-preserved g c =
     let yielded = c.loop-event.yielded in
     let one = c.in-Some.event in
     record {
-      applies = λ clean s is.
-          let early : HasCleanDisk (state g.S.Store old.store.connection) = omega (arith, c.apply.ensures.crash.clean, clean) in
-          let before = inv.applies early s is in
-          let after = c.apply.ensures.does clean before.0 before.1 in
-          let does = subst (λ (o : VMOptions). Applies g.H.Handler.next_call o one c.apply.result before.0 after.0) inv.options after.2 in (
-            after.0,
-            after.1,
-            subst (λ (rs : List Reply). AppliesAll g.H.Handler.next_call c.args.options (yielded ++ one ∷ []) rs (at_first s) after.0) (sym c.put.ensures.items)
-                (schedules_grow g.H.Handler.next_call c.args.options yielded c.loop-event.replies.items (at_first s) before.0 after.0 one c.apply.result before.2 does),
-          );
-      fits = each_more FitsEvent yielded one inv.fits c.apply.ensures.fits;
-      crash = one_endures g.H.Handler.next_call c.args.options g.S.Store yielded c.loop-event.replies.items one c.args.store old new inv.applies inv.crash
-          (subst (λ (o : VMOptions). Endures g.S.Store (AppliesWith g.H.Handler.next_call o one old.held) old.store new.store) inv.options c.apply.ensures.crash);
-      settled = subst (λ (rs : List Reply). LeavesLasting g.H.Handler.next_call c.args.options g.S.Store (yielded ++ one ∷ []) rs c.args.store new) (sym c.put.ensures.items)
-          (one_settles g.H.Handler.next_call c.args.options g.S.Store yielded c.loop-event.replies.items one c.apply.result c.args.store old new
-          (λ clean. omega (arith, c.apply.ensures.crash.clean, clean)) inv.applies inv.settled
+      applies = subst (λ (rs : List Reply). LeadsFirst g.H.Handler.next_call c.args.options g.S.Store (yielded ++ one ∷ []) rs c.args.store new) (sym c.put.ensures.items)
+          (one_leads g.H.Handler.next_call c.args.options g.S.Store yielded c.loop-event.replies.items one c.apply.result c.args.store old new
+          (λ clean. omega (arith, c.apply.ensures.crash.clean, clean)) inv.applies
           (subst (λ (o : VMOptions). AppliesOne g.H.Handler.next_call o g.S.Store one c.apply.result old new) inv.options c.apply.ensures.does)
           (subst (λ (o : VMOptions). SettlesOne g.H.Handler.next_call o g.S.Store one c.apply.result old new) inv.options c.apply.ensures.settled) c.apply.ensures.spares
           (subst (λ (o : VMOptions). Endures g.S.Store (AppliesWith g.H.Handler.next_call o one old.held) old.store new.store) inv.options c.apply.ensures.crash));
+      fits = each_more FitsEvent yielded one inv.fits c.apply.ensures.fits;
+      crash = one_endures g.H.Handler.next_call c.args.options g.S.Store yielded c.loop-event.replies.items one c.args.store old new inv.applies inv.crash
+          (subst (λ (o : VMOptions). Endures g.S.Store (AppliesWith g.H.Handler.next_call o one old.held) old.store new.store) inv.options c.apply.ensures.crash);
       options = c.apply.ensures.options ∙ inv.options;
       count = omega (arith, c.put.ensures.len, inv.count, length-append yielded (one ∷ []));
       room = omega (arith, inv.room, c.put.ensures.capacity);
@@ -51,16 +38,11 @@ loop-event-init g c =
     let first = c.new-scheduler.result in
     let same : c.args.store ≡ first.store = sym c.new-scheduler.ensures.store in
     record {
-      applies = λ clean s is. (
-        at_first s,
-        record { standing = subst (λ (store : Stored g.row.S.Denot). IsStanding g.S.Store s store) same is; held = sym c.new-scheduler.ensures.held },
-        subst (λ (rs : List Reply). AppliesAll g.H.Handler.next_call c.args.options [] rs (at_first s) (at_first s)) (sym c.in-Ok.ensures.items) refl,
-      );
+      applies = subst (λ (rs : List Reply). LeadsFirst g.H.Handler.next_call c.args.options g.S.Store [] rs c.args.store first) (sym c.in-Ok.ensures.items)
+          (none_leads g.H.Handler.next_call c.args.options g.S.Store c.args.store first same (sym c.new-scheduler.ensures.held));
       fits = tt;
       crash = subst (λ (store : Stored g.row.S.Denot). Endures g.S.Store (AppliesFirst g.H.Handler.next_call c.args.options []) c.args.store store) same
           (same_endures g.S.Store (AppliesFirst g.H.Handler.next_call c.args.options []) c.args.store);
-      settled = subst (λ (rs : List Reply). LeavesLasting g.H.Handler.next_call c.args.options g.S.Store [] rs c.args.store first) (sym c.in-Ok.ensures.items)
-          (none_settles g.H.Handler.next_call c.args.options g.S.Store c.args.store first same (sym c.new-scheduler.ensures.held));
       options = c.new-scheduler.ensures.options;
       count = c.in-Ok.ensures.len;
       room = omega (arith, c.in-Ok.ensures.capacity, c.len.ensures, c.args.events.ok.0);
@@ -71,13 +53,14 @@ returns-clause-applies g c clean s is =
     let h = c.into_iter-event-iterator.ensures.into_iter_gives in
     let all = all_yielded c.into_iter-event-iterator.result c.args.events.items h.0 (h.1 ∙ c.args.events.ok.0) c.loop-event.yielded c.loop-event.event-iterator c.loop-event.yielded_by c.next.result c.next.new.self c.in-None.is c.next.ensures.steps in
     let function = g.H.Handler.next_call in
-    let it = c.loop-event.invariant.applies clean s is in
-    let applies = subst (λ (es : List (Event g.row.H.Denot)). AppliesAll function c.args.options es c.loop-event.replies.items (at_first s) it.0) all it.2 in (
+    let leads = subst (λ (es : List (Event g.row.H.Denot)). LeadsFirst function c.args.options g.S.Store es c.loop-event.replies.items c.args.store c.loop-event.scheduler) all c.loop-event.invariant.applies in
+    let it = leads clean s is in (
       it.0,
       it.1,
-      applies,
+      it.2,
       all_left function c.args.options c.schedules_leave.ensures c.records_of_runs.ensures.headline c.records_of_runs.ensures.never_late c.records_of_runs.ensures.wakes_exactly c.frames_are_taken.ensures
-          c.invocations_stand_alone.ensures.stand c.invocations_stand_alone.ensures.state c.invocations_stand_alone.ensures.answer c.args.events.items c.loop-event.replies.items s it.0 (subst (λ (es : List (Event g.row.H.Denot)). AllByRecursion FitsEvent es) all c.loop-event.invariant.fits) applies,
+          c.invocations_stand_alone.ensures.stand c.invocations_stand_alone.ensures.state c.invocations_stand_alone.ensures.answer c.args.events.items c.loop-event.replies.items s it.0 (subst (λ (es : List (Event g.row.H.Denot)). AllByRecursion FitsEvent es) all c.loop-event.invariant.fits) it.2,
+      it.3,
     )
 
 pub returns-clause-fits : goal.returns-clause-fits
@@ -100,9 +83,3 @@ returns-clause-count g c =
     let h = c.into_iter-event-iterator.ensures.into_iter_gives in
     let all = all_yielded c.into_iter-event-iterator.result c.args.events.items h.0 (h.1 ∙ c.args.events.ok.0) c.loop-event.yielded c.loop-event.event-iterator c.loop-event.yielded_by c.next.result c.next.new.self c.in-None.is c.next.ensures.steps in
     omega (arith, c.loop-event.invariant.count, c.loop-event.replies.ok.0, ap (λ (es : List (Event g.row.H.Denot)). length es) all)
-
-pub returns-clause-settled : goal.returns-clause-settled
-returns-clause-settled g c =
-    let h = c.into_iter-event-iterator.ensures.into_iter_gives in
-    let all = all_yielded c.into_iter-event-iterator.result c.args.events.items h.0 (h.1 ∙ c.args.events.ok.0) c.loop-event.yielded c.loop-event.event-iterator c.loop-event.yielded_by c.next.result c.next.new.self c.in-None.is c.next.ensures.steps in
-    subst (λ (es : List (Event g.row.H.Denot)). LeavesLasting g.H.Handler.next_call c.args.options g.S.Store es c.loop-event.replies.items c.args.store c.loop-event.scheduler) all c.loop-event.invariant.settled
