@@ -1,5 +1,6 @@
 -- Lines are a schedule, so each invocation is in the run of the handler that they name.
-use Rattle.std.proofs.Common.{◌≡◌, ℕ, suc, zero, List, [], ◌∷◌, ◌++◌, append_assoc, append-nil, refl, sym, ap, subst, ◌∙◌, inl, inr}
+use Rattle.std.proofs.Common.{◌≡◌, ℕ, suc, zero, ◌+◌, List, [], ◌∷◌, ◌++◌, append_assoc, append-nil, length, length-append, arith, refl, sym, ap, subst, ◌∙◌, inl, inr}
+use Rattle.std.specs.List.{AllByRecursion}
 use Rattle.built_in_handlers.specs.declared.built_in.BuiltIn.{BuiltIn}
 use Rattle.built_in_handlers.specs.BuiltIn.{function_of}
 use Rattle.journal_model.specs.Notification.{Text}
@@ -13,30 +14,41 @@ use Rattle.schedule_runs.specs.Schedules.event
 use Rattle.schedule_runs.specs.Schedules.{FitsEvent, Event, Reply, Turned, Scheduled, AppliesAll, Brings}
 use Rattle.script_lines.specs.declared.line.Line.{Line}
 use Rattle.script_lines.specs.declared.line.Line.TheVariants.{Invoke, Result, Tick, Begin, Feed, Close, Turn, Move, Stop, Show}
-use Rattle.durable_script.specs.Line.{brought, new_invocation, AppliesOne, AnsweredTurns, AreOfLine, DoesLine}
-use Rattle.durable_script.specs.Run.{DoneLine, AllBring, AreFirst, AreOfLines, DoesAll, DoesFirst, IsSchedule, LinesFollow}
+use Rattle.durable_script.specs.Line.{brought, new_invocation, AppliesOne, AnsweredTurns, AreOfLine, DoesEvent, DoesLine}
+use Rattle.durable_script.specs.Printed.{printed}
+use Rattle.durable_script.specs.Run.{DoneLine, AllBring, AreFirst, AreOfLines, DoesAll, DoesFirst, LinesFollow}
 
 -- ---- events one after another
 
-module _ (done more : List DoneLine) (told : (id : Text) (next : Handler) → AllBring id next more → AllBring id next done) (start old new : Scheduled BuiltIn) (s : IsSchedule done start old) where
+-- Some events lead from the one to the other, they are such events with such replies, and their begins bring what is brought.
+pub record IsSchedule (AreOf : List (Event BuiltIn) → List Reply → Type 0) (AreBrought : Text → Handler → Type 0) (start end : Scheduled BuiltIn) : Type 0 where
+  pub events : List (Event BuiltIn)
+  pub replies : List Reply
+  pub are : AreOf events replies
+  pub applies : AppliesAll function_of default_options events replies start end
+  pub fits : AllByRecursion FitsEvent events
+  pub brings : (id : Text) (next : Handler) → AreBrought id next → AllByRecursion (Brings function_of id next) events
+
+module _ (AreOf AreMore : List (Event BuiltIn) → List Reply → Type 0) (AreBrought BringMore : Text → Handler → Type 0) (told : (id : Text) (next : Handler) → BringMore id next → AreBrought id next)
+    (start old new : Scheduled BuiltIn) (s : IsSchedule AreOf AreBrought start old) where
   -- one more event
-  event_more : (one : Event BuiltIn) (answer : Reply) → AreOfLines more (s.events ++ one ∷ []) → ((id : Text) (next : Handler) → AllBring id next more → Brings function_of id next one)
-      → AppliesOne one answer old new → IsSchedule more start new
-  event_more one answer of_lines brings it = record {
+  event_more : (one : Event BuiltIn) (answer : Reply) → AreMore (s.events ++ one ∷ []) (s.replies ++ answer ∷ [])
+      → ((id : Text) (next : Handler) → BringMore id next → Brings function_of id next one) → AppliesOne one answer old new → IsSchedule AreMore BringMore start new
+  event_more one answer are brings it = record {
     events = s.events ++ one ∷ [];
     replies = s.replies ++ answer ∷ [];
-    of_lines = of_lines;
+    are = are;
     applies = schedules_grow function_of default_options s.events s.replies start old new one answer s.applies it.applied;
     fits = each_more FitsEvent s.events one s.fits it.fits;
     brings = λ id next all. each_more (Brings function_of id next) s.events one (s.brings id next (told id next all)) (brings id next all);
   }
 
   -- no event more
-  none_more : AreOfLines more s.events → new ≡ old → IsSchedule more start new
-  none_more of_lines same = record {
+  none_more : AreMore s.events s.replies → new ≡ old → IsSchedule AreMore BringMore start new
+  none_more are same = record {
     events = s.events;
     replies = s.replies;
-    of_lines = of_lines;
+    are = are;
     applies = subst (λ (end : Scheduled BuiltIn). AppliesAll function_of default_options s.events s.replies start end) (sym same) s.applies;
     fits = s.fits;
     brings = λ id next all. s.brings id next (told id next all);
@@ -44,58 +56,142 @@ module _ (done more : List DoneLine) (told : (id : Text) (next : Handler) → Al
 
 -- ---- of lines
 
+-- some events lead from the one to the other, they are those of the lines, and their begins bring what these name
+abbrev pub IsOfLines : List DoneLine → Scheduled BuiltIn → Scheduled BuiltIn → Type 0
+IsOfLines done start end = IsSchedule (AreOfLines done) (λ id next. AllBring id next done) start end
+
+-- so many turns of an attempt behind the events of these lines, each of them answered
+record TurnsBehind (before : List DoneLine) (id : Text) (n turns : ℕ) (events : List (Event BuiltIn)) (replies : List Reply) : Type 0 where
+  first : List (Event BuiltIn)
+  own : List (Event BuiltIn)
+  told : List Reply
+  answers : List Reply
+  events_are : events ≡ first ++ own
+  replies_are : replies ≡ told ++ answers
+  of_lines : AreOfLines before first told
+  are_turns : AllByRecursion (λ one. one ≡ event.Turn id n) own
+  answered : AllByRecursion (λ answer. answer ≡ Turned Answered) answers
+  as_many : length own ≡ turns
+  so_many : length answers ≡ turns
+
 module _ (before : List DoneLine) (number : ℕ) (text : List ℕ) where
   -- a line of its kind behind those before
   abbrev done_line : Line → DoneLine
   done_line line = record { number = number; line = line; text = text }
 
-  -- one more turn of such a line
-  turn_more : (id : Text) (n count : ℕ) (events : List (Event BuiltIn)) → AreOfLines (done_line (Turn id n count) ∷ before) events → AreOfLines (done_line (Turn id n count) ∷ before) (events ++ event.Turn id n ∷ [])
-  turn_more id n count events it = (
-    it.0,
-    it.1 ++ event.Turn id n ∷ [],
-    ap (λ (es : List (Event BuiltIn)). es ++ event.Turn id n ∷ []) it.2 ∙ append_assoc it.0 it.1 (event.Turn id n ∷ []),
-    it.3,
-    each_more (λ (one : Event BuiltIn). one ≡ event.Turn id n) it.1 (event.Turn id n) it.4 refl,
-  )
+  module _ (id : Text) (n turns : ℕ) (events : List (Event BuiltIn)) (replies : List Reply) (it : TurnsBehind before id n turns events replies) where
+    -- one more turn behind these
+    more_events : events ++ event.Turn id n ∷ [] ≡ it.first ++ (it.own ++ event.Turn id n ∷ [])
+    more_events = ap (λ (es : List (Event BuiltIn)). es ++ event.Turn id n ∷ []) it.events_are ∙ append_assoc it.first it.own (event.Turn id n ∷ [])
 
-  turns_more : (id : Text) (n count turns : ℕ) (start old new : Scheduled BuiltIn) → AnsweredTurns id n turns old new → IsSchedule (done_line (Turn id n count) ∷ before) start old
-      → IsSchedule (done_line (Turn id n count) ∷ before) start new
-  turns_more id n count zero start old new t s =
-      none_more (done_line (Turn id n count) ∷ before) (done_line (Turn id n count) ∷ before) (λ id next all. all) start old new s s.of_lines t
-  turns_more id n count (suc turns) start old new t s =
-      let rest = turns_more id n count turns start old t.0 t.1 s in
-      event_more (done_line (Turn id n count) ∷ before) (done_line (Turn id n count) ∷ before) (λ id next all. all) start t.0 new rest (event.Turn id n) (Turned Answered)
-      (turn_more id n count rest.events rest.of_lines) (λ id next all. tt) t.2
+    more_replies : (answer : Reply) → replies ++ answer ∷ [] ≡ it.told ++ (it.answers ++ answer ∷ [])
+    more_replies answer = ap (λ (rs : List Reply). rs ++ answer ∷ []) it.replies_are ∙ append_assoc it.told it.answers (answer ∷ [])
 
-  module _ (start old new : Scheduled BuiltIn) (s : IsSchedule before start old) where
-    -- a line that is one event, and begins nothing
-    plain_more : (line : Line) (one : Event BuiltIn) (answer : Reply) → AreOfLine line (one ∷ []) → ((id : Text) (next : Handler) → Brings function_of id next one) → AppliesOne one answer old new
-        → IsSchedule (done_line line ∷ before) start new
-    plain_more line one answer of_line none it =
-        event_more before (done_line line ∷ before) (λ id next all. all.0) start old new s one answer (s.events, one ∷ [], refl, s.of_lines, of_line) (λ id next all. none id next) it
+    -- one that is answered
+    turn_more : TurnsBehind before id n (suc turns) (events ++ event.Turn id n ∷ []) (replies ++ Turned Answered ∷ [])
+    turn_more = record {
+      first = it.first;
+      own = it.own ++ event.Turn id n ∷ [];
+      told = it.told;
+      answers = it.answers ++ Turned Answered ∷ [];
+      events_are = more_events;
+      replies_are = more_replies (Turned Answered);
+      of_lines = it.of_lines;
+      are_turns = each_more (λ (one : Event BuiltIn). one ≡ event.Turn id n) it.own (event.Turn id n) it.are_turns refl;
+      answered = each_more (λ (answer : Reply). answer ≡ Turned Answered) it.answers (Turned Answered) it.answered refl;
+      as_many = omega (arith, it.as_many, length-append it.own (event.Turn id n ∷ []));
+      so_many = omega (arith, it.so_many, length-append it.answers (Turned Answered ∷ []));
+    }
 
-    line_more : (line : Line) → DoesLine line text old new → IsSchedule (done_line line ∷ before) start new
+    -- the last one
+    turn_last : (count taken : ℕ) (last : Reply) → taken ≡ turns + 1 → text ≡ printed taken last ++ 10 ∷ []
+        → AreOfLines (done_line (Turn id n count) ∷ before) (events ++ event.Turn id n ∷ []) (replies ++ last ∷ [])
+    turn_last count taken last taken_are text_is =
+        let many : length (it.answers ++ last ∷ []) ≡ taken = omega (arith, it.so_many, taken_are, length-append it.answers (last ∷ [])) in (
+          it.first,
+          it.own ++ event.Turn id n ∷ [],
+          it.told,
+          it.answers ++ last ∷ [],
+          more_events,
+          more_replies last,
+          it.of_lines,
+          record {
+            turns = each_more (λ (one : Event BuiltIn). one ≡ event.Turn id n) it.own (event.Turn id n) it.are_turns refl;
+            as_many = omega (arith, many, it.as_many, taken_are, length-append it.own (event.Turn id n ∷ []));
+            before = it.answers;
+            last = last;
+            answers_are = refl;
+            answered = it.answered;
+            text_is = text_is ∙ ap (λ (k : ℕ). printed k last ++ 10 ∷ []) (sym many);
+          },
+        )
+
+  turns_more : (AreBrought : Text → Handler → Type 0) (id : Text) (n turns : ℕ) (start old new : Scheduled BuiltIn) → AnsweredTurns id n turns old new
+      → IsSchedule (TurnsBehind before id n zero) AreBrought start old → IsSchedule (TurnsBehind before id n turns) AreBrought start new
+  turns_more AreBrought id n zero start old new t s =
+      none_more (TurnsBehind before id n zero) (TurnsBehind before id n zero) AreBrought AreBrought (λ id next all. all) start old new s s.are t
+  turns_more AreBrought id n (suc turns) start old new t s =
+      let rest = turns_more AreBrought id n turns start old t.0 t.1 s in
+      event_more (TurnsBehind before id n turns) (TurnsBehind before id n (suc turns)) AreBrought AreBrought (λ id next all. all) start t.0 new rest (event.Turn id n) (Turned Answered)
+      (turn_more id n turns rest.events rest.replies rest.are) (λ id next all. tt) t.2
+
+  module _ (start old new : Scheduled BuiltIn) (s : IsOfLines before start old) where
+    -- what a line brings behind those before
+    abbrev Brought : Line → Text → Handler → Type 0
+    Brought line id next = AllBring id next (done_line line ∷ before)
+
+    -- a line that is one event, with the reply that it prints
+    one_more : (line : Line) (one : Event BuiltIn) (d : DoesEvent one text old new) → AreOfLine line text (one ∷ []) (d.reply ∷ [])
+        → ((id : Text) (next : Handler) → Brought line id next → Brings function_of id next one) → IsOfLines (done_line line ∷ before) start new
+    one_more line one d of_line brings =
+        event_more (AreOfLines before) (AreOfLines (done_line line ∷ before)) (λ id next. AllBring id next before) (Brought line) (λ id next all. all.0) start old new s one d.reply
+        (s.events, one ∷ [], s.replies, d.reply ∷ [], refl, refl, s.are, of_line) brings d.applies
+
+    -- and begins nothing
+    plain_more : (line : Line) (one : Event BuiltIn) (d : DoesEvent one text old new) → AreOfLine line text (one ∷ []) (d.reply ∷ []) → ((id : Text) (next : Handler) → Brings function_of id next one)
+        → IsOfLines (done_line line ∷ before) start new
+    plain_more line one d of_line none = one_more line one d of_line (λ id next all. none id next)
+
+    no_turn : (id : Text) (n count : ℕ) → IsSchedule (TurnsBehind before id n zero) (Brought (Turn id n count)) start old
+    no_turn id n count =
+        none_more (AreOfLines before) (TurnsBehind before id n zero) (λ id next. AllBring id next before) (Brought (Turn id n count)) (λ id next all. all.0) start old old s
+        (record {
+          first = s.events;
+          own = [];
+          told = s.replies;
+          answers = [];
+          events_are = sym (append-nil s.events);
+          replies_are = sym (append-nil s.replies);
+          of_lines = s.are;
+          are_turns = tt;
+          answered = tt;
+          as_many = refl;
+          so_many = refl;
+        }) refl
+
+    line_more : (line : Line) → DoesLine line text old new → IsOfLines (done_line line ∷ before) start new
     line_more (Invoke id object version state seed input) d =
-        plain_more (Invoke id object version state seed input) (event.Invoke (new_invocation id object version state seed input)) d.reply refl (λ id next. tt) d.applies
-    line_more (Result id completion value) d = plain_more (Result id completion value) (event.Result id completion (brought value)) d.reply refl (λ id next. tt) d.applies
-    line_more (Tick now) d = plain_more (Tick now) (event.Tick now) d.reply refl (λ id next. tt) d.applies
+        plain_more (Invoke id object version state seed input) (event.Invoke (new_invocation id object version state seed input)) d
+        (event.Invoke (new_invocation id object version state seed input), d.reply, refl, refl, refl, d.text_is) (λ id next. tt)
+    line_more (Result id completion value) d = plain_more (Result id completion value) (event.Result id completion (brought value)) d (event.Result id completion (brought value), d.reply, refl, refl, refl, d.text_is) (λ id next. tt)
+    line_more (Tick now) d = plain_more (Tick now) (event.Tick now) d (event.Tick now, d.reply, refl, refl, refl, d.text_is) (λ id next. tt)
     line_more (Begin id name now) d =
-        event_more before (done_line (Begin id name now) ∷ before) (λ id next all. all.0) start old new s (event.Begin id d.0 now) d.2.reply
-        (s.events, event.Begin id d.0 now ∷ [], refl, s.of_lines, (d.0, d.1, refl)) (λ want next all is. all.1 is d.0 d.1) d.2.applies
-    line_more (Feed id n count) d = plain_more (Feed id n count) (event.Feed id n count) d.reply refl (λ id next. tt) d.applies
-    line_more (Close id n) d = plain_more (Close id n) (event.Close id n) d.reply refl (λ id next. tt) d.applies
+        one_more (Begin id name now) (event.Begin id d.0 now) d.2 (event.Begin id d.0 now, d.2.reply, (d.0, d.1, refl), refl, refl, d.2.text_is) (λ want next all is. all.1 is d.0 d.1)
+    line_more (Feed id n count) d = plain_more (Feed id n count) (event.Feed id n count) d (event.Feed id n count, d.reply, refl, refl, refl, d.text_is) (λ id next. tt)
+    line_more (Close id n) d = plain_more (Close id n) (event.Close id n) d (event.Close id n, d.reply, refl, refl, refl, d.text_is) (λ id next. tt)
     line_more (Turn id n count) d =
-        let none = none_more before (done_line (Turn id n count) ∷ before) (λ id next all. all.0) start old old s (s.events, [], sym (append-nil s.events), s.of_lines, tt) refl in
-        let rest = turns_more id n count d.took.before start old d.took.between d.took.answered none in
-        event_more (done_line (Turn id n count) ∷ before) (done_line (Turn id n count) ∷ before) (λ id next all. all) start d.took.between new rest (event.Turn id n) d.last
-        (turn_more id n count rest.events rest.of_lines) (λ id next all. tt) d.took.applies
-    line_more (Move id n count) d = plain_more (Move id n count) (event.Move id n count) d.reply refl (λ id next. tt) d.applies
-    line_more (Stop id n) d = plain_more (Stop id n) (event.Stop id n) d.reply refl (λ id next. tt) d.applies
-    line_more (Show id) d = none_more before (done_line (Show id) ∷ before) (λ id next all. all.0) start old new s (s.events, [], sym (append-nil s.events), s.of_lines, refl) d.1
+        let rest = turns_more (Brought (Turn id n count)) id n d.took.before start old d.took.between d.took.answered (no_turn id n count) in
+        event_more (TurnsBehind before id n d.took.before) (AreOfLines (done_line (Turn id n count) ∷ before)) (Brought (Turn id n count)) (Brought (Turn id n count)) (λ id next all. all)
+        start d.took.between new rest (event.Turn id n) d.last
+        (turn_last id n d.took.before rest.events rest.replies rest.are count d.taken d.last d.took.taken_are d.text_is) (λ id next all. tt) d.took.applies
+    line_more (Move id n count) d = plain_more (Move id n count) (event.Move id n count) d (event.Move id n count, d.reply, refl, refl, refl, d.text_is) (λ id next. tt)
+    line_more (Stop id n) d = plain_more (Stop id n) (event.Stop id n) d (event.Stop id n, d.reply, refl, refl, refl, d.text_is) (λ id next. tt)
+    line_more (Show id) d =
+        none_more (AreOfLines before) (AreOfLines (done_line (Show id) ∷ before)) (λ id next. AllBring id next before) (Brought (Show id)) (λ id next all. all.0) start old new s
+        (s.events, [], s.replies, [], sym (append-nil s.events), sym (append-nil s.replies), s.are, (refl, refl)) d.1
 
-pub lines_are : (done : List DoneLine) (start end : Scheduled BuiltIn) → DoesAll done start end → IsSchedule done start end
-lines_are [] start end d = record { events = []; replies = []; of_lines = refl; applies = d; fits = tt; brings = λ id next told. tt }
+pub lines_are : (done : List DoneLine) (start end : Scheduled BuiltIn) → DoesAll done start end → IsOfLines done start end
+lines_are [] start end d = record { events = []; replies = []; are = (refl, refl); applies = d; fits = tt; brings = λ id next told. tt }
 lines_are (one ∷ before) start end d = line_more before one.number one.text start d.0 end (lines_are before start d.0 d.1) one.line d.2
 
 -- ---- what lines leave

@@ -25,7 +25,14 @@ module _ (law : laws.LeavesHolds function_of) (headline : laws.HoldsHeadline) (l
   schedule_left : (done : List DoneLine) (s : Standing) (end : Scheduled BuiltIn) → DoesAll done (at_first s) end → AreSchedule done (at_first s) end
   schedule_left done s end does =
       let it = lines_are done (at_first s) end does in
-      record { schedule = it; leaves = all_left function_of default_options law headline late exact taken stand keep answer it.events it.replies s end it.fits it.applies }
+      record {
+        events = it.events;
+        replies = it.replies;
+        of_lines = it.are;
+        applies = it.applies;
+        brings = it.brings;
+        leaves = all_left function_of default_options law headline late exact taken stand keep answer it.events it.replies s end it.fits it.applies;
+      }
 
   module _ {S : Type 0} (g : Ghosts S) (store after : Stored S) (start end : Scheduler BuiltIn S) (store_is : start.store ≡ store) (options_are : start.options ≡ default_options)
       (none_held : start.held ≡ []) (after_is : after ≡ end.store) (done : List DoneLine) (reached : Reaches g (DoesFirst done) (DoesAll done) start end) where

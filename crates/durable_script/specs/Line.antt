@@ -1,5 +1,5 @@
 -- What a line does to what the scheduler stands for, and its text with the line feed.
-use Rattle.std.specs.Prelude.{◌≡◌, ℕ, Bool, true, false, suc, zero, ◌+◌, ◌≤◌, List, [], ◌∷◌, ◌++◌, Some}
+use Rattle.std.specs.Prelude.{◌≡◌, ℕ, Bool, true, false, suc, zero, ◌+◌, ◌≤◌, List, [], ◌∷◌, ◌++◌, length, Some}
 use Rattle.std.specs.List.{AllByRecursion}
 use Rattle.std.specs.declared.alloc.Global.{Global}
 use Rattle.built_in_handlers.specs.declared.built_in.BuiltIn.{BuiltIn}
@@ -104,18 +104,33 @@ DoesLine (Move id attempt count) text old new = DoesEvent (event.Move id attempt
 DoesLine (Stop id attempt) text old new = DoesEvent (event.Stop id attempt) text old new
 DoesLine (Show id) text old new = Looks (Shows id text) old new
 
--- the events of a line: turns of its attempt, none where something is shown, and otherwise one
-abbrev pub AreOfLine : Line → List (Event BuiltIn) → Type 0
-AreOfLine (Invoke id object version state seed input) own = own ≡ event.Invoke (new_invocation id object version state seed input) ∷ []
-AreOfLine (Result id completion value) own = own ≡ event.Result id completion (brought value) ∷ []
-AreOfLine (Tick now) own = own ≡ event.Tick now ∷ []
-AreOfLine (Begin id name now) own = (handler : BuiltIn) × IsNamed name handler × (own ≡ event.Begin id handler now ∷ [])
-AreOfLine (Feed id attempt count) own = own ≡ event.Feed id attempt count ∷ []
-AreOfLine (Close id attempt) own = own ≡ event.Close id attempt ∷ []
-AreOfLine (Turn id attempt count) own = AllByRecursion (λ one. one ≡ event.Turn id attempt) own
-AreOfLine (Move id attempt count) own = own ≡ event.Move id attempt count ∷ []
-AreOfLine (Stop id attempt) own = own ≡ event.Stop id attempt ∷ []
-AreOfLine (Show id) own = own ≡ []
+-- turns of one attempt, all but the last of them answered; the reply of the last is printed, with their number
+pub record AreTurns (id : List ℕ) (attempt : ℕ) (text : List ℕ) (own : List (Event BuiltIn)) (answers : List Reply) : Type 0 where
+  pub turns : AllByRecursion (λ one. one ≡ event.Turn id attempt) own
+  pub as_many : length own ≡ length answers
+  pub before : List Reply
+  pub last : Reply
+  pub answers_are : answers ≡ before ++ last ∷ []
+  pub answered : AllByRecursion (λ answer. answer ≡ Turned Answered) before
+  pub text_is : text ≡ printed (length answers) last ++ 10 ∷ []
+
+-- the event of a line that is one
+abbrev pub IsEventOf : Line → Event BuiltIn → Type 0
+IsEventOf (Invoke id object version state seed input) one = one ≡ event.Invoke (new_invocation id object version state seed input)
+IsEventOf (Result id completion value) one = one ≡ event.Result id completion (brought value)
+IsEventOf (Tick now) one = one ≡ event.Tick now
+IsEventOf (Begin id name now) one = IsBegin id name now one
+IsEventOf (Feed id attempt count) one = one ≡ event.Feed id attempt count
+IsEventOf (Close id attempt) one = one ≡ event.Close id attempt
+IsEventOf (Move id attempt count) one = one ≡ event.Move id attempt count
+IsEventOf (Stop id attempt) one = one ≡ event.Stop id attempt
+IsEventOf _ one = ⊥
+
+-- the events of a line and their replies, for which it prints this: turns of its attempt, none where something is shown, and otherwise one
+abbrev pub AreOfLine : Line → (text : List ℕ) → List (Event BuiltIn) → List Reply → Type 0
+AreOfLine (Turn id attempt count) text own answers = AreTurns id attempt text own answers
+AreOfLine (Show id) text own answers = (own ≡ []) × (answers ≡ [])
+AreOfLine line text own answers = (one : Event BuiltIn) × (reply : Reply) × IsEventOf line one × (own ≡ one ∷ []) × (answers ≡ reply ∷ []) × (text ≡ printed 1 reply ++ 10 ∷ [])
 
 -- the same with some text
 abbrev pub DoesSomeLine : Line → Scheduled BuiltIn → Scheduled BuiltIn → Type 0

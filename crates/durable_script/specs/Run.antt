@@ -14,7 +14,7 @@ use Rattle.journal_store.specs.Stands.{Endures, IsStanding}
 use Rattle.store_calls.specs.Standing.{Standing}
 use Rattle.schedule_runs.specs.Passed.{HoldsOf}
 use Rattle.schedule_runs.specs.Runs.{Leaves, at_first}
-use Rattle.schedule_runs.specs.Schedules.{AppliesAll, Brings, Event, FitsEvent, HeldAttempt, Reply, Scheduled}
+use Rattle.schedule_runs.specs.Schedules.{AppliesAll, Brings, Event, HeldAttempt, Reply, Scheduled}
 use Rattle.built_in_handlers.specs.BuiltIn.{function_of}
 use Rattle.built_in_handlers.specs.Handlers.{nap, nap99, race, both, ask, pair}
 use Rattle.script_lines.specs.declared.word.HandlerName.{HandlerName}
@@ -62,27 +62,23 @@ abbrev pub AllBring : Text → Handler → List DoneLine → Type 0
 AllBring id next [] = Unit {0}
 AllBring id next (one ∷ before) = AllBring id next before × BringsFunction id next one.line
 
--- these are the events of the lines, in order
-abbrev pub AreOfLines : List DoneLine → List (Event BuiltIn) → Type 0
-AreOfLines [] events = events ≡ []
-AreOfLines (one ∷ before) events = (first own : List (Event BuiltIn)) × (events ≡ first ++ own) × AreOfLines before first × AreOfLine one.line own
+-- these are the events of the lines, in order, with the replies that are printed
+abbrev pub AreOfLines : List DoneLine → List (Event BuiltIn) → List Reply → Type 0
+AreOfLines [] events replies = (events ≡ []) × (replies ≡ [])
+AreOfLines (one ∷ before) events replies =
+    (first own : List (Event BuiltIn)) × (told answers : List Reply) × (events ≡ first ++ own) × (replies ≡ told ++ answers)
+    × AreOfLines before first told × AreOfLine one.line one.text own answers
 
--- some events lead from the one to the other, with these replies; they are those of the lines, such as a caller can bring, and their begins
--- bring what the lines name
-pub record IsSchedule (done : List DoneLine) (start end : Scheduled BuiltIn) : Type 0 where
+-- Such lines are a schedule: of their events, with the replies that they print. Its begins bring what the lines name, and it leaves what a
+-- schedule leaves: of an invocation whose lines all name handlers of one function, if what was recorded of it before is of the run of that
+-- function, all that is recorded behind them is (`leaves.in_run`); nothing is recorded of one that is new.
+pub record AreSchedule (done : List DoneLine) (start end : Scheduled BuiltIn) : Type 0 where
   pub events : List (Event BuiltIn)
   pub replies : List Reply
-  pub of_lines : AreOfLines done events
+  pub of_lines : AreOfLines done events replies
   pub applies : AppliesAll function_of default_options events replies start end
-  pub fits : AllByRecursion FitsEvent events
   pub brings : (id : Text) (next : Handler) → AllBring id next done → AllByRecursion (Brings function_of id next) events
-
--- Such lines are a schedule, and it leaves what a schedule leaves: of an invocation whose lines all name handlers of one function, if what
--- was recorded of it before is of the run of that function, all that is recorded behind them is (`leaves.in_run`); nothing is recorded of
--- one that is new.
-pub record AreSchedule (done : List DoneLine) (start end : Scheduled BuiltIn) : Type 0 where
-  pub schedule : IsSchedule done start end
-  pub leaves : Leaves function_of default_options schedule.events schedule.replies start end
+  pub leaves : Leaves function_of default_options events replies start end
 
 -- the first of these lines are those before one of them, and that one with some text
 abbrev pub AreFirst : (first done : List DoneLine) → Type 0

@@ -64,11 +64,12 @@ pub fn run_script<R: Read, W: Write, S: Alter + Drop>(
     writer: &mut W,
     store: Store<S>,
 ) -> ScriptEnd<S>
-    // What was done and written, and why no more. The lines that were done are a schedule, and leave what one leaves: the events from before
-    // stay, and more are put in front of them; of those accepted events the headline is told of each of an invocation's attempts, where what
-    // was recorded before is of the one uninterrupted run of the handler that the lines name, and that waking is never late and exact, that
-    // none of its frames was refused for a cause that lies in the frame, and what other invocations' events leave of it. What a crash leaves
-    // is what it left before, or what the first of the lines leave, of which the same is told.
+    // What was done and written, and why no more. The lines that were done are a schedule, of their events with the replies that they print,
+    // and leave what one leaves: the events from before stay, and more are put in front of them; of those accepted events the headline is
+    // told of each of an invocation's attempts, where what was recorded before is of the one uninterrupted run of the handler that the lines
+    // name, and that waking is never late and exact, that none of its frames was refused for a cause that lies in the frame, and what other
+    // invocations' events leave of it. What a crash leaves is what it left before, or what the first of the lines leave, of which the same is
+    // told.
     ensures runs { RunsScript S.Store (R.remaining reader.old) (R.remaining reader.new) (W.contents writer.old) (W.contents writer.new) store result.store result.result }
     ensures unread { result.result ≡ Err ScriptFault.ScriptUnreadable → writer.new ≡ writer.old }
 {
