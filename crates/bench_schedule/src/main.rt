@@ -9,49 +9,101 @@
 #![tactic(auto)]
 
 mod events;
+mod fault;
 mod growth;
 mod handlers;
 mod micros;
 mod opened;
 mod timed;
 
-use anyhow::Result;
-use growth::{time_growth, try_growth};
-use handlers::{time_in_file, time_in_memory, time_orders_in_memory, try_in_memory};
+use durable_schedule::Scheduler;
+use events::Place;
+use fault::Fault;
+use growth::tell_growth;
+use handlers::{Numbers, Told, tell_both};
+use opened::{in_file, in_memory};
+use sqlite::Alter;
 use std::env;
+use std::process::ExitCode;
 use std::rt::HostRuntime;
+use timed::Timed;
 
-fn time(rt: &HostRuntime, count: u32, file: Option<String>) -> Result<()> {
-    time_in_memory(rt, count)?;
-    if let Some(path) = file {
-        time_in_file(rt, path.as_str(), count)?;
-    }
-    time_growth(rt)
+/// What is done over one scheduler.
+#[derive(Clone, Copy)]
+enum Work {
+    /// So many invocations of each handler.
+    Invocations(Numbers, u32),
+    /// One whose journal grows by so many entries, so many times.
+    Growth(u32, u32),
 }
 
-fn time_orders(rt: &HostRuntime, count: u32) -> Result<()> {
-    time_orders_in_memory(rt, count)?;
-    time_growth(rt)
-}
+/// A journal that grows to 10,000 entries.
+const GROWTH: Work = Work::Growth(1_000, 10);
 
-fn try_all(rt: &HostRuntime) -> Result<()> {
-    try_in_memory(rt, 2)?;
-    try_growth(rt, 20)
-}
-
-fn run(rt: &HostRuntime) -> Result<()> {
-    let mut words = env::args(rt)?;
-    let _program = words.next();
-    let Some(first) = words.next() else {
-        return try_all(rt);
+fn tell<S: Alter + Drop>(
+    rt: &HostRuntime,
+    mut scheduler: Scheduler<Timed, S>,
+    told: Told,
+    work: Work,
+) -> Result<(), Fault> {
+    let mut place = Place::new(rt.alloc());
+    let done = match work {
+        Work::Invocations(numbers, count) => {
+            tell_both(rt, &mut scheduler, &mut place, told, numbers, count)
+        }
+        Work::Growth(entries, times) => {
+            tell_growth(rt, &mut scheduler, &mut place, told, entries, times)
+        }
     };
-    let second = words.next();
-    match (first.as_str(), second) {
-        ("memory", Some(count)) => time_orders(rt, count.as_str().parse()?),
-        (count, file) => time(rt, count.parse()?, file),
-    }
+    drop(place);
+    drop(scheduler.into_store().into_connection().into_store());
+    done
 }
 
-fn main(rt: HostRuntime) -> Result<()> {
-    run(&rt)
+fn tell_in_memory(rt: &HostRuntime, told: Told, work: Work) -> Result<(), Fault> {
+    tell(rt, in_memory(rt.alloc())?, told, work)
+}
+
+fn tell_in_file(rt: &HostRuntime, path: &str, work: Work) -> Result<(), Fault> {
+    tell(rt, in_file(rt, path)?, Told::File, work)
+}
+
+/// Does what the words say behind the program's own name.
+fn run_words(rt: &HostRuntime, words: &[String]) -> Result<(), Fault> {
+    let Some(first) = words.get(1) else {
+        tell_in_memory(rt, Told::Count, Work::Invocations(Numbers::Counted, 2))?;
+        return tell_in_memory(rt, Told::Count, Work::Growth(20, 1));
+    };
+    let is_memory = first.as_str() == "memory";
+    let second = words.get(2);
+    let count = match second {
+        Some(count) if is_memory => count.as_str().parse()?,
+        _ => first.as_str().parse()?,
+    };
+    let counted = Work::Invocations(Numbers::Counted, count);
+    tell_in_memory(rt, Told::Memory, counted)?;
+    if is_memory {
+        let scattered = Work::Invocations(Numbers::Scattered, count);
+        tell_in_memory(rt, Told::Memory, scattered)?;
+    } else if let Some(path) = second {
+        tell_in_file(rt, path.as_str(), counted)?;
+    }
+    tell_in_memory(rt, Told::Memory, GROWTH)
+}
+
+fn run(rt: &HostRuntime) -> Result<(), Fault> {
+    let words: Vec<String> = env::args(rt)?.collect(rt.alloc())?;
+    let done = run_words(rt, words.as_slice());
+    drop(words);
+    done
+}
+
+fn main(rt: HostRuntime) -> ExitCode {
+    match run(&rt) {
+        Ok(()) => ExitCode::SUCCESS,
+        Err(fault) => {
+            let _ = eprintln!(rt; "{fault:?}");
+            ExitCode::FAILURE
+        }
+    }
 }

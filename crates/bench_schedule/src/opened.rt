@@ -1,6 +1,6 @@
 // Schedulers over new stores.
+use crate::fault::Fault;
 use crate::timed::Timed;
-use anyhow::{Result, bail};
 use durable_schedule::Scheduler;
 use sqlite::{FileFrom, FileStore, Unknown};
 use std::alloc::Global;
@@ -10,13 +10,10 @@ use store_memory::{MemoryFile, open_in_memory};
 use vm_types::VMOptions;
 
 /// A scheduler over an empty database in memory, as the program's `:memory:` is.
-pub fn in_memory(alloc: Global) -> Result<Scheduler<Timed, FileStore<MemoryFile>>> {
+pub fn in_memory(alloc: Global) -> Result<Scheduler<Timed, FileStore<MemoryFile>>, Fault> {
     match open_in_memory(alloc) {
         Ok(store) => Ok(Scheduler::new(alloc, store, VMOptions::default())),
-        Err(why) => {
-            let name = why.name();
-            bail!("no store was made in memory: {name}")
-        }
+        Err(_) => Err(Fault::NoStore),
     }
 }
 
@@ -24,12 +21,12 @@ pub fn in_memory(alloc: Global) -> Result<Scheduler<Timed, FileStore<MemoryFile>
 pub fn in_file(
     rt: &HostRuntime,
     path: &str,
-) -> Result<Scheduler<Timed, FileStore<FileFrom<Unknown>>>> {
+) -> Result<Scheduler<Timed, FileStore<FileFrom<Unknown>>>, Fault> {
     match open_file(rt, path, Unknown) {
         Ok(store) => Ok(Scheduler::new(rt.alloc(), store, VMOptions::default())),
         Err(left) => {
             drop(left);
-            bail!("no store was made in the file")
+            Err(Fault::NoStore)
         }
     }
 }

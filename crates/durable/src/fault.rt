@@ -6,7 +6,7 @@ use durable_script::ScriptFault;
 use std::fmt;
 
 /// Why the program does not come to its end.
-#[derive(Clone, Copy, Debug, PartialEq, Eq)]
+#[derive(Clone, Copy)]
 pub enum ProgramFault {
     /// It was not called with two words.
     Usage,

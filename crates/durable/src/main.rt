@@ -23,7 +23,7 @@ use std::io::Read;
 use std::process::ExitCode;
 use std::rt::{Env, HostRuntime};
 use std::{env, io};
-use store_files::{close_file, open_file};
+use store_files::{close_file, leave_file, open_file};
 use store_memory::{MemoryFile, open_in_memory};
 
 /// The two words that the program is called with.
@@ -71,7 +71,7 @@ fn run_in_memory<R: Read>(rt: &HostRuntime, script: &mut R) -> Result<(), Progra
     let store = open_memory(rt.alloc())?;
     let end = run_script(rt.alloc(), script, &mut io::writer(rt), store);
     let ScriptEnd { store, result } = end;
-    drop(store);
+    drop(leave_file(store));
     Ok(result?)
 }
 

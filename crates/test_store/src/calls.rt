@@ -253,6 +253,6 @@ pub fn run_calls<R: Files + Print + AllocGlobal>(rt: &R, name: &str) -> Result<(
     let calls = fs::read_to_string(rt, name)?;
     let mut database = empty(alloc)?;
     let done = run_lines(rt, alloc, &mut database, calls.as_str());
-    drop(database);
+    database.leave();
     done
 }

@@ -1,9 +1,24 @@
-//! A database in memory, and the store over it while that is open.
+//! A database in memory, and the store over it while that is open. What is left of one in the end is its own store of pages: a store and a
+//! connection are taken apart by their libraries, so that nothing is proved here of how each of their parts is let go of.
 use crate::answers::{print_done, print_refusal};
 use crate::fault::Fault;
 use journal_store::{NotOpened, Store};
 use sqlite::{Connection, MemStore};
 use std::alloc::Global;
+
+/// Lets go of a connection.
+pub fn leave(connection: Option<Connection<MemStore>>) {
+    if let Some(connection) = connection {
+        drop(connection.into_store());
+    }
+}
+
+/// Lets go of a store.
+pub fn close(store: Option<Store<MemStore>>) {
+    if let Some(store) = store {
+        leave(Some(store.into_connection()));
+    }
+}
 
 /// A store of no invocation.
 pub fn open_memory(alloc: Global) -> Result<Store<MemStore>, Fault> {
@@ -13,14 +28,13 @@ pub fn open_memory(alloc: Global) -> Result<Store<MemStore>, Fault> {
     match Store::open(alloc, connection) {
         Ok(store) => Ok(store),
         Err(left) => {
-            drop(left);
+            leave(Some(left.connection));
             Err(Fault::Memory)
         }
     }
 }
 
 /// A database in memory: the store that is open over it, or its connection.
-#[derive(Drop)]
 pub struct Database {
     alloc: Global,
     connection: Option<Connection<MemStore>>,
@@ -40,6 +54,17 @@ pub fn empty(alloc: Global) -> Result<Database, Fault> {
 }
 
 impl Database {
+    /// Lets go of it.
+    pub fn leave(self) {
+        let Database {
+            connection,
+            store,
+            ..
+        } = self;
+        leave(connection);
+        close(store);
+    }
+
     /// The store, which has to be open.
     pub fn store(&mut self) -> Result<&mut Store<MemStore>, Fault> {
         self.store.as_mut().ok_or(Fault::NotUnderstood)
@@ -50,8 +75,8 @@ impl Database {
         let Ok(connection) = Connection::open_in_memory(self.alloc) else {
             return Err(Fault::Memory);
         };
-        drop(self.store.take());
-        drop(self.connection.replace(connection));
+        close(self.store.take());
+        leave(self.connection.replace(connection));
         print_done(rt, Ok(()))
     }
 
@@ -62,7 +87,7 @@ impl Database {
         };
         match Store::open(self.alloc, connection) {
             Ok(store) => {
-                drop(self.store.replace(store));
+                close(self.store.replace(store));
                 print_done(rt, Ok(()))
             }
             Err(
@@ -71,7 +96,7 @@ impl Database {
                     refusal,
                 },
             ) => {
-                drop(self.connection.replace(connection));
+                leave(self.connection.replace(connection));
                 print_refusal(rt, refusal)
             }
         }
@@ -82,7 +107,7 @@ impl Database {
         let Some(store) = self.store.take() else {
             return Err(Fault::NotUnderstood);
         };
-        drop(self.connection.replace(store.into_connection()));
+        leave(self.connection.replace(store.into_connection()));
         print_done(rt, Ok(()))
     }
 

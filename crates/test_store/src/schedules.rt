@@ -1,6 +1,6 @@
 //! A schedule, from its events to its replies.
 use crate::answers::{print_answer, print_entries, print_openness};
-use crate::database::open_memory;
+use crate::database::{close, open_memory};
 use crate::fault::Fault;
 use built_in_handlers::BuiltIn;
 use built_in_handlers::handlers::Nap;
@@ -96,7 +96,7 @@ fn print_left<R: Print>(rt: &R, mut scheduler: Scheduler<BuiltIn, MemStore>) -> 
     let told = print_told(rt, &mut scheduler);
     let mut store = scheduler.into_store();
     let kept = store.entries(&i1());
-    drop(store);
+    close(Some(store));
     let left = print_entries(rt, kept);
     told?;
     left
@@ -104,7 +104,7 @@ fn print_left<R: Print>(rt: &R, mut scheduler: Scheduler<BuiltIn, MemStore>) -> 
 
 fn run_over<R: Print>(rt: &R, alloc: Global, store: Store<MemStore>) -> Result<(), Fault> {
     let Ok(events) = events(alloc) else {
-        drop(store);
+        close(Some(store));
         return Err(Fault::Memory);
     };
     match run_schedule(alloc, store, VMOptions::default(), events) {
@@ -116,7 +116,7 @@ fn run_over<R: Print>(rt: &R, alloc: Global, store: Store<MemStore>) -> Result<(
             left
         }
         Err(no_room) => {
-            drop(no_room);
+            close(Some(no_room.store));
             Err(Fault::Memory)
         }
     }

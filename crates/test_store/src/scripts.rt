@@ -1,6 +1,6 @@
 //! Scripts, each over a store of its own. All are read and written by one type each, so that `run_script` is built once.
 use crate::answers::print_openness;
-use crate::database::open_memory;
+use crate::database::{close, open_memory};
 use crate::failing::{Behind, Failing, Source};
 use crate::fault::Fault;
 use bytes::ByteStr;
@@ -21,7 +21,7 @@ fn run(alloc: Global, script: &mut Source<'_>, writer: &mut Failing) -> Result<E
     let end = run_script(alloc, script, writer, store);
     let ScriptEnd { mut store, result } = end;
     let is_open = store.is_open(&ByteStr::from_static("i1"));
-    drop(store);
+    close(Some(store));
     Ok((result, is_open))
 }
 

@@ -1,6 +1,6 @@
 //! What no call of a store reaches so far: the state of an object is written, the records of a journal are listed, and a signal is
 //! made ready.
-use crate::database::open_memory;
+use crate::database::{close, leave, open_memory};
 use crate::fault::Fault;
 use crate::words::parse_new;
 use bytes::{ByteStr, Bytes};
@@ -34,7 +34,7 @@ fn invoked(alloc: Global) -> Result<Store<MemStore>, Fault> {
         Err(_) => false,
     };
     if !invoked {
-        drop(store);
+        close(Some(store));
         return Err(Fault::Memory);
     }
     Ok(store)
@@ -44,7 +44,7 @@ fn invoked(alloc: Global) -> Result<Store<MemStore>, Fault> {
 fn tables_of(alloc: Global) -> Result<Tables, Fault> {
     let connection = invoked(alloc)?.into_connection();
     if !is_ready(&connection) {
-        drop(connection);
+        leave(Some(connection));
         return Err(Fault::Memory);
     }
     Ok(StoreTables::of(alloc, connection))
@@ -181,6 +181,6 @@ fn print_all<R: Print>(rt: &R, alloc: Global, tables: &mut Tables) -> Result<(),
 pub fn run_tables<R: Print + AllocGlobal>(rt: &R) -> Result<(), Fault> {
     let mut tables = tables_of(rt.alloc())?;
     let printed = print_all(rt, rt.alloc(), &mut tables);
-    drop(tables);
+    leave(Some(tables.into_connection()));
     printed
 }
