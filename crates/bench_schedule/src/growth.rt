@@ -34,11 +34,6 @@ fn print_times<R: Print>(
     Ok(())
 }
 
-fn print_events<R: Print>(rt: &R, entries: u32, events: u32) -> Result<(), Fault> {
-    println!(rt; "journal {entries} events {events}")?;
-    Ok(())
-}
-
 /// The journal grows to so many entries from so many, each moved as it is made. Then the attempt is stopped, and the next one is handed
 /// its input, reads it, and makes the sleeps again that are recorded behind it.
 fn tell_part<S: Alter + Drop>(
@@ -67,8 +62,9 @@ fn tell_part<S: Alter + Drop>(
         begun,
         resumed,
     };
+    let events = place.events;
     match told {
-        Told::Count => print_events(rt, to, place.events),
+        Told::Count => Ok(println!(rt; "journal {to} events {events}")?),
         _ => print_times(rt, to, moments, more.wrapping_mul(2), to.wrapping_add(3)),
     }
 }

@@ -13,7 +13,6 @@ mod fault;
 mod growth;
 mod handlers;
 mod micros;
-mod opened;
 mod timed;
 
 use durable_schedule::Scheduler;
@@ -21,12 +20,15 @@ use events::Place;
 use fault::Fault;
 use growth::tell_growth;
 use handlers::{Numbers, Told, tell_both};
-use opened::{in_file, in_memory};
-use sqlite::Alter;
+use journal_store::Store;
+use sqlite::{Alter, Unknown};
 use std::env;
 use std::process::ExitCode;
 use std::rt::HostRuntime;
+use store_files::open_file;
+use store_memory::open_in_memory;
 use timed::Timed;
+use vm_types::VMOptions;
 
 /// What is done over one scheduler.
 #[derive(Clone, Copy)]
@@ -42,10 +44,15 @@ const GROWTH: Work = Work::Growth(1_000, 10);
 
 fn tell<S: Alter + Drop>(
     rt: &HostRuntime,
-    mut scheduler: Scheduler<Timed, S>,
+    store: Store<S>,
     told: Told,
     work: Work,
 ) -> Result<(), Fault> {
+    let mut scheduler: Scheduler<Timed, S> = Scheduler::new(
+        rt.alloc(),
+        store,
+        VMOptions::default(),
+    );
     let mut place = Place::new(rt.alloc());
     let done = match work {
         Work::Invocations(numbers, count) => {
@@ -56,16 +63,28 @@ fn tell<S: Alter + Drop>(
         }
     };
     drop(place);
+    // Each library lets go of its own, so that nothing is proved here of how that is done.
     drop(scheduler.into_store().into_connection().into_store());
     done
 }
 
+/// Over an empty database in memory, as the program's `:memory:` is.
 fn tell_in_memory(rt: &HostRuntime, told: Told, work: Work) -> Result<(), Fault> {
-    tell(rt, in_memory(rt.alloc())?, told, work)
+    match open_in_memory(rt.alloc()) {
+        Ok(store) => tell(rt, store, told, work),
+        Err(_) => Err(Fault::NoStore),
+    }
 }
 
+/// Over a store in a new file. Each commit is on the disk.
 fn tell_in_file(rt: &HostRuntime, path: &str, work: Work) -> Result<(), Fault> {
-    tell(rt, in_file(rt, path)?, Told::File, work)
+    match open_file(rt, path, Unknown) {
+        Ok(store) => tell(rt, store, Told::File, work),
+        Err(left) => {
+            drop(left);
+            Err(Fault::NoStore)
+        }
+    }
 }
 
 /// Does what the words say behind the program's own name.
