@@ -1,4 +1,3 @@
-// Why the program does not come to its end.
 use std::alloc::AllocError;
 use std::io;
 use std::num::ParseIntError;

@@ -7,32 +7,7 @@ use crate::timed::Timed;
 use durable_schedule::Scheduler;
 use sqlite::Alter;
 use std::rt::HostRuntime;
-use std::time::{CpuClock, Duration};
-
-/// When the journal began to grow, when it had grown, when its attempt was stopped, the next one begun, and where that had come to the
-/// same place.
-#[derive(Clone, Copy)]
-struct Moments {
-    start: Duration,
-    grown: Duration,
-    stopped: Duration,
-    begun: Duration,
-    resumed: Duration,
-}
-
-fn print_times<R: Print>(
-    rt: &R,
-    entries: u32,
-    moments: Moments,
-    growing: u32,
-    resuming: u32,
-) -> Result<(), Fault> {
-    let grow = Micros::each(moments.grown.saturating_sub(moments.start), growing);
-    let begin = Micros::each(moments.begun.saturating_sub(moments.stopped), 1);
-    let resume = Micros::each(moments.resumed.saturating_sub(moments.grown), resuming);
-    println!(rt; "journal {entries} grow {grow} begin {begin} resume {resume}")?;
-    Ok(())
-}
+use std::time::CpuClock;
 
 /// The journal grows to so many entries from so many, each moved as it is made. Then the attempt is stopped, and the next one is handed
 /// its input, reads it, and makes the sleeps again that are recorded behind it.
@@ -55,18 +30,15 @@ fn tell_part<S: Alter + Drop>(
     apply_each(scheduler, place, &[Step::Feed], 1)?;
     apply_each(scheduler, place, &[Step::Turn], to)?;
     let resumed = rt.thread_cpu_time()?;
-    let moments = Moments {
-        start,
-        grown,
-        stopped,
-        begun,
-        resumed,
-    };
     let events = place.events;
+    let grow = Micros::each(grown.saturating_sub(start), more.wrapping_mul(2));
+    let begin = Micros::each(begun.saturating_sub(stopped), 1);
+    let resume = Micros::each(resumed.saturating_sub(grown), to.wrapping_add(3));
     match told {
-        Told::Count => Ok(println!(rt; "journal {to} events {events}")?),
-        _ => print_times(rt, to, moments, more.wrapping_mul(2), to.wrapping_add(3)),
+        Told::Count => println!(rt; "journal {to} events {events}")?,
+        _ => println!(rt; "journal {to} grow {grow} begin {begin} resume {resume}")?,
     }
+    Ok(())
 }
 
 /// Makes an invocation whose journal grows by so many entries, so many times, and prints what is told of each time.
