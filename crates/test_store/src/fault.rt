@@ -4,7 +4,7 @@ use std::io;
 use std::num::ParseIntError;
 
 /// Why the program does not come to its end.
-#[derive(Clone, Copy, Debug, PartialEq, Eq)]
+#[derive(Clone, Copy, Debug)]
 pub enum Fault {
     /// A word of the call, or a line, that says nothing.
     NotUnderstood,

@@ -1,11 +1,10 @@
 //! What no call of a store reaches so far: the state of an object is written, the records of a journal are listed, and a signal is
 //! made ready.
-use crate::database::{close, leave, open_memory};
+use crate::database::{leave, open_memory};
 use crate::fault::Fault;
 use crate::words::parse_new;
 use bytes::{ByteStr, Bytes};
 use journal_model::{Notification, NotificationId, NotificationResult};
-use journal_store::Store;
 use protocol_stream::MessageType;
 use script_lines::text::Hex;
 use sqlite::MemStore;
@@ -26,24 +25,15 @@ fn object() -> ByteStr {
     ByteStr::from_static("o")
 }
 
-/// A store with one invocation.
-fn invoked(alloc: Global) -> Result<Store<MemStore>, Fault> {
+/// The tables of a store with one invocation.
+fn tables_of(alloc: Global) -> Result<Tables, Fault> {
     let mut store = open_memory(alloc)?;
-    let invoked = match parse_new(alloc, &["i1", "o", "7", "whole", "1", "-"]) {
+    let is_invoked = match parse_new(alloc, &["i1", "o", "7", "whole", "1", "-"]) {
         Ok(new) => store.invoke(new).is_ok(),
         Err(_) => false,
     };
-    if !invoked {
-        close(Some(store));
-        return Err(Fault::Memory);
-    }
-    Ok(store)
-}
-
-/// Its tables.
-fn tables_of(alloc: Global) -> Result<Tables, Fault> {
-    let connection = invoked(alloc)?.into_connection();
-    if !is_ready(&connection) {
+    let connection = store.into_connection();
+    if !is_invoked || !is_ready(&connection) {
         leave(Some(connection));
         return Err(Fault::Memory);
     }
@@ -58,25 +48,6 @@ fn put(key: &'static [u8], value: &'static [u8]) -> Write {
     })
 }
 
-fn is_written(tables: &mut Tables, write: Write) -> bool {
-    let writes = [write];
-    let done = commit_all(tables, &writes);
-    drop(writes);
-    done.is_ok()
-}
-
-/// How many values the object's state has.
-fn state_count(tables: &mut Tables) -> Option<usize> {
-    match states_of(tables, &object()) {
-        Ok(states) => {
-            let count = states.len();
-            drop(states);
-            Some(count)
-        }
-        Err(_) => None,
-    }
-}
-
 fn len_at(states: &[StateRow], key: &[u8]) -> Option<usize> {
     for state in states {
         if state.key.as_slice() == key {
@@ -86,15 +57,15 @@ fn len_at(states: &[StateRow], key: &[u8]) -> Option<usize> {
     None
 }
 
-/// How many bytes the value of the key `k` has.
-fn value_len(tables: &mut Tables) -> Option<usize> {
+/// How many values the object's state has, and how many bytes that of the key `k`.
+fn look(tables: &mut Tables) -> (Option<usize>, Option<usize>) {
     match states_of(tables, &object()) {
         Ok(states) => {
-            let len = len_at(states.as_slice(), b"k");
+            let seen = (Some(states.len()), len_at(states.as_slice(), b"k"));
             drop(states);
-            len
+            seen
         }
-        Err(_) => None,
+        Err(_) => (None, None),
     }
 }
 
@@ -105,9 +76,10 @@ fn print_write<R: Print>(
     name: &str,
     write: Write,
 ) -> Result<(), Fault> {
-    let is_written = is_written(tables, write);
-    let count = state_count(tables);
-    let len = value_len(tables);
+    let writes = [write];
+    let is_written = commit_all(tables, &writes).is_ok();
+    drop(writes);
+    let (count, len) = look(tables);
     Ok(println!(rt; "{name} -> {is_written} values {count:?} bytes of k {len:?}")?)
 }
 
