@@ -57,9 +57,9 @@ impl Database {
     /// Lets go of it.
     pub fn leave(self) {
         let Database {
+            alloc: _alloc,
             connection,
             store,
-            ..
         } = self;
         leave(connection);
         close(store);
