@@ -1,5 +1,6 @@
 pub mod Growing
 mod Apart
+mod Handing
 pub mod Running
 pub mod Quieting
 pub mod Refusing

@@ -1,5 +1,5 @@
 -- What is applied in a row, what that leaves of each invocation, when it lasts, and where a crash comes into it.
-use Rattle.std.proofs.Common.{◌≡◌, refl, sym, ap, subst, ◌∙◌, ◌++◌, append_assoc, append-nil, map-id, length, List, [], ◌∷◌, Option, None}
+use Rattle.std.proofs.Common.{◌≡◌, refl, sym, ap, subst, ◌∙◌, ◌++◌, append_assoc, append-nil, map-id, length, List, [], ◌∷◌, Option, None, inl}
 use Rattle.std.proofs.lemmas.Iterator.Consumers.{YieldsList-end}
 use Rattle.std.proofs.lemmas.Iterator.Adapters.{YieldsList-from_vec}
 use Rattle.std.specs.Iterator.{Yields}
@@ -26,6 +26,7 @@ use Rattle.schedule_runs.specs.Runs.{AppliesFirst, LastsBehind, Leaves, LeavesFi
 use Rattle.journal_store.proofs.Enduring.{endures_on}
 use Rattle.schedule_runs.proofs.Apart.{stands_apart, stands_still}
 use Rattle.schedule_runs.proofs.Growing.{all_add, each_grow}
+use Rattle.schedule_runs.proofs.Handing.{all_hand, each_handed}
 
 pub each_more : {A : Type 0} (P : A → Type 0) (xs : List A) (x : A) → AllByRecursion P xs → P x → AllByRecursion P (xs ++ x ∷ [])
 each_more P [] x all one = (one, tt)
@@ -69,6 +70,7 @@ module _ {H : Type 0} (function : H → Handler) (options : VMOptions) where
     all_left events replies s new fits applies =
         let each = all_add function options events replies (at_first s) new applies in
         let grown = each_grow function options events replies each.0 (at_first s) new each.1 in
+        let hand = all_hand function options events replies each.0 (at_first s) new each.1 in
         record {
           more = grown.0;
           grows = grown.1;
@@ -77,6 +79,9 @@ module _ {H : Type 0} (function : H → Handler) (options : VMOptions) where
           each = each.1;
           isolated = λ id. stands_apart id stand keep answer function options events replies each.0 (at_first s) new each.1;
           untouched = λ id apart. stands_still id stand keep answer function options events replies each.0 (at_first s) new each.1 apart;
+          handed = hand.0;
+          hands = hand.1;
+          fed = λ id number. each_handed id number function options events replies each.0 hand.0 (at_first s) new [] hand.1 (inl (refl, refl));
         }
 
     -- and of the first of the events

@@ -1,7 +1,7 @@
 -- What a schedule answers and leaves.
-use Rattle.std.specs.Prelude.{◌≡◌, ◌≢◌, ◌⊎◌, Bool, true, false, if◌then◌else◌, List, [], ◌∷◌, ◌++◌, Option, Some, None, bytes_eq}
+use Rattle.std.specs.Prelude.{◌≡◌, ◌≢◌, ◌⊎◌, ℕ, Bool, true, false, if◌then◌else◌, List, [], ◌∷◌, ◌++◌, Option, Some, None, bytes_eq}
 use Rattle.std.specs.List.{AllByRecursion}
-use Rattle.journal_model.specs.Notification.{Text}
+use Rattle.journal_model.specs.Notification.{Bytes, Text}
 use Rattle.journal_model.specs.declared.invocation.NewInvocation.{NewInvocation}
 use Rattle.journal_model.specs.Event.{Event}
 use Rattle.journal_model.specs.Cause.{IsAccepted, after_open}
@@ -21,6 +21,7 @@ use Rattle.schedule_laws.specs.Schedules.reply
 use Rattle.schedule_laws.specs.Schedules.refusal
 use Rattle.schedule_laws.specs.Schedules.{Reply, HeldAttempt, Scheduled, Applies, AppliesAll, Brings}
 use Rattle.schedule_laws.specs.Words.{ReplaysInLine, HoldsOf, given_of}
+use Rattle.schedule_runs.specs.Handed.{HandsEach, IsHandedInput}
 
 -- ---- its events, one after another
 
@@ -130,6 +131,14 @@ module _ {H : Type 0} (function : H → Handler) (options : VMOptions) where
     pub isolated : (id : Text) → StandsApart id events added old.standing.events old.standing.events
     -- so what stood of it before stands of it, where no event of the schedule is one of its own or a tick
     pub untouched : (id : Text) → AllByRecursion (IsApart id) events → IsAlike new.standing.events old.standing.events id
+    -- The bytes that each event hands to the attempt that it names: its start frame where it is begun, and of each feed as many as its reply
+    -- tells, which the machine of the attempt is fed.
+    pub handed : List Bytes
+    pub hands : HandsEach function options events replies added handed old new
+    -- Of each attempt, whatever its invocation and its number: at each moment of the schedule these, one behind the other, are none, or a
+    -- beginning of its start frame, the journal as it was when it was begun, and then each later arrival by place, as far as recorded by
+    -- then, and all of that where nothing is left.
+    pub fed : (id : Text) → (number : ℕ) → IsHandedInput id number events replies added handed [] old.standing.events
 
   -- what the first of these events leave, which were applied one after another with some answers
   pub record LeavesFirst (events : List (scheduled.Event H)) (s t : Standing) : Type 0 where
