@@ -1,5 +1,5 @@
 -- What an arrival makes ready.
-use Rattle.std.specs.Prelude.{◌≡◌, ℕ, ◌+◌, ◌-◌, ◌^◌, nat_lt, List, [], ◌∷◌, drop, length, Option, Some}
+use Rattle.std.specs.Prelude.{◌≡◌, ℕ, ◌+◌, ◌-◌, ◌^◌, nat_lt, List, [], ◌∷◌, drop, length, Option}
 use Rattle.journal_model.specs.Notification.{Bytes, Text, Arrival}
 use Rattle.journal_model.specs.Event.{Event}
 use Rattle.journal_model.specs.Spelling.{frame_bytes, notification_payload}
@@ -7,8 +7,6 @@ use Rattle.journal_model.specs.Journal.{entries_of}
 use Rattle.journal_model.specs.Attempt.{notification_type}
 use Rattle.journal_model.specs.Cause.{Cause, Tests}
 use Rattle.protocol_types.specs.declared.message_type.MessageType.{MessageType}
-use Rattle.protocol_controls.specs.declared.notification.NotificationMessage.{NotificationMessage}
-use Rattle.protocol_spellings.specs.Records.{id_record, result_record}
 use Rattle.store_tables.specs.declared.row.InvocationRow.{InvocationRow}
 use Rattle.store_tables.specs.declared.row.EntryRow.{EntryRow}
 use Rattle.store_tables.specs.declared.row.Write.TheVariants.{SetProgress, AddEntry}
@@ -17,10 +15,6 @@ use Rattle.store_model.specs.Writes.{writes_of}
 use Rattle.store_model.specs.Steps.{grown}
 use Rattle.store_invocations.specs.Rows.{payload_tests}
 use Rattle.store_arrivals.specs.declared.arrival.PreparedArrival.{PreparedArrival}
-
--- its record
-abbrev pub message_of_arrival : Arrival → NotificationMessage
-message_of_arrival arrival = record { id = Some (id_record arrival.id); result = Some (result_record arrival.result) }
 
 -- its entry, behind those of the invocation that has this row
 abbrev pub entry_of_arrival : InvocationRow → MessageType → Option ℕ → Bytes → EntryRow

@@ -3,8 +3,7 @@
 ghost use Rattle.std.specs.Prelude.{◌≡◌, map, IfOk};
 ghost use Rattle.journal_model.specs.Spelling.{notification_payload};
 ghost use Rattle.protocol_stream.specs.Records.{pair_record};
-ghost use Rattle.protocol_spellings.specs.Records.{arrived_failure_record, id_record, result_record};
-ghost use Rattle.store_arrivals.specs.Arrivals.{message_of_arrival};
+ghost use Rattle.protocol_spellings.specs.Records.{arrived_failure_record, id_record, notification_record, result_record};
 
 use bytes::ByteStr;
 use journal_model::{Failure, Notification, NotificationId, NotificationResult};
@@ -75,7 +74,7 @@ fn result_of(
 }
 
 fn message_of(alloc: Global, arrival: Notification) -> Result<NotificationMessage, AllocError>
-    ensures { IfOk result (λ message. message ≡ message_of_arrival arrival) }
+    ensures { IfOk result (λ message. message ≡ notification_record arrival) }
 {
     let Notification {
         id,
