@@ -11,6 +11,7 @@ use Rattle.journal_model.specs.Event.{Event, Frame}
 use Rattle.journal_model.specs.Journal.{ends_attempt}
 use Rattle.journal_model.specs.Attempt.{is_live}
 use Rattle.journal_model.specs.Cause.{FrameNotAccepted, causes_of, those_that_hold, adding_tests}
+use Rattle.protocol_stream.specs.declared.frame.TheConstants.{HEADER_LEN}
 use Rattle.protocol_stream.specs.Item.{Item, unknown, message, item_at}
 use Rattle.store_frames.specs.declared.frame.AttemptFrame.{AttemptFrame}
 use Rattle.store_frames.specs.Answer.{IsFrame}
@@ -294,7 +295,7 @@ module _ {S : Type 0} (g : Ghosts S) (tables : Held S) (before after : Attempts)
   header_refused first now clean s is =
       let one = this_one n (attempt_of before.attempts id) here in
       let unknown_is = subst (λ (o : Option LiveAttempt). IsFirstOf o firsts.Unknown) one.is first in
-      let it = item_refused g (stored tables before) (stored tables after) s is id n one.attempt (unknown unknown_is.0) (drop 8 one.attempt.output) one.is unknown_is.1 refusal.FrameNotAccepted here
+      let it = item_refused g (stored tables before) (stored tables after) s is id n one.attempt (unknown unknown_is.0) (drop HEADER_LEN one.attempt.output) one.is unknown_is.1 refusal.FrameNotAccepted here
       (inl (ap first_of (unknown_causes s.events (state g tables) before.attempts id n one.attempt is.stands one.is here))) is.stands.kept true refl now in
       (it.0, it.1, inr it.2)
 

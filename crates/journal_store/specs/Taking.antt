@@ -4,6 +4,7 @@ use Rattle.sqlite_trees.specs.declared.store.Store.{Ghosts}
 use Rattle.journal_model.specs.Notification.{Bytes, Text}
 use Rattle.protocol_stream.specs.declared.decoder.RawMessage.{RawMessage}
 use Rattle.protocol_types.specs.declared.message_type.UnknownMessageType.{UnknownMessageType}
+use Rattle.protocol_stream.specs.declared.frame.TheConstants.{HEADER_LEN}
 use Rattle.protocol_stream.specs.Item.{unknown, message, item_at}
 use Rattle.store_frames.specs.Answer.{IsFrame}
 use Rattle.store_frames.specs.Meaning.{frame_of}
@@ -31,7 +32,7 @@ pub record IsSeen (attempt : LiveAttempt) (it : SeenFrame) : Type 0 where
 
 abbrev pub IsFirstSeen : LiveAttempt → FirstSeen → Type 0
 IsFirstSeen attempt seen.Partial = item_at attempt.output ≡ None
-IsFirstSeen attempt seen.Unknown = (ty : UnknownMessageType) × (item_at attempt.output ≡ Some (unknown ty, drop 8 attempt.output))
+IsFirstSeen attempt seen.Unknown = (ty : UnknownMessageType) × (item_at attempt.output ≡ Some (unknown ty, drop HEADER_LEN attempt.output))
 IsFirstSeen attempt (seen.Frame it) = IsSeen attempt it
 
 -- of the live attempt, if one is live

@@ -4,11 +4,12 @@ use Rattle.std.proofs.lemmas.Bool.{cases_Bool, lt-ltb, ltb-true}
 use Rattle.journal_model.specs.Notification.{Bytes}
 use Rattle.journal_model.specs.Spelling.{frame_bytes}
 use Rattle.protocol_types.specs.declared.message_type.MessageType.{MessageType}
+use Rattle.protocol_stream.specs.declared.frame.TheConstants.{HEADER_LEN}
 
-pub long_enough : (kind : MessageType) (payload frame : Bytes) → frame ≡ frame_bytes kind payload → 8 ≤ length frame
-long_enough kind payload frame e = subst (λ (f : Bytes). 8 ≤ length f) (sym e) at_least
+pub long_enough : (kind : MessageType) (payload frame : Bytes) → frame ≡ frame_bytes kind payload → HEADER_LEN ≤ length frame
+long_enough kind payload frame e = subst (λ (f : Bytes). HEADER_LEN ≤ length f) (sym e) at_least
   where
-    at_least : 8 ≤ length (frame_bytes kind payload)
+    at_least : HEADER_LEN ≤ length (frame_bytes kind payload)
     at_least = omega arith
 
 -- ---- the last place

@@ -8,6 +8,7 @@ use Rattle.journal_model.specs.Spelling.{frame_bytes, notification_payload}
 use Rattle.journal_model.specs.Journal.{Arrived, completion, entries_of, object_of}
 use Rattle.journal_model.specs.Attempt.{notification_type}
 use Rattle.journal_model.specs.Cause.{Cause, Tests, adding_tests, own_tests, those_that_hold, is_too_long}
+use Rattle.protocol_stream.specs.declared.frame.TheConstants.{HEADER_LEN}
 use Rattle.store_tables.specs.declared.row.InvocationRow.{InvocationRow}
 use Rattle.store_tables.specs.declared.row.Progress.{Progress}
 use Rattle.store_tables.specs.declared.row.Write.{Write}
@@ -29,13 +30,13 @@ use Rattle.protocol_types.specs.declared.message_type.MessageType.{MessageType}
 
 -- ---- a payload cut off its frame
 
-pub payload_cut : (kind : MessageType) (payload : Bytes) → drop 8 (frame_bytes kind payload) ≡ payload
+pub payload_cut : (kind : MessageType) (payload : Bytes) → drop HEADER_LEN (frame_bytes kind payload) ≡ payload
 payload_cut kind payload = refl
 
 pub arrival_made : (row : InvocationRow) (kind : MessageType) (arrival : Arrival) (frame : Bytes) (made : PreparedArrival)
     → frame ≡ frame_bytes kind (notification_payload arrival) → IsWritten row kind (answered_by arrival.id) frame made → IsArrival row kind arrival made
 arrival_made row kind arrival frame made is w = record {
-  writes = w.writes ∙ ap (λ (f : Bytes). AddEntry (entry_of_arrival row kind (answered_by arrival.id) (drop 8 f)) ∷ SetProgress row.id (grown 1 row.progress) ∷ []) is;
+  writes = w.writes ∙ ap (λ (f : Bytes). AddEntry (entry_of_arrival row kind (answered_by arrival.id) (drop HEADER_LEN f)) ∷ SetProgress row.id (grown 1 row.progress) ∷ []) is;
   place = w.place;
   frame = w.frame ∙ is;
 }

@@ -7,6 +7,7 @@ use Rattle.journal_model.specs.Journal.{entries_of}
 use Rattle.journal_model.specs.Attempt.{notification_type}
 use Rattle.journal_model.specs.Cause.{Cause, Tests}
 use Rattle.protocol_types.specs.declared.message_type.MessageType.{MessageType}
+use Rattle.protocol_stream.specs.declared.frame.TheConstants.{HEADER_LEN}
 use Rattle.store_tables.specs.declared.row.InvocationRow.{InvocationRow}
 use Rattle.store_tables.specs.declared.row.EntryRow.{EntryRow}
 use Rattle.store_tables.specs.declared.row.Write.TheVariants.{SetProgress, AddEntry}
@@ -24,9 +25,9 @@ entry_of_arrival row kind answered payload = record (plain_row row.id row.progre
 abbrev pub arrival_tests : InvocationRow → Arrival → Tests
 arrival_tests row arrival = (nat_lt (2 ^ 32 - 2) row.progress.entries, Cause.NumbersUsedUp) ∷ payload_tests (notification_payload arrival)
 
--- made ready by its frame, whose payload stands behind a header of eight bytes
+-- made ready by its frame, whose payload stands behind the header
 pub record IsWritten (row : InvocationRow) (kind : MessageType) (answered : Option ℕ) (bytes : Bytes) (made : PreparedArrival) : Type 0 where
-  pub writes : made.writes.items ≡ AddEntry (entry_of_arrival row kind answered (drop 8 bytes)) ∷ SetProgress row.id (grown 1 row.progress) ∷ []
+  pub writes : made.writes.items ≡ AddEntry (entry_of_arrival row kind answered (drop HEADER_LEN bytes)) ∷ SetProgress row.id (grown 1 row.progress) ∷ []
   pub place : made.place ≡ row.progress.entries
   pub frame : made.frame ≡ bytes
 

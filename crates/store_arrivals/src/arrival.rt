@@ -3,6 +3,7 @@
 ghost use Rattle.std.specs.Prelude.{◌≡◌, ◌+◌, ◌<◌, ◌≤◌, ◌^◌, ◌∷◌, [], drop as without, length, IfOk};
 ghost use Rattle.journal_model.specs.Spelling.{frame_bytes, notification_payload};
 ghost use Rattle.protocol_types.specs.MessageType.{number_of};
+ghost use Rattle.protocol_stream.specs.declared.frame.TheConstants.{HEADER_LEN};
 ghost use Rattle.store_tables.specs.declared.row.Write.{Write as RowWrite};
 ghost use Rattle.store_model.specs.Kept.{answered_by};
 ghost use Rattle.store_model.specs.Steps.{grown};
@@ -56,8 +57,8 @@ fn entry_of(
     answered: Option<u32>,
     frame: &Bytes,
 ) -> Result<EntryRow, AllocError>
-    requires { 8 ≤ length frame.now }
-    ensures { IfOk result (λ entry. entry ≡ entry_of_arrival row.now ty answered (without 8 frame.now)) }
+    requires { HEADER_LEN ≤ length frame.now }
+    ensures { IfOk result (λ entry. entry ≡ entry_of_arrival row.now ty answered (without HEADER_LEN frame.now)) }
 {
     let payload = payload_of_frame(frame)?;
     Ok(EntryRow {
@@ -122,7 +123,7 @@ fn arrival_with(
     frame: Bytes,
 ) -> Result<PreparedArrival, AllocError>
     requires room { row.progress.entries + 1 < 2 ^ 32 }
-    requires framed { 8 ≤ length frame }
+    requires framed { HEADER_LEN ≤ length frame }
     ensures written { IfOk result (IsWritten row ty answered frame) }
     ensures place { IfOk result (λ made. made.place + 1 < 2 ^ 32) }
 {

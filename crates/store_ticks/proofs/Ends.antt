@@ -4,6 +4,7 @@ use Rattle.std.proofs.lemmas.Bool.{cases_Bool, lt-ltb, ltb-true}
 use Rattle.std.proofs.lemmas.List.{length-map}
 use Rattle.journal_model.specs.Notification.{Bytes, Text}
 use Rattle.journal_model.specs.Cause.{Cause, those_that_hold}
+use Rattle.protocol_stream.specs.declared.frame.TheConstants.{HEADER_LEN}
 use Rattle.store_tables.specs.declared.row.EntryRow.{EntryRow}
 use Rattle.store_tables.specs.declared.row.InvocationRow.{InvocationRow}
 use Rattle.store_tables.specs.declared.row.Progress.{Progress}
@@ -21,7 +22,7 @@ use Rattle.store_ticks.specs.Made.{AreEndsOf, IsEnd, end_row_of, progress_writes
 pub end_made : (id : Text) (place n : ℕ) (entry : EntryRow) (frame : Bytes) → frame ≡ end_frame n → entry ≡ end_row_of id place n frame
     → IsEnd id place n (record { entry = entry; frame = frame })
 end_made id place n entry frame framed is = record {
-  entry = is ∙ ap (λ (f : Bytes). record (end_row id place n) { payload = drop 8 f }) framed;
+  entry = is ∙ ap (λ (f : Bytes). record (end_row id place n) { payload = drop HEADER_LEN f }) framed;
   frame = framed;
 }
 

@@ -6,6 +6,7 @@ use Rattle.journal_model.specs.Event.{Event}
 use Rattle.journal_model.specs.Journal.{is_open, entries_of}
 use Rattle.journal_model.specs.Attempt.{completions_of_tick}
 use Rattle.journal_model.specs.Cause.{Cause, Tests, IsAccepted, causes_of}
+use Rattle.protocol_stream.specs.declared.frame.TheConstants.{HEADER_LEN}
 use Rattle.store_tables.specs.Records.{Records, applied_all}
 use Rattle.store_tables.specs.declared.row.EntryRow.{EntryRow}
 use Rattle.store_tables.specs.declared.row.InvocationRow.{InvocationRow}
@@ -27,7 +28,7 @@ use Rattle.store_ticks.specs.declared.tick.PreparedTick.{PreparedTick}
 
 -- its payload is cut off its frame
 abbrev pub end_row_of : Text → ℕ → ℕ → Bytes → EntryRow
-end_row_of id place n frame = record (end_row id place n) { payload = drop 8 frame }
+end_row_of id place n frame = record (end_row id place n) { payload = drop HEADER_LEN frame }
 
 pub record IsEnd (id : Text) (place n : ℕ) (end : SleepEnd) : Type 0 where
   pub entry : end.entry ≡ end_row id place n

@@ -2,6 +2,7 @@
 
 ghost use Rattle.std.specs.Prelude.{◌≡◌, ◌+◌, ◌<◌, ◌≤◌, ◌^◌, ◌++◌, ◌∷◌, [], true, false, length, map, IfOk, OnOk};
 ghost use Rattle.protocol_types.specs.MessageType.{number_of};
+ghost use Rattle.protocol_stream.specs.declared.frame.TheConstants.{HEADER_LEN};
 ghost use Rattle.store_tables.specs.declared.row.Write.{Write as RowWrite};
 ghost use Rattle.store_model.specs.Steps.{grown};
 ghost use Rattle.store_refusals.specs.Prepared.{Tells};
@@ -47,7 +48,7 @@ fn entry_of_end(
     completion: u32,
     frame: &Bytes,
 ) -> Result<EntryRow, AllocError>
-    requires { 8 ≤ length frame.now }
+    requires { HEADER_LEN ≤ length frame.now }
     ensures { IfOk result (λ entry. entry ≡ end_row_of id.now place completion frame.now) }
 {
     let payload = payload_of_frame(frame)?;
