@@ -5,8 +5,9 @@ use Rattle.protocol_types.specs.declared.message_type.UnknownMessageType.{Unknow
 use Rattle.protocol_stream.specs.declared.header.MessageHeader.{MessageHeader}
 use Rattle.protocol_stream.specs.declared.decoder.RawMessage.{RawMessage}
 use Rattle.protocol_stream.specs.Header.{message_length, header_in}
+use Rattle.protocol_stream.specs.declared.frame.TheConstants.{HEADER_LEN}
 
--- a header of unknown type, its eight bytes alone, or a header with its payload
+-- a header of unknown type, its bytes alone, or a header with its payload
 pub data Item : Type 0 where
   unknown : UnknownMessageType → Item
   message : RawMessage → Item
@@ -20,4 +21,4 @@ item_behind (Ok header) rest =
 
 -- the item at the front and the bytes behind it, where a whole one is there
 unfoldable pub item_at : List ℕ → Option (Item × List ℕ)
-item_at bytes = if nat_lt (length bytes) 8 then None else item_behind (header_in (from_be_bytes w64 (take 8 bytes))) (drop 8 bytes)
+item_at bytes = if nat_lt (length bytes) HEADER_LEN then None else item_behind (header_in (from_be_bytes w64 (take HEADER_LEN bytes))) (drop HEADER_LEN bytes)

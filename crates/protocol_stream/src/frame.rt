@@ -2,6 +2,7 @@
 ghost use Rattle.std.specs.Prelude.{◌≡◌, ◌≤◌, ◌^◌, ◌++◌, ◌↔◌, Err, drop, length, IfOk, OnOk, OnErr};
 ghost use Rattle.std.specs.Int.{w64, to_be_bytes};
 ghost use Rattle.journal_model.specs.Spelling.{frame_bytes, header_bytes};
+ghost use Rattle.protocol_stream.specs.declared.frame.TheConstants.{HEADER_LEN as the_header_len};
 
 use crate::{EncodingError, MessageType};
 use bytes::{Bytes, BytesMut};
@@ -52,8 +53,8 @@ pub fn frame_of(alloc: Global, ty: MessageType, payload: &[u8]) -> Result<Bytes,
 
 /// The payload of a frame, which shares the frame's memory.
 pub fn payload_of_frame(frame: &Bytes) -> Result<Bytes, AllocError>
-    requires { 8 ≤ length frame.now }
-    ensures { IfOk result (λ payload. payload ≡ drop 8 frame.now) }
+    requires { the_header_len ≤ length frame.now }
+    ensures { IfOk result (λ payload. payload ≡ drop the_header_len frame.now) }
 {
     frame.slice(HEADER_LEN..)
 }
