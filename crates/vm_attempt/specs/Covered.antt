@@ -1,14 +1,11 @@
 -- Which calls of a handler are carried out.
-use Rattle.std.specs.Prelude.{◌≡◌, ◌-◌, ℕ, zero, suc, Bool, true, false, ◌&&◌, map}
+use Rattle.std.specs.Prelude.{◌-◌, ℕ, zero, suc, Bool, true, false, ◌&&◌}
 use Rattle.protocol_wire.specs.declared.record.TheConstants.{LEVELS}
 use Rattle.journal_model.specs.Await.{awaited_tree}
-use Rattle.journal_model.specs.AwaitTree.{AwaitTree, Single, Combined, AwaitTrees, no_trees, and_trees, Combinator}
-use Rattle.journal_model.specs.Future.{node, tree_of}
+use Rattle.journal_model.specs.AwaitTree.{AwaitTree, Single, Combined, AwaitTrees, no_trees, and_trees}
 use Rattle.journal_model.specs.declared.call.Call.{Call}
 use Rattle.journal_model.specs.declared.options.ImplicitCancellationOption.{ImplicitCancellationOption}
 use Rattle.journal_model.specs.declared.options.ImplicitCancellationOption.TheVariants.{Disabled, Enabled}
-use Rattle.vm_attempt.specs.declared.covered.Opened.{Opened}
-use Rattle.vm_attempt.specs.declared.covered.Opened.TheVariants.{Leaf, Node}
 
 -- ---- what it asks for
 
@@ -53,14 +50,3 @@ levels_left (Enabled calls sends) = LEVELS - 2
 abbrev pub is_covered : ImplicitCancellationOption → Call → Bool
 is_covered cancellation (Call.Await tree) = can_be_told cancellation tree
 is_covered cancellation call = asks_of_store call
-
--- ---- a future, opened at its root
-
-abbrev pub is_single : AwaitTree ℕ → Bool
-is_single (Single handle) = true
-is_single _ = false
-
--- one handle, or a node over these children
-abbrev pub IsOpened : AwaitTree ℕ → Opened → Type 0
-IsOpened tree Leaf = is_single tree ≡ true
-IsOpened tree (Node children) = (combinator : Combinator) × (tree ≡ node combinator (map tree_of children.now))

@@ -1,39 +1,19 @@
 // Which calls are carried out.
 ghost use Rattle.std.specs.Prelude.{◌≡◌};
 ghost use Rattle.journal_model.specs.Future.{tree_of};
-ghost use Rattle.vm_attempt.specs.Covered.{is_nested_within, can_be_told, asks_of_store, is_covered, levels_left, IsOpened};
+ghost use Rattle.vm_attempt.specs.Covered.{is_nested_within, can_be_told, asks_of_store, is_covered, levels_left};
 
 use journal_model::{AwaitedFuture, Call, ImplicitCancellationOption, UnresolvedFuture};
 use protocol_wire::LEVELS;
-
-// A future, opened at its root.
-#[derive(Clone, Copy)]
-pub(crate) enum Opened<'a> {
-    Leaf,
-    Node(&'a [UnresolvedFuture]),
-}
-
-#[tactic(auto, using(journal_model::proofs::TreeLemmas::future_trees))]
-fn open(future: &UnresolvedFuture) -> Opened<'_>
-    ensures { IsOpened (tree_of future.now) result }
-{
-    match future {
-        UnresolvedFuture::Single(_) => Opened::Leaf,
-        UnresolvedFuture::Unknown(children) => Opened::Node(children.as_slice()),
-        UnresolvedFuture::FirstCompleted(children) => Opened::Node(children.as_slice()),
-        UnresolvedFuture::AllCompleted(children) => Opened::Node(children.as_slice()),
-        UnresolvedFuture::FirstSucceededOrAllFailed(children) => Opened::Node(children.as_slice()),
-        UnresolvedFuture::AllSucceededOrFirstFailed(children) => Opened::Node(children.as_slice()),
-    }
-}
+use vm_awaits::tree::{Opened, open};
 
 // Whether nodes stand in no more than so many levels. It looks no deeper.
 fn is_nested_within(future: &UnresolvedFuture, levels: u32) -> bool
     ensures { result ≡ is_nested_within levels (tree_of future.now) }
 {
     match open(future) {
-        Opened::Leaf => true,
-        Opened::Node(children) => {
+        Opened::Leaf(_) => true,
+        Opened::Node(_, children) => {
             if levels == 0 {
                 return false;
             }

@@ -13,7 +13,7 @@ mod pruning;
 mod records;
 mod resolving;
 mod state;
-mod tree;
+pub mod tree;
 
 pub use resolving::ResolveFutureResult;
 pub use state::{AsyncResultsState, CreateHandleError};

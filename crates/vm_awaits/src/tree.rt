@@ -10,7 +10,7 @@ use sequence::Sequence;
 
 /// How a node combines its children.
 #[derive(Clone, Copy, Debug)]
-pub(crate) enum Combinator {
+pub enum Combinator {
     Unknown,
     FirstCompleted,
     AllCompleted,
@@ -20,7 +20,7 @@ pub(crate) enum Combinator {
 
 /// A future, opened at its root.
 #[derive(Clone, Copy)]
-pub(crate) enum Opened<'a> {
+pub enum Opened<'a> {
     Leaf(NotificationHandle),
     Node(Combinator, &'a [UnresolvedFuture]),
 }
@@ -34,7 +34,7 @@ pub(crate) enum Taken {
 
 /// Opens a future at its root.
 #[tactic(auto, using(journal_model::proofs::TreeLemmas::future_trees))]
-pub(crate) fn open(future: &UnresolvedFuture) -> Opened<'_>
+pub fn open(future: &UnresolvedFuture) -> Opened<'_>
     ensures { tree_of future.now ≡ opened_tree result }
 {
     match future {

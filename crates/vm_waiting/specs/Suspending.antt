@@ -1,9 +1,8 @@
 -- What an attempt that waits behind the journal writes: its suspension, or what it waits for while it stays.
-use Rattle.std.specs.Prelude.{◌≡◌, ◌≤◌, ◌<◌, ◌^◌, ℕ, Bool, true, false, not, ◌&&◌, ◌||◌, if◌then◌else◌, List, [], ◌++◌, length, map, Result, Ok, Err}
+use Rattle.std.specs.Prelude.{◌≡◌, ◌≤◌, ◌<◌, ◌^◌, ℕ, Bool, true, false, not, ◌&&◌, ◌||◌, if◌then◌else◌, List, [], ◌++◌, length, Result, Ok, Err}
 use Rattle.journal_model.specs.Notification.{Bytes}
 use Rattle.journal_model.specs.declared.notification.NotificationId.{NotificationId}
-use Rattle.journal_model.specs.AwaitTree.{AwaitTree, Single, Combined, Combinator, AwaitTrees, no_trees, and_trees}
-use Rattle.journal_model.specs.Future.{tree_of, node}
+use Rattle.journal_model.specs.AwaitTree.{AwaitTree, Single, Combined, AwaitTrees, no_trees, and_trees}
 use Rattle.journal_model.specs.Waiting.{only_leaves}
 use Rattle.journal_model.specs.Spelling.{packed_numbers, repeated_bytes, completions_in, signals_in, names_in, suspension_payload, awaiting_on_payload, frame_bytes}
 use Rattle.attempt_model.specs.Results.{slot_of}
@@ -20,8 +19,6 @@ use Rattle.vm_types.specs.declared.options.AwaitingOnPolicy.TheVariants.{SendAlw
 use Rattle.vm_awaits.specs.Views.{slots_of}
 use Rattle.vm_context.specs.Output.{Written, with_frame}
 use Rattle.vm_calls.specs.declared.active.Active.{Active}
-use Rattle.vm_waiting.specs.declared.handles.Opened.{Opened}
-use Rattle.vm_waiting.specs.declared.handles.Opened.TheVariants.{Leaf, Node}
 
 -- ---- trees
 
@@ -34,11 +31,6 @@ abbrev mutual
   pub some_has_leaf : {Leaf : Type 0} → AwaitTrees Leaf → Bool
   some_has_leaf no_trees = false
   some_has_leaf (and_trees tree trees) = has_leaf tree || some_has_leaf trees
-
--- a future, opened at its root: one leaf, or a node over these children
-abbrev pub IsOpened : AwaitTree ℕ → Opened → Type 0
-IsOpened tree Leaf = has_leaf tree ≡ true
-IsOpened tree (Node children) = (combinator : Combinator) × (tree ≡ node combinator (map tree_of children.now))
 
 -- a tree over the ids that its handles stand for; a handle that stands for none is left out
 abbrev pub over_ids : Active → AwaitTree ℕ → AwaitTree NotificationId
