@@ -8,6 +8,7 @@ use Rattle.journal_model.specs.Event.{Event}
 use Rattle.journal_model.specs.Journal.{invocation_of, is_tick, entries_of, version_of}
 use Rattle.journal_model.specs.Attempt.{acknowledged}
 use Rattle.journal_model.specs.Cause.{causes_of}
+use Rattle.store_tables.specs.Looks.{HasWritten}
 use Rattle.store_frames.specs.Read.{IsReadIn}
 use Rattle.store_refusals.specs.declared.refusal.Refusal.{Refusal}
 use Rattle.store_refusals.specs.Refused.{is_circumstance}
@@ -17,7 +18,6 @@ use Rattle.store_live.specs.Attempts.{ByInvocation, Changes, after_put}
 use Rattle.store_live_laws.specs.Agrees.{Brings}
 use Rattle.store_live.specs.Before.{AreAsBefore}
 use Rattle.journal_store.specs.Stands.{Stands}
-use Rattle.journal_store.specs.Writing.{HasWritten}
 use Rattle.journal_store.proofs.Leading.{Does}
 use Rattle.journal_store.proofs.Standing.{all_stored, store_still, stands_arrived, stands_still}
 

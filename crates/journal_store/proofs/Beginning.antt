@@ -14,6 +14,7 @@ use Rattle.store_tables.specs.declared.row.EntryRow.{EntryRow}
 use Rattle.store_tables.specs.declared.row.Write.{Write}
 use Rattle.store_tables.specs.Records.{FitsInvocation}
 use Rattle.store_tables.specs.Questions.{AreInPlace, has_id}
+use Rattle.store_tables.specs.Looks.{HasWritten}
 use Rattle.store_model.specs.Kept.{rows_from, rows_of_journal, journal_rows, invocation_row}
 use Rattle.store_model.specs.Writes.{writes_of}
 use Rattle.store_lookups.specs.Lookups.{row_frame}
@@ -32,7 +33,6 @@ use Rattle.store_live_laws.proofs.Begun.{begun}
 use Rattle.store_calls.specs.declared.begun.BegunAttempt.{BegunAttempt}
 use Rattle.journal_store.specs.Stands.{Stands}
 use Rattle.journal_store.specs.Attempts.{IsToldAs, TakesIn, fresh}
-use Rattle.journal_store.specs.Writing.{HasWritten}
 use Rattle.journal_store.proofs.Found.{found_in}
 use Rattle.journal_store.proofs.Leading.{Does, IsBegunAttempt}
 use Rattle.journal_store.proofs.Standing.{all_stored, store_still, stands_after}

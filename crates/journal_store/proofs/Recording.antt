@@ -8,6 +8,7 @@ use Rattle.journal_model.specs.Event.{Event}
 use Rattle.journal_model.specs.Cause.{causes_of}
 use Rattle.store_tables.specs.declared.row.Write.{Write}
 use Rattle.store_tables.specs.Looks.{Looks}
+use Rattle.store_tables.specs.Steps.{Lands}
 use Rattle.store_model.specs.Writes.{writes_of}
 use Rattle.store_refusals.specs.declared.refusal.Refusal.{Refusal}
 use Rattle.store_refusals.specs.Refused.{IsRefused}
@@ -18,7 +19,7 @@ use Rattle.store_calls.specs.Standing.{Refuses}
 use Rattle.store_calls.specs.Calls.{Invokes}
 use Rattle.journal_store.specs.Stored.{stored}
 use Rattle.journal_store.specs.Stands.{Leads}
-use Rattle.journal_store.specs.Writing.{Commits, Writes}
+use Rattle.journal_store.specs.Writing.{Writes}
 use Rattle.journal_store.proofs.Standing.{all_stored, stands_asked, stands_invoked, store_still}
 use Rattle.journal_store.proofs.Leading.{adds, refuses}
 
@@ -38,9 +39,9 @@ invokes g a mid b live new writes (Ok done) looks ready wrote clean s is =
     let early : HasCleanDisk (state g mid) = omega (arith, wrote.crash.clean, clean) in
     let made = ready early s.events is.stands.kept in
     let store = store_kept s.events (state g a) (state g mid) looks.crash looks.kept is.stands.kept in
-    let after = all_stored s.events (Event.Invoke new) (state g mid) (state g b) (Commits writes (state g mid)) writes wrote.crash clean store tt made.0 made.1 (wrote.done clean) in
+    let after = all_stored s.events (Event.Invoke new) (state g mid) (state g b) (Lands writes (state g mid)) writes wrote.crash clean store tt made.0 made.1 (wrote.done clean) in
     adds g s (stored a live) (stored b live) is (Event.Invoke new) (stands_invoked s.events new (state g b) live.attempts made.0 is.stands.kept.accepted after is.stands.live) (λ id. refl)
 invokes g a mid b live new writes (Err why) looks ready wrote clean s is =
     let store = store_kept s.events (state g a) (state g mid) looks.crash looks.kept is.stands.kept in
     refuses g s (stored a live) (stored b live) is (Event.Invoke new) why (inr wrote.why)
-    (record { kept = store_still s.events (state g mid) (state g b) (Commits writes (state g mid)) wrote.crash wrote.undone store; live = is.stands.live }) (λ id. refl)
+    (record { kept = store_still s.events (state g mid) (state g b) (Lands writes (state g mid)) wrote.crash wrote.undone store; live = is.stands.live }) (λ id. refl)

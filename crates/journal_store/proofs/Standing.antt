@@ -17,6 +17,8 @@ use Rattle.store_frames.specs.Read.{AreRead, IsReadIn}
 use Rattle.store_tables.specs.Records.{Holds, Records, applied_all}
 use Rattle.store_tables.specs.declared.row.Write.{Write}
 use Rattle.store_tables.specs.Steps.{Turns}
+use Rattle.store_tables.specs.Looks.{HasWritten}
+use Rattle.store_tables.specs.Steps.{Lands}
 use Rattle.store_model.specs.Kept.{IsKept}
 use Rattle.store_model.specs.Writes.{writes_of}
 use Rattle.store_model.proofs.Keeping.{kept_after}
@@ -32,7 +34,6 @@ use Rattle.store_live.specs.Before.{IsAsBefore, AreAsBefore}
 use Rattle.store_live.proofs.Adding.{as_it_is}
 use Rattle.store_calls.specs.Standing.{Standing}
 use Rattle.journal_store.specs.Stands.{Stands, KeepsAll, KeepsOf}
-use Rattle.journal_store.specs.Writing.{Commits, HasWritten}
 
 pub true_or_false : (b : Bool) → (b ≡ true) ⊎ (b ≡ false)
 true_or_false true = inl refl
@@ -196,11 +197,11 @@ stands_invoked events new database attempts accepted before kept live =
 -- what one transaction of an event leaves where a crash comes, if what it writes was made ready before
 pub commits_after : (R : Standing → Standing → Type 0) (old mid new : State) (event : Event) (writes : List Write) → IsReadIn event
     → ((s : Standing) → causes_of s.events event ≡ [] → (t : Standing) × R s t) → ((s t : Standing) → R s t → t.events ≡ event ∷ s.events)
-    → Survives old mid (λ _. ⊥) → Asked old mid → Survives mid new (Commits writes mid)
+    → Survives old mid (λ _. ⊥) → Asked old mid → Survives mid new (Lands writes mid)
     → (HasCleanDisk mid → (events : List Event) → IsStoreOf events old → (causes_of events event ≡ []) × (writes ≡ writes_of events event))
     → Survives old new (KeepsOf (λ (s : Standing). IsStoreOf s.events old) R)
 commits_after R old mid new event writes read made adds before asked lives ready =
-    survives_then old mid new (λ _. ⊥) (Commits writes mid) (KeepsOf (λ (s : Standing). IsStoreOf s.events old) R) (λ _ db none. absurd none)
+    survives_then old mid new (λ _. ⊥) (Lands writes mid) (KeepsOf (λ (s : Standing). IsStoreOf s.events old) R) (λ _ db none. absurd none)
     (λ clean db lands s kept.
     let early : HasCleanDisk mid = omega (arith, lives.clean, clean) in
     let is = ready early s.events kept in

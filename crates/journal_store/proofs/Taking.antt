@@ -19,6 +19,7 @@ use Rattle.store_frames.specs.Meaning.{frame_of}
 use Rattle.store_tables.specs.declared.row.Write.{Write}
 use Rattle.store_tables.specs.Looks.{Lasts, Looks}
 use Rattle.store_tables.specs.Records.{Holds, applied_all}
+use Rattle.store_tables.specs.Steps.{Lands}
 use Rattle.store_refusals.specs.declared.refusal.Refusal.{Refusal}
 use Rattle.store_refusals.specs.declared.refusal.Refusal.TheVariants as refusal
 use Rattle.store_refusals.specs.Refused.{first_of, is_circumstance, IsRefused}
@@ -44,7 +45,7 @@ use Rattle.store_calls.proofs.Taking.{same_stays}
 use Rattle.journal_store.specs.Stored.{Stored, stored}
 use Rattle.journal_store.specs.Stands.{Stands, IsStanding, Leads, Keeps, KeepsAll, Endures, WaitsNow}
 use Rattle.journal_store.specs.Taking.{HasMessage, HasMessageOf, IsEndedBy, IsFirstOf, IsSeen, SettlesStep, passed}
-use Rattle.journal_store.specs.Writing.{Commits, Writes}
+use Rattle.journal_store.specs.Writing.{Writes}
 use Rattle.journal_store.proofs.Lasting.{outlasts_now}
 use Rattle.journal_store.proofs.Standing.{all_stored, landed, store_still, stands_after}
 use Rattle.journal_store.proofs.Quiet.{live_here, stands_stopped, this_one}
@@ -197,7 +198,7 @@ module _ {S : Type 0} (g : Ghosts S) (a mid b : Held S) (before after : Attempts
       let early : HasCleanDisk (state g mid) = omega (arith, wrote.crash.clean, clean) in
       let ready = prepared early s.events is.stands in
       let store = store_still s.events (state g a) (state g mid) (λ _. ⊥) looks.crash looks.kept is.stands.kept in
-      let all = all_stored s.events event (state g mid) (state g b) (Commits made.writes.items (state g mid)) made.writes.items wrote.crash clean store (attempt.version, seen.message_is, refl) ready.0 ready.1.writes
+      let all = all_stored s.events event (state g mid) (state g b) (Lands made.writes.items (state g mid)) made.writes.items wrote.crash clean store (attempt.version, seen.message_is, refl) ready.0 ready.1.writes
       (wrote.done clean) in
       let agrees : Agrees s.events id (Some attempt) = subst (Agrees s.events id) found (is.stands.live id) in
       let is_reply : IsReply s.events id frame reply = subst (IsReply s.events id frame) (sym replied) ready.1.reply in
@@ -225,7 +226,7 @@ module _ {S : Type 0} (g : Ghosts S) (a mid b : Held S) (before after : Attempts
   seen_taken made (Err why) looks wrote stateless prepared replied now same clean s is =
       let store = store_still s.events (state g a) (state g mid) (λ _. ⊥) looks.crash looks.kept is.stands.kept in
       let it = item_refused g (stored a before) (stored b after) s is id n attempt (message seen.message_is) left_of found seen.first why here (inr wrote.why)
-      (store_still s.events (state g mid) (state g b) (Commits made.writes.items (state g mid)) wrote.crash wrote.undone store) false (not_in_frame why wrote.why) same in
+      (store_still s.events (state g mid) (state g b) (Lands made.writes.items (state g mid)) wrote.crash wrote.undone store) false (not_in_frame why wrote.why) same in
       (it.0, it.1, (inr it.2, tt))
 
   pub steps_so : (result : Result (Option FrameReply) Refusal) → Leads g (StepsBy result) (stored a before) (stored b after) → Leads g (Steps id n result) (stored a before) (stored b after)
@@ -261,12 +262,12 @@ module _ {S : Type 0} (g : Ghosts S) (a mid b : Held S) (before after : Attempts
       )
 
   -- where a crash comes
-  pub seen_lands : (made : PreparedFrame) → Looks g a mid → Survives (state g mid) (state g b) (Commits made.writes.items (state g mid))
+  pub seen_lands : (made : PreparedFrame) → Looks g a mid → Survives (state g mid) (state g b) (Lands made.writes.items (state g mid))
       → (HasCleanDisk (state g mid) → (events : List Event) → Stands events (state g a) before.attempts
       → (causes_of events event ≡ []) × IsTaken events id n (frame_of attempt.version seen.message_is) made)
       → Endures g (TakesOne id n) (stored a before) (stored b after)
   seen_lands made looks lives prepared =
-      survives_then (state g a) (state g mid) (state g b) (λ _. ⊥) (Commits made.writes.items (state g mid)) (Keeps g (TakesOne id n) (stored a before)) (λ _ db none. absurd none)
+      survives_then (state g a) (state g mid) (state g b) (λ _. ⊥) (Lands made.writes.items (state g mid)) (Keeps g (TakesOne id n) (stored a before)) (λ _ db none. absurd none)
       (λ clean db lands s is.
       let early : HasCleanDisk (state g mid) = omega (arith, lives.clean, clean) in
       let ready = prepared early s.events is.stands in

@@ -17,8 +17,9 @@ use Rattle.journal_model.specs.Cause.{causes_of, IsAccepted}
 use Rattle.store_frames.specs.Read.{AreRead}
 use Rattle.store_tables.specs.Records.{Holds, Records, applied_all}
 use Rattle.store_tables.specs.declared.row.Write.{Write}
-use Rattle.store_tables.specs.Looks.{Lasts, Looks}
+use Rattle.store_tables.specs.Looks.{HasWritten, Lasts, Looks}
 use Rattle.store_tables.specs.Steps.{Turns}
+use Rattle.store_tables.specs.Steps.{Lands}
 use Rattle.store_model.specs.Kept.{IsKept}
 use Rattle.store_model.specs.Writes.{AreEnding, ends_sleep, rows_added}
 use Rattle.store_lookups.specs.Lookups.{row_frame}
@@ -43,7 +44,7 @@ use Rattle.store_calls.specs.Calls.{Ticks}
 use Rattle.journal_store.specs.Stored.{stored}
 use Rattle.journal_store.specs.Attempts.{PutsAll}
 use Rattle.journal_store.specs.Stands.{EnduresAlways, KeepsAll, KeepsOf, KeepsOutputs, Leads, Settles}
-use Rattle.journal_store.specs.Writing.{Commits, HasWritten, Writes}
+use Rattle.journal_store.specs.Writing.{Writes}
 use Rattle.journal_store.proofs.Enduring.{tick_landed}
 use Rattle.journal_store.proofs.Found.{found_in, passes}
 use Rattle.journal_store.proofs.Lasting.{outlasts_now}
@@ -191,7 +192,7 @@ module _ {S : Type 0} (g : Ghosts S) (a mid b : Held S) (before after : Attempts
       let it = ready early s.events is.stands.kept in
       let store = store_kept s.events (state g a) (state g mid) looks.crash looks.kept is.stands.kept in
       let added = made.ended.items in
-      let kept = tick_stored s.events now made.writes.items (tick_keeps s.events now made it.0 it.1) it.0 (state g mid) (state g b) (Commits made.writes.items (state g mid)) wrote.crash store early (wrote.done clean) in
+      let kept = tick_stored s.events now made.writes.items (tick_keeps s.events now made it.0 it.1) it.0 (state g mid) (state g b) (Lands made.writes.items (state g mid)) wrote.crash store early (wrote.done clean) in
       let live = ticked_live s.events now added put.between after.attempts is.stands.kept.accepted it.0 it.1.ending it.1.ended
       (λ id. agrees_still s.events id (attempt_of before.attempts id) (attempt_of put.between id) (put.before id) (is.stands.live id))
       (put.room (are_alone s.events now added it.1.ending)) put.put in
@@ -200,13 +201,13 @@ module _ {S : Type 0} (g : Ghosts S) (a mid b : Held S) (before after : Attempts
   ticks (Err why) wrote counted put same clean s is =
       let store = store_kept s.events (state g a) (state g mid) looks.crash looks.kept is.stands.kept in
       refuses g s (stored a before) (stored b after) is (Event.Tick now) why (inr wrote.why)
-      (stands_still s.events (state g mid) (state g b) (Commits made.writes.items (state g mid)) before.attempts after.attempts wrote.crash wrote.undone same
+      (stands_still s.events (state g mid) (state g b) (Lands made.writes.items (state g mid)) before.attempts after.attempts wrote.crash wrote.undone same
       (record { kept = store; live = is.stands.live })) (tick_waits (Err why) put same)
 
   -- where a crash comes
-  pub tick_lands : Survives (state g mid) (state g b) (Commits made.writes.items (state g mid)) → EnduresAlways g (Adds (Event.Tick now)) (stored a before) (stored b after)
+  pub tick_lands : Survives (state g mid) (state g b) (Lands made.writes.items (state g mid)) → EnduresAlways g (Adds (Event.Tick now)) (stored a before) (stored b after)
   tick_lands lives =
-      survives_then (state g a) (state g mid) (state g b) (λ _. ⊥) (Commits made.writes.items (state g mid)) (KeepsOf (λ s. IsStoreOf s.events (state g a)) (Adds (Event.Tick now)))
+      survives_then (state g a) (state g mid) (state g b) (λ _. ⊥) (Lands made.writes.items (state g mid)) (KeepsOf (λ s. IsStoreOf s.events (state g a)) (Adds (Event.Tick now)))
       (λ _ db none. absurd none)
       (λ clean db lands s kept.
       let early : HasCleanDisk (state g mid) = omega (arith, lives.clean, clean) in

@@ -26,9 +26,6 @@ use store_tables::{StoreTables, Write, commit_all};
 pub(crate) fn commit<S: Alter>(tables: &mut StoreTables<S>, writes: &[Write]) -> Result<(), Refusal>
     ensures { Writes S.Store writes.now tables.old tables.new result }
 {
-    if writes.is_empty() {
-        return Ok(());
-    }
     match commit_all(tables, writes) {
         Ok(()) => Ok(()),
         Err(cause) => Err(Refusal::StatementRefused(cause)),

@@ -3,6 +3,7 @@ pub mod Asking
 pub mod Back
 pub mod Chained
 pub mod Columns
+pub mod Committed
 pub mod Entries
 pub mod Found
 pub mod Invocations

@@ -38,12 +38,9 @@ pub record IsMade (whole : Schema) (s : State) : Type 0 where
   pub inside : IsTrue s.in_transaction
   pub bare : AllByRecursion (λ t. s.now.trees t.tree ≡ []) whole.tables
 
--- the connection was open, unless nothing was to be written, and the records are changed so
-abbrev pub WasOpen : List Write → State → Type 0
-WasOpen writes s = (writes ≡ []) ⊎ IsTrue s.is_open
-
+-- the connection was open, and the records are changed so
 abbrev pub Lands : List Write → State → Trees → Type 0
-Lands writes old trees = WasOpen writes old × Turns (applied_all writes) old.now.trees trees
+Lands writes old trees = IsTrue old.is_open × Turns (applied_all writes) old.now.trees trees
 
 -- a question that was answered, or that met a foreign row, was asked of an open connection
 abbrev pub WasAsked : {A : Type 0} → Result A ReadError → State → Type 0

@@ -1,9 +1,12 @@
-use Rattle.std.proofs.Common.{inr, arith, rules, take}
-use Rattle.std.proofs.lemmas.List.{take_more}
+use Rattle.std.proofs.Common.{◌≡◌, ◌⊎◌, ◌∙◌, ◌==◌, sym, ap, subst, not, true, true≢false, inr, arith, rules, List, [], length, take, IsTrue}
+use Rattle.std.proofs.lemmas.List.{take_all, take_more}
 use Rattle.sqlite.specs.State.{State}
-use Rattle.sqlite.specs.Held.{state}
+use Rattle.sqlite.specs.Held.{Held, state}
 use Rattle.sqlite.proofs.StateLemmas.{survives_then}
 use Rattle.sql_tables.proofs.Queries.{keeps_on}
+use Rattle.store_tables.specs.Records.{Write, applied_all}
+use Rattle.store_tables.specs.Steps.{Steps, Turns}
+use Rattle.store_tables.proofs.Committed.{committed, kept_from, opened_from, steps_from, survives_from, turns_from}
 use Rattle.store_tables.proofs.Moves.{steps_on, turns_on}
 use Rattle.store_tables.proofs.write.commit_all.Goals as goal
 
@@ -26,3 +29,23 @@ loop-write-preserved g c =
           let now = c.in_ok-apply.ensures.alters.done clean in
           rw (take_more c.args.writes.now c.loop-write.write-index c.write-item.result c.loop-write-test.true, ← c.write-item.is) (steps_on (take c.loop-write.write-index c.args.writes.now) c.write-item.result old mid new was now);
     }
+
+pub returns : goal.returns
+returns g c =
+    let old : Held g.row.S.Denot = c.tables.inside.connection in
+    let began : Held g.row.S.Denot = c.transaction-tx.result.conn.now in
+    let mid : Held g.row.S.Denot = c.loop-write.tx.conn.now in
+    let writes = c.args.writes.now in
+    let i = c.loop-write.invariant in
+    let begun = c.transaction-tx.ensures.begun in
+    let all : take c.loop-write.write-index writes ≡ writes = take_all c.loop-write.write-index writes c.loop-write-test.false in
+    let autocommit : c.is_autocommit-settled.result ≡ true = c.is_autocommit-settled.ensures.value ∙ ap not c.tables.invariant.1 in
+    rw (← c.tables.view_is) (committed g.S.Store g.met.S.Store.settled old mid c.commit.new.self.0 writes
+    (λ none. absurd (true≢false (sym (ap (λ (some : List Write). length some == 0) none) ∙ sym c.is_empty.ensures ∙ c.if-is_empty.false)))
+    (λ is_open. c.is_autocommit-settled.ensures.settled autocommit is_open)
+    (survives_from g.S.Store old mid began begun i.survives)
+    (λ clean. kept_from g.S.Store old mid began begun (i.kept clean))
+    (λ clean. opened_from g.S.Store old mid began writes begun (subst (λ (some : List Write). (some ≡ []) ⊎ IsTrue (state g.S.Store began).is_open) all (i.opened clean)))
+    (λ clean. turns_from g.S.Store old mid began (applied_all writes) begun (subst (λ (some : List Write). Turns (applied_all some) (state g.S.Store began).now.trees (state g.S.Store mid).now.trees) all (i.turns clean)))
+    (λ clean. steps_from g.S.Store old mid began (applied_all writes) begun (subst (λ (some : List Write). IsTrue (state g.S.Store began).is_open → Steps (applied_all some) (state g.S.Store began) (state g.S.Store mid)) all (i.steps clean)))
+    c.commit.ensures.survives c.commit.result c.commit.ensures.ok c.commit.ensures.err)

@@ -1,8 +1,8 @@
-use Rattle.std.proofs.Common.{◌≡◌, take, IsTrue}
+use Rattle.std.proofs.Common.{◌≡◌, ◌⊎◌, [], take, IsTrue}
 use Rattle.sqlite.specs.Held.{state}
 use Rattle.sqlite.specs.State.{HasCleanDisk, KeepsCommit, Survives}
 use Rattle.store_tables.specs.Records.{applied_all}
-use Rattle.store_tables.specs.Steps.{Steps, Turns, WasOpen}
+use Rattle.store_tables.specs.Steps.{Steps, Turns}
 use Rattle.store_tables.proofs.write.commit_all.Given as goal
 
 abbrev pub invariant-loop-write : goal.invariant-loop-write
@@ -13,7 +13,7 @@ invariant-loop-write g l =
       same_reference : l.tx.conn.ghost_name ≡ l.initial.tx.conn.ghost_name;
       survives : Survives old now (λ _. ⊥);
       kept : HasCleanDisk now → KeepsCommit old now;
-      opened : HasCleanDisk now → WasOpen (take l.write-index l.writes) old;
+      opened : HasCleanDisk now → (take l.write-index l.writes ≡ []) ⊎ IsTrue old.is_open;
       turns : HasCleanDisk now → Turns (applied_all (take l.write-index l.writes)) old.now.trees now.now.trees;
       steps : HasCleanDisk now → IsTrue old.is_open → Steps (applied_all (take l.write-index l.writes)) old now;
     }

@@ -1,0 +1,96 @@
+-- What a commit of some writes has done.
+use Rattle.std.proofs.Common.{◌≡◌, ◌⊎◌, ◌∙◌, sym, subst, arith, inl, inr, true, false, List, [], Result, Ok, Err, IfErr, OnErr, OnOk, IsTrue}
+use Rattle.sqlite_trees.specs.Tree.{Trees}
+use Rattle.sqlite_trees.specs.declared.store.Store.{Ghosts}
+use Rattle.sqlite.specs.declared.error.Error.{Error}
+use Rattle.sqlite.specs.Effect.{Database}
+use Rattle.sqlite.specs.Held.{Held, state}
+use Rattle.sqlite.specs.State.{State, HasCleanDisk, KeepsCommit, KeepsCounts, Shows, Survives}
+use Rattle.sqlite.specs.Steps.{FailsToCommit}
+use Rattle.sqlite.proofs.StateLemmas.{survives_then}
+use Rattle.sql_tables.specs.Asking.{IsKept}
+use Rattle.sql_tables.proofs.Queries.{on_ok}
+use Rattle.store_tables.specs.Records.{Records, Write, applied_all}
+use Rattle.store_tables.specs.Steps.{Lands, Steps, Turns}
+use Rattle.store_tables.specs.Looks.{HasSettled, HasWritten, Lasts, Makes}
+use Rattle.store_tables.proofs.Chained.{IsSettling, lasts}
+
+any_cause : {A E : Type 0} (r : Result A E) → IfErr r (λ cause. Unit {0})
+any_cause (Ok x) = tt
+any_cause (Err e) = tt
+
+-- inside the transaction that is begun the tables are those of before
+abbrev begun : {S : Type 0} → Held S → Held S
+begun held = record held { in_transaction = true }
+
+module _ {S : Type 0} (g : Ghosts S) (old mid : Held S) where
+  pub survives_from : (began : Held S) → began ≡ begun old → Survives (state g began) (state g mid) (λ _. ⊥) → Survives (state g old) (state g mid) (λ _. ⊥)
+  survives_from began is s =
+      let it = subst (λ (h : Held S). Survives (state g h) (state g mid) (λ _. ⊥)) is s in
+      record { clean = it.clean; shield = it.shield; counts = it.counts; limit = it.limit; closes = it.closes; crash = it.crash }
+
+  pub kept_from : (began : Held S) → began ≡ begun old → KeepsCommit (state g began) (state g mid) → KeepsCommit (state g old) (state g mid)
+  kept_from began is k =
+      let it = subst (λ (h : Held S). KeepsCommit (state g h) (state g mid)) is k in
+      record { was_open = it.was_open; committed = it.committed }
+
+  pub opened_from : (began : Held S) (writes : List Write) → began ≡ begun old → (writes ≡ []) ⊎ IsTrue (state g began).is_open → (writes ≡ []) ⊎ IsTrue (state g old).is_open
+  opened_from began writes is o = subst (λ (h : Held S). (writes ≡ []) ⊎ IsTrue (state g h).is_open) is o
+
+  pub turns_from : (began : Held S) (change : Records → Records) → began ≡ begun old → Turns change (state g began).now.trees (state g mid).now.trees → Turns change (state g old).now.trees (state g mid).now.trees
+  turns_from began change is t = subst (λ (h : Held S). Turns change (state g h).now.trees (state g mid).now.trees) is t
+
+  pub steps_from : (began : Held S) (change : Records → Records) → began ≡ begun old
+      → (IsTrue (state g began).is_open → Steps change (state g began) (state g mid)) → IsTrue (state g old).is_open → Steps change (state g old) (state g mid)
+  steps_from began change is s was_open =
+      let it = subst (λ (h : Held S). IsTrue (state g h).is_open → Steps change (state g h) (state g mid)) is s was_open in
+      record { was_open = it.was_open; schema = it.schema; inside = it.inside; records = it.records }
+
+module _ {S : Type 0} (g : Ghosts S) (law : IsSettling g) (old mid new : Held S) (writes : List Write) (some : writes ≡ [] → ⊥)
+    (idle : IsTrue (state g old).is_open → (state g old).now ≡ (state g old).committed)
+    (survives : Survives (state g old) (state g mid) (λ _. ⊥))
+    (kept : HasCleanDisk (state g mid) → KeepsCommit (state g old) (state g mid))
+    (opened : HasCleanDisk (state g mid) → (writes ≡ []) ⊎ IsTrue (state g old).is_open)
+    (turns : HasCleanDisk (state g mid) → Turns (applied_all writes) (state g old).now.trees (state g mid).now.trees)
+    (steps : HasCleanDisk (state g mid) → IsTrue (state g old).is_open → Steps (applied_all writes) (state g old) (state g mid))
+    (lives : Survives (state g mid) (state g new) (λ db. db ≡ (state g mid).now.trees)) where
+  earlier : HasCleanDisk (state g new) → HasCleanDisk (state g mid)
+  earlier clean = omega (arith, lives.clean, clean)
+
+  written : HasCleanDisk (state g new) → Shows (state g mid) (state g new) (state g mid).now (state g mid).now false → Lands writes (state g old) (state g new).now.trees
+  written clean shows = (
+    (kept (earlier clean)).was_open shows.was_open,
+    subst (λ (db : Database). Turns (applied_all writes) (state g old).now.trees db.trees) (sym shows.now_is) (turns (earlier clean)),
+  )
+
+  lands : HasCleanDisk (state g new) → (db : Trees) → db ≡ (state g mid).now.trees → Lands writes (state g old) db
+  lands clean db is = elim (opened (earlier clean)) [
+    | inl none ↦ absurd (some none)
+    | inr was_open ↦ (was_open, subst (λ (trees : Trees). Turns (applied_all writes) (state g old).now.trees trees) (sym is) (turns (earlier clean)))
+  ]
+
+  undone_by : (result : Result (Unit {0}) Error) → (HasCleanDisk (state g new) → IfErr result (FailsToCommit (state g mid) (state g new))) → OnErr result (IsKept (state g old) (state g new))
+  undone_by (Ok x) told = tt
+  undone_by (Err e) told = λ clean is_open.
+      let k = kept (earlier clean) in
+      elim (told clean) [
+        | inl fails ↦
+            let was = fails.3.was_open is_open in
+            (k.was_open was, (fails.3.undone is_open).0 ∙ k.committed was ∙ sym (idle (k.was_open was)))
+        | inr late ↦
+            let inside = (steps (earlier clean) (k.was_open late.2.0.was_open)).inside in
+            let clash : IsTrue false = subst IsTrue late.1 inside in
+            absurd cc
+      ]
+
+  pub committed : (result : Result (Unit {0}) Error)
+      → (HasCleanDisk (state g new) → OnOk result (IsTrue (state g mid).in_transaction × Shows (state g mid) (state g new) (state g mid).now (state g mid).now false × KeepsCounts (state g mid) (state g new) × ((state g new).marks ≡ [])))
+      → (HasCleanDisk (state g new) → IfErr result (FailsToCommit (state g mid) (state g new)))
+      → Makes g writes (λ cause. Unit {0}) old new result
+  committed result told failed = record {
+    done = λ clean. on_ok result (told clean) (λ it. inr (written clean it.1));
+    lasts = λ clean. on_ok result (lasts g law (state g mid) new result told clean) (λ it. inr it);
+    undone = undone_by result failed;
+    why = any_cause result;
+    crash = survives_then (state g old) (state g mid) (state g new) (λ _. ⊥) (λ db. db ≡ (state g mid).now.trees) (Lands writes (state g old)) (λ _ db none. absurd none) lands survives lives;
+  }
