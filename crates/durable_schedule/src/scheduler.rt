@@ -18,7 +18,6 @@ use bytes::ByteStr;
 use fitting_events::{invocation_fits, result_fits};
 use journal_model::{Handler, NewInvocation, NonEmptyValue, NotificationResult};
 use journal_store::Store;
-use protocol_types::Version;
 use schedule_model::{Event, HeldAttempt, HeldAttempts, Refusal, Reply};
 use sqlite::Alter;
 use std::alloc::Global;
@@ -103,10 +102,6 @@ impl<H: Handler + Drop, S: Alter + Drop> Scheduler<H, S> {
             version,
             start,
         } = begun;
-        let Some(version) = Version::with_number(version) else {
-            // No store writes such a row.
-            return Reply::Refused(Refusal::Store(store_refusals::Refusal::ForeignRow));
-        };
         let Some(attempt) = make(self.alloc, version, self.options, handler, start) else {
             return Reply::Refused(Refusal::Store(store_refusals::Refusal::OutOfMemory));
         };

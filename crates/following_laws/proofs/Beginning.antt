@@ -1,6 +1,5 @@
 -- An invocation that is made, and an attempt that is begun, are in the run from then on.
-use Rattle.std.proofs.Common.{◌≡◌, ℕ, suc, ◌+◌, ◌<◌, ◌^◌, ◌==◌, Bool, true, false, true≢false, if◌then◌else◌, arith, List, [], ◌∷◌, ◌++◌, map, append-nil, Option, Some, None, is_some, bytes_eq, refl, sym, ap, subst, ◌∙◌, ◌⊎◌, inl, inr, find}
-use Rattle.std.proofs.lemmas.Bool.Decides.{Decides-eqb}
+use Rattle.std.proofs.Common.{◌≡◌, ℕ, suc, ◌+◌, ◌<◌, ◌^◌, Bool, true, false, true≢false, arith, List, [], ◌∷◌, ◌++◌, map, append-nil, Option, Some, None, is_some, bytes_eq, refl, sym, ap, subst, ◌∙◌, ◌⊎◌, inl, inr}
 use Rattle.std.proofs.lemmas.Slice.Eq.{bytes_eq-Decides}
 use Rattle.journal_model.specs.declared.invocation.NewInvocation.{NewInvocation}
 use Rattle.journal_model.specs.Notification.{Bytes, Text}
@@ -11,7 +10,7 @@ use Rattle.journal_model.specs.Attempt.{attempts_begun, live_attempt, is_input_c
 use Rattle.journal_model.specs.Cause.{IsAccepted}
 use Rattle.journal_model.specs.Run.{Handler, Invocation}
 use Rattle.journal_model.specs.Headline.{run_of}
-use Rattle.protocol_types.specs.Version.{version_number, version_at, versions}
+use Rattle.protocol_types.specs.Version.{version_number}
 use Rattle.protocol_types.specs.declared.version.Version.{Version}
 use Rattle.protocol_types.specs.declared.version.Version.TheVariants as versions_are
 use Rattle.input_laws.proofs.Events.{itself, not_begun, start_same}
@@ -46,19 +45,6 @@ use Rattle.following_laws.proofs.Following.{same_held}
 use Rattle.following_laws.proofs.Others.{into, other_on}
 use Rattle.following_laws.proofs.Serving.{ServingLaws}
 use Rattle.following_laws.proofs.Taking.{version_begun}
-
--- a version that was found by its number has it
-found_number : (number : ℕ) (all : List Version) (version : Version) → find (λ (one : Version). number == version_number one) all ≡ Some version → number ≡ version_number version
-found_number number [] version e = some_none (sym e)
-found_number number (one ∷ all) version e = by_test (number == version_number one) refl e (found_number number all version)
-  where
-    by_test : (b : Bool) → (number == version_number one) ≡ b → (if b then Some one else find (λ (other : Version). number == version_number other) all) ≡ Some version
-        → (find (λ (other : Version). number == version_number other) all ≡ Some version → number ≡ version_number version) → number ≡ version_number version
-    by_test true is e later = (Decides-eqb number (version_number one)).0 is ∙ ap version_number (some_is one version e)
-    by_test false is e later = later e
-
-pub number_of : (number : ℕ) (version : Version) → version_at number ≡ Some version → number ≡ version_number version
-number_of number version e = found_number number versions version e
 
 begun_some : (o : Option NewInvocation) → is_some o ≡ true → (new : NewInvocation) × (o ≡ Some new)
 begun_some (Some new) is = (new, refl)
@@ -182,10 +168,10 @@ module _ {H : Type 0} (function : H → Handler) (next : Handler) (options : VMO
           some_none (sym found ∙ f.numbered m (omega (arith, one_more, same))))
 
       module _ (handler : H) (answer : BegunAttempt) (held more : List (HeldAttempt H)) (in_line : ReplaysInLine options) (brings : asking_by_text (function handler) ≡ next)
-          (number_is : answer.number ≡ 1 + attempts_begun s.events id) (speaks : answer.version ≡ version_of s.events id) (told : answer.start ≡ start.frame)
+          (number_is : answer.number ≡ 1 + attempts_begun s.events id) (speaks : version_number answer.version ≡ version_of s.events id) (told : answer.start ≡ start.frame)
           (h : HoldsBegun options id handler answer held more) (f : FollowsBegun function next options id s.events (s.outputs id) held new) where
-        speaks_version : new.version ≡ version_number h.version
-        speaks_version = sym (version_begun s.events id new is) ∙ sym speaks ∙ number_of answer.version h.version h.version_is
+        speaks_version : new.version ≡ version_number answer.version
+        speaks_version = sym (version_begun s.events id new is) ∙ sym speaks
 
         lives_first : IsLiveMachine next (run_options options) options.fallback_random_seed id (beginning ∷ s.events) (attempt_begun start)
         lives_first = laws.live_begins next (run_options options) options.fallback_random_seed id now s.events new accepted is f.follows.holds
@@ -193,38 +179,38 @@ module _ {H : Type 0} (function : H → Handler) (next : Handler) (options : VMO
         starts : CanStart start
         starts = can_start next (run_options options) options.fallback_random_seed id now s.events new accepted is f.typed moment lives_first.begun
 
-        is_run : IsRunOf start h.version options
+        is_run : IsRunOf start answer.version options
         is_run = record { state = starting_state s.events id; given_is = refl; version_is = speaks_version; replays = in_line.replays }
 
         fed_well : IsFedWell start
         fed_well = fed_begun (run_options options) options.fallback_random_seed id now s.events new accepted is f.typed
 
-        has_begun : (output_of h.attempt ≡ []) × (Serves function next h.version options (attempt_started start) false h.attempt ⊎ LacksMemory h.attempt)
+        has_begun : (output_of h.attempt ≡ []) × (Serves function next answer.version options (attempt_started start) false h.attempt ⊎ LacksMemory h.attempt)
         has_begun =
-            laws.begins h.version start starts.shows handler h.made h.attempt brings is_run starts.can
+            laws.begins answer.version start starts.shows handler h.made h.attempt brings is_run starts.can
             (record { input = fed_well.input; uncancelled = fed_well.uncancelled })
             h.is_begun (subst (λ (bytes : Bytes). Feeds bytes h.made h.attempt) told h.fed)
 
-        begun_stands : Serves function next h.version options (attempt_started start) false h.attempt ⊎ LacksMemory h.attempt
-            → IsOver h.attempt ⊎ IsServed function next options id (beginning ∷ s.events) new h.version [] h.attempt
+        begun_stands : Serves function next answer.version options (attempt_started start) false h.attempt ⊎ LacksMemory h.attempt
+            → IsOver h.attempt ⊎ IsServed function next options id (beginning ∷ s.events) new answer.version [] h.attempt
         begun_stands (inl serves) = inr (record {
           live = attempt_started start;
           new_is = refl;
           coming_are = refl;
           lives = (laws.stays next (run_options options) options.fallback_random_seed id (beginning ∷ s.events) (attempt_begun start) accepted lives_first).reads_start (sym (append-nil start.frame));
-          serves = subst (λ (b : Bool). Serves function next h.version options (attempt_started start) b h.attempt) (sym opened_now) serves;
+          serves = subst (λ (b : Bool). Serves function next answer.version options (attempt_started start) b h.attempt) (sym opened_now) serves;
         })
         begun_stands (inr lacks) = inl (machine_failed out_of_memory lacks)
 
         abbrev new_held : HeldAttempt H
         new_held = record { invocation = id; number = answer.number; attempt = h.attempt }
 
-        begun_flies : Flies function next options id (beginning ∷ s.events) new h.version [] [] h.attempt
+        begun_flies : Flies function next options id (beginning ∷ s.events) new answer.version [] [] h.attempt
         begun_flies = record { version_is = speaks_version; bytes = has_begun.0; stands = begun_stands has_begun.1 }
 
         begun_with : FollowsBegun function next options id (beginning ∷ s.events) (Some []) (held ++ new_held ∷ []) new
         begun_with =
-            begun_anew h.version (Some []) held (held ++ new_held ∷ []) f
+            begun_anew answer.version (Some []) held (held ++ new_held ∷ []) f
             (λ m above. first_push_other (is_held id m) held new_held (not_held_number id m new_held (λ e. absurd (omega (arith, one_more, number_is)))) ∙ f.numbered m (omega (arith, one_more)))
             (λ m waits one live is_out found.
             let same : attempts_begun (beginning ∷ s.events) id ≡ m = some_is (attempts_begun (beginning ∷ s.events) id) m (sym live_now ∙ live) in
@@ -233,8 +219,8 @@ module _ {H : Type 0} (function : H → Handler) (next : Handler) (options : VMO
             let here : held_of (held ++ new_held ∷ []) id m ≡ Some new_held = first_push_none (is_held id m) held new_held none ∙ rw (is_held_by id m new_held refl own) refl in
             let it : new_held ≡ one = some_is new_held one (sym here ∙ found) in
             let empty : [] ≡ waits = some_is [] waits is_out in
-            subst (λ (k : HeldAttempt H). Flies function next options id (beginning ∷ s.events) new h.version [] waits k.attempt) it
-            (subst (λ (b : Bytes). Flies function next options id (beginning ∷ s.events) new h.version [] b h.attempt) empty begun_flies))
+            subst (λ (k : HeldAttempt H). Flies function next options id (beginning ∷ s.events) new answer.version [] waits k.attempt) it
+            (subst (λ (b : Bytes). Flies function next options id (beginning ∷ s.events) new answer.version [] b h.attempt) empty begun_flies))
 
         pub begun_held : FollowsBegun function next options id (beginning ∷ s.events) (Some []) more new
         begun_held = subst (λ (some : List (HeldAttempt H)). FollowsBegun function next options id (beginning ∷ s.events) (Some []) some new) (sym h.held) begun_with

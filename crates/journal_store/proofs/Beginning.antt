@@ -10,6 +10,7 @@ use Rattle.journal_model.specs.declared.invocation.NewInvocation.{NewInvocation}
 use Rattle.journal_model.specs.Event.{Event}
 use Rattle.journal_model.specs.Journal.{Entry, Recorded, Arrived, invocation_begun, is_open, entries_of}
 use Rattle.journal_model.specs.Cause.{Tests, UnknownInvocation, InvocationClosed, own_tests, those_that_hold, causes_of}
+use Rattle.protocol_types.specs.Version.{version_number}
 use Rattle.store_tables.specs.declared.row.EntryRow.{EntryRow}
 use Rattle.store_tables.specs.declared.row.Write.{Write}
 use Rattle.store_tables.specs.Records.{FitsInvocation}
@@ -92,7 +93,7 @@ abbrev pub other_tests : List Event → Text → ℕ → Tests
 other_tests events id now = (is_some (invocation_begun events id) && not (is_open events id), InvocationClosed) ∷ own_tests events (Event.Begin id now)
 
 -- an accepted begin is one of an invocation that is there
-begun_some : (o : Option NewInvocation) (more : Tests) → those_that_hold ((not (is_some o), UnknownInvocation) ∷ more) ≡ [] → (new : NewInvocation) × (o ≡ Some new)
+pub begun_some : (o : Option NewInvocation) (more : Tests) → those_that_hold ((not (is_some o), UnknownInvocation) ∷ more) ≡ [] → (new : NewInvocation) × (o ≡ Some new)
 begun_some None more e = cc
 begun_some (Some new) more e = (new, refl)
 
@@ -130,7 +131,7 @@ begin_recorded events id now old mid new P Q attempts left made more (Ok told) t
     let fits = fits_here events id now mid made more (store.keeps early is_open) (sym tests ∙ ready.0) ready.1 in
     let agrees = begun events id now _ stands.kept.accepted (begun_as events id now made ready.1) in (
       ready.0,
-      record { number = is.0 ∙ ready.1.number; version = is.1 ∙ ready.1.version; start = is.2 ∙ ready.1.start },
+      record { number = is.0 ∙ ready.1.number; version = ap version_number is.1 ∙ ready.1.version; start = is.2 ∙ ready.1.start },
       stands_after events (Event.Begin id now) id (Some _) new attempts left refl refl after agrees (put fits) stands.live,
     )
 begin_recorded events id now old mid new P Q attempts left made more (Err why) tests before asked lives clean ready is wrote put circumstance undone same stands =

@@ -8,17 +8,20 @@ use Rattle.journal_model.specs.Notification.{Bytes, Text}
 use Rattle.journal_model.specs.declared.notification.NotificationResult.{NotificationResult}
 use Rattle.journal_model.specs.Spelling.{frame_bytes}
 use Rattle.journal_model.specs.Event.{Event}
-use Rattle.journal_model.specs.Journal.{is_of, version_of}
+use Rattle.journal_model.specs.Journal.{invocation_begun, is_of}
 use Rattle.journal_model.specs.Attempt.{attempts_begun, live_attempt}
 use Rattle.journal_model.specs.Cause.{causes_of}
 use Rattle.journal_model.specs.Start.{start_payload}
 use Rattle.protocol_types.specs.declared.message_type.MessageType.{MessageType}
+use Rattle.store_model.specs.Kept.{version_kept}
+use Rattle.store_model.proofs.Versions.{kept_number}
 use Rattle.store_invocations.specs.Rows.{IsStoreOf}
 use Rattle.store_calls.specs.Standing.{Standing, Adds}
 use Rattle.store_calls.proofs.Landing.{begun}
 use Rattle.journal_store.specs.Attempts.{BeginsSome}
 use Rattle.journal_store.specs.Stored.{Stored}
 use Rattle.journal_store.specs.Stands.{Leads, Keeps, KeepsOf, Endures, EnduresAlways, IsQuiet}
+use Rattle.journal_store.proofs.Beginning.{begun_some, other_tests}
 
 module _ {S : Type 0} (g : Ghosts S) where
   -- one behind another, from what the store stands for between them
@@ -86,10 +89,11 @@ tick_landed s now causes = (
 
 pub begin_landed : (s : Standing) (id : Text) (now : ℕ) → causes_of s.events (Event.Begin id now) ≡ [] → (t : Standing) × BeginsSome id now s t
 begin_landed s id now causes =
-    let to = begun s id now causes in (
+    let to = begun s id now causes in
+    let new = begun_some (invocation_begun s.events id) (other_tests s.events id now) causes in (
       to.0,
       (
-        record { number = 1 + attempts_begun s.events id; version = version_of s.events id; start = frame_bytes MessageType.Start (start_payload s.events id now) },
-        record { number = refl; version = refl; start = refl; leaves = to.1 },
+        record { number = 1 + attempts_begun s.events id; version = version_kept new.0.version; start = frame_bytes MessageType.Start (start_payload s.events id now) },
+        record { number = refl; version = kept_number s.events id new.0 s.accepted new.1; start = refl; leaves = to.1 },
       ),
     )

@@ -12,6 +12,7 @@ use Rattle.journal_model.specs.Attempt.{attempts_begun, live_attempt}
 use Rattle.journal_model.specs.Start.{start_payload}
 use Rattle.journal_model.specs.Cause.{causes_of}
 use Rattle.protocol_types.specs.declared.message_type.MessageType.{MessageType}
+use Rattle.protocol_types.specs.Version.{version_number}
 use Rattle.store_refusals.specs.declared.refusal.Refusal.{Refusal}
 use Rattle.store_refusals.specs.Refused.{IsRefused}
 use Rattle.store_live.specs.declared.attempt.LiveAttempt.{LiveAttempt}
@@ -32,7 +33,7 @@ Does events event IsAnswer (Err why) database attempts = IsRefused (causes_of ev
 -- what a begin answers
 pub record IsBegunAttempt (events : List Event) (id : Text) (now : ℕ) (begun : BegunAttempt) : Type 0 where
   pub number : begun.number ≡ 1 + attempts_begun events id
-  pub version : begun.version ≡ version_of events id
+  pub version : version_number begun.version ≡ version_of events id
   pub start : begun.start ≡ frame_bytes MessageType.Start (start_payload events id now)
 
 live_alike : (events : List Event) (id : Text) (o : Option LiveAttempt) → Agrees events id o

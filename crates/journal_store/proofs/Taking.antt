@@ -12,6 +12,7 @@ use Rattle.journal_model.specs.Journal.{ends_attempt}
 use Rattle.journal_model.specs.Attempt.{is_live}
 use Rattle.journal_model.specs.Cause.{FrameNotAccepted, causes_of, those_that_hold, adding_tests}
 use Rattle.protocol_stream.specs.declared.frame.TheConstants.{HEADER_LEN}
+use Rattle.protocol_types.specs.Version.{version_number}
 use Rattle.protocol_stream.specs.Item.{Item, unknown, message, item_at}
 use Rattle.store_frames.specs.declared.frame.AttemptFrame.{AttemptFrame}
 use Rattle.store_frames.specs.Answer.{IsFrame}
@@ -123,7 +124,7 @@ module _ {S : Type 0} (g : Ghosts S) (old new : Stored S) (s : Standing) (is : I
   kept : IsKeptLive s.events id attempt
   kept = subst (Agrees s.events id) found (is.stands.live id)
 
-  pub next_item : IsNext id s (frame_in attempt.version item) rest
+  pub next_item : IsNext id s (frame_in (version_number attempt.version) item) rest
   next_item = record {
     output = attempt.output;
     waits = is.outputs id ∙ ap (option_map output_in) found;
@@ -132,11 +133,11 @@ module _ {S : Type 0} (g : Ghosts S) (old new : Stored S) (s : Standing) (is : I
     frame_is = ap (λ (version : ℕ). frame_in version item) kept.version;
   }
 
-  refuses_first : (why : Refusal) → has_number n (attempt_of old.live.attempts id) ≡ true → IsRefused (causes_of s.events (Event.Take id n (frame_in attempt.version item))) why
+  refuses_first : (why : Refusal) → has_number n (attempt_of old.live.attempts id) ≡ true → IsRefused (causes_of s.events (Event.Take id n (frame_in (version_number attempt.version) item))) why
       → (b : Bool) → lies_in_frame why ≡ b → (t : Standing) → LeavesRefused b id n s t → RefusesFrame id n why s t
   refuses_first why here cause b lies t left = record {
     live = live_here s.events (state g old.connection) old.live.attempts id n is.stands ∙ here;
-    frame = frame_in attempt.version item;
+    frame = frame_in (version_number attempt.version) item;
     rest = rest;
     next = next_item;
     cause = cause;
@@ -144,7 +145,7 @@ module _ {S : Type 0} (g : Ghosts S) (old new : Stored S) (s : Standing) (is : I
   }
 
   -- it is refused, and its attempt is over where the cause lies in it
-  pub item_refused : (why : Refusal) → has_number n (attempt_of old.live.attempts id) ≡ true → IsRefused (causes_of s.events (Event.Take id n (frame_in attempt.version item))) why
+  pub item_refused : (why : Refusal) → has_number n (attempt_of old.live.attempts id) ≡ true → IsRefused (causes_of s.events (Event.Take id n (frame_in (version_number attempt.version) item))) why
       → IsStoreOf s.events (state g new.connection) → (b : Bool) → lies_in_frame why ≡ b → IsEndedBy b id old.live.attempts new.live.attempts
       → (t : Standing) × IsStanding g t new × RefusesFrame id n why s t
   item_refused why here cause store true lies ends =
@@ -159,7 +160,7 @@ module _ {S : Type 0} (g : Ghosts S) (old new : Stored S) (s : Standing) (is : I
 module _ {S : Type 0} (g : Ghosts S) (a mid b : Held S) (before after : Attempts) (id : Text) (n : ℕ) (attempt : LiveAttempt) (it : SeenFrame) (seen : IsSeen attempt it)
     (found : attempt_of before.attempts id ≡ Some attempt) (here : has_number n (attempt_of before.attempts id) ≡ true) where
   abbrev event : Event
-  event = Event.Take id n (frame_of attempt.version seen.message_is)
+  event = Event.Take id n (frame_of (version_number attempt.version) seen.message_is)
 
   abbrev left_of : Bytes
   left_of = drop it.len attempt.output
@@ -184,9 +185,9 @@ module _ {S : Type 0} (g : Ghosts S) (a mid b : Held S) (before after : Attempts
 
   -- what was made ready was written, and the frame is passed; or nothing was done
   pub seen_taken : (made : PreparedFrame) (result : Result (Option FrameReply) Refusal) → Looks g a mid → Writes g made.writes.items mid b result
-      → LeavesState (frame_of attempt.version seen.message_is)
+      → LeavesState (frame_of (version_number attempt.version) seen.message_is)
       → (HasCleanDisk (state g mid) → (events : List Event) → Stands events (state g a) before.attempts
-      → (causes_of events event ≡ []) × IsTaken events id n (frame_of attempt.version seen.message_is) made)
+      → (causes_of events event ≡ []) × IsTaken events id n (frame_of (version_number attempt.version) seen.message_is) made)
       → IfOk result (λ reply. reply ≡ Some made.reply)
       → OnOk result (IsNow id (passed (does_end made.reply) it.len (attempt_of before.attempts id)) before.attempts after.attempts)
       → OnErr result (after.attempts ≡ before.attempts)
@@ -194,11 +195,11 @@ module _ {S : Type 0} (g : Ghosts S) (a mid b : Held S) (before after : Attempts
   seen_taken made (Ok None) looks wrote stateless prepared replied now same clean s is = cc
   seen_taken made (Ok (Some reply)) looks wrote stateless prepared told now same clean s is =
       let replied : reply ≡ made.reply = cc in
-      let frame : Frame = frame_of attempt.version seen.message_is in
+      let frame : Frame = frame_of (version_number attempt.version) seen.message_is in
       let early : HasCleanDisk (state g mid) = omega (arith, wrote.crash.clean, clean) in
       let ready = prepared early s.events is.stands in
       let store = store_still s.events (state g a) (state g mid) (λ _. ⊥) looks.crash looks.kept is.stands.kept in
-      let all = all_stored s.events event (state g mid) (state g b) (Lands made.writes.items (state g mid)) made.writes.items wrote.crash clean store (attempt.version, seen.message_is, refl) ready.0 ready.1.writes
+      let all = all_stored s.events event (state g mid) (state g b) (Lands made.writes.items (state g mid)) made.writes.items wrote.crash clean store (version_number attempt.version, seen.message_is, refl) ready.0 ready.1.writes
       (wrote.done clean) in
       let agrees : Agrees s.events id (Some attempt) = subst (Agrees s.events id) found (is.stands.live id) in
       let is_reply : IsReply s.events id frame reply = subst (IsReply s.events id frame) (sym replied) ready.1.reply in
@@ -236,7 +237,7 @@ module _ {S : Type 0} (g : Ghosts S) (a mid b : Held S) (before after : Attempts
   pub seen_settled : (made : PreparedFrame) (result : Result (Option FrameReply) Refusal) → Looks g a mid → Writes g made.writes.items mid b result
       → (IsTrue (state g a).is_open → Lasts (state g a)) → (HasCleanDisk (state g mid) → IsTrue (state g a).is_open)
       → (HasCleanDisk (state g mid) → (events : List Event) → Stands events (state g a) before.attempts
-      → (causes_of events event ≡ []) × IsTaken events id n (frame_of attempt.version seen.message_is) made)
+      → (causes_of events event ≡ []) × IsTaken events id n (frame_of (version_number attempt.version) seen.message_is) made)
       → IfOk result (λ reply. reply ≡ Some made.reply) → Leads g (StepsBy result) (stored a before) (stored b after) → SettlesStep g id n result (stored a before) (stored b after)
   seen_settled made (Ok None) looks wrote idle asked prepared replied leads = cc
   seen_settled made (Err why) looks wrote idle asked prepared replied leads = tt
@@ -255,7 +256,7 @@ module _ {S : Type 0} (g : Ghosts S) (a mid b : Held S) (before after : Attempts
               elim (looks.crash.crash early trees (subst (λ (held : Held S). (state g held).may_leave trees) none.1 may)) [ inl earlier ↦ earlier | inr never ↦ absurd never ] in
               let same : trees ≡ (state g a).now.trees = (idle (asked early)).left trees before_it in
               subst (λ (events : List Event). KeepsAll events trees) (sym t.2.1)
-              (landed s.events event (state g a) made.writes.items trees is.stands.kept (attempt.version, seen.message_is, refl) first ready.0 ready.1.writes (asked early)
+              (landed s.events event (state g a) made.writes.items trees is.stands.kept (version_number attempt.version, seen.message_is, refl) first ready.0 ready.1.writes (asked early)
               (λ records held. subst (λ (writes : List Write). Holds trees (applied_all writes records)) (sym none.0) (subst (λ (db : Trees). Holds db records) (sym same) held)))
           | inr all ↦ outlasts_now t.0.events (state g b) after.attempts clean t.1.stands all
         ],
@@ -264,7 +265,7 @@ module _ {S : Type 0} (g : Ghosts S) (a mid b : Held S) (before after : Attempts
   -- where a crash comes
   pub seen_lands : (made : PreparedFrame) → Looks g a mid → Survives (state g mid) (state g b) (Lands made.writes.items (state g mid))
       → (HasCleanDisk (state g mid) → (events : List Event) → Stands events (state g a) before.attempts
-      → (causes_of events event ≡ []) × IsTaken events id n (frame_of attempt.version seen.message_is) made)
+      → (causes_of events event ≡ []) × IsTaken events id n (frame_of (version_number attempt.version) seen.message_is) made)
       → Endures g (TakesOne id n) (stored a before) (stored b after)
   seen_lands made looks lives prepared =
       survives_then (state g a) (state g mid) (state g b) (λ _. ⊥) (Lands made.writes.items (state g mid)) (Keeps g (TakesOne id n) (stored a before)) (λ _ db none. absurd none)
@@ -272,9 +273,9 @@ module _ {S : Type 0} (g : Ghosts S) (a mid b : Held S) (before after : Attempts
       let early : HasCleanDisk (state g mid) = omega (arith, lives.clean, clean) in
       let ready = prepared early s.events is.stands in
       let store = store_still s.events (state g a) (state g mid) (λ _. ⊥) looks.crash looks.kept is.stands.kept in
-      let all = landed s.events event (state g mid) made.writes.items db store (attempt.version, seen.message_is, refl) early ready.0 ready.1.writes lands.0 lands.1 in
+      let all = landed s.events event (state g mid) made.writes.items db store (version_number attempt.version, seen.message_is, refl) early ready.0 ready.1.writes lands.0 lands.1 in
       let next = next_item g (stored a before) (stored b after) s is id n attempt (message seen.message_is) left_of found seen.first in
-      let to = frame_landed s id n (frame_of attempt.version seen.message_is) left_of made.reply next ready.1.reply ready.0 in
+      let to = frame_landed s id n (frame_of (version_number attempt.version) seen.message_is) left_of made.reply next ready.1.reply ready.0 in
       (to.0, (made.reply, to.2), subst (λ (events : List Event). KeepsAll events db) (sym to.1) all))
       looks.crash lives
 

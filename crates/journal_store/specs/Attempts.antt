@@ -2,6 +2,7 @@
 use Rattle.std.specs.Prelude.{◌≡◌, ◌⊎◌, ℕ, ◌<◌, ◌^◌, length, not, ◌==◌, Bool, false, List, [], Option, Some, None, IsTrue}
 use Rattle.journal_model.specs.Notification.{Bytes, Text}
 use Rattle.journal_model.specs.Event.{Event}
+use Rattle.protocol_types.specs.declared.version.Version.{Version}
 use Rattle.store_refusals.specs.declared.refusal.Refusal.{Refusal}
 use Rattle.store_refusals.specs.Refused.{refusal_of, is_circumstance}
 use Rattle.store_begins.specs.declared.attempt.PreparedAttempt.{PreparedAttempt}
@@ -44,7 +45,7 @@ abbrev pub BeginsSome : Text → ℕ → Standing → Standing → Type 0
 BeginsSome id now old new = (begun : BegunAttempt) × Begins id now begun old new
 
 -- the attempt as it is kept then: all of its journal is left, and it wrote nothing
-abbrev pub fresh : (number version : ℕ) → Bytes → List ℕ → LiveAttempt
+abbrev pub fresh : (number : ℕ) → Version → Bytes → List ℕ → LiveAttempt
 fresh number version bytes lengths = record {
   number = number;
   version = version;
@@ -57,6 +58,6 @@ fresh number version bytes lengths = record {
 abbrev pub IsToldAs : PreparedAttempt → BegunAttempt → Type 0
 IsToldAs made begun = (begun.number ≡ made.number) × (begun.version ≡ made.version) × (begun.start ≡ made.frames.start)
 
-abbrev pub TakesIn : Text → (number version : ℕ) → JournalFrames → ByInvocation → ByInvocation → Type 0
+abbrev pub TakesIn : Text → (number : ℕ) → Version → JournalFrames → ByInvocation → ByInvocation → Type 0
 TakesIn id number version journal old new =
     length journal.lengths.items < 2 ^ 32 → IsNow id (Some (fresh number version journal.bytes.items journal.lengths.items)) old new

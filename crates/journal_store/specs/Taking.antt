@@ -5,6 +5,7 @@ use Rattle.journal_model.specs.Notification.{Bytes, Text}
 use Rattle.protocol_stream.specs.declared.decoder.RawMessage.{RawMessage}
 use Rattle.protocol_types.specs.declared.message_type.UnknownMessageType.{UnknownMessageType}
 use Rattle.protocol_stream.specs.declared.frame.TheConstants.{HEADER_LEN}
+use Rattle.protocol_types.specs.Version.{version_number}
 use Rattle.protocol_stream.specs.Item.{unknown, message, item_at}
 use Rattle.store_frames.specs.Answer.{IsFrame}
 use Rattle.store_frames.specs.Meaning.{frame_of}
@@ -26,7 +27,7 @@ pub record IsSeen (attempt : LiveAttempt) (it : SeenFrame) : Type 0 where
   pub message_is : RawMessage
   pub first : item_at attempt.output ≡ Some (message message_is, drop it.len attempt.output)
   pub within : it.len ≤ length attempt.output
-  pub read : IsFrame (frame_of attempt.version message_is) it.frame
+  pub read : IsFrame (frame_of (version_number attempt.version) message_is) it.frame
   pub handed : it.facts.handed ≡ attempt.input.handed
   pub closed : it.facts.is_input_closed ≡ attempt.is_input_closed
 

@@ -12,6 +12,7 @@ ghost use Rattle.journal_store.specs.Writing.{Writes};
 use crate::store::Store;
 use bytes::ByteStr;
 use journal_model::{NewInvocation, NotificationResult};
+use protocol_stream::Version;
 use sqlite::Alter;
 use std::alloc::{AllocError, Global};
 use store_arrivals::{PreparedArrival, prepare_result};
@@ -78,7 +79,7 @@ fn record_arrival<S: Alter>(
 fn fresh_attempt(
     alloc: Global,
     number: u32,
-    version: u32,
+    version: Version,
     journal: JournalFrames,
 ) -> Result<LiveAttempt, AllocError>
     ensures output { IfOk result (λ attempt. attempt.output ≡ []) }
@@ -113,7 +114,7 @@ fn take_in<S: Alter>(
     id: &ByteStr,
     writes: &[Write],
     number: u32,
-    version: u32,
+    version: Version,
     journal: JournalFrames,
 ) -> Result<(), Refusal>
     ensures made { Writes S.Store writes.now tables.old tables.new result }

@@ -2,5 +2,4 @@ pub mod Firsts
 pub mod Holding
 pub mod Applying
 pub mod Advancing
-pub mod Speaking
 mod Placing

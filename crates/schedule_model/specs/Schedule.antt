@@ -2,8 +2,6 @@
 use Rattle.std.specs.Prelude.{◌≡◌, ◌⊎◌, ℕ, min, List, [], ◌∷◌, ◌++◌, length, take, drop, Option, Some, None, Result, Ok, Err}
 use Rattle.journal_model.specs.Notification.{Bytes, Text}
 use Rattle.journal_model.specs.Run.{Handler}
-use Rattle.protocol_types.specs.Version.{version_at}
-use Rattle.protocol_types.specs.declared.version.Version.{Version}
 use Rattle.store_refusals.specs.declared.refusal.Refusal.{Refusal}
 use Rattle.store_refusals.specs.declared.refusal.Refusal.TheVariants.{OutOfMemory}
 use Rattle.vm_types.specs.declared.options.VMOptions.{VMOptions}
@@ -54,10 +52,8 @@ module _ {H : Type 0} where
 
   -- one that speaks the invocation's version was made, was fed its start frame, and is held
   pub record HoldsBegun (options : VMOptions) (id : Text) (handler : H) (begun : BegunAttempt) (old new : List (HeldAttempt H)) : Type 0 where
-    pub version : Version
-    pub version_is : version_at begun.version ≡ Some version
     pub made : Attempt H
-    pub is_begun : attempts.IsBegun version options handler (Ok made)
+    pub is_begun : attempts.IsBegun begun.version options handler (Ok made)
     pub attempt : Attempt H
     pub fed : attempts.Feeds begun.start made attempt
     pub held : new ≡ old ++ record { invocation = id; number = begun.number; attempt = attempt } ∷ []

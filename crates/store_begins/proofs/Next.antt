@@ -59,13 +59,13 @@ module _ (events : List Event) (id : Text) (now : ℕ) (row : InvocationRow) (it
         | inr below_it ↦ absurd (let below = leb-false (2 ^ 32 - 1) (attempts_begun events id) below_it in omega arith)
       ]
 
-  pub next_made : IsAccepted events → (made : PreparedAttempt) → made.writes.items ≡ SetProgress row.id (after_begin now row.progress) ∷ [] → made.number ≡ row.progress.attempts + 1 → made.version ≡ version_number row.version
+  pub next_made : IsAccepted events → (made : PreparedAttempt) → made.writes.items ≡ SetProgress row.id (after_begin now row.progress) ∷ [] → made.number ≡ row.progress.attempts + 1 → made.version ≡ row.version
       → AreHanded events row now made.frames → IsBegun events id now made
   next_made accepted made writes number version frames =
       let same = attempts_is events id now row it in record {
         writes = writes ∙ begin_writes_are events id now row it;
         number = omega arith;
-        version = version ∙ version_is events id now row it accepted;
+        version = ap version_number version ∙ version_is events id now row it accepted;
         start = frames.0 ∙ ap (frame_bytes MessageType.Start) (start_payload_is events id now row it);
         journal = subst (λ (x : Text). AreFrames (journal_rows events x) made.frames.journal) (row_named events id now row it) frames.1;
       }

@@ -7,6 +7,7 @@ use Rattle.journal_model.specs.Journal.{version_of, object_state}
 use Rattle.journal_model.specs.Attempt.{attempts_begun}
 use Rattle.journal_model.specs.Start.{start_payload}
 use Rattle.protocol_types.specs.declared.message_type.MessageType.{MessageType}
+use Rattle.protocol_types.specs.Version.{version_number}
 use Rattle.store_tables.specs.declared.row.InvocationRow.{InvocationRow}
 use Rattle.store_tables.specs.declared.row.StateRow.{StateRow}
 use Rattle.store_model.specs.Kept.{journal_rows, state_row}
@@ -21,7 +22,7 @@ use Rattle.store_begins.specs.Start.{start_of}
 pub record IsBegun (events : List Event) (id : Text) (now : ℕ) (made : PreparedAttempt) : Type 0 where
   pub writes : made.writes.items ≡ writes_of events (Event.Begin id now)
   pub number : made.number ≡ 1 + attempts_begun events id
-  pub version : made.version ≡ version_of events id
+  pub version : version_number made.version ≡ version_of events id
   pub start : made.frames.start ≡ frame_bytes MessageType.Start (start_payload events id now)
   pub journal : AreFrames (journal_rows events id) made.frames.journal
 

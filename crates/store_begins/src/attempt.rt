@@ -1,6 +1,7 @@
 // An attempt that is to be begun.
 use crate::frames::JournalFrames;
 use bytes::Bytes;
+use protocol_stream::Version;
 use store_tables::Write;
 
 /// What an attempt is handed first.
@@ -19,6 +20,6 @@ pub struct PreparedAttempt {
     /// Counts the invocation's attempts from 1.
     pub number: u32,
     /// The version of the protocol that the attempt speaks.
-    pub version: u32,
+    pub version: Version,
     pub frames: AttemptFrames,
 }

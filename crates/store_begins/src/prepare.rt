@@ -97,7 +97,7 @@ pub(crate) fn prepare_next<S: Alter>(
         drop(row);
         return Err(Refusal::NumbersUsedUp);
     };
-    let version = row.version.number();
+    let version = row.version;
     let read = attempt_frames(tables, &row, now);
     let made = begun_writes(tables.alloc(), row, now);
     let frames = read?;

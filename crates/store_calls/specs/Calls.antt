@@ -10,6 +10,7 @@ use Rattle.journal_model.specs.Attempt.{attempts_begun, completions_of_tick, is_
 use Rattle.journal_model.specs.Start.{start_payload}
 use Rattle.journal_model.specs.Cause.{causes_of}
 use Rattle.protocol_types.specs.declared.message_type.MessageType.{MessageType}
+use Rattle.protocol_types.specs.Version.{version_number}
 use Rattle.store_refusals.specs.declared.refusal.Refusal.{Refusal}
 use Rattle.store_refusals.specs.declared.refusal.Refusal.TheVariants.{OutOfMemory}
 use Rattle.store_refusals.specs.Refused.{IsRefused}
@@ -33,7 +34,7 @@ Ticks now (Err why) old new = Refuses (Event.Tick now) why old new
 -- the attempt has the next number, and is told the state and the journal of this moment; nothing waits of it
 pub record Begins (id : Text) (now : ℕ) (begun : BegunAttempt) (old new : Standing) : Type 0 where
   pub number : begun.number ≡ 1 + attempts_begun old.events id
-  pub version : begun.version ≡ version_of old.events id
+  pub version : version_number begun.version ≡ version_of old.events id
   pub start : begun.start ≡ frame_bytes MessageType.Start (start_payload old.events id now)
   pub leaves : Leaves (Event.Begin id now) id (Some []) old new
 

@@ -7,6 +7,7 @@ use Rattle.journal_model.specs.declared.invocation.NewInvocation.{NewInvocation}
 use Rattle.journal_model.specs.Event.{Event}
 use Rattle.journal_model.specs.Journal.{is_of, begins, invocation_begun, version_of, starting_state, entries_of, entries_from, entries_added}
 use Rattle.journal_model.specs.Attempt.{Piece, begins_attempt, ends_live, live_attempt, closes_input, is_input_closed, event_pieces, journal_pieces, input_from, input_bytes, input_pieces, bytes_asked, handed_after, handed_from, bytes_handed, input_left}
+use Rattle.protocol_types.specs.Version.{version_number}
 use Rattle.store_model.specs.Places.{places_of_arrivals, journal_places, places_from, input_places, handed_place}
 use Rattle.store_live.specs.declared.input.PieceLeft.{PieceLeft}
 use Rattle.store_live.specs.declared.attempt.LiveAttempt.{LiveAttempt}
@@ -102,7 +103,7 @@ module _ (events : List Event) (event : Event) (id : Text) (old : begins id even
           → IsKeptLive events id before → IsKeptLive (event ∷ events) id after
       grown before after same ends b c d e f g kept = record {
         number = live_now ends ∙ kept.number ∙ ap (λ (n : ℕ). Some n) (sym b);
-        version = c ∙ kept.version ∙ sym (version_same events event id same);
+        version = ap version_number c ∙ kept.version ∙ sym (version_same events event id same);
         bytes = d ∙ ap (λ (xs : List ℕ). xs ++ input_bytes pieces) kept.bytes ∙ sym left_grown;
         pieces = e ∙ ap (λ (xs : List PieceLeft). xs ++ whole_pieces pieces places) kept.pieces ∙ sym pieces_grown;
         handed = f ∙ kept.handed ∙ sym place_grown;

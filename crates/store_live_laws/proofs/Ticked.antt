@@ -4,6 +4,7 @@ use Rattle.journal_model.specs.Notification.{Bytes, Text, Arrival}
 use Rattle.journal_model.specs.Event.{Event}
 use Rattle.journal_model.specs.Journal.{Entry, Arrived, is_open, slept, entries_of}
 use Rattle.journal_model.specs.Cause.{causes_of, IsAccepted}
+use Rattle.protocol_types.specs.Version.{version_number}
 use Rattle.store_tables.specs.declared.row.EntryRow.{EntryRow}
 use Rattle.store_model.specs.Kept.{entry_row, rows_from}
 use Rattle.store_model.specs.Writes.{ends_sleep, rows_added}
@@ -60,7 +61,7 @@ put_at_once : (events : List Event) (id : Text) (place : ℕ) (frames : List Byt
     → pieces_from place (map length frames) ≡ map row_piece rows → IsKeptLive events id (after_rows rows attempt) → IsKeptLive events id (after_put_all place frames attempt)
 put_at_once events id place frames rows attempt bytes pieces kept = record {
   number = kept.number ∙ ap Some (kept_by (λ (a : LiveAttempt). a.number) (λ at frame a. refl) rows attempt);
-  version = sym (kept_by (λ (a : LiveAttempt). a.version) (λ at frame a. refl) rows attempt) ∙ kept.version;
+  version = sym (kept_by (λ (a : LiveAttempt). version_number a.version) (λ at frame a. refl) rows attempt) ∙ kept.version;
   bytes = ap (λ (more : Bytes). attempt.input.bytes ++ more) bytes ∙ sym (bytes_behind rows attempt) ∙ kept.bytes;
   pieces = ap (λ (more : List PieceLeft). attempt.input.pieces ++ more) pieces ∙ sym (pieces_behind rows attempt) ∙ kept.pieces;
   handed = sym (kept_by (λ (a : LiveAttempt). a.input.handed) (λ at frame a. refl) rows attempt) ∙ kept.handed;

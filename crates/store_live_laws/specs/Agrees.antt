@@ -13,6 +13,7 @@ use Rattle.journal_model.specs.Attempt.{Piece, attempts_begun, live_attempt, is_
 use Rattle.journal_model.specs.Cause.{Cause, UnknownInvocation, InvocationClosed, AttemptNotLive, InputRemains, InputAlreadyClosed, is_empty, those_that_hold, causes_of, IsAccepted}
 use Rattle.protocol_types.specs.declared.message_type.MessageType.{MessageType}
 use Rattle.protocol_types.specs.Feature.{has_feature}
+use Rattle.protocol_types.specs.Version.{version_number}
 use Rattle.protocol_types.specs.declared.feature.Feature.TheVariants.{Acknowledgement}
 use Rattle.store_tables.specs.declared.row.EntryRow.{EntryRow}
 use Rattle.store_model.specs.Places.{input_places, handed_place}
@@ -37,7 +38,7 @@ pieces_left events id = pieces_after (bytes_handed events id) (whole_pieces (inp
 -- an attempt is kept as the live one of an invocation; of its output the events say nothing
 pub record IsKeptLive (events : List Event) (id : Text) (attempt : LiveAttempt) : Type 0 where
   pub number : live_attempt events id ≡ Some attempt.number
-  pub version : attempt.version ≡ version_of events id
+  pub version : version_number attempt.version ≡ version_of events id
   pub bytes : attempt.input.bytes ≡ input_left events id
   pub pieces : attempt.input.pieces ≡ pieces_left events id
   pub handed : attempt.input.handed ≡ handed_place events id
@@ -68,7 +69,7 @@ row_piece row = record { behind = row.place + 1; len = length (row_frame row) }
 
 pub record IsBegunAs (events : List Event) (id : Text) (attempt : LiveAttempt) : Type 0 where
   pub number : attempt.number ≡ 1 + attempts_begun events id
-  pub version : attempt.version ≡ version_of events id
+  pub version : version_number attempt.version ≡ version_of events id
   pub bytes : attempt.input.bytes ≡ flat_map row_frame (journal_rows events id)
   pub pieces : attempt.input.pieces ≡ map row_piece (journal_rows events id)
   pub handed : attempt.input.handed ≡ 0

@@ -1,6 +1,7 @@
 //! A live attempt from its begin to its end.
 
 use bytes::ByteStr;
+use protocol_types::Version;
 use std::alloc::{AllocError, Global};
 use std::test::Fail;
 use store_live::{AttemptInput, AttemptOutput, LiveAttempt, LiveAttempts};
@@ -19,7 +20,7 @@ fn begun(alloc: Global) -> Result<LiveAttempt, AllocError> {
     input.push(0, &INPUT, &[])?;
     Ok(LiveAttempt {
         number: 1,
-        version: 7,
+        version: Version::V7,
         input,
         is_input_closed: false,
         output: AttemptOutput::new(alloc),

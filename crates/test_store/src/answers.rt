@@ -52,7 +52,8 @@ pub fn print_begun<R: Print>(rt: &R, begun: &BegunAttempt) -> Result<(), Fault> 
     let start = Hex(begun.start.as_slice());
     Ok(println!(rt;
         "attempt {} version {} {start}",
-        begun.number, begun.version
+        begun.number,
+        begun.version.number()
     )?)
 }
 

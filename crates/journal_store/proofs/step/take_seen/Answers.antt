@@ -1,4 +1,5 @@
 use Rattle.std.proofs.Common.{arith, subst, Option}
+use Rattle.protocol_types.specs.Version.{version_number}
 use Rattle.store_frames.specs.Meaning.{frame_of}
 use Rattle.sqlite.specs.State.{State}
 use Rattle.sqlite.specs.Held.{state}
@@ -18,11 +19,11 @@ returns-in-Ok-clause-does g c =
     let id = c.args.id.now in
     let it = this_one c.args.attempt (attempt_of c.args.live.now.attempts id) c.requires.live in
     let seen : IsSeen it.attempt c.args.seen = subst (λ (o : Option LiveAttempt). IsSeenOf o c.args.seen) it.is c.requires.seen in
-    let leaves = all_leave it.attempt.version seen.message_is in
+    let leaves = all_leave (version_number it.attempt.version) seen.message_is in
     steps_so g.S.Store c.args.tables.now c.prepare_frame.new.tables c.take_prepared.new.tables c.args.live.now c.take_prepared.new.live id c.args.attempt it.attempt c.args.seen seen it.is c.requires.live c.take_prepared.result
     (seen_taken g.S.Store c.args.tables.now c.prepare_frame.new.tables c.take_prepared.new.tables c.args.live.now c.take_prepared.new.live id c.args.attempt it.attempt c.args.seen seen it.is c.requires.live
     c.in-Ok.made c.take_prepared.result c.prepare_frame.ensures.looks c.take_prepared.ensures.made leaves
-    (λ clean events stands. c.in-Ok.ensures.prepared clean events stands.kept c.args.attempt (frame_of it.attempt.version seen.message_is)
+    (λ clean events stands. c.in-Ok.ensures.prepared clean events stands.kept c.args.attempt (frame_of (version_number it.attempt.version) seen.message_is)
     (live_of g.S.Store c.args.tables.now c.prepare_frame.new.tables c.take_prepared.new.tables c.args.live.now c.take_prepared.new.live id c.args.attempt it.attempt c.args.seen seen it.is c.requires.live events stands) leaves seen.read)
     c.take_prepared.ensures.reply c.take_prepared.ensures.left c.take_prepared.ensures.stays)
 
@@ -33,9 +34,9 @@ returns-in-Ok-clause-crash g c =
     let seen : IsSeen it.attempt c.args.seen = subst (λ (o : Option LiveAttempt). IsSeenOf o c.args.seen) it.is c.requires.seen in
     seen_lands g.S.Store c.args.tables.now c.prepare_frame.new.tables c.take_prepared.new.tables c.args.live.now c.take_prepared.new.live id c.args.attempt it.attempt c.args.seen seen it.is c.requires.live
     c.in-Ok.made c.prepare_frame.ensures.looks c.take_prepared.ensures.made.crash
-    (λ clean events stands. c.in-Ok.ensures.prepared clean events stands.kept c.args.attempt (frame_of it.attempt.version seen.message_is)
+    (λ clean events stands. c.in-Ok.ensures.prepared clean events stands.kept c.args.attempt (frame_of (version_number it.attempt.version) seen.message_is)
     (live_of g.S.Store c.args.tables.now c.prepare_frame.new.tables c.take_prepared.new.tables c.args.live.now c.take_prepared.new.live id c.args.attempt it.attempt c.args.seen seen it.is c.requires.live events stands)
-    (all_leave it.attempt.version seen.message_is) seen.read)
+    (all_leave (version_number it.attempt.version) seen.message_is) seen.read)
 
 pub returns-in-Err-clause-does : goal.returns-in-Err-clause-does
 returns-in-Err-clause-does g c =
@@ -44,9 +45,9 @@ returns-in-Err-clause-does g c =
     let seen : IsSeen it.attempt c.args.seen = subst (λ (o : Option LiveAttempt). IsSeenOf o c.args.seen) it.is c.requires.seen in
     seen_refused g.S.Store c.args.tables.now c.args.tables.now c.prepare_frame.new.tables c.args.live.now c.end_refused.new.live id c.args.attempt it.attempt c.args.seen seen it.is c.requires.live
     c.in-Err.why c.prepare_frame.ensures.looks c.end_refused.ensures
-    (λ clean events stands. c.in-Err.ensures.prepared clean events stands.kept c.args.attempt (frame_of it.attempt.version seen.message_is)
+    (λ clean events stands. c.in-Err.ensures.prepared clean events stands.kept c.args.attempt (frame_of (version_number it.attempt.version) seen.message_is)
     (live_of g.S.Store c.args.tables.now c.args.tables.now c.prepare_frame.new.tables c.args.live.now c.end_refused.new.live id c.args.attempt it.attempt c.args.seen seen it.is c.requires.live events stands)
-    (all_leave it.attempt.version seen.message_is) seen.read)
+    (all_leave (version_number it.attempt.version) seen.message_is) seen.read)
 
 pub returns-in-Err-clause-crash : goal.returns-in-Err-clause-crash
 returns-in-Err-clause-crash g c =
@@ -63,14 +64,14 @@ returns-in-Ok-clause-settled g c =
     let id = c.args.id.now in
     let it = this_one c.args.attempt (attempt_of c.args.live.now.attempts id) c.requires.live in
     let seen : IsSeen it.attempt c.args.seen = subst (λ (o : Option LiveAttempt). IsSeenOf o c.args.seen) it.is c.requires.seen in
-    let leaves = all_leave it.attempt.version seen.message_is in
+    let leaves = all_leave (version_number it.attempt.version) seen.message_is in
     seen_settled g.S.Store c.args.tables.now c.prepare_frame.new.tables c.take_prepared.new.tables c.args.live.now c.take_prepared.new.live id c.args.attempt it.attempt c.args.seen seen it.is c.requires.live
     c.in-Ok.made c.take_prepared.result c.prepare_frame.ensures.looks c.take_prepared.ensures.made c.is_settled-settled.ensures.settled c.in-Ok.ensures.asked
-    (λ clean events stands. c.in-Ok.ensures.prepared clean events stands.kept c.args.attempt (frame_of it.attempt.version seen.message_is)
+    (λ clean events stands. c.in-Ok.ensures.prepared clean events stands.kept c.args.attempt (frame_of (version_number it.attempt.version) seen.message_is)
     (live_of g.S.Store c.args.tables.now c.prepare_frame.new.tables c.take_prepared.new.tables c.args.live.now c.take_prepared.new.live id c.args.attempt it.attempt c.args.seen seen it.is c.requires.live events stands) leaves seen.read)
     c.take_prepared.ensures.reply
     (seen_taken g.S.Store c.args.tables.now c.prepare_frame.new.tables c.take_prepared.new.tables c.args.live.now c.take_prepared.new.live id c.args.attempt it.attempt c.args.seen seen it.is c.requires.live
     c.in-Ok.made c.take_prepared.result c.prepare_frame.ensures.looks c.take_prepared.ensures.made leaves
-    (λ clean events stands. c.in-Ok.ensures.prepared clean events stands.kept c.args.attempt (frame_of it.attempt.version seen.message_is)
+    (λ clean events stands. c.in-Ok.ensures.prepared clean events stands.kept c.args.attempt (frame_of (version_number it.attempt.version) seen.message_is)
     (live_of g.S.Store c.args.tables.now c.prepare_frame.new.tables c.take_prepared.new.tables c.args.live.now c.take_prepared.new.live id c.args.attempt it.attempt c.args.seen seen it.is c.requires.live events stands) leaves seen.read)
     c.take_prepared.ensures.reply c.take_prepared.ensures.left c.take_prepared.ensures.stays)

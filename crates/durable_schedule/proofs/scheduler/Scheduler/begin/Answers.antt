@@ -1,5 +1,4 @@
-use Rattle.std.proofs.Common.{refl, sym, ◌∙◌, inl, inr}
-use Rattle.schedule_model.proofs.Speaking.{never_begun}
+use Rattle.std.proofs.Common.{refl, inl, inr}
 use Rattle.durable_schedule.proofs.scheduler.Scheduler.begin.Goals as goal
 
 pub returns-in-Err-clause-does : goal.returns-in-Err-clause-does
@@ -13,23 +12,15 @@ returns-in-Err-clause-crash g c = c.begin.ensures.crash
 pub returns-in_default-clause-does : goal.returns-in_default-clause-does
 returns-in_default-clause-does g c clean s is =
     let it = c.in-Ok.ensures.does clean s is in
-    absurd (never_begun c.args.invocation c.args.now c.in-Ok.begun s it.0 it.2 (sym c.with_number.ensures ∙ c.in_default.is))
+    (it.0, it.1, inr (c.in-Ok.begun, refl, it.2, refl {a = c.args.self.now.held}))
 
 pub returns-in_default-clause-crash : goal.returns-in_default-clause-crash
 returns-in_default-clause-crash g c = c.begin.ensures.crash
 
-pub returns-in_default-make-clause-does : goal.returns-in_default-make-clause-does
-returns-in_default-make-clause-does g c clean s is =
-    let it = c.in-Ok.ensures.does clean s is in
-    (it.0, it.1, inr (c.in-Ok.begun, refl, it.2, refl {a = c.args.self.now.held}))
-
-pub returns-in_default-make-clause-crash : goal.returns-in_default-make-clause-crash
-returns-in_default-make-clause-crash g c = c.begin.ensures.crash
-
 pub returns-in-Ok-push-clause-settled : goal.returns-in-Ok-push-clause-settled
 returns-in-Ok-push-clause-settled g c written clean s is =
     let it = c.in-Ok.ensures.settled clean s is in
-    let m = c.in-Some-make.ensures in (
+    let m = c.in-Some.ensures in (
       it.0,
       it.1,
       (
@@ -37,11 +28,9 @@ returns-in-Ok-push-clause-settled g c written clean s is =
         refl,
         it.2,
         record {
-          version = c.in-Some.version;
-          version_is = sym c.with_number.ensures ∙ c.in-Some.is;
           made = m.made;
           is_begun = m.begun;
-          attempt = c.in-Some-make.attempt;
+          attempt = c.in-Some.attempt;
           fed = m.fed;
           held = c.in-Ok-push.ensures.ok;
         },
