@@ -51,7 +51,7 @@ fn first_seen(alloc: Global, attempt: &LiveAttempt) -> Result<FirstSeen, AllocEr
         FirstItem::Partial => Ok(FirstSeen::Partial),
         FirstItem::Unknown => Ok(FirstSeen::Unknown),
         FirstItem::Frame { header, payload } => {
-            let frame = read_frame_at(alloc, attempt.version.number(), header, payload)?;
+            let frame = read_frame_at(alloc, attempt.version, header, payload)?;
             Ok(FirstSeen::Frame(SeenFrame {
                 frame,
                 len: HEADER_LEN + payload.len(),

@@ -4,6 +4,7 @@ ghost use Rattle.protocol_wire.specs.Check.{payload_fault};
 ghost use Rattle.protocol_wire.specs.declared.record.TheConstants.{LEVELS as the_levels};
 ghost use Rattle.protocol_types.specs.declared.feature.Feature.TheVariants.{AwaitTree};
 ghost use Rattle.protocol_types.specs.Feature.{lacks_feature};
+ghost use Rattle.protocol_types.specs.Version.{version_number};
 ghost use Rattle.store_frames.specs.Answer.{IsFrame};
 ghost use Rattle.store_frames.specs.Kind.{kind_of as the_kind_of, record_of as the_record_of};
 ghost use Rattle.store_frames.specs.Meaning.{frame_of};
@@ -17,7 +18,7 @@ use protocol_controls::ErrorMessage;
 use protocol_records::{
     OutputCommandMessage, SleepCommandMessage, SuspensionMessage, SuspensionMessageV6,
 };
-use protocol_stream::{Feature, MessageHeader, MessageType, RawMessage};
+use protocol_stream::{Feature, MessageHeader, MessageType, RawMessage, Version};
 use protocol_wire::{DecodeError, Fault, LEVELS, Payload, RecordType, decode, fault_in};
 use std::alloc::{AllocError, Global};
 
@@ -46,10 +47,10 @@ fn unless_faulty(of: RecordType, payload: &[u8], frame: AttemptFrame) -> Attempt
 /// What is kept of the record that a payload is.
 fn read_as<R: FrameRecord>(
     alloc: Global,
-    version: u32,
+    version: Version,
     payload: &[u8],
 ) -> Result<AttemptFrame, AllocError>
-    ensures { IfOk result (λ frame. frame ≡ told_as R.record_type (λ fs. R.told version (R.of the_levels fs)) payload.now) }
+    ensures { IfOk result (λ frame. frame ≡ told_as R.record_type (λ fs. R.told (version_number version) (R.of the_levels fs)) payload.now) }
 {
     match decode::<R>(alloc, payload) {
         Ok(one) => {
@@ -62,10 +63,14 @@ fn read_as<R: FrameRecord>(
     }
 }
 
-fn read_suspension(alloc: Global, version: u32, payload: &[u8]) -> Result<AttemptFrame, AllocError>
-    ensures { IfOk result (λ frame. frame ≡ told_suspension (lacks_feature version AwaitTree) payload.now) }
+fn read_suspension(
+    alloc: Global,
+    version: Version,
+    payload: &[u8],
+) -> Result<AttemptFrame, AllocError>
+    ensures { IfOk result (λ frame. frame ≡ told_suspension (lacks_feature (version_number version) AwaitTree) payload.now) }
 {
-    if Feature::AwaitTree.is_later_than(version) {
+    if Feature::AwaitTree.is_later_than(version.number()) {
         read_as::<SuspensionMessageV6>(alloc, version, payload)
     } else {
         read_as::<SuspensionMessage>(alloc, version, payload)
@@ -83,11 +88,11 @@ fn read_other(ty: MessageType, payload: &[u8]) -> AttemptFrame
 
 fn read_payload(
     alloc: Global,
-    version: u32,
+    version: Version,
     ty: MessageType,
     payload: &[u8],
 ) -> Result<AttemptFrame, AllocError>
-    ensures { IfOk result (λ frame. frame ≡ told_by version (the_kind_of ty) ty payload.now) }
+    ensures { IfOk result (λ frame. frame ≡ told_by (version_number version) (the_kind_of ty) ty payload.now) }
 {
     match kind_of(ty) {
         FrameKind::Sleep => read_as::<SleepCommandMessage>(alloc, version, payload),
@@ -109,11 +114,11 @@ fn read_payload(
 /// `Err` is for want of memory alone.
 pub fn read_frame_at(
     alloc: Global,
-    version: u32,
+    version: Version,
     header: MessageHeader,
     payload: &[u8],
 ) -> Result<AttemptFrame, AllocError>
-    ensures { IfOk result (IsFrame (frame_of version (record { header = header; payload = payload.now }))) }
+    ensures { IfOk result (IsFrame (frame_of (version_number version) (record { header = header; payload = payload.now }))) }
 {
     read_payload(alloc, version, header.message_type(), payload)
 }
@@ -121,10 +126,10 @@ pub fn read_frame_at(
 /// The frame that a message from an attempt of this version of the protocol is. An `Err` is for want of memory alone.
 pub fn read_frame(
     alloc: Global,
-    version: u32,
+    version: Version,
     message: &RawMessage,
 ) -> Result<AttemptFrame, AllocError>
-    ensures { IfOk result (IsFrame (frame_of version message.now)) }
+    ensures { IfOk result (IsFrame (frame_of (version_number version) message.now)) }
 {
     read_payload(alloc, version, message.ty(), message.payload.as_slice())
 }

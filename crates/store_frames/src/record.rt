@@ -2,6 +2,7 @@
 ghost use Rattle.std.specs.Prelude.{◌≡◌, ℕ, IfOk};
 ghost use Rattle.protocol_wire.specs.Parts.{payload_of};
 ghost use Rattle.store_frames.specs.declared.frame.AttemptFrame.{AttemptFrame as Frames};
+ghost use Rattle.protocol_types.specs.Version.{version_number};
 ghost use Rattle.store_frames.specs.Told.{told_command, told_behavior, told_number};
 
 use crate::frame::{AttemptFrame, ErrorBehavior, RecordedCommand};
@@ -12,7 +13,7 @@ use protocol_controls::ErrorMessage;
 use protocol_records::{
     OutputCommandMessage, SleepCommandMessage, SuspensionMessage, SuspensionMessageV6,
 };
-use protocol_stream::{Feature, MessageType};
+use protocol_stream::{Feature, MessageType, Version};
 use protocol_wire::{Record, encode};
 use std::alloc::{AllocError, Global};
 
@@ -21,8 +22,8 @@ pub(crate) trait FrameRecord: Record {
     ghost told: { ℕ → Self → Frames };
 
     /// What is kept of it, in this version.
-    fn to_frame(&self, alloc: Global, version: u32) -> Result<AttemptFrame, AllocError>
-        ensures { IfOk result (λ frame. frame ≡ told version self.now) };
+    fn to_frame(&self, alloc: Global, version: Version) -> Result<AttemptFrame, AllocError>
+        ensures { IfOk result (λ frame. frame ≡ told (version_number version) self.now) };
 }
 
 /// The canonical payload.
@@ -57,7 +58,7 @@ impl FrameRecord for SleepCommandMessage {
 
     ghost told = { λ version one. told_sleep one };
 
-    fn to_frame(&self, alloc: Global, _version: u32) -> Result<AttemptFrame, AllocError> {
+    fn to_frame(&self, alloc: Global, _version: Version) -> Result<AttemptFrame, AllocError> {
         let completion = Some(self.result_completion_id);
         command(
             alloc,
@@ -75,7 +76,7 @@ impl FrameRecord for CallCommandMessage {
 
     ghost told = { λ version one. told_call one };
 
-    fn to_frame(&self, alloc: Global, _version: u32) -> Result<AttemptFrame, AllocError> {
+    fn to_frame(&self, alloc: Global, _version: Version) -> Result<AttemptFrame, AllocError> {
         let first = Some(self.invocation_id_notification_idx);
         let second = Some(self.result_completion_id);
         command(alloc, MessageType::CallCommand, self, first, second, 0)
@@ -87,7 +88,7 @@ impl FrameRecord for OutputCommandMessage {
 
     ghost told = { λ version one. told_output one };
 
-    fn to_frame(&self, alloc: Global, _version: u32) -> Result<AttemptFrame, AllocError> {
+    fn to_frame(&self, alloc: Global, _version: Version) -> Result<AttemptFrame, AllocError> {
         match &self.result {
             None => Ok(AttemptFrame::Broken),
             Some(_) => command(alloc, MessageType::OutputCommand, self, None, None, 0),
@@ -100,7 +101,7 @@ impl FrameRecord for SuspensionMessage {
 
     ghost told = { λ version one. told_tree one };
 
-    fn to_frame(&self, alloc: Global, _version: u32) -> Result<AttemptFrame, AllocError> {
+    fn to_frame(&self, alloc: Global, _version: Version) -> Result<AttemptFrame, AllocError> {
         match &self.awaiting_on {
             None => Ok(AttemptFrame::Broken),
             Some(awaited) => Ok(AttemptFrame::Suspension {
@@ -115,7 +116,7 @@ impl FrameRecord for SuspensionMessageV6 {
 
     ghost told = { λ version one. told_lists one };
 
-    fn to_frame(&self, alloc: Global, _version: u32) -> Result<AttemptFrame, AllocError> {
+    fn to_frame(&self, alloc: Global, _version: Version) -> Result<AttemptFrame, AllocError> {
         Ok(AttemptFrame::Suspension {
             payload: canonical(alloc, self)?,
         })
@@ -134,10 +135,10 @@ fn numbered(number: u32) -> ErrorBehavior
     }
 }
 
-fn behavior_of(version: u32, number: u32) -> ErrorBehavior
-    ensures { result ≡ told_behavior version number }
+fn behavior_of(version: Version, number: u32) -> ErrorBehavior
+    ensures { result ≡ told_behavior (version_number version) number }
 {
-    if Feature::ErrorBehavior.is_later_than(version) {
+    if Feature::ErrorBehavior.is_later_than(version.number()) {
         ErrorBehavior::Retry
     } else {
         numbered(number)
@@ -149,7 +150,7 @@ impl FrameRecord for ErrorMessage {
 
     ghost told = { told_error };
 
-    fn to_frame(&self, _alloc: Global, version: u32) -> Result<AttemptFrame, AllocError> {
+    fn to_frame(&self, _alloc: Global, version: Version) -> Result<AttemptFrame, AllocError> {
         Ok(AttemptFrame::Error {
             code: self.code,
             message: self.message.clone()?,

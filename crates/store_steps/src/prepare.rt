@@ -12,6 +12,7 @@ use crate::frame::{LiveFacts, PreparedFrame};
 use crate::refuse::frame_refusal;
 use crate::write::{frame_writes, reply_to};
 use bytes::ByteStr;
+use protocol_stream::Version;
 use sqlite::Alter;
 use std::alloc::Global;
 use store_frames::AttemptFrame;
@@ -22,12 +23,12 @@ use store_tables::{InvocationRow, Progress, StoreTables, invocation_by_id};
 fn decide(
     alloc: Global,
     id: &ByteStr,
-    version: u32,
+    version: Version,
     progress: Progress,
     attempt: LiveFacts,
     frame: AttemptFrame,
 ) -> Result<PreparedFrame, Refusal>
-    ensures ok { IfOk result (IsMade id.now version progress attempt frame) }
+    ensures ok { IfOk result (IsMade id.now (version_number version) progress attempt frame) }
     ensures err { IfErr result (IsWhy progress attempt frame) }
 {
     match frame_refusal(&progress, attempt, &frame) {
@@ -54,8 +55,7 @@ fn decide_by_row(
     ensures ok { IfOk result (IsMade id.now (version_number row.version) row.progress attempt frame) }
     ensures err { IfErr result (IsWhy row.progress attempt frame) }
 {
-    let version = row.version.number();
-    decide(alloc, id, version, row.progress, attempt, frame)
+    decide(alloc, id, row.version, row.progress, attempt, frame)
 }
 
 /// Decides on a frame that the live attempt of the invocation has written, and makes ready what is written of it. The row of the

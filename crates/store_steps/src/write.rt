@@ -3,12 +3,13 @@ ghost use Rattle.std.specs.Prelude.{◌≡◌, ◌<◌, ◌-◌, ◌^◌, max, [
 ghost use Rattle.journal_model.specs.Cause.{greatest};
 ghost use Rattle.store_tables.specs.declared.row.Write.TheVariants.{AddEntry, OpenSleep, SetProgress};
 ghost use Rattle.store_model.specs.Steps.{payload_or};
+ghost use Rattle.protocol_types.specs.Version.{version_number};
 ghost use Rattle.protocol_stream.specs.CommandFacts.{facts_of};
 ghost use Rattle.store_steps.specs.Told.{HasRoom, after_end, after_error, after_recorded, after_suspension, asked, closing_writes, command_row, does_fail, number_of_behavior, puts_out as puts_value_out, reply_to_told, sleep_told, value_put_out, writes_of_told};
 
 use crate::frame::FrameReply;
 use bytes::{ByteStr, Bytes};
-use protocol_stream::{CommandFacts, Feature, MessageType};
+use protocol_stream::{CommandFacts, Feature, MessageType, Version};
 use std::alloc::{AllocError, Global};
 use store_frames::{AttemptFrame, ErrorBehavior, RecordedCommand};
 use store_tables::{Closing, EntryRow, LastError, Progress, SleepRow, Write};
@@ -236,11 +237,11 @@ fn behavior_number(behavior: ErrorBehavior) -> u32
 }
 
 /// Whether an error closes its invocation.
-fn closes(version: u32, behavior: ErrorBehavior) -> bool
-    ensures { result ≡ does_fail version behavior }
+fn closes(version: Version, behavior: ErrorBehavior) -> bool
+    ensures { result ≡ does_fail (version_number version) behavior }
 {
     match behavior {
-        ErrorBehavior::Fail => Feature::ErrorBehavior.is_in(version),
+        ErrorBehavior::Fail => Feature::ErrorBehavior.is_in(version.number()),
         ErrorBehavior::Retry | ErrorBehavior::Pause => false,
     }
 }
@@ -272,13 +273,13 @@ fn end(progress: &mut Progress, handed: u32)
 pub(crate) fn frame_writes(
     alloc: Global,
     id: &ByteStr,
-    version: u32,
+    version: Version,
     handed: u32,
     mut progress: Progress,
     frame: AttemptFrame,
 ) -> Result<Vec<Write>, AllocError>
     requires { HasRoom progress frame }
-    ensures { IfOk result (λ writes. writes.items ≡ writes_of_told id.now version handed progress frame) }
+    ensures { IfOk result (λ writes. writes.items ≡ writes_of_told id.now (version_number version) handed progress frame) }
 {
     match frame {
         AttemptFrame::Command(command) => command_writes(alloc, id, progress, command),

@@ -1,7 +1,7 @@
 //! Rows of frames of attempts: `frame VERSION NUMBER PAYLOAD` tells which frame a message of the type of this number is, from an
 //! attempt of this version, and what is kept of it. Of a command: its type's number, its payload, the completions that it asks
 //! for, and its moment.
-use crate::operands::{Hex, bytes, message_type, number};
+use crate::operands::{Hex, bytes, message_type, version};
 use bytes::Bytes;
 use journal_protocol::{MessageHeader, MessageType, RawMessage};
 use std::alloc::Global;
@@ -51,8 +51,8 @@ fn frame_told(alloc: Global, frame: &AttemptFrame) -> Option<String> {
     }
 }
 
-fn frame(alloc: Global, version: &str, ty: &str, payload: &str) -> Option<String> {
-    let (version, ty) = (number(version)?, message_type(ty)?);
+fn frame(alloc: Global, of: &str, ty: &str, payload: &str) -> Option<String> {
+    let (version, ty) = (version(of)?, message_type(ty)?);
     let payload = bytes(alloc, payload)?;
     let message = message(alloc, ty, payload.as_slice())?;
     let frame = read_frame(alloc, version, &message).ok()?;
