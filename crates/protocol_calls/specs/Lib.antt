@@ -1,4 +1,5 @@
 pub mod AttachInvocationCommand
+pub mod Choices
 pub mod CompleteAwakeableCommand
 pub mod Fields
 pub mod GetInvocationOutputCommand

@@ -40,8 +40,10 @@ use Rattle.protocol_calls.specs.declared.send_signal_command.SendSignalCommandRe
 use Rattle.protocol_calls.specs.SendSignalCommand.{send_signal_command_of, send_signal_command_parts, SendSignalCommandFits, signal_id_in, signal_id_parts, SendSignalCommandSignalIdFits, signal_id_idx, signal_id_name, result_in, result_parts, SendSignalCommandResultFits, result_void, result_value, result_failure}
 use Rattle.protocol_calls.specs.declared.complete_awakeable_command.CompleteAwakeableCommandResult.{CompleteAwakeableCommandResult}
 use Rattle.protocol_calls.specs.declared.complete_awakeable_command.CompleteAwakeableCommandResult.TheVariants as awakeable_results
-use Rattle.protocol_calls.specs.CompleteAwakeableCommand.{complete_awakeable_command_of, complete_awakeable_command_parts, CompleteAwakeableCommandFits, CompleteAwakeableCommandResultFits}
-use Rattle.protocol_calls.specs.CompleteAwakeableCommand as awakeable
+use Rattle.protocol_calls.specs.CompleteAwakeableCommand.{complete_awakeable_command_of, complete_awakeable_command_parts, CompleteAwakeableCommandFits}
+use Rattle.protocol_records.specs.Choice.{ChoiceFits, choice_parts, chosen_in, first_spelled, second_spelled}
+use Rattle.protocol_records.specs.ChoiceBack.{first_sound, second_sound}
+use Rattle.protocol_calls.specs.Choices.{awakeable_choice}
 
 pub call_command_reads : Reads types.CallCommand call_command_of call_command_parts CallCommandFits
 call_command_reads levels v h small =
@@ -366,18 +368,8 @@ send_signal_command_reads levels v h small =
       entry_name = text_back send_signal_command.ENTRY_NAME.number v.entry_name ps refl i;
     })
 
-awakeable_result_value_holds : (levels : ℕ) (o : Option CompleteAwakeableCommandResult) → CompleteAwakeableCommandResultFits levels o → AllByRecursion LengthFits (bytes_if (awakeable.result_value o)) → IfSome (awakeable.result_value o) (λ b. payload_fault levels types.Value b ≡ None)
-awakeable_result_value_holds levels None h k = tt
-awakeable_result_value_holds levels (Some (awakeable_results.Value v)) h k = (value_reads levels v h k.0).sound
-awakeable_result_value_holds levels (Some (awakeable_results.Failure f)) h k = tt
-
-awakeable_result_failure_holds : (levels : ℕ) (o : Option CompleteAwakeableCommandResult) → CompleteAwakeableCommandResultFits levels o → AllByRecursion LengthFits (bytes_if (awakeable.result_failure o)) → IfSome (awakeable.result_failure o) (λ b. payload_fault levels types.Failure b ≡ None)
-awakeable_result_failure_holds levels None h k = tt
-awakeable_result_failure_holds levels (Some (awakeable_results.Value v)) h k = tt
-awakeable_result_failure_holds levels (Some (awakeable_results.Failure f)) h k = (failure_reads levels f h k.0).sound
-
 -- of the fields of the result alone
-awakeable_result_back : (levels : ℕ) (o : Option CompleteAwakeableCommandResult) → CompleteAwakeableCommandResultFits (levels - 1) o → AllByRecursion LengthFits (bytes_if (awakeable.result_value o)) → AllByRecursion LengthFits (bytes_if (awakeable.result_failure o)) → awakeable.result_in levels (last_run (held_among complete_awakeable_command.RESULT (awakeable.result_parts o))) ≡ o
+awakeable_result_back : (levels : ℕ) (o : Option CompleteAwakeableCommandResult) → ChoiceFits awakeable_choice (levels - 1) o → AllByRecursion LengthFits (bytes_if (first_spelled awakeable_choice o)) → AllByRecursion LengthFits (bytes_if (second_spelled awakeable_choice o)) → chosen_in awakeable_choice levels (last_run (held_among complete_awakeable_command.RESULT (choice_parts awakeable_choice o))) ≡ o
 unfolding texts last_bytes last_number
 awakeable_result_back levels None h k0 k1 = refl
 awakeable_result_back levels (Some (awakeable_results.Value v)) h k0 k1 =
@@ -391,13 +383,13 @@ complete_awakeable_command_reads levels v h small =
     let below = payload_fault (levels - 1) in
     let table = descriptors_of types.CompleteAwakeableCommand in
     let lengths = lengths_fit ps small in
-    let result = ap (awakeable.result_in levels) (run-fields_of complete_awakeable_command.RESULT ps) ∙ awakeable_result_back levels v.result h.result lengths.1.0 lengths.1.1.0 in
+    let result = ap (chosen_in awakeable_choice levels) (run-fields_of complete_awakeable_command.RESULT ps) ∙ awakeable_result_back levels v.result h.result lengths.1.0 lengths.1.1.0 in
     read_back levels types.CompleteAwakeableCommand complete_awakeable_command_of ps v h.level small (
       text_holds below table complete_awakeable_command.AWAKEABLE_ID.number v.awakeable_id (refl, refl) h.awakeable_id,
       (
-        optional_record_holds below table complete_awakeable_command.VALUE.number types.Value (awakeable.result_value v.result) (refl, refl) (awakeable_result_value_holds (levels - 1) v.result h.result lengths.1.0),
+        optional_record_holds below table complete_awakeable_command.VALUE.number types.Value (first_spelled awakeable_choice v.result) (refl, refl) (first_sound awakeable_choice (levels - 1) types.Value value_of (value_reads (levels - 1)) v.result h.result lengths.1.0),
         (
-          optional_record_holds below table complete_awakeable_command.FAILURE.number types.Failure (awakeable.result_failure v.result) (refl, refl) (awakeable_result_failure_holds (levels - 1) v.result h.result lengths.1.1.0),
+          optional_record_holds below table complete_awakeable_command.FAILURE.number types.Failure (second_spelled awakeable_choice v.result) (refl, refl) (second_sound awakeable_choice (levels - 1) types.Failure failure_of (failure_reads (levels - 1)) v.result h.result lengths.1.1.0),
           (
             text_holds below table complete_awakeable_command.NAME.number v.name (refl, refl) h.name,
             tt,

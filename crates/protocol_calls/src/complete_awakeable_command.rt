@@ -4,7 +4,8 @@ ghost use Rattle.protocol_wire.specs.Check.{payload_fault};
 ghost use Rattle.protocol_wire.specs.Parts.{payload_of};
 ghost use Rattle.protocol_wire.specs.Lengths.{counted};
 ghost use Rattle.protocol_table.specs.declared.table.RecordType.TheVariants.{CompleteAwakeableCommand as complete_awakeable_command_type};
-ghost use Rattle.protocol_calls.specs.CompleteAwakeableCommand.{complete_awakeable_command_result_of, result_parts};
+ghost use Rattle.protocol_records.specs.Choice.{choice_parts, chosen};
+ghost use Rattle.protocol_calls.specs.Choices.{awakeable_choice};
 
 use bytes::ByteStr;
 use protocol_records::{Failure, Value, all_three};
@@ -38,7 +39,7 @@ fn result_at(
     levels: u32,
 ) -> Result<Option<CompleteAwakeableCommandResult>, AllocError>
     requires { payload_fault levels complete_awakeable_command_type payload.now ≡ None }
-    ensures { IfOk result (λ r. r ≡ complete_awakeable_command_result_of levels (fields payload.now)) }
+    ensures { IfOk result (λ r. r ≡ chosen awakeable_choice levels (fields payload.now)) }
 {
     if let Some(value) = chosen_record_at(alloc, payload, &RESULT, VALUE, levels)? {
         return Ok(Some(CompleteAwakeableCommandResult::Value(value)));
@@ -54,7 +55,7 @@ fn put_result(
     out: &mut Vec<u8>,
     one: &Option<CompleteAwakeableCommandResult>,
 ) -> Result<(), AllocError>
-    ensures { OnOk result (out.new.items ≡ out.old.items ++ payload_of (result_parts one.now)) }
+    ensures { OnOk result (out.new.items ≡ out.old.items ++ payload_of (choice_parts awakeable_choice one.now)) }
 {
     match one {
         None => Ok(()),
@@ -66,7 +67,7 @@ fn put_result(
 }
 
 fn len_result(before: u64, one: &Option<CompleteAwakeableCommandResult>) -> u64
-    ensures { result ≡ counted before (payload_of (result_parts one.now)) }
+    ensures { result ≡ counted before (payload_of (choice_parts awakeable_choice one.now)) }
 {
     match one {
         None => before,

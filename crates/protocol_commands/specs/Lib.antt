@@ -1,3 +1,4 @@
+pub mod Choices
 pub mod CompletePromiseCommand
 pub mod Fields
 pub mod GetEagerStateCommand

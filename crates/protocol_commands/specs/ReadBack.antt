@@ -31,10 +31,13 @@ use Rattle.protocol_records.specs.declared.void.Void.{Void}
 use Rattle.protocol_commands.specs.Fields.{clear_all_state_command_of, clear_all_state_command_parts, ClearAllStateCommandFits, clear_state_command_of, clear_state_command_parts, ClearStateCommandFits, get_eager_state_keys_command_of, get_eager_state_keys_command_parts, GetEagerStateKeysCommandFits, get_lazy_state_command_of, get_lazy_state_command_parts, GetLazyStateCommandFits, get_lazy_state_keys_command_of, get_lazy_state_keys_command_parts, GetLazyStateKeysCommandFits, get_promise_command_of, get_promise_command_parts, GetPromiseCommandFits, peek_promise_command_of, peek_promise_command_parts, PeekPromiseCommandFits, run_command_of, run_command_parts, RunCommandFits, set_state_command_of, set_state_command_parts, SetStateCommandFits}
 use Rattle.protocol_commands.specs.declared.complete_promise_command.CompletePromiseCommandCompletion.{CompletePromiseCommandCompletion}
 use Rattle.protocol_commands.specs.declared.complete_promise_command.CompletePromiseCommandCompletion.TheVariants as completions
-use Rattle.protocol_commands.specs.CompletePromiseCommand.{complete_promise_command_of, complete_promise_command_parts, CompletePromiseCommandFits, completion_in, completion_parts, CompletePromiseCommandCompletionFits, completion_completion_value, completion_completion_failure}
+use Rattle.protocol_commands.specs.CompletePromiseCommand.{complete_promise_command_of, complete_promise_command_parts, CompletePromiseCommandFits}
 use Rattle.protocol_commands.specs.declared.get_eager_state_command.GetEagerStateCommandResult.{GetEagerStateCommandResult}
 use Rattle.protocol_commands.specs.declared.get_eager_state_command.GetEagerStateCommandResult.TheVariants as results
-use Rattle.protocol_commands.specs.GetEagerStateCommand.{get_eager_state_command_of, get_eager_state_command_parts, GetEagerStateCommandFits, result_in, result_parts, GetEagerStateCommandResultFits, result_void, result_value}
+use Rattle.protocol_commands.specs.GetEagerStateCommand.{get_eager_state_command_of, get_eager_state_command_parts, GetEagerStateCommandFits}
+use Rattle.protocol_records.specs.Choice.{ChoiceFits, choice_parts, chosen_in, first_spelled, second_spelled}
+use Rattle.protocol_records.specs.ChoiceBack.{first_sound, second_sound}
+use Rattle.protocol_commands.specs.Choices.{promise_choice, eager_choice}
 
 pub clear_all_state_command_reads : Reads types.ClearAllStateCommand clear_all_state_command_of clear_all_state_command_parts ClearAllStateCommandFits
 clear_all_state_command_reads levels v h small =
@@ -194,18 +197,8 @@ set_state_command_reads levels v h small =
       name = text_back set_state_command.NAME.number v.name ps refl i;
     })
 
-completion_completion_value_holds : (levels : ℕ) (o : Option CompletePromiseCommandCompletion) → CompletePromiseCommandCompletionFits levels o → AllByRecursion LengthFits (bytes_if (completion_completion_value o)) → IfSome (completion_completion_value o) (λ b. payload_fault levels types.Value b ≡ None)
-completion_completion_value_holds levels None h k = tt
-completion_completion_value_holds levels (Some (completions.CompletionValue c)) h k = (value_reads levels c h k.0).sound
-completion_completion_value_holds levels (Some (completions.CompletionFailure c)) h k = tt
-
-completion_completion_failure_holds : (levels : ℕ) (o : Option CompletePromiseCommandCompletion) → CompletePromiseCommandCompletionFits levels o → AllByRecursion LengthFits (bytes_if (completion_completion_failure o)) → IfSome (completion_completion_failure o) (λ b. payload_fault levels types.Failure b ≡ None)
-completion_completion_failure_holds levels None h k = tt
-completion_completion_failure_holds levels (Some (completions.CompletionValue c)) h k = tt
-completion_completion_failure_holds levels (Some (completions.CompletionFailure c)) h k = (failure_reads levels c h k.0).sound
-
 -- of the fields of the completion alone
-completion_back : (levels : ℕ) (o : Option CompletePromiseCommandCompletion) → CompletePromiseCommandCompletionFits (levels - 1) o → AllByRecursion LengthFits (bytes_if (completion_completion_value o)) → AllByRecursion LengthFits (bytes_if (completion_completion_failure o)) → completion_in levels (last_run (held_among complete_promise_command.COMPLETION (completion_parts o))) ≡ o
+completion_back : (levels : ℕ) (o : Option CompletePromiseCommandCompletion) → ChoiceFits promise_choice (levels - 1) o → AllByRecursion LengthFits (bytes_if (first_spelled promise_choice o)) → AllByRecursion LengthFits (bytes_if (second_spelled promise_choice o)) → chosen_in promise_choice levels (last_run (held_among complete_promise_command.COMPLETION (choice_parts promise_choice o))) ≡ o
 unfolding texts last_bytes last_number
 completion_back levels None h k0 k1 = refl
 completion_back levels (Some (completions.CompletionValue c)) h k0 k1 =
@@ -219,13 +212,13 @@ complete_promise_command_reads levels v h small =
     let below = payload_fault (levels - 1) in
     let table = descriptors_of types.CompletePromiseCommand in
     let lengths = lengths_fit ps small in
-    let completion = ap (completion_in levels) (run-fields_of complete_promise_command.COMPLETION ps) ∙ completion_back levels v.completion h.completion lengths.1.0 lengths.1.1.0 in
+    let completion = ap (chosen_in promise_choice levels) (run-fields_of complete_promise_command.COMPLETION ps) ∙ completion_back levels v.completion h.completion lengths.1.0 lengths.1.1.0 in
     read_back levels types.CompletePromiseCommand complete_promise_command_of ps v h.level small (
       text_holds below table complete_promise_command.KEY.number v.key (refl, refl) h.key,
       (
-        optional_record_holds below table complete_promise_command.COMPLETION_VALUE.number types.Value (completion_completion_value v.completion) (refl, refl) (completion_completion_value_holds (levels - 1) v.completion h.completion lengths.1.0),
+        optional_record_holds below table complete_promise_command.COMPLETION_VALUE.number types.Value (first_spelled promise_choice v.completion) (refl, refl) (first_sound promise_choice (levels - 1) types.Value value_of (value_reads (levels - 1)) v.completion h.completion lengths.1.0),
         (
-          optional_record_holds below table complete_promise_command.COMPLETION_FAILURE.number types.Failure (completion_completion_failure v.completion) (refl, refl) (completion_completion_failure_holds (levels - 1) v.completion h.completion lengths.1.1.0),
+          optional_record_holds below table complete_promise_command.COMPLETION_FAILURE.number types.Failure (second_spelled promise_choice v.completion) (refl, refl) (second_sound promise_choice (levels - 1) types.Failure failure_of (failure_reads (levels - 1)) v.completion h.completion lengths.1.1.0),
           (
             u32_holds below table complete_promise_command.RESULT_COMPLETION_ID.number v.result_completion_id (refl, refl) h.result_completion_id,
             (
@@ -242,18 +235,8 @@ complete_promise_command_reads levels v h small =
       name = text_back complete_promise_command.NAME.number v.name ps refl i;
     })
 
-result_void_holds : (levels : ℕ) (o : Option GetEagerStateCommandResult) → GetEagerStateCommandResultFits levels o → AllByRecursion LengthFits (bytes_if (result_void o)) → IfSome (result_void o) (λ b. payload_fault levels types.Void b ≡ None)
-result_void_holds levels None h k = tt
-result_void_holds levels (Some (results.Void v)) h k = (void_reads levels v h k.0).sound
-result_void_holds levels (Some (results.Value v)) h k = tt
-
-result_value_holds : (levels : ℕ) (o : Option GetEagerStateCommandResult) → GetEagerStateCommandResultFits levels o → AllByRecursion LengthFits (bytes_if (result_value o)) → IfSome (result_value o) (λ b. payload_fault levels types.Value b ≡ None)
-result_value_holds levels None h k = tt
-result_value_holds levels (Some (results.Void v)) h k = tt
-result_value_holds levels (Some (results.Value v)) h k = (value_reads levels v h k.0).sound
-
 -- of the fields of the result alone
-result_back : (levels : ℕ) (o : Option GetEagerStateCommandResult) → GetEagerStateCommandResultFits (levels - 1) o → AllByRecursion LengthFits (bytes_if (result_void o)) → AllByRecursion LengthFits (bytes_if (result_value o)) → result_in levels (last_run (held_among get_eager_state_command.RESULT (result_parts o))) ≡ o
+result_back : (levels : ℕ) (o : Option GetEagerStateCommandResult) → ChoiceFits eager_choice (levels - 1) o → AllByRecursion LengthFits (bytes_if (first_spelled eager_choice o)) → AllByRecursion LengthFits (bytes_if (second_spelled eager_choice o)) → chosen_in eager_choice levels (last_run (held_among get_eager_state_command.RESULT (choice_parts eager_choice o))) ≡ o
 unfolding texts last_bytes last_number
 result_back levels None h k0 k1 = refl
 result_back levels (Some (results.Void v)) h k0 k1 =
@@ -267,15 +250,15 @@ get_eager_state_command_reads levels v h small =
     let below = payload_fault (levels - 1) in
     let table = descriptors_of types.GetEagerStateCommand in
     let lengths = lengths_fit ps small in
-    let result = ap (result_in levels) (run-fields_of get_eager_state_command.RESULT ps) ∙ result_back levels v.result h.result lengths.1.1.0 lengths.1.1.1.0 in
+    let result = ap (chosen_in eager_choice levels) (run-fields_of get_eager_state_command.RESULT ps) ∙ result_back levels v.result h.result lengths.1.1.0 lengths.1.1.1.0 in
     read_back levels types.GetEagerStateCommand get_eager_state_command_of ps v h.level small (
       bytes_holds below table get_eager_state_command.KEY.number v.key (refl, refl),
       (
         text_holds below table get_eager_state_command.NAME.number v.name (refl, refl) h.name,
         (
-          optional_record_holds below table get_eager_state_command.VOID.number types.Void (result_void v.result) (refl, refl) (result_void_holds (levels - 1) v.result h.result lengths.1.1.0),
+          optional_record_holds below table get_eager_state_command.VOID.number types.Void (first_spelled eager_choice v.result) (refl, refl) (first_sound eager_choice (levels - 1) types.Void void_of (void_reads (levels - 1)) v.result h.result lengths.1.1.0),
           (
-            optional_record_holds below table get_eager_state_command.VALUE.number types.Value (result_value v.result) (refl, refl) (result_value_holds (levels - 1) v.result h.result lengths.1.1.1.0),
+            optional_record_holds below table get_eager_state_command.VALUE.number types.Value (second_spelled eager_choice v.result) (refl, refl) (second_sound eager_choice (levels - 1) types.Value value_of (value_reads (levels - 1)) v.result h.result lengths.1.1.1.0),
             tt,
           ),
         ),

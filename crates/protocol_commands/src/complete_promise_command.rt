@@ -4,7 +4,8 @@ ghost use Rattle.protocol_wire.specs.Check.{payload_fault};
 ghost use Rattle.protocol_wire.specs.Parts.{payload_of};
 ghost use Rattle.protocol_wire.specs.Lengths.{counted};
 ghost use Rattle.protocol_table.specs.declared.table.RecordType.TheVariants.{CompletePromiseCommand as complete_promise_command_type};
-ghost use Rattle.protocol_commands.specs.CompletePromiseCommand.{complete_promise_command_completion_of, completion_parts};
+ghost use Rattle.protocol_records.specs.Choice.{choice_parts, chosen};
+ghost use Rattle.protocol_commands.specs.Choices.{promise_choice};
 
 use bytes::ByteStr;
 use protocol_records::{Failure, Value, all_three};
@@ -40,7 +41,7 @@ fn completion_at(
     levels: u32,
 ) -> Result<Option<CompletePromiseCommandCompletion>, AllocError>
     requires { payload_fault levels complete_promise_command_type payload.now ≡ None }
-    ensures { IfOk result (λ r. r ≡ complete_promise_command_completion_of levels (fields payload.now)) }
+    ensures { IfOk result (λ r. r ≡ chosen promise_choice levels (fields payload.now)) }
 {
     if let Some(completion_value) = chosen_record_at(
         alloc,
@@ -68,7 +69,7 @@ fn put_completion(
     out: &mut Vec<u8>,
     one: &Option<CompletePromiseCommandCompletion>,
 ) -> Result<(), AllocError>
-    ensures { OnOk result (out.new.items ≡ out.old.items ++ payload_of (completion_parts one.now)) }
+    ensures { OnOk result (out.new.items ≡ out.old.items ++ payload_of (choice_parts promise_choice one.now)) }
 {
     match one {
         None => Ok(()),
@@ -88,7 +89,7 @@ fn put_completion(
 }
 
 fn len_completion(before: u64, one: &Option<CompletePromiseCommandCompletion>) -> u64
-    ensures { result ≡ counted before (payload_of (completion_parts one.now)) }
+    ensures { result ≡ counted before (payload_of (choice_parts promise_choice one.now)) }
 {
     match one {
         None => before,

@@ -4,7 +4,8 @@ ghost use Rattle.protocol_wire.specs.Check.{payload_fault};
 ghost use Rattle.protocol_wire.specs.Parts.{payload_of};
 ghost use Rattle.protocol_wire.specs.Lengths.{counted};
 ghost use Rattle.protocol_table.specs.declared.table.RecordType.TheVariants.{GetEagerStateCommand as get_eager_state_command_type};
-ghost use Rattle.protocol_commands.specs.GetEagerStateCommand.{get_eager_state_command_result_of, result_parts};
+ghost use Rattle.protocol_records.specs.Choice.{choice_parts, chosen};
+ghost use Rattle.protocol_commands.specs.Choices.{eager_choice};
 
 use bytes::{ByteStr, Bytes};
 use protocol_records::{Value, Void, all_three};
@@ -36,7 +37,7 @@ fn result_at(
     levels: u32,
 ) -> Result<Option<GetEagerStateCommandResult>, AllocError>
     requires { payload_fault levels get_eager_state_command_type payload.now ≡ None }
-    ensures { IfOk result (λ r. r ≡ get_eager_state_command_result_of levels (fields payload.now)) }
+    ensures { IfOk result (λ r. r ≡ chosen eager_choice levels (fields payload.now)) }
 {
     if let Some(void) = chosen_record_at(alloc, payload, &RESULT, VOID, levels)? {
         return Ok(Some(GetEagerStateCommandResult::Void(void)));
@@ -52,7 +53,7 @@ fn put_result(
     out: &mut Vec<u8>,
     one: &Option<GetEagerStateCommandResult>,
 ) -> Result<(), AllocError>
-    ensures { OnOk result (out.new.items ≡ out.old.items ++ payload_of (result_parts one.now)) }
+    ensures { OnOk result (out.new.items ≡ out.old.items ++ payload_of (choice_parts eager_choice one.now)) }
 {
     match one {
         None => Ok(()),
@@ -62,7 +63,7 @@ fn put_result(
 }
 
 fn len_result(before: u64, one: &Option<GetEagerStateCommandResult>) -> u64
-    ensures { result ≡ counted before (payload_of (result_parts one.now)) }
+    ensures { result ≡ counted before (payload_of (choice_parts eager_choice one.now)) }
 {
     match one {
         None => before,

@@ -1,3 +1,4 @@
+pub mod Choices
 pub mod Error
 pub mod GetStateEphemeralCommand
 pub mod GetStateEphemeralNotification

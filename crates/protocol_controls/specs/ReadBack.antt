@@ -34,12 +34,13 @@ use Rattle.protocol_controls.specs.declared.notification.NotificationMessageResu
 use Rattle.protocol_controls.specs.Notification.{notification_of, notification_parts, NotificationFits, id_in, id_parts, NotificationMessageIdFits, id_completion_id, id_signal_id, id_signal_name, result_in, result_parts, NotificationMessageResultFits, result_void, result_value, result_failure, result_invocation_id, result_state_keys}
 use Rattle.protocol_controls.specs.declared.get_state_ephemeral_notification.GetStateEphemeralNotificationResult.{GetStateEphemeralNotificationResult}
 use Rattle.protocol_controls.specs.declared.get_state_ephemeral_notification.GetStateEphemeralNotificationResult.TheVariants as ephemeral_results
-use Rattle.protocol_controls.specs.GetStateEphemeralNotification.{get_state_ephemeral_notification_of, get_state_ephemeral_notification_parts, GetStateEphemeralNotificationFits, GetStateEphemeralNotificationResultFits}
-use Rattle.protocol_controls.specs.GetStateEphemeralNotification as ephemeral
+use Rattle.protocol_controls.specs.GetStateEphemeralNotification.{get_state_ephemeral_notification_of, get_state_ephemeral_notification_parts, GetStateEphemeralNotificationFits}
 use Rattle.protocol_controls.specs.declared.propose_run_completion.ProposeRunCompletionResult.{ProposeRunCompletionResult}
 use Rattle.protocol_controls.specs.declared.propose_run_completion.ProposeRunCompletionResult.TheVariants as proposal_results
-use Rattle.protocol_controls.specs.ProposeRunCompletion.{propose_run_completion_of, propose_run_completion_parts, ProposeRunCompletionFits, ProposeRunCompletionResultFits}
-use Rattle.protocol_controls.specs.ProposeRunCompletion as proposal
+use Rattle.protocol_controls.specs.ProposeRunCompletion.{propose_run_completion_of, propose_run_completion_parts, ProposeRunCompletionFits}
+use Rattle.protocol_records.specs.Choice.{ChoiceFits, choice_parts, chosen_in, first_spelled, second_spelled}
+use Rattle.protocol_records.specs.ChoiceBack.{first_sound, second_sound}
+use Rattle.protocol_controls.specs.Choices.{ephemeral_choice, proposal_choice}
 
 pub error_reads : Reads types.Error error_of error_parts ErrorFits
 error_reads levels v h small =
@@ -226,18 +227,8 @@ notification_reads levels v h small =
       result = result i;
     })
 
-ephemeral_result_void_holds : (levels : ℕ) (o : Option GetStateEphemeralNotificationResult) → GetStateEphemeralNotificationResultFits levels o → AllByRecursion LengthFits (bytes_if (ephemeral.result_void o)) → IfSome (ephemeral.result_void o) (λ b. payload_fault levels types.Void b ≡ None)
-ephemeral_result_void_holds levels None h k = tt
-ephemeral_result_void_holds levels (Some (ephemeral_results.Void v)) h k = (void_reads levels v h k.0).sound
-ephemeral_result_void_holds levels (Some (ephemeral_results.Value v)) h k = tt
-
-ephemeral_result_value_holds : (levels : ℕ) (o : Option GetStateEphemeralNotificationResult) → GetStateEphemeralNotificationResultFits levels o → AllByRecursion LengthFits (bytes_if (ephemeral.result_value o)) → IfSome (ephemeral.result_value o) (λ b. payload_fault levels types.Value b ≡ None)
-ephemeral_result_value_holds levels None h k = tt
-ephemeral_result_value_holds levels (Some (ephemeral_results.Void v)) h k = tt
-ephemeral_result_value_holds levels (Some (ephemeral_results.Value v)) h k = (value_reads levels v h k.0).sound
-
 -- of the fields of the result alone
-ephemeral_result_back : (levels : ℕ) (o : Option GetStateEphemeralNotificationResult) → GetStateEphemeralNotificationResultFits (levels - 1) o → AllByRecursion LengthFits (bytes_if (ephemeral.result_void o)) → AllByRecursion LengthFits (bytes_if (ephemeral.result_value o)) → ephemeral.result_in levels (last_run (held_among get_state_ephemeral_notification.RESULT (ephemeral.result_parts o))) ≡ o
+ephemeral_result_back : (levels : ℕ) (o : Option GetStateEphemeralNotificationResult) → ChoiceFits ephemeral_choice (levels - 1) o → AllByRecursion LengthFits (bytes_if (first_spelled ephemeral_choice o)) → AllByRecursion LengthFits (bytes_if (second_spelled ephemeral_choice o)) → chosen_in ephemeral_choice levels (last_run (held_among get_state_ephemeral_notification.RESULT (choice_parts ephemeral_choice o))) ≡ o
 unfolding texts last_bytes last_number
 ephemeral_result_back levels None h k0 k1 = refl
 ephemeral_result_back levels (Some (ephemeral_results.Void v)) h k0 k1 =
@@ -251,13 +242,13 @@ get_state_ephemeral_notification_reads levels v h small =
     let below = payload_fault (levels - 1) in
     let table = descriptors_of types.GetStateEphemeralNotification in
     let lengths = lengths_fit ps small in
-    let result = ap (ephemeral.result_in levels) (run-fields_of get_state_ephemeral_notification.RESULT ps) ∙ ephemeral_result_back levels v.result h.result lengths.1.0 lengths.1.1.0 in
+    let result = ap (chosen_in ephemeral_choice levels) (run-fields_of get_state_ephemeral_notification.RESULT ps) ∙ ephemeral_result_back levels v.result h.result lengths.1.0 lengths.1.1.0 in
     read_back levels types.GetStateEphemeralNotification get_state_ephemeral_notification_of ps v h.level small (
       u32_holds below table get_state_ephemeral_notification.EPHEMERAL_COMPLETION_ID.number v.ephemeral_completion_id (refl, refl) h.ephemeral_completion_id,
       (
-        optional_record_holds below table get_state_ephemeral_notification.VOID.number types.Void (ephemeral.result_void v.result) (refl, refl) (ephemeral_result_void_holds (levels - 1) v.result h.result lengths.1.0),
+        optional_record_holds below table get_state_ephemeral_notification.VOID.number types.Void (first_spelled ephemeral_choice v.result) (refl, refl) (first_sound ephemeral_choice (levels - 1) types.Void void_of (void_reads (levels - 1)) v.result h.result lengths.1.0),
         (
-          optional_record_holds below table get_state_ephemeral_notification.VALUE.number types.Value (ephemeral.result_value v.result) (refl, refl) (ephemeral_result_value_holds (levels - 1) v.result h.result lengths.1.1.0),
+          optional_record_holds below table get_state_ephemeral_notification.VALUE.number types.Value (second_spelled ephemeral_choice v.result) (refl, refl) (second_sound ephemeral_choice (levels - 1) types.Value value_of (value_reads (levels - 1)) v.result h.result lengths.1.1.0),
           tt,
         ),
       ),
@@ -266,13 +257,8 @@ get_state_ephemeral_notification_reads levels v h small =
       result = result i;
     })
 
-proposal_result_failure_holds : (levels : ℕ) (o : Option ProposeRunCompletionResult) → ProposeRunCompletionResultFits levels o → AllByRecursion LengthFits (bytes_if (proposal.result_failure o)) → IfSome (proposal.result_failure o) (λ b. payload_fault levels types.Failure b ≡ None)
-proposal_result_failure_holds levels None h k = tt
-proposal_result_failure_holds levels (Some (proposal_results.Value v)) h k = tt
-proposal_result_failure_holds levels (Some (proposal_results.Failure f)) h k = (failure_reads levels f h k.0).sound
-
 -- of the fields of the result alone
-proposal_result_back : (levels : ℕ) (o : Option ProposeRunCompletionResult) → ProposeRunCompletionResultFits (levels - 1) o → AllByRecursion LengthFits (bytes_if (proposal.result_failure o)) → proposal.result_in levels (last_run (held_among propose_run_completion.RESULT (proposal.result_parts o))) ≡ o
+proposal_result_back : (levels : ℕ) (o : Option ProposeRunCompletionResult) → ChoiceFits proposal_choice (levels - 1) o → AllByRecursion LengthFits (bytes_if (second_spelled proposal_choice o)) → chosen_in proposal_choice levels (last_run (held_among propose_run_completion.RESULT (choice_parts proposal_choice o))) ≡ o
 unfolding texts last_bytes last_number
 proposal_result_back levels None h k0 = refl
 proposal_result_back levels (Some (proposal_results.Value v)) h k0 =
@@ -286,13 +272,13 @@ propose_run_completion_reads levels v h small =
     let below = payload_fault (levels - 1) in
     let table = descriptors_of types.ProposeRunCompletion in
     let lengths = lengths_fit ps small in
-    let result = ap (proposal.result_in levels) (run-fields_of propose_run_completion.RESULT ps) ∙ proposal_result_back levels v.result h.result lengths.1.1.0 in
+    let result = ap (chosen_in proposal_choice levels) (run-fields_of propose_run_completion.RESULT ps) ∙ proposal_result_back levels v.result h.result lengths.1.1.0 in
     read_back levels types.ProposeRunCompletion propose_run_completion_of ps v h.level small (
       u32_holds below table propose_run_completion.RESULT_COMPLETION_ID.number v.result_completion_id (refl, refl) h.result_completion_id,
       (
-        optional_bytes_holds below table propose_run_completion.VALUE.number (proposal.result_value v.result) (refl, refl),
+        optional_bytes_holds below table propose_run_completion.VALUE.number (first_spelled proposal_choice v.result) (refl, refl),
         (
-          optional_record_holds below table propose_run_completion.FAILURE.number types.Failure (proposal.result_failure v.result) (refl, refl) (proposal_result_failure_holds (levels - 1) v.result h.result lengths.1.1.0),
+          optional_record_holds below table propose_run_completion.FAILURE.number types.Failure (second_spelled proposal_choice v.result) (refl, refl) (second_sound proposal_choice (levels - 1) types.Failure failure_of (failure_reads (levels - 1)) v.result h.result lengths.1.1.0),
           tt,
         ),
       ),

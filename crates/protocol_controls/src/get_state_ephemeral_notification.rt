@@ -4,7 +4,8 @@ ghost use Rattle.protocol_wire.specs.Check.{payload_fault};
 ghost use Rattle.protocol_wire.specs.Parts.{payload_of};
 ghost use Rattle.protocol_wire.specs.Lengths.{counted};
 ghost use Rattle.protocol_table.specs.declared.table.RecordType.TheVariants.{GetStateEphemeralNotification as get_state_ephemeral_notification_type};
-ghost use Rattle.protocol_controls.specs.GetStateEphemeralNotification.{get_state_ephemeral_notification_result_of, result_parts};
+ghost use Rattle.protocol_records.specs.Choice.{choice_parts, chosen};
+ghost use Rattle.protocol_controls.specs.Choices.{ephemeral_choice};
 
 use protocol_records::{Value, Void};
 use protocol_wire::table::get_state_ephemeral_notification::{
@@ -35,7 +36,7 @@ fn result_at(
     levels: u32,
 ) -> Result<Option<GetStateEphemeralNotificationResult>, AllocError>
     requires { payload_fault levels get_state_ephemeral_notification_type payload.now ≡ None }
-    ensures { IfOk result (λ r. r ≡ get_state_ephemeral_notification_result_of levels (fields payload.now)) }
+    ensures { IfOk result (λ r. r ≡ chosen ephemeral_choice levels (fields payload.now)) }
 {
     if let Some(void) = chosen_record_at(alloc, payload, &RESULT, VOID, levels)? {
         return Ok(Some(GetStateEphemeralNotificationResult::Void(void)));
@@ -51,7 +52,7 @@ fn put_result(
     out: &mut Vec<u8>,
     one: &Option<GetStateEphemeralNotificationResult>,
 ) -> Result<(), AllocError>
-    ensures { OnOk result (out.new.items ≡ out.old.items ++ payload_of (result_parts one.now)) }
+    ensures { OnOk result (out.new.items ≡ out.old.items ++ payload_of (choice_parts ephemeral_choice one.now)) }
 {
     match one {
         None => Ok(()),
@@ -63,7 +64,7 @@ fn put_result(
 }
 
 fn len_result(before: u64, one: &Option<GetStateEphemeralNotificationResult>) -> u64
-    ensures { result ≡ counted before (payload_of (result_parts one.now)) }
+    ensures { result ≡ counted before (payload_of (choice_parts ephemeral_choice one.now)) }
 {
     match one {
         None => before,

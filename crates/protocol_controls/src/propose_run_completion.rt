@@ -4,7 +4,8 @@ ghost use Rattle.protocol_wire.specs.Check.{payload_fault};
 ghost use Rattle.protocol_wire.specs.Parts.{payload_of};
 ghost use Rattle.protocol_wire.specs.Lengths.{counted};
 ghost use Rattle.protocol_table.specs.declared.table.RecordType.TheVariants.{ProposeRunCompletion as propose_run_completion_type};
-ghost use Rattle.protocol_controls.specs.ProposeRunCompletion.{propose_run_completion_result_of, result_parts};
+ghost use Rattle.protocol_records.specs.Choice.{choice_parts, chosen};
+ghost use Rattle.protocol_controls.specs.Choices.{proposal_choice};
 
 use bytes::Bytes;
 use protocol_records::Failure;
@@ -35,7 +36,7 @@ fn result_at(
     levels: u32,
 ) -> Result<Option<ProposeRunCompletionResult>, AllocError>
     requires { payload_fault levels propose_run_completion_type payload.now ≡ None }
-    ensures { IfOk result (λ r. r ≡ propose_run_completion_result_of levels (fields payload.now)) }
+    ensures { IfOk result (λ r. r ≡ chosen proposal_choice levels (fields payload.now)) }
 {
     if let Some(value) = chosen_bytes_at(alloc, payload, &RESULT, VALUE)? {
         return Ok(Some(ProposeRunCompletionResult::Value(value)));
@@ -51,7 +52,7 @@ fn put_result(
     out: &mut Vec<u8>,
     one: &Option<ProposeRunCompletionResult>,
 ) -> Result<(), AllocError>
-    ensures { OnOk result (out.new.items ≡ out.old.items ++ payload_of (result_parts one.now)) }
+    ensures { OnOk result (out.new.items ≡ out.old.items ++ payload_of (choice_parts proposal_choice one.now)) }
 {
     match one {
         None => Ok(()),
@@ -63,7 +64,7 @@ fn put_result(
 }
 
 fn len_result(before: u64, one: &Option<ProposeRunCompletionResult>) -> u64
-    ensures { result ≡ counted before (payload_of (result_parts one.now)) }
+    ensures { result ≡ counted before (payload_of (choice_parts proposal_choice one.now)) }
 {
     match one {
         None => before,

@@ -47,7 +47,7 @@ use Rattle.protocol_records.specs.FailureMetadata.{FailureMetadataFits, failure_
 use Rattle.protocol_records.specs.Future.{FutureFits, future_of}
 use Rattle.protocol_records.specs.Header.{HeaderFits, header_of}
 use Rattle.protocol_records.specs.InputCommand.{InputCommandFits, input_command_of}
-use Rattle.protocol_records.specs.OutputCommand.{OutputCommandFits, OutputCommandResultFits, output_command_of, output_command_result_of}
+use Rattle.protocol_records.specs.OutputCommand.{OutputCommandFits, output_command_of, output_choice}
 use Rattle.protocol_records.specs.SleepCommand.{SleepCommandFits, sleep_command_of}
 use Rattle.protocol_records.specs.Start.{StartFits, start_of}
 use Rattle.protocol_records.specs.StateEntry.{StateEntryFits, state_entry_of}
@@ -58,13 +58,13 @@ use Rattle.protocol_records.specs.Value.{ValueFits, value_of}
 use Rattle.protocol_records.specs.Void.{VoidFits, void_of}
 use Rattle.protocol_records.specs.declared.output_command.OutputCommandResult.TheVariants as output_results
 use Rattle.protocol_commands.specs.Fields.{ClearAllStateCommandFits, clear_all_state_command_of, ClearStateCommandFits, clear_state_command_of, GetEagerStateKeysCommandFits, get_eager_state_keys_command_of, GetLazyStateCommandFits, get_lazy_state_command_of, GetLazyStateKeysCommandFits, get_lazy_state_keys_command_of, GetPromiseCommandFits, get_promise_command_of, PeekPromiseCommandFits, peek_promise_command_of, RunCommandFits, run_command_of, SetStateCommandFits, set_state_command_of}
-use Rattle.protocol_commands.specs.CompletePromiseCommand.{CompletePromiseCommandCompletionFits, CompletePromiseCommandFits, complete_promise_command_completion_of, complete_promise_command_of}
-use Rattle.protocol_commands.specs.GetEagerStateCommand.{GetEagerStateCommandFits, GetEagerStateCommandResultFits, get_eager_state_command_of, get_eager_state_command_result_of}
+use Rattle.protocol_commands.specs.CompletePromiseCommand.{CompletePromiseCommandFits, complete_promise_command_of}
+use Rattle.protocol_commands.specs.GetEagerStateCommand.{GetEagerStateCommandFits, get_eager_state_command_of}
 use Rattle.protocol_commands.specs.declared.complete_promise_command.CompletePromiseCommandCompletion.TheVariants as completions
 use Rattle.protocol_commands.specs.declared.get_eager_state_command.GetEagerStateCommandResult.TheVariants as eager_results
 use Rattle.protocol_calls.specs.AttachInvocationCommand.{AttachInvocationCommandFits, attach_invocation_command_of}
 use Rattle.protocol_calls.specs.Fields.{CallCommandFits, call_command_of, IdempotentRequestTargetFits, idempotent_request_target_of, OneWayCallCommandFits, one_way_call_command_of, WorkflowTargetFits, workflow_target_of}
-use Rattle.protocol_calls.specs.CompleteAwakeableCommand.{CompleteAwakeableCommandFits, CompleteAwakeableCommandResultFits, complete_awakeable_command_of, complete_awakeable_command_result_of}
+use Rattle.protocol_calls.specs.CompleteAwakeableCommand.{CompleteAwakeableCommandFits, complete_awakeable_command_of}
 use Rattle.protocol_calls.specs.GetInvocationOutputCommand.{GetInvocationOutputCommandFits, get_invocation_output_command_of}
 use Rattle.protocol_calls.specs.InvocationTarget.{target_of, InvocationTargetFits}
 use Rattle.protocol_calls.specs.SendSignalCommand.{SendSignalCommandFits, SendSignalCommandResultFits, SendSignalCommandSignalIdFits, send_signal_command_of, send_signal_command_result_of, send_signal_command_signal_id_of}
@@ -74,9 +74,9 @@ use Rattle.protocol_calls.specs.declared.send_signal_command.SendSignalCommandSi
 use Rattle.protocol_calls.specs.declared.send_signal_command.SendSignalCommandResult.TheVariants as signal_results
 use Rattle.protocol_controls.specs.Error.{ErrorFits, error_of}
 use Rattle.protocol_controls.specs.GetStateEphemeralCommand.{GetStateEphemeralCommandFits, get_state_ephemeral_command_of}
-use Rattle.protocol_controls.specs.GetStateEphemeralNotification.{GetStateEphemeralNotificationFits, GetStateEphemeralNotificationResultFits, get_state_ephemeral_notification_of, get_state_ephemeral_notification_result_of}
+use Rattle.protocol_controls.specs.GetStateEphemeralNotification.{GetStateEphemeralNotificationFits, get_state_ephemeral_notification_of}
 use Rattle.protocol_controls.specs.Notification.{NotificationFits, NotificationMessageIdFits, NotificationMessageResultFits, notification_id_of, notification_of, notification_result_of}
-use Rattle.protocol_controls.specs.ProposeRunCompletion.{ProposeRunCompletionFits, ProposeRunCompletionResultFits, propose_run_completion_of, propose_run_completion_result_of}
+use Rattle.protocol_controls.specs.ProposeRunCompletion.{ProposeRunCompletionFits, propose_run_completion_of}
 use Rattle.protocol_controls.specs.ProposeRunCompletionAck.{ProposeRunCompletionAckFits, propose_run_completion_ack_of}
 use Rattle.protocol_controls.specs.declared.get_state_ephemeral_notification.GetStateEphemeralNotificationResult.TheVariants as ephemeral_results
 use Rattle.protocol_controls.specs.declared.propose_run_completion.ProposeRunCompletionResult.TheVariants as run_results
@@ -84,6 +84,10 @@ use Rattle.protocol_controls.specs.declared.notification.NotificationMessageId.T
 use Rattle.protocol_controls.specs.declared.notification.NotificationMessageResult.TheVariants as notification_results
 use Rattle.protocol_laws.specs.FitsFuture.{future_fits}
 use Rattle.protocol_laws.specs.ReadFits.{ReadFits, ReadOfBytesFits, chosen_record_fits, first_fits, last_fits, numbers_fit, optional_record_fits, optional_text_fits, records_fit, text_fits, texts_fit, u32_fits, u64_fits, chosen_text_fits, optional_u32_fits, any_fits, optional_u64_fits}
+use Rattle.protocol_records.specs.Choice.{ChoiceFits, chosen}
+use Rattle.protocol_commands.specs.Choices.{promise_choice, eager_choice}
+use Rattle.protocol_calls.specs.Choices.{awakeable_choice}
+use Rattle.protocol_controls.specs.Choices.{ephemeral_choice, proposal_choice}
 
 -- ---- what other records hold, and the frames of an attempt
 
@@ -165,10 +169,10 @@ input_command_fits levels a fine = record {
   value = optional_record_fits (levels - 1) types.Value (value_of (levels - 1)) (ValueFits (levels - 1)) (value_fits (levels - 1)) input_command.VALUE.number (fields a) (records_sound levels types.InputCommand types.Value input_command.VALUE.number a fine refl);
 }
 
-output_command_result_fits : (levels : ℕ) (a : List ℕ) → IsFine levels types.OutputCommand a → OutputCommandResultFits (levels - 1) (output_command_result_of levels (fields a))
+output_command_result_fits : (levels : ℕ) (a : List ℕ) → IsFine levels types.OutputCommand a → ChoiceFits output_choice (levels - 1) (chosen output_choice levels (fields a))
 output_command_result_fits levels a fine =
-    first_fits (λ x. output_results.Value x) (OutputCommandResultFits (levels - 1)) _ _ (chosen_record_fits levels types.OutputCommand output_command.RESULT output_command.VALUE.number a fine refl types.Value refl value_of ValueFits value_fits) (
-    last_fits (λ x. output_results.Failure x) (OutputCommandResultFits (levels - 1)) _ (chosen_record_fits levels types.OutputCommand output_command.RESULT output_command.FAILURE.number a fine refl types.Failure refl failure_of FailureFits failure_fits) tt)
+    first_fits (λ x. output_results.Value x) (ChoiceFits output_choice (levels - 1)) _ _ (chosen_record_fits levels types.OutputCommand output_command.RESULT output_command.VALUE.number a fine refl types.Value refl value_of ValueFits value_fits) (
+    last_fits (λ x. output_results.Failure x) (ChoiceFits output_choice (levels - 1)) _ (chosen_record_fits levels types.OutputCommand output_command.RESULT output_command.FAILURE.number a fine refl types.Failure refl failure_of FailureFits failure_fits) tt)
 
 pub output_command_fits : ReadFits types.OutputCommand output_command_of OutputCommandFits
 output_command_fits levels a fine = record {
@@ -213,10 +217,10 @@ get_lazy_state_keys_command_fits levels a fine = record {
   name = text_fits levels types.GetLazyStateKeysCommand get_lazy_state_keys_command.NAME.number a fine refl;
 }
 
-get_eager_state_command_result_fits : (levels : ℕ) (a : List ℕ) → IsFine levels types.GetEagerStateCommand a → GetEagerStateCommandResultFits (levels - 1) (get_eager_state_command_result_of levels (fields a))
+get_eager_state_command_result_fits : (levels : ℕ) (a : List ℕ) → IsFine levels types.GetEagerStateCommand a → ChoiceFits eager_choice (levels - 1) (chosen eager_choice levels (fields a))
 get_eager_state_command_result_fits levels a fine =
-    first_fits (λ x. eager_results.Void x) (GetEagerStateCommandResultFits (levels - 1)) _ _ (chosen_record_fits levels types.GetEagerStateCommand get_eager_state_command.RESULT get_eager_state_command.VOID.number a fine refl types.Void refl void_of VoidFits void_fits) (
-    last_fits (λ x. eager_results.Value x) (GetEagerStateCommandResultFits (levels - 1)) _ (chosen_record_fits levels types.GetEagerStateCommand get_eager_state_command.RESULT get_eager_state_command.VALUE.number a fine refl types.Value refl value_of ValueFits value_fits) tt)
+    first_fits (λ x. eager_results.Void x) (ChoiceFits eager_choice (levels - 1)) _ _ (chosen_record_fits levels types.GetEagerStateCommand get_eager_state_command.RESULT get_eager_state_command.VOID.number a fine refl types.Void refl void_of VoidFits void_fits) (
+    last_fits (λ x. eager_results.Value x) (ChoiceFits eager_choice (levels - 1)) _ (chosen_record_fits levels types.GetEagerStateCommand get_eager_state_command.RESULT get_eager_state_command.VALUE.number a fine refl types.Value refl value_of ValueFits value_fits) tt)
 
 pub get_eager_state_command_fits : ReadFits types.GetEagerStateCommand get_eager_state_command_of GetEagerStateCommandFits
 get_eager_state_command_fits levels a fine = record {
@@ -267,10 +271,10 @@ peek_promise_command_fits levels a fine = record {
   name = text_fits levels types.PeekPromiseCommand peek_promise_command.NAME.number a fine refl;
 }
 
-complete_promise_command_completion_fits : (levels : ℕ) (a : List ℕ) → IsFine levels types.CompletePromiseCommand a → CompletePromiseCommandCompletionFits (levels - 1) (complete_promise_command_completion_of levels (fields a))
+complete_promise_command_completion_fits : (levels : ℕ) (a : List ℕ) → IsFine levels types.CompletePromiseCommand a → ChoiceFits promise_choice (levels - 1) (chosen promise_choice levels (fields a))
 complete_promise_command_completion_fits levels a fine =
-    first_fits (λ x. completions.CompletionValue x) (CompletePromiseCommandCompletionFits (levels - 1)) _ _ (chosen_record_fits levels types.CompletePromiseCommand complete_promise_command.COMPLETION complete_promise_command.COMPLETION_VALUE.number a fine refl types.Value refl value_of ValueFits value_fits) (
-    last_fits (λ x. completions.CompletionFailure x) (CompletePromiseCommandCompletionFits (levels - 1)) _ (chosen_record_fits levels types.CompletePromiseCommand complete_promise_command.COMPLETION complete_promise_command.COMPLETION_FAILURE.number a fine refl types.Failure refl failure_of FailureFits failure_fits) tt)
+    first_fits (λ x. completions.CompletionValue x) (ChoiceFits promise_choice (levels - 1)) _ _ (chosen_record_fits levels types.CompletePromiseCommand complete_promise_command.COMPLETION complete_promise_command.COMPLETION_VALUE.number a fine refl types.Value refl value_of ValueFits value_fits) (
+    last_fits (λ x. completions.CompletionFailure x) (ChoiceFits promise_choice (levels - 1)) _ (chosen_record_fits levels types.CompletePromiseCommand complete_promise_command.COMPLETION complete_promise_command.COMPLETION_FAILURE.number a fine refl types.Failure refl failure_of FailureFits failure_fits) tt)
 
 pub complete_promise_command_fits : ReadFits types.CompletePromiseCommand complete_promise_command_of CompletePromiseCommandFits
 complete_promise_command_fits levels a fine = record {
@@ -358,10 +362,10 @@ send_signal_command_fits levels a fine = record {
   entry_name = text_fits levels types.SendSignalCommand send_signal_command.ENTRY_NAME.number a fine refl;
 }
 
-complete_awakeable_command_result_fits : (levels : ℕ) (a : List ℕ) → IsFine levels types.CompleteAwakeableCommand a → CompleteAwakeableCommandResultFits (levels - 1) (complete_awakeable_command_result_of levels (fields a))
+complete_awakeable_command_result_fits : (levels : ℕ) (a : List ℕ) → IsFine levels types.CompleteAwakeableCommand a → ChoiceFits awakeable_choice (levels - 1) (chosen awakeable_choice levels (fields a))
 complete_awakeable_command_result_fits levels a fine =
-    first_fits (λ x. awakeable_results.Value x) (CompleteAwakeableCommandResultFits (levels - 1)) _ _ (chosen_record_fits levels types.CompleteAwakeableCommand complete_awakeable_command.RESULT complete_awakeable_command.VALUE.number a fine refl types.Value refl value_of ValueFits value_fits) (
-    last_fits (λ x. awakeable_results.Failure x) (CompleteAwakeableCommandResultFits (levels - 1)) _ (chosen_record_fits levels types.CompleteAwakeableCommand complete_awakeable_command.RESULT complete_awakeable_command.FAILURE.number a fine refl types.Failure refl failure_of FailureFits failure_fits) tt)
+    first_fits (λ x. awakeable_results.Value x) (ChoiceFits awakeable_choice (levels - 1)) _ _ (chosen_record_fits levels types.CompleteAwakeableCommand complete_awakeable_command.RESULT complete_awakeable_command.VALUE.number a fine refl types.Value refl value_of ValueFits value_fits) (
+    last_fits (λ x. awakeable_results.Failure x) (ChoiceFits awakeable_choice (levels - 1)) _ (chosen_record_fits levels types.CompleteAwakeableCommand complete_awakeable_command.RESULT complete_awakeable_command.FAILURE.number a fine refl types.Failure refl failure_of FailureFits failure_fits) tt)
 
 pub complete_awakeable_command_fits : ReadFits types.CompleteAwakeableCommand complete_awakeable_command_of CompleteAwakeableCommandFits
 complete_awakeable_command_fits levels a fine = record {
@@ -419,10 +423,10 @@ propose_run_completion_ack_fits levels a fine = record {
   completion_id = u32_fits propose_run_completion_ack.COMPLETION_ID.number (fields a);
 }
 
-propose_run_completion_result_fits : (levels : ℕ) (a : List ℕ) → IsFine levels types.ProposeRunCompletion a → ProposeRunCompletionResultFits (levels - 1) (propose_run_completion_result_of levels (fields a))
+propose_run_completion_result_fits : (levels : ℕ) (a : List ℕ) → IsFine levels types.ProposeRunCompletion a → ChoiceFits proposal_choice (levels - 1) (chosen proposal_choice levels (fields a))
 propose_run_completion_result_fits levels a fine =
-    first_fits (λ x. run_results.Value x) (ProposeRunCompletionResultFits (levels - 1)) _ _ (any_fits (optional_text propose_run_completion.VALUE.number (run propose_run_completion.RESULT (fields a)))) (
-    last_fits (λ x. run_results.Failure x) (ProposeRunCompletionResultFits (levels - 1)) _ (chosen_record_fits levels types.ProposeRunCompletion propose_run_completion.RESULT propose_run_completion.FAILURE.number a fine refl types.Failure refl failure_of FailureFits failure_fits) tt)
+    first_fits (λ x. run_results.Value x) (ChoiceFits proposal_choice (levels - 1)) _ _ (any_fits (optional_text propose_run_completion.VALUE.number (run propose_run_completion.RESULT (fields a)))) (
+    last_fits (λ x. run_results.Failure x) (ChoiceFits proposal_choice (levels - 1)) _ (chosen_record_fits levels types.ProposeRunCompletion propose_run_completion.RESULT propose_run_completion.FAILURE.number a fine refl types.Failure refl failure_of FailureFits failure_fits) tt)
 
 pub propose_run_completion_fits : ReadFits types.ProposeRunCompletion propose_run_completion_of ProposeRunCompletionFits
 propose_run_completion_fits levels a fine = record {
@@ -437,10 +441,10 @@ get_state_ephemeral_command_fits levels a fine = record {
   ephemeral_completion_id = u32_fits get_state_ephemeral_command.EPHEMERAL_COMPLETION_ID.number (fields a);
 }
 
-get_state_ephemeral_notification_result_fits : (levels : ℕ) (a : List ℕ) → IsFine levels types.GetStateEphemeralNotification a → GetStateEphemeralNotificationResultFits (levels - 1) (get_state_ephemeral_notification_result_of levels (fields a))
+get_state_ephemeral_notification_result_fits : (levels : ℕ) (a : List ℕ) → IsFine levels types.GetStateEphemeralNotification a → ChoiceFits ephemeral_choice (levels - 1) (chosen ephemeral_choice levels (fields a))
 get_state_ephemeral_notification_result_fits levels a fine =
-    first_fits (λ x. ephemeral_results.Void x) (GetStateEphemeralNotificationResultFits (levels - 1)) _ _ (chosen_record_fits levels types.GetStateEphemeralNotification get_state_ephemeral_notification.RESULT get_state_ephemeral_notification.VOID.number a fine refl types.Void refl void_of VoidFits void_fits) (
-    last_fits (λ x. ephemeral_results.Value x) (GetStateEphemeralNotificationResultFits (levels - 1)) _ (chosen_record_fits levels types.GetStateEphemeralNotification get_state_ephemeral_notification.RESULT get_state_ephemeral_notification.VALUE.number a fine refl types.Value refl value_of ValueFits value_fits) tt)
+    first_fits (λ x. ephemeral_results.Void x) (ChoiceFits ephemeral_choice (levels - 1)) _ _ (chosen_record_fits levels types.GetStateEphemeralNotification get_state_ephemeral_notification.RESULT get_state_ephemeral_notification.VOID.number a fine refl types.Void refl void_of VoidFits void_fits) (
+    last_fits (λ x. ephemeral_results.Value x) (ChoiceFits ephemeral_choice (levels - 1)) _ (chosen_record_fits levels types.GetStateEphemeralNotification get_state_ephemeral_notification.RESULT get_state_ephemeral_notification.VALUE.number a fine refl types.Value refl value_of ValueFits value_fits) tt)
 
 pub get_state_ephemeral_notification_fits : ReadFits types.GetStateEphemeralNotification get_state_ephemeral_notification_of GetStateEphemeralNotificationFits
 get_state_ephemeral_notification_fits levels a fine = record {

@@ -8,8 +8,8 @@ use Rattle.protocol_records.specs.StateKeys.{state_keys_of}
 use Rattle.protocol_records.specs.Value.{value_of}
 use Rattle.protocol_records.specs.Void.{void_of}
 use Rattle.protocol_commands.specs.Fields.{clear_all_state_command_of, clear_state_command_of, get_eager_state_keys_command_of, get_lazy_state_command_of, get_lazy_state_keys_command_of, get_promise_command_of, peek_promise_command_of, run_command_of, set_state_command_of}
-use Rattle.protocol_commands.specs.CompletePromiseCommand.{complete_promise_command_of, completion_in as complete_promise_command_completion_in}
-use Rattle.protocol_commands.specs.GetEagerStateCommand.{get_eager_state_command_of, result_in as get_eager_state_command_result_in}
+use Rattle.protocol_commands.specs.CompletePromiseCommand.{complete_promise_command_of}
+use Rattle.protocol_commands.specs.GetEagerStateCommand.{get_eager_state_command_of}
 use Rattle.protocol_commands.specs.declared.clear_all_state_command.ClearAllStateCommandMessage.{ClearAllStateCommandMessage}
 use Rattle.protocol_commands.specs.declared.clear_state_command.ClearStateCommandMessage.{ClearStateCommandMessage}
 use Rattle.protocol_commands.specs.declared.complete_promise_command.CompletePromiseCommandCompletion.{CompletePromiseCommandCompletion}
@@ -42,7 +42,7 @@ use Rattle.protocol_commands.specs.declared.get_eager_state_command.GetEagerStat
 use Rattle.protocol_records.specs.Header.{header_of}
 use Rattle.protocol_calls.specs.AttachInvocationCommand.{attach_invocation_command_of}
 use Rattle.protocol_calls.specs.Fields.{call_command_of, idempotent_request_target_of, one_way_call_command_of, workflow_target_of}
-use Rattle.protocol_calls.specs.CompleteAwakeableCommand.{complete_awakeable_command_of, result_in as complete_awakeable_command_result_in}
+use Rattle.protocol_calls.specs.CompleteAwakeableCommand.{complete_awakeable_command_of}
 use Rattle.protocol_calls.specs.GetInvocationOutputCommand.{get_invocation_output_command_of}
 use Rattle.protocol_calls.specs.InvocationTarget.{target_in}
 use Rattle.protocol_calls.specs.SendSignalCommand.{send_signal_command_of, signal_id_in as send_signal_command_signal_id_in, result_in as send_signal_command_result_in}
@@ -70,6 +70,9 @@ use Rattle.protocol_calls.specs.declared.invocation_target.InvocationTarget.TheV
 use Rattle.protocol_calls.specs.declared.complete_awakeable_command.CompleteAwakeableCommandResult.TheVariants as awakeable_results
 use Rattle.protocol_calls.specs.declared.send_signal_command.SendSignalCommandSignalId.TheVariants as signal_ids
 use Rattle.protocol_calls.specs.declared.send_signal_command.SendSignalCommandResult.TheVariants as signal_results
+use Rattle.protocol_records.specs.Choice.{chosen_in}
+use Rattle.protocol_commands.specs.Choices.{promise_choice, eager_choice}
+use Rattle.protocol_calls.specs.Choices.{awakeable_choice}
 
 pub get_lazy_state_command_joins : Join types.GetLazyStateCommand get_lazy_state_command_of
 get_lazy_state_command_joins levels a b c p q h = joined types.GetLazyStateCommand (get_lazy_state_command_of levels) levels a b c p q (λ i. record {
@@ -88,7 +91,7 @@ abbrev get_eager_state_command_result_number : GetEagerStateCommandResult → �
 get_eager_state_command_result_number (eager_results.Void x) = get_eager_state_command.VOID.number
 get_eager_state_command_result_number (eager_results.Value x) = get_eager_state_command.VALUE.number
 
-get_eager_state_command_result_choice : (levels : ℕ) → Choice levels types.GetEagerStateCommand get_eager_state_command.RESULT get_eager_state_command_result_number get_eager_state_command.RESULT (get_eager_state_command_result_in levels)
+get_eager_state_command_result_choice : (levels : ℕ) → Choice levels types.GetEagerStateCommand get_eager_state_command.RESULT get_eager_state_command_result_number get_eager_state_command.RESULT (chosen_in eager_choice levels)
 get_eager_state_command_result_choice levels =
     either get_eager_state_command_result_number (record_variant levels types.GetEagerStateCommand get_eager_state_command.RESULT get_eager_state_command.VOID.number refl types.Void void_of void_joins refl) (λ x. eager_results.Void x) (λ x. refl) (λ x y h. cc) (
     only get_eager_state_command_result_number (record_variant levels types.GetEagerStateCommand get_eager_state_command.RESULT get_eager_state_command.VALUE.number refl types.Value value_of value_joins refl) (λ x. eager_results.Value x) (λ x. refl) (λ x y h. cc)) refl
@@ -142,7 +145,7 @@ abbrev complete_promise_command_completion_number : CompletePromiseCommandComple
 complete_promise_command_completion_number (completions.CompletionValue x) = complete_promise_command.COMPLETION_VALUE.number
 complete_promise_command_completion_number (completions.CompletionFailure x) = complete_promise_command.COMPLETION_FAILURE.number
 
-complete_promise_command_completion_choice : (levels : ℕ) → Choice levels types.CompletePromiseCommand complete_promise_command.COMPLETION complete_promise_command_completion_number complete_promise_command.COMPLETION (complete_promise_command_completion_in levels)
+complete_promise_command_completion_choice : (levels : ℕ) → Choice levels types.CompletePromiseCommand complete_promise_command.COMPLETION complete_promise_command_completion_number complete_promise_command.COMPLETION (chosen_in promise_choice levels)
 complete_promise_command_completion_choice levels =
     either complete_promise_command_completion_number (record_variant levels types.CompletePromiseCommand complete_promise_command.COMPLETION complete_promise_command.COMPLETION_VALUE.number refl types.Value value_of value_joins refl) (λ x. completions.CompletionValue x) (λ x. refl) (λ x y h. cc) (
     only complete_promise_command_completion_number (record_variant levels types.CompletePromiseCommand complete_promise_command.COMPLETION complete_promise_command.COMPLETION_FAILURE.number refl types.Failure failure_of failure_joins refl) (λ x. completions.CompletionFailure x) (λ x. refl) (λ x y h. cc)) refl
@@ -239,7 +242,7 @@ abbrev complete_awakeable_command_result_number : CompleteAwakeableCommandResult
 complete_awakeable_command_result_number (awakeable_results.Value x) = complete_awakeable_command.VALUE.number
 complete_awakeable_command_result_number (awakeable_results.Failure x) = complete_awakeable_command.FAILURE.number
 
-complete_awakeable_command_result_choice : (levels : ℕ) → Choice levels types.CompleteAwakeableCommand complete_awakeable_command.RESULT complete_awakeable_command_result_number complete_awakeable_command.RESULT (complete_awakeable_command_result_in levels)
+complete_awakeable_command_result_choice : (levels : ℕ) → Choice levels types.CompleteAwakeableCommand complete_awakeable_command.RESULT complete_awakeable_command_result_number complete_awakeable_command.RESULT (chosen_in awakeable_choice levels)
 complete_awakeable_command_result_choice levels =
     either complete_awakeable_command_result_number (record_variant levels types.CompleteAwakeableCommand complete_awakeable_command.RESULT complete_awakeable_command.VALUE.number refl types.Value value_of value_joins refl) (λ x. awakeable_results.Value x) (λ x. refl) (λ x y h. cc) (
     only complete_awakeable_command_result_number (record_variant levels types.CompleteAwakeableCommand complete_awakeable_command.RESULT complete_awakeable_command.FAILURE.number refl types.Failure failure_of failure_joins refl) (λ x. awakeable_results.Failure x) (λ x. refl) (λ x y h. cc)) refl

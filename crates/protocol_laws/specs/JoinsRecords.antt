@@ -11,7 +11,7 @@ use Rattle.protocol_records.specs.FailureMetadata.{failure_metadata_of}
 use Rattle.protocol_records.specs.Future.{future_of}
 use Rattle.protocol_records.specs.Header.{header_of}
 use Rattle.protocol_records.specs.InputCommand.{input_command_of}
-use Rattle.protocol_records.specs.OutputCommand.{output_command_of, result_in as output_command_result_in}
+use Rattle.protocol_records.specs.OutputCommand.{output_choice, output_command_of}
 use Rattle.protocol_records.specs.SleepCommand.{sleep_command_of}
 use Rattle.protocol_records.specs.Start.{start_of}
 use Rattle.protocol_records.specs.StateEntry.{state_entry_of}
@@ -53,9 +53,9 @@ use Rattle.protocol_table.specs.declared.table.awaiting_on.TheConstants as await
 use Rattle.protocol_records.specs.declared.output_command.OutputCommandResult.TheVariants as output_results
 use Rattle.protocol_controls.specs.Error.{error_of}
 use Rattle.protocol_controls.specs.GetStateEphemeralCommand.{get_state_ephemeral_command_of}
-use Rattle.protocol_controls.specs.GetStateEphemeralNotification.{get_state_ephemeral_notification_of, result_in as get_state_ephemeral_notification_result_in}
+use Rattle.protocol_controls.specs.GetStateEphemeralNotification.{get_state_ephemeral_notification_of}
 use Rattle.protocol_controls.specs.Notification.{notification_of, id_in as notification_id_in, result_in as notification_result_in}
-use Rattle.protocol_controls.specs.ProposeRunCompletion.{propose_run_completion_of, result_in as propose_run_completion_result_in}
+use Rattle.protocol_controls.specs.ProposeRunCompletion.{propose_run_completion_of}
 use Rattle.protocol_controls.specs.ProposeRunCompletionAck.{propose_run_completion_ack_of}
 use Rattle.protocol_controls.specs.declared.error.ErrorMessage.{ErrorMessage}
 use Rattle.protocol_controls.specs.declared.get_state_ephemeral_command.GetStateEphemeralCommandMessage.{GetStateEphemeralCommandMessage}
@@ -77,6 +77,8 @@ use Rattle.protocol_controls.specs.declared.get_state_ephemeral_notification.Get
 use Rattle.protocol_controls.specs.declared.propose_run_completion.ProposeRunCompletionResult.TheVariants as run_results
 use Rattle.protocol_controls.specs.declared.notification.NotificationMessageId.TheVariants as ids
 use Rattle.protocol_controls.specs.declared.notification.NotificationMessageResult.TheVariants as notification_results
+use Rattle.protocol_records.specs.Choice.{chosen_in}
+use Rattle.protocol_controls.specs.Choices.{ephemeral_choice, proposal_choice}
 
 pub void_joins : Join types.Void void_of
 void_joins levels a b c p q h = refl
@@ -153,7 +155,7 @@ abbrev output_command_result_number : OutputCommandResult → ℕ
 output_command_result_number (output_results.Value x) = output_command.VALUE.number
 output_command_result_number (output_results.Failure x) = output_command.FAILURE.number
 
-output_command_result_choice : (levels : ℕ) → Choice levels types.OutputCommand output_command.RESULT output_command_result_number output_command.RESULT (output_command_result_in levels)
+output_command_result_choice : (levels : ℕ) → Choice levels types.OutputCommand output_command.RESULT output_command_result_number output_command.RESULT (chosen_in output_choice levels)
 output_command_result_choice levels =
     either output_command_result_number (record_variant levels types.OutputCommand output_command.RESULT output_command.VALUE.number refl types.Value value_of value_joins refl) (λ x. output_results.Value x) (λ x. refl) (λ x y h. cc) (
     only output_command_result_number (record_variant levels types.OutputCommand output_command.RESULT output_command.FAILURE.number refl types.Failure failure_of failure_joins refl) (λ x. output_results.Failure x) (λ x. refl) (λ x y h. cc)) refl
@@ -202,7 +204,7 @@ abbrev propose_run_completion_result_number : ProposeRunCompletionResult → ℕ
 propose_run_completion_result_number (run_results.Value x) = propose_run_completion.VALUE.number
 propose_run_completion_result_number (run_results.Failure x) = propose_run_completion.FAILURE.number
 
-propose_run_completion_result_choice : (levels : ℕ) → Choice levels types.ProposeRunCompletion propose_run_completion.RESULT propose_run_completion_result_number propose_run_completion.RESULT (propose_run_completion_result_in levels)
+propose_run_completion_result_choice : (levels : ℕ) → Choice levels types.ProposeRunCompletion propose_run_completion.RESULT propose_run_completion_result_number propose_run_completion.RESULT (chosen_in proposal_choice levels)
 propose_run_completion_result_choice levels =
     either propose_run_completion_result_number (bytes_variant levels types.ProposeRunCompletion propose_run_completion.RESULT propose_run_completion.VALUE.number refl refl) (λ x. run_results.Value x) (λ x. refl) (λ x y h. cc) (
     only propose_run_completion_result_number (record_variant levels types.ProposeRunCompletion propose_run_completion.RESULT propose_run_completion.FAILURE.number refl types.Failure failure_of failure_joins refl) (λ x. run_results.Failure x) (λ x. refl) (λ x y h. cc)) refl
@@ -223,7 +225,7 @@ abbrev get_state_ephemeral_notification_result_number : GetStateEphemeralNotific
 get_state_ephemeral_notification_result_number (ephemeral_results.Void x) = get_state_ephemeral_notification.VOID.number
 get_state_ephemeral_notification_result_number (ephemeral_results.Value x) = get_state_ephemeral_notification.VALUE.number
 
-get_state_ephemeral_notification_result_choice : (levels : ℕ) → Choice levels types.GetStateEphemeralNotification get_state_ephemeral_notification.RESULT get_state_ephemeral_notification_result_number get_state_ephemeral_notification.RESULT (get_state_ephemeral_notification_result_in levels)
+get_state_ephemeral_notification_result_choice : (levels : ℕ) → Choice levels types.GetStateEphemeralNotification get_state_ephemeral_notification.RESULT get_state_ephemeral_notification_result_number get_state_ephemeral_notification.RESULT (chosen_in ephemeral_choice levels)
 get_state_ephemeral_notification_result_choice levels =
     either get_state_ephemeral_notification_result_number (record_variant levels types.GetStateEphemeralNotification get_state_ephemeral_notification.RESULT get_state_ephemeral_notification.VOID.number refl types.Void void_of void_joins refl) (λ x. ephemeral_results.Void x) (λ x. refl) (λ x y h. cc) (
     only get_state_ephemeral_notification_result_number (record_variant levels types.GetStateEphemeralNotification get_state_ephemeral_notification.RESULT get_state_ephemeral_notification.VALUE.number refl types.Value value_of value_joins refl) (λ x. ephemeral_results.Value x) (λ x. refl) (λ x y h. cc)) refl

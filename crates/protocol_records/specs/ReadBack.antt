@@ -45,7 +45,9 @@ use Rattle.protocol_records.specs.declared.output_command.OutputCommandResult.{O
 use Rattle.protocol_records.specs.declared.output_command.OutputCommandResult.TheVariants as results
 use Rattle.protocol_records.specs.declared.failure.Failure.{Failure}
 use Rattle.protocol_records.specs.declared.value.Value.{Value}
-use Rattle.protocol_records.specs.OutputCommand.{output_command_of, output_command_parts, OutputCommandFits, result_in, result_parts, OutputCommandResultFits, result_value, result_failure}
+use Rattle.protocol_records.specs.OutputCommand.{output_command_of, output_command_parts, OutputCommandFits, output_choice}
+use Rattle.protocol_records.specs.Choice.{ChoiceFits, choice_parts, chosen_in, first_spelled, second_spelled}
+use Rattle.protocol_records.specs.ChoiceBack.{first_sound, second_sound}
 
 pub value_reads : Reads types.Value value_of value_parts ValueFits
 value_reads levels v h small =
@@ -294,18 +296,8 @@ suspension_v6_reads levels v h small =
 pub void_reads : Reads types.Void void_of void_parts VoidFits
 void_reads levels v h small = read_back levels types.Void void_of (void_parts v) v h.level small tt refl
 
-result_value_holds : (levels : ℕ) (o : Option OutputCommandResult) → OutputCommandResultFits levels o → AllByRecursion LengthFits (bytes_if (result_value o)) → IfSome (result_value o) (λ b. payload_fault levels types.Value b ≡ None)
-result_value_holds levels None h k = tt
-result_value_holds levels (Some (results.Value v)) h k = (value_reads levels v h k.0).sound
-result_value_holds levels (Some (results.Failure f)) h k = tt
-
-result_failure_holds : (levels : ℕ) (o : Option OutputCommandResult) → OutputCommandResultFits levels o → AllByRecursion LengthFits (bytes_if (result_failure o)) → IfSome (result_failure o) (λ b. payload_fault levels types.Failure b ≡ None)
-result_failure_holds levels None h k = tt
-result_failure_holds levels (Some (results.Value v)) h k = tt
-result_failure_holds levels (Some (results.Failure f)) h k = (failure_reads levels f h k.0).sound
-
 -- of the fields of the result alone
-result_back : (levels : ℕ) (o : Option OutputCommandResult) → OutputCommandResultFits (levels - 1) o → AllByRecursion LengthFits (bytes_if (result_value o)) → AllByRecursion LengthFits (bytes_if (result_failure o)) → result_in levels (last_run (held_among output_command.RESULT (result_parts o))) ≡ o
+result_back : (levels : ℕ) (o : Option OutputCommandResult) → ChoiceFits output_choice (levels - 1) o → AllByRecursion LengthFits (bytes_if (first_spelled output_choice o)) → AllByRecursion LengthFits (bytes_if (second_spelled output_choice o)) → chosen_in output_choice levels (last_run (held_among output_command.RESULT (choice_parts output_choice o))) ≡ o
 unfolding texts last_bytes last_number
 result_back levels None h k0 k1 = refl
 result_back levels (Some (results.Value v)) h k0 k1 =
@@ -319,13 +311,13 @@ output_command_reads levels v h small =
     let below = payload_fault (levels - 1) in
     let table = descriptors_of types.OutputCommand in
     let lengths = lengths_fit ps small in
-    let result = ap (result_in levels) (run-fields_of output_command.RESULT ps) ∙ result_back levels v.result h.result lengths.1.0 lengths.1.1.0 in
+    let result = ap (chosen_in output_choice levels) (run-fields_of output_command.RESULT ps) ∙ result_back levels v.result h.result lengths.1.0 lengths.1.1.0 in
     read_back levels types.OutputCommand output_command_of ps v h.level small (
       text_holds below table output_command.NAME.number v.name (refl, refl) h.name,
       (
-        optional_record_holds below table output_command.VALUE.number types.Value (result_value v.result) (refl, refl) (result_value_holds (levels - 1) v.result h.result lengths.1.0),
+        optional_record_holds below table output_command.VALUE.number types.Value (first_spelled output_choice v.result) (refl, refl) (first_sound output_choice (levels - 1) types.Value value_of (value_reads (levels - 1)) v.result h.result lengths.1.0),
         (
-          optional_record_holds below table output_command.FAILURE.number types.Failure (result_failure v.result) (refl, refl) (result_failure_holds (levels - 1) v.result h.result lengths.1.1.0),
+          optional_record_holds below table output_command.FAILURE.number types.Failure (second_spelled output_choice v.result) (refl, refl) (second_sound output_choice (levels - 1) types.Failure failure_of (failure_reads (levels - 1)) v.result h.result lengths.1.1.0),
           tt,
         ),
       ),

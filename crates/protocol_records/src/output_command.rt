@@ -4,7 +4,8 @@ ghost use Rattle.protocol_wire.specs.Check.{payload_fault};
 ghost use Rattle.protocol_wire.specs.Parts.{payload_of};
 ghost use Rattle.protocol_wire.specs.Lengths.{counted};
 ghost use Rattle.protocol_table.specs.declared.table.RecordType.TheVariants.{OutputCommand as output_command_type};
-ghost use Rattle.protocol_records.specs.OutputCommand.{output_command_result_of, result_parts};
+ghost use Rattle.protocol_records.specs.Choice.{choice_parts, chosen};
+ghost use Rattle.protocol_records.specs.OutputCommand.{output_choice};
 
 use crate::failure::Failure;
 use crate::gather::both;
@@ -37,7 +38,7 @@ fn result_at(
     levels: u32,
 ) -> Result<Option<OutputCommandResult>, AllocError>
     requires { payload_fault levels output_command_type payload.now ≡ None }
-    ensures { IfOk result (λ r. r ≡ output_command_result_of levels (fields payload.now)) }
+    ensures { IfOk result (λ r. r ≡ chosen output_choice levels (fields payload.now)) }
 {
     if let Some(value) = chosen_record_at(alloc, payload, &RESULT, VALUE, levels)? {
         return Ok(Some(OutputCommandResult::Value(value)));
@@ -53,7 +54,7 @@ fn put_result(
     out: &mut Vec<u8>,
     one: &Option<OutputCommandResult>,
 ) -> Result<(), AllocError>
-    ensures { OnOk result (out.new.items ≡ out.old.items ++ payload_of (result_parts one.now)) }
+    ensures { OnOk result (out.new.items ≡ out.old.items ++ payload_of (choice_parts output_choice one.now)) }
 {
     match one {
         None => Ok(()),
@@ -63,7 +64,7 @@ fn put_result(
 }
 
 fn len_result(before: u64, one: &Option<OutputCommandResult>) -> u64
-    ensures { result ≡ counted before (payload_of (result_parts one.now)) }
+    ensures { result ≡ counted before (payload_of (choice_parts output_choice one.now)) }
 {
     match one {
         None => before,

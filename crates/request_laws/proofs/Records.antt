@@ -16,15 +16,15 @@ use Rattle.protocol_records.specs.Header.{HeaderFits}
 use Rattle.protocol_records.specs.FailureMetadata.{FailureMetadataFits}
 use Rattle.protocol_records.specs.Failure.{FailureFits}
 use Rattle.protocol_records.specs.Value.{ValueFits}
-use Rattle.protocol_records.specs.OutputCommand.{OutputCommandResultFits}
-use Rattle.protocol_commands.specs.GetEagerStateCommand.{GetEagerStateCommandResultFits}
-use Rattle.protocol_commands.specs.CompletePromiseCommand.{CompletePromiseCommandCompletionFits}
+use Rattle.protocol_records.specs.Choice.{ChoiceFits}
+use Rattle.protocol_records.specs.OutputCommand.{output_choice}
 use Rattle.protocol_calls.specs.Fields.{CallCommandFits, OneWayCallCommandFits}
 use Rattle.protocol_calls.specs.SendSignalCommand.{SendSignalCommandResultFits}
 use Rattle.protocol_calls.specs.InvocationTarget.{InvocationTargetFits}
-use Rattle.protocol_calls.specs.CompleteAwakeableCommand.{CompleteAwakeableCommandResultFits}
 use Rattle.protocol_stream.specs.Records.{header_record, value_record, pair_record, failure_record, result_record}
 use Rattle.protocol_spellings.specs.Records as spelled
+use Rattle.protocol_calls.specs.Choices.{awakeable_choice}
+use Rattle.protocol_commands.specs.Choices.{eager_choice, promise_choice}
 use Rattle.request_laws.specs.Calls.{IsTypedPair, IsTypedFailure, IsTypedValue, IsTypedHeader, IsTypedTarget, IsTypedAttach}
 
 pub first_level : 0 < LEVELS
@@ -54,19 +54,19 @@ pairs_fit (pair ∷ pairs) h = (record { level = third_level; key = h.0.0; value
 failure_fits : (failure : TerminalFailure) → IsTypedFailure failure → FailureFits (LEVELS - 1) (failure_record failure)
 failure_fits failure h = record { level = second_level; code = omega (arith, h.code); message = h.message; metadata = pairs_fit failure.metadata h.metadata }
 
-pub output_fits : (value : NonEmptyValue) → IsTypedValue value → OutputCommandResultFits (LEVELS - 1) (Some (result_record value))
+pub output_fits : (value : NonEmptyValue) → IsTypedValue value → ChoiceFits output_choice (LEVELS - 1) (Some (result_record value))
 output_fits (NonEmptyValue.Success bytes) h = value_fits bytes
 output_fits (NonEmptyValue.Failure failure) h = failure_fits failure h
 
-pub eager_fits : (value : Option Bytes) → GetEagerStateCommandResultFits (LEVELS - 1) (Some (spelled.eager_result value))
+pub eager_fits : (value : Option Bytes) → ChoiceFits eager_choice (LEVELS - 1) (Some (spelled.eager_result value))
 eager_fits None = record { level = second_level }
 eager_fits (Some bytes) = value_fits bytes
 
-pub promise_fits : (value : NonEmptyValue) → IsTypedValue value → CompletePromiseCommandCompletionFits (LEVELS - 1) (Some (spelled.promise_completion value))
+pub promise_fits : (value : NonEmptyValue) → IsTypedValue value → ChoiceFits promise_choice (LEVELS - 1) (Some (spelled.promise_completion value))
 promise_fits (NonEmptyValue.Success bytes) h = value_fits bytes
 promise_fits (NonEmptyValue.Failure failure) h = failure_fits failure h
 
-pub awakeable_fits : (value : NonEmptyValue) → IsTypedValue value → CompleteAwakeableCommandResultFits (LEVELS - 1) (Some (spelled.awakeable_result value))
+pub awakeable_fits : (value : NonEmptyValue) → IsTypedValue value → ChoiceFits awakeable_choice (LEVELS - 1) (Some (spelled.awakeable_result value))
 awakeable_fits (NonEmptyValue.Success bytes) h = value_fits bytes
 awakeable_fits (NonEmptyValue.Failure failure) h = failure_fits failure h
 

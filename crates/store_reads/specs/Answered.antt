@@ -10,7 +10,8 @@ use Rattle.protocol_wire.specs.declared.record.TheConstants.{LEVELS}
 use Rattle.protocol_wire.specs.declared.check.Fault.{Fault}
 use Rattle.protocol_wire.specs.Check.{payload_fault}
 use Rattle.protocol_wire.specs.Fields.{fields}
-use Rattle.protocol_records.specs.OutputCommand.{output_command_result_of}
+use Rattle.protocol_records.specs.Choice.{chosen}
+use Rattle.protocol_records.specs.OutputCommand.{output_choice}
 use Rattle.protocol_stream.specs.Records.{result_told}
 use Rattle.store_tables.specs.declared.row.Closing.{Closing}
 use Rattle.store_tables.specs.declared.row.Closing.TheVariants.{Ended, Failed}
@@ -29,7 +30,7 @@ Reads there (Err why) = ((why ≡ ForeignRow) × (there ≡ None)) ⊎ (why ≡ 
 -- what an output puts out; nothing where its payload cannot be read, or lacks a result
 abbrev pub output_read : Option Fault → Bytes → Option NonEmptyValue
 output_read (Some fault) payload = None
-output_read None payload = option_map result_told (output_command_result_of LEVELS (fields payload))
+output_read None payload = option_map result_told (chosen output_choice LEVELS (fields payload))
 
 abbrev pub output_in : Bytes → Option NonEmptyValue
 output_in payload = output_read (payload_fault LEVELS OutputCommand payload) payload

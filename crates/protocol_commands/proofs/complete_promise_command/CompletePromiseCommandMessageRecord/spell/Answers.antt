@@ -2,8 +2,10 @@ use Rattle.std.proofs.Common.{refl, [], ◌∷◌}
 use Rattle.protocol_wire.specs.Parts.{plain_bytes, plain_number}
 use Rattle.protocol_wire.proofs.Puts.{chained, chain_block}
 use Rattle.protocol_table.specs.declared.table.complete_promise_command.TheConstants.{NAME, RESULT_COMPLETION_ID}
-use Rattle.protocol_commands.specs.CompletePromiseCommand.{complete_promise_command_parts, completion_parts}
+use Rattle.protocol_records.specs.Choice.{choice_parts}
+use Rattle.protocol_commands.specs.CompletePromiseCommand.{complete_promise_command_parts}
+use Rattle.protocol_commands.specs.Choices.{promise_choice}
 use Rattle.protocol_commands.proofs.complete_promise_command.CompletePromiseCommandMessageRecord.spell.Goals as goal
 
 pub returns : goal.returns
-returns c = chained (complete_promise_command_parts c.args.self.now) c.args.out.now.items _ (_, c.in_ok-put_text.ensures, chain_block (completion_parts c.args.self.now.completion) (plain_number RESULT_COMPLETION_ID.number c.args.self.now.result_completion_id ∷ plain_bytes NAME.number c.args.self.now.name ∷ []) _ _ _ c.in_ok-put_completion.ensures (_, c.in_ok-put_u32.ensures, (_, c.in_ok-put_text-2.ensures, refl)))
+returns c = chained (complete_promise_command_parts c.args.self.now) c.args.out.now.items _ (_, c.in_ok-put_text.ensures, chain_block (choice_parts promise_choice c.args.self.now.completion) (plain_number RESULT_COMPLETION_ID.number c.args.self.now.result_completion_id ∷ plain_bytes NAME.number c.args.self.now.name ∷ []) _ _ _ c.in_ok-put_completion.ensures (_, c.in_ok-put_u32.ensures, (_, c.in_ok-put_text-2.ensures, refl)))

@@ -1,7 +1,9 @@
 use Rattle.std.proofs.Common.{refl, []}
 use Rattle.protocol_wire.proofs.Puts.{chained, chain_block}
-use Rattle.protocol_controls.specs.ProposeRunCompletion.{propose_run_completion_parts, result_parts}
+use Rattle.protocol_records.specs.Choice.{choice_parts}
+use Rattle.protocol_controls.specs.ProposeRunCompletion.{propose_run_completion_parts}
+use Rattle.protocol_controls.specs.Choices.{proposal_choice}
 use Rattle.protocol_controls.proofs.propose_run_completion.ProposeRunCompletionMessageRecord.spell.Goals as goal
 
 pub returns : goal.returns
-returns c = chained (propose_run_completion_parts c.args.self.now) c.args.out.now.items _ (_, c.in_ok-put_u32.ensures, chain_block (result_parts c.args.self.now.result) ([]) _ _ _ c.in_ok-put_result.ensures refl)
+returns c = chained (propose_run_completion_parts c.args.self.now) c.args.out.now.items _ (_, c.in_ok-put_u32.ensures, chain_block (choice_parts proposal_choice c.args.self.now.result) ([]) _ _ _ c.in_ok-put_result.ensures refl)
