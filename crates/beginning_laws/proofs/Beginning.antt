@@ -17,12 +17,12 @@ use Rattle.attempt_model.specs.Machine.{Machine, machine_at_start}
 use Rattle.position_laws.specs.Beginning.{AttemptStart, ShowsStart}
 use Rattle.position_laws.specs.Reading.{with_messages}
 use Rattle.position_laws.proofs.Reading.{only_read}
-use Rattle.vm_beginning.specs.Beginning.{IsNew}
-use Rattle.vm_beginning.specs.Reading.{IsRead, ReadsInputs}
-use Rattle.vm_entries.specs.Starting.{IsFresh}
-use Rattle.vm_errors.specs.Failing.{out_of_memory, ended}
-use Rattle.vm_errors.specs.Phases.{kept_error}
-use Rattle.vm_errors.specs.declared.phase.Phase.TheVariants as phases
+use Rattle.vm_feeding.specs.Beginning.{IsNew}
+use Rattle.vm_feeding.specs.Reading.{IsRead, ReadsInputs}
+use Rattle.vm_machine.specs.Starting.{IsFresh}
+use Rattle.vm_start.specs.Failing.{out_of_memory, ended}
+use Rattle.vm_start.specs.Phases.{kept_error}
+use Rattle.vm_start.specs.declared.phase.Phase.TheVariants as phases
 use Rattle.vm_machine.specs.Admitting.{AdmitsWhere, IsElsewhere}
 use Rattle.vm_machine.specs.Steps.{GoesOn}
 use Rattle.vm_machine.specs.declared.admitting.Admission.{Admission}

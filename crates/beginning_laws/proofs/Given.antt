@@ -16,12 +16,12 @@ use Rattle.protocol_table.specs.declared.table.RecordType.TheVariants as records
 use Rattle.protocol_types.specs.Version.{version_number}
 use Rattle.protocol_types.specs.declared.message_type.MessageType.TheVariants.{InputCommand}
 use Rattle.vm_calls.specs.declared.active.Active.{Active}
-use Rattle.vm_causes.specs.Causes.{Tells, Unless}
-use Rattle.vm_entries.specs.Gathering.{SeesBehindInput}
-use Rattle.vm_entries.specs.Input.{TakesInput, Leaves, at_input}
-use Rattle.vm_entries.specs.declared.input.InputError.{InputError}
-use Rattle.vm_entries.specs.declared.input.InputError.TheVariants as inputs
-use Rattle.vm_errors.specs.Phases.{kept_error}
+use Rattle.vm_machine.specs.Causes.{Tells, Unless}
+use Rattle.vm_machine.specs.Gathering.{SeesBehindInput}
+use Rattle.vm_machine.specs.Input.{TakesInput, Leaves, at_input}
+use Rattle.vm_machine.specs.declared.input.InputError.{InputError}
+use Rattle.vm_machine.specs.declared.input.InputError.TheVariants as inputs
+use Rattle.vm_start.specs.Phases.{kept_error}
 use Rattle.vm_input.specs.Input.{input_given}
 use Rattle.vm_machine.specs.Admitting.{IsElsewhere, is_active, AdmitsWhere}
 use Rattle.vm_machine.specs.Steps.{GoesOn}
@@ -32,9 +32,9 @@ use Rattle.vm_types.specs.declared.options.JournalReplay.{JournalReplay}
 use Rattle.vm_types.specs.declared.options.JournalReplay.TheVariants.{Enabled}
 use Rattle.feeding_laws.proofs.Reading.{not_unread}
 use Rattle.beginning_laws.specs.Inputs.{IsReady, IsGiven, LacksMemory, InputsAreRead}
-use Rattle.vm_beginning.specs.Reading.{Gives, ReadsAs, AnswersReading, ReadsInputs}
-use Rattle.vm_beginning.specs.declared.reading.Reading.{Reading}
-use Rattle.vm_beginning.specs.declared.reading.Reading.TheVariants.{Given, Fails, Elsewhere}
+use Rattle.vm_feeding.specs.Reading.{Gives, ReadsAs, AnswersReading, ReadsInputs}
+use Rattle.vm_feeding.specs.declared.reading.Reading.{Reading}
+use Rattle.vm_feeding.specs.declared.reading.Reading.TheVariants.{Given, Fails, Elsewhere}
 
 -- one of which calls are made is not found elsewhere
 never_elsewhere : true ≡ false → ⊥

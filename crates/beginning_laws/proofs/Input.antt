@@ -18,11 +18,11 @@ use Rattle.attempt_model.specs.Machine.{Machine, machine_at_start}
 use Rattle.position_laws.specs.Beginning.{AttemptStart, ShowsStart}
 use Rattle.position_laws.specs.Reading.{with_messages}
 use Rattle.beginning_laws.specs.Inputs.{HasInput, IsReady, IsGiven, LacksMemory, InputsAreRead}
-use Rattle.vm_beginning.specs.Reading.{IsRead}
+use Rattle.vm_feeding.specs.Reading.{IsRead}
 use Rattle.vm_calls.specs.Active.{Sees}
 use Rattle.vm_commands.specs.Popping.{next_of}
-use Rattle.vm_entries.specs.Gathering.{without_input}
-use Rattle.vm_errors.specs.Failing.{ended}
+use Rattle.vm_machine.specs.Gathering.{without_input}
+use Rattle.vm_start.specs.Failing.{ended}
 use Rattle.vm_input.specs.Input.{input_given, where_scoped}
 use Rattle.vm_machine.specs.declared.machine_state.MachineState.{MachineState}
 use Rattle.vm_start.specs.Starts.{without_state}

@@ -9,8 +9,8 @@ use Rattle.input_laws.specs.Message.{InputMessage, CarriesInput, CarriesRequest,
 use Rattle.attempt_model.specs.Machine.{Machine, with_arrival}
 use Rattle.attempt_model.specs.Attempts.{with_entry}
 use Rattle.position_laws.specs.Reading.{with_messages}
-use Rattle.vm_errors.specs.declared.phase.Phase.{Phase}
-use Rattle.vm_errors.specs.declared.phase.Phase.TheVariants as phases
+use Rattle.vm_start.specs.declared.phase.Phase.{Phase}
+use Rattle.vm_start.specs.declared.phase.Phase.TheVariants as phases
 use Rattle.feeding_laws.specs.Messages.{IsWaitedFor, phase_then}
 use Rattle.feeding_laws.specs.Inputs.{gathered_all, phase_behind, AreWaitedFor}
 use Rattle.feeding_laws.proofs.Inputs.{stays_active, phase_append}

@@ -11,9 +11,9 @@ use Rattle.attempt_model.specs.Machine.{Machine, machine_at_start}
 use Rattle.position_laws.specs.Beginning.{AttemptStart}
 use Rattle.position_laws.specs.Reading.{with_messages}
 use Rattle.vm_calls.specs.Active.{Sees}
-use Rattle.vm_entries.specs.Gathering.{Gathers}
-use Rattle.vm_errors.specs.declared.phase.Phase.{Phase}
-use Rattle.vm_errors.specs.declared.phase.Phase.TheVariants as phases
+use Rattle.vm_machine.specs.Gathering.{Gathers}
+use Rattle.vm_start.specs.declared.phase.Phase.{Phase}
+use Rattle.vm_start.specs.declared.phase.Phase.TheVariants as phases
 use Rattle.vm_machine.specs.declared.machine_state.MachineState.{MachineState}
 use Rattle.feeding_laws.specs.Memory.{FailsForMemory}
 use Rattle.feeding_laws.specs.Messages.{MessageFits, phase_then, MessagesAreKept}

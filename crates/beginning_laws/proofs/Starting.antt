@@ -19,10 +19,10 @@ use Rattle.journal_model.specs.State.{StartState}
 use Rattle.input_laws.specs.Message.{InputMessage, piece_of}
 use Rattle.attempt_model.specs.Machine.{Machine, machine_at_start}
 use Rattle.position_laws.specs.Beginning.{AttemptStart, ShowsStart}
-use Rattle.vm_causes.specs.Causes.{Tells}
-use Rattle.vm_entries.specs.Gathering.{Gathers}
-use Rattle.vm_errors.specs.declared.phase.Phase.{Phase}
-use Rattle.vm_errors.specs.declared.phase.Phase.TheVariants as phases
+use Rattle.vm_machine.specs.Causes.{Tells}
+use Rattle.vm_machine.specs.Gathering.{Gathers}
+use Rattle.vm_start.specs.declared.phase.Phase.{Phase}
+use Rattle.vm_start.specs.declared.phase.Phase.TheVariants as phases
 use Rattle.vm_machine.specs.declared.machine_state.MachineState.{MachineState}
 use Rattle.feeding_laws.specs.Memory.{FailsForMemory}
 use Rattle.feeding_laws.specs.Messages.{MessagesAreKept}

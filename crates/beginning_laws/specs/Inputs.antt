@@ -16,13 +16,13 @@ use Rattle.protocol_types.specs.Version.{version_number}
 use Rattle.vm_calls.specs.declared.active.Active.{Active}
 use Rattle.vm_calls.specs.Active.{Sees}
 use Rattle.vm_commands.specs.Popping.{next_of}
-use Rattle.vm_entries.specs.Gathering.{Gathers, without_input}
-use Rattle.vm_errors.specs.declared.phase.Phase.TheVariants as phases
+use Rattle.vm_machine.specs.Gathering.{Gathers, without_input}
+use Rattle.vm_start.specs.declared.phase.Phase.TheVariants as phases
 use Rattle.vm_input.specs.Input.{input_given}
 use Rattle.vm_machine.specs.Failing.{MachineFails}
 use Rattle.vm_machine.specs.declared.machine_state.MachineState.{MachineState}
 use Rattle.vm_types.specs.declared.options.JournalReplay.TheVariants.{Enabled}
-use Rattle.vm_beginning.specs.Reading.{IsRead}
+use Rattle.vm_feeding.specs.Reading.{IsRead}
 
 -- the first command that was recorded is this input's
 pub record HasInput (input : InputCommandMessage) (active : Active) : Type 0 where

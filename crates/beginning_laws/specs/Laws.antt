@@ -12,10 +12,10 @@ use Rattle.input_laws.specs.Message.{InputMessage, CarriesInput, piece_of, arriv
 use Rattle.attempt_model.specs.Machine.{Machine, machine_at_start}
 use Rattle.position_laws.specs.Beginning.{AttemptStart, ShowsStart}
 use Rattle.position_laws.specs.Reading.{with_messages}
-use Rattle.vm_beginning.specs.Beginning.{IsNew}
-use Rattle.vm_beginning.specs.Reading.{IsRead}
-use Rattle.vm_errors.specs.Failing.{out_of_memory, ended}
-use Rattle.vm_errors.specs.declared.phase.Phase.TheVariants as phases
+use Rattle.vm_feeding.specs.Beginning.{IsNew}
+use Rattle.vm_feeding.specs.Reading.{IsRead}
+use Rattle.vm_start.specs.Failing.{out_of_memory, ended}
+use Rattle.vm_start.specs.declared.phase.Phase.TheVariants as phases
 use Rattle.vm_machine.specs.declared.machine_state.MachineState.{MachineState}
 use Rattle.vm_types.specs.declared.options.VMOptions.{VMOptions}
 use Rattle.feeding_laws.specs.Memory.{FailsForMemory}

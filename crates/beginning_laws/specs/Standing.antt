@@ -14,8 +14,8 @@ use Rattle.attempt_model.specs.Machine.{Machine, machine_at_start}
 use Rattle.position_laws.specs.Beginning.{AttemptStart, ShowsStart}
 use Rattle.vm_calls.specs.Active.{Sees}
 use Rattle.vm_ephemeral.specs.Reads.{EphemeralReads, no_reads}
-use Rattle.vm_entries.specs.Gathering.{Gathers}
-use Rattle.vm_errors.specs.declared.phase.Phase.TheVariants as phases
+use Rattle.vm_machine.specs.Gathering.{Gathers}
+use Rattle.vm_start.specs.declared.phase.Phase.TheVariants as phases
 use Rattle.vm_machine.specs.declared.machine_state.MachineState.{MachineState}
 use Rattle.vm_start.specs.Starts.{without_state}
 use Rattle.vm_types.specs.Options.{run_options}

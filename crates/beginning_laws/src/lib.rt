@@ -7,7 +7,7 @@ ghost use Rattle.beginning_laws.specs.Laws.{StartsAreRead, JournalsAreRead, Arri
 
 pub use feeding_laws::inputs_are_kept;
 use feeding_laws::{messages_are_kept, starts_are_kept};
-use vm_entries::calls_follow_the_input;
+use vm_machine::calls_follow_the_input;
 
 /// A machine that waits for its start reads it and the messages behind it, as many as have come whole, or it fails for want of memory.
 pub fn starts_are_read()

@@ -19,10 +19,10 @@ use Rattle.input_laws.specs.Message.{InputMessage, CarriesInput, CarriesRequest,
 use Rattle.attempt_model.specs.Machine.{Machine}
 use Rattle.vm_calls.specs.declared.active.Active.{Active}
 use Rattle.vm_calls.specs.Active.{Sees}
-use Rattle.vm_causes.specs.Causes.{Tells}
-use Rattle.vm_entries.specs.Gathering.{Gathers}
-use Rattle.vm_errors.specs.declared.phase.Phase.{Phase}
-use Rattle.vm_errors.specs.declared.phase.Phase.TheVariants as phases
+use Rattle.vm_machine.specs.Causes.{Tells}
+use Rattle.vm_machine.specs.Gathering.{Gathers}
+use Rattle.vm_start.specs.declared.phase.Phase.{Phase}
+use Rattle.vm_start.specs.declared.phase.Phase.TheVariants as phases
 use Rattle.vm_feeding.specs.Feeding.{has_failed, with_bytes, with_input, TakesNext, TakesEach, StopsAt, Stops, Rests, RestsWhere, IsFed}
 use Rattle.vm_feeding.specs.Passed.{MachineState}
 use Rattle.protocol_stream.proofs.Fronts.{item_at_extends}

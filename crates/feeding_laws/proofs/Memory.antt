@@ -4,12 +4,12 @@ use Rattle.std.specs.declared.alloc.AllocError.{AllocError}
 use Rattle.protocol_errors.specs.declared.error.Error.{Error}
 use Rattle.protocol_types.specs.declared.version.Version.{Version}
 use Rattle.vm_types.specs.declared.options.JournalMismatchRetryBehavior.{JournalMismatchRetryBehavior}
-use Rattle.vm_causes.specs.Causes.{Unless}
+use Rattle.vm_machine.specs.Causes.{Unless}
 use Rattle.vm_context.specs.Output.{Written}
-use Rattle.vm_errors.specs.Failing.{out_of_memory, ended, TellsCause, FailsNow, FailsAs}
-use Rattle.vm_errors.specs.Phases.{kept_error}
-use Rattle.vm_errors.specs.declared.phase.Phase.{Phase}
-use Rattle.vm_errors.specs.declared.phase.Phase.TheVariants as phases
+use Rattle.vm_start.specs.Failing.{out_of_memory, ended, TellsCause, FailsNow, FailsAs}
+use Rattle.vm_start.specs.Phases.{kept_error}
+use Rattle.vm_start.specs.declared.phase.Phase.{Phase}
+use Rattle.vm_start.specs.declared.phase.Phase.TheVariants as phases
 use Rattle.vm_feeding.specs.Failing.{HasFailed}
 use Rattle.vm_feeding.specs.Feeding.{has_failed}
 use Rattle.vm_feeding.specs.Passed.{MachineState}

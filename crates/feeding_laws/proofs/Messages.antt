@@ -19,17 +19,17 @@ use Rattle.vm_commands.specs.Recorded.{command_of}
 use Rattle.vm_calls.specs.declared.active.Active.{Active}
 use Rattle.vm_awaits.specs.Views.{results_of}
 use Rattle.vm_awaits.specs.Calls.{with_queued}
-use Rattle.vm_causes.specs.Causes.{Tells}
-use Rattle.vm_errors.specs.Phases.{phase_after_entry}
-use Rattle.vm_errors.specs.declared.phase.Phase.{Phase}
-use Rattle.vm_errors.specs.declared.phase.Phase.TheVariants as phases
-use Rattle.vm_entries.specs.Entries.{ComesCommand, ComesNotification, Pushes, QueuesIn}
-use Rattle.vm_entries.specs.Incoming.{incoming_of}
-use Rattle.vm_entries.specs.declared.incoming.Incoming.{Incoming}
-use Rattle.vm_entries.specs.declared.incoming.Incoming.TheVariants as incoming
-use Rattle.vm_entries.specs.declared.entry_error.EntryError.{EntryError}
-use Rattle.vm_entries.specs.declared.entry_error.EntryError.TheVariants as entries
-use Rattle.vm_entries.specs.Gathering.{Gathers, with_command, GathersCommands, GathersNotifications}
+use Rattle.vm_machine.specs.Causes.{Tells}
+use Rattle.vm_start.specs.Phases.{phase_after_entry}
+use Rattle.vm_start.specs.declared.phase.Phase.{Phase}
+use Rattle.vm_start.specs.declared.phase.Phase.TheVariants as phases
+use Rattle.vm_machine.specs.Entries.{ComesCommand, ComesNotification, Pushes, QueuesIn}
+use Rattle.vm_machine.specs.Incoming.{incoming_of}
+use Rattle.vm_machine.specs.declared.incoming.Incoming.{Incoming}
+use Rattle.vm_machine.specs.declared.incoming.Incoming.TheVariants as incoming
+use Rattle.vm_machine.specs.declared.entry_error.EntryError.{EntryError}
+use Rattle.vm_machine.specs.declared.entry_error.EntryError.TheVariants as entries
+use Rattle.vm_machine.specs.Gathering.{Gathers, with_command, GathersCommands, GathersNotifications}
 use Rattle.vm_feeding.specs.Feeding.{with_bytes, TakesNext}
 use Rattle.vm_feeding.specs.Passed.{MachineFails, Takes, TakesAs, TakesNot, Receives, ReceivesCommand, ReceivesNotification, MachineState}
 use Rattle.feeding_laws.specs.Messages.{raw_of, command_in, KeepsMessage, phase_then, Kept, Unkept, IsWaitedFor, MessagesAreKept}

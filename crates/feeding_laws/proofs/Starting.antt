@@ -19,15 +19,15 @@ use Rattle.journal_model.specs.Start.{start_payload_of}
 use Rattle.journal_model.specs.State.{StartState}
 use Rattle.journal_model.specs.Headline.{shown_state}
 use Rattle.vm_calls.specs.declared.active.Active.{Active}
-use Rattle.vm_causes.specs.Causes.{Tells, Unless}
+use Rattle.vm_machine.specs.Causes.{Tells, Unless}
 use Rattle.vm_context.specs.Eager.{KnownState}
 use Rattle.vm_context.specs.Following.{KnowsState, start_of as state_of}
-use Rattle.vm_errors.specs.declared.phase.Phase.{Phase}
-use Rattle.vm_errors.specs.declared.phase.Phase.TheVariants as phases
-use Rattle.vm_entries.specs.Gathering.{Gathers, BeginsGathering}
-use Rattle.vm_entries.specs.Starting.{BeginsWith, Reads, ComesStart}
-use Rattle.vm_entries.specs.declared.entry_error.EntryError.{EntryError}
-use Rattle.vm_entries.specs.declared.entry_error.EntryError.TheVariants as entries
+use Rattle.vm_start.specs.declared.phase.Phase.{Phase}
+use Rattle.vm_start.specs.declared.phase.Phase.TheVariants as phases
+use Rattle.vm_machine.specs.Gathering.{Gathers, BeginsGathering}
+use Rattle.vm_machine.specs.Starting.{BeginsWith, Reads, ComesStart}
+use Rattle.vm_machine.specs.declared.entry_error.EntryError.{EntryError}
+use Rattle.vm_machine.specs.declared.entry_error.EntryError.TheVariants as entries
 use Rattle.vm_feeding.specs.Feeding.{has_failed, with_bytes}
 use Rattle.vm_feeding.specs.Passed.{TakesAs, TakesNot, ReceivesStart, MachineState}
 use Rattle.vm_start.specs.Starts.{pairs_of, AreText, FirstNotText, StartFails, without_state}

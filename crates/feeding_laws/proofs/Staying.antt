@@ -3,9 +3,9 @@ use Rattle.std.proofs.Common.{◌≡◌, ◌⊎◌, inl, inr, ◌∙◌, ℕ, Bo
 use Rattle.std.specs.declared.alloc.AllocError.{AllocError}
 use Rattle.protocol_errors.specs.declared.error.Error.{Error}
 use Rattle.protocol_stream.specs.declared.decoder.RawMessage.{RawMessage}
-use Rattle.vm_errors.specs.Failing.{FailsAs}
-use Rattle.vm_errors.specs.Phases.{kept_error}
-use Rattle.vm_errors.specs.declared.phase.Phase.TheVariants as phases
+use Rattle.vm_start.specs.Failing.{FailsAs}
+use Rattle.vm_start.specs.Phases.{kept_error}
+use Rattle.vm_start.specs.declared.phase.Phase.TheVariants as phases
 use Rattle.vm_feeding.specs.Feeding.{has_failed, with_input, TakesEach, RestsWhere, TakesAll, IsFed}
 use Rattle.vm_feeding.specs.Failing.{HasFailed}
 use Rattle.vm_feeding.specs.Passed.{MachineState}

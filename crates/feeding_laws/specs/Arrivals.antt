@@ -15,8 +15,8 @@ use Rattle.protocol_stream.specs.Frame.{message_of}
 use Rattle.protocol_stream.specs.Item.{message, item_at}
 use Rattle.protocol_messages.specs.Decoded.{DecodesNotification}
 use Rattle.protocol_spellings.specs.Records.{notification_record}
-use Rattle.vm_entries.specs.Incoming.{incoming_of}
-use Rattle.vm_entries.specs.declared.incoming.Incoming.TheVariants as incoming
+use Rattle.vm_machine.specs.Incoming.{incoming_of}
+use Rattle.vm_machine.specs.declared.incoming.Incoming.TheVariants as incoming
 
 -- each number of its record is within its type, each text is UTF-8, and the length of its payload is one that a header tells
 pub record ArrivalFits (arrival : Arrival) : Type 0 where

@@ -19,8 +19,8 @@ use Rattle.protocol_stream.specs.Records.{input_record, start_record}
 use Rattle.protocol_messages.specs.Decoded.{DecodesTo}
 use Rattle.vm_commands.specs.Recorded.{command_of}
 use Rattle.vm_context.specs.Following as following
-use Rattle.vm_entries.specs.Incoming.{incoming_of}
-use Rattle.vm_entries.specs.declared.incoming.Incoming.TheVariants as incoming
+use Rattle.vm_machine.specs.Incoming.{incoming_of}
+use Rattle.vm_machine.specs.declared.incoming.Incoming.TheVariants as incoming
 use Rattle.vm_start.specs.Starts.{pairs_of}
 
 -- ---- the input

@@ -10,9 +10,9 @@ use Rattle.journal_model.specs.Attempt.{input_bytes, arrivals_within}
 use Rattle.input_laws.specs.Message.{InputMessage, piece_of}
 use Rattle.attempt_model.specs.Machine.{Machine}
 use Rattle.vm_calls.specs.Active.{Sees}
-use Rattle.vm_errors.specs.declared.phase.Phase.{Phase}
-use Rattle.vm_errors.specs.declared.phase.Phase.TheVariants as phases
-use Rattle.vm_entries.specs.Gathering.{Gathers}
+use Rattle.vm_start.specs.declared.phase.Phase.{Phase}
+use Rattle.vm_start.specs.declared.phase.Phase.TheVariants as phases
+use Rattle.vm_machine.specs.Gathering.{Gathers}
 use Rattle.vm_feeding.specs.Feeding.{has_failed, IsFed}
 use Rattle.vm_feeding.specs.Passed.{MachineState}
 use Rattle.feeding_laws.specs.Memory.{FailsForMemory}

@@ -1,7 +1,7 @@
 -- A machine for which there was no memory.
 use Rattle.std.specs.Prelude.{◌≡◌}
-use Rattle.vm_errors.specs.Failing.{out_of_memory, ended}
-use Rattle.vm_errors.specs.declared.phase.Phase.TheVariants.{Failed}
+use Rattle.vm_start.specs.Failing.{out_of_memory, ended}
+use Rattle.vm_start.specs.declared.phase.Phase.TheVariants.{Failed}
 use Rattle.vm_feeding.specs.Passed.{MachineState}
 
 -- it has failed for want of memory, and has written nothing of that

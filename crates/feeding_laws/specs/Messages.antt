@@ -10,10 +10,10 @@ use Rattle.input_laws.specs.Message.{InputMessage, CarriesInput, CarriesRequest,
 use Rattle.attempt_model.specs.Machine.{Machine, with_arrival}
 use Rattle.vm_calls.specs.declared.active.Active.{Active}
 use Rattle.vm_calls.specs.Active.{Sees}
-use Rattle.vm_errors.specs.Phases.{phase_after_entry}
-use Rattle.vm_errors.specs.declared.phase.Phase.{Phase}
-use Rattle.vm_errors.specs.declared.phase.Phase.TheVariants as phases
-use Rattle.vm_entries.specs.Gathering.{Gathers, with_command}
+use Rattle.vm_start.specs.Phases.{phase_after_entry}
+use Rattle.vm_start.specs.declared.phase.Phase.{Phase}
+use Rattle.vm_start.specs.declared.phase.Phase.TheVariants as phases
+use Rattle.vm_machine.specs.Gathering.{Gathers, with_command}
 use Rattle.vm_feeding.specs.Feeding.{LacksMemory, TakesNext}
 use Rattle.vm_feeding.specs.Passed.{MachineState}
 use Rattle.request_laws.specs.Fitting.{RequestFits}

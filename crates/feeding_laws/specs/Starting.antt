@@ -13,9 +13,9 @@ use Rattle.journal_model.specs.Headline.{shown_state}
 use Rattle.journal_model.specs.Run.{Invocation}
 use Rattle.attempt_model.specs.Machine.{machine_at_start}
 use Rattle.vm_start.specs.Starts.{AreText, without_state}
-use Rattle.vm_errors.specs.declared.phase.Phase.TheVariants as phases
-use Rattle.vm_entries.specs.Starting.{IsFresh}
-use Rattle.vm_entries.specs.Gathering.{Gathers}
+use Rattle.vm_start.specs.declared.phase.Phase.TheVariants as phases
+use Rattle.vm_machine.specs.Starting.{IsFresh}
+use Rattle.vm_machine.specs.Gathering.{Gathers}
 use Rattle.vm_feeding.specs.Feeding.{TakesNext}
 use Rattle.vm_feeding.specs.Passed.{MachineState}
 use Rattle.feeding_laws.specs.Beginning.{StartsFit}

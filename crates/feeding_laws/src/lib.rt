@@ -7,7 +7,7 @@ ghost use Rattle.feeding_laws.specs.Beginning.{InputsReadBack, StartsReadBack};
 ghost use Rattle.feeding_laws.specs.Starting.{StartsAreKept};
 ghost use Rattle.feeding_laws.specs.Inputs.{InputsAreKept, FailedMachinesStay, NoArrivalIsHeld};
 
-use vm_entries::{entries_are_gathered, starts_begin_attempts};
+use vm_machine::{entries_are_gathered, starts_begin_attempts};
 
 /// A machine that is fed an arrival's frame, as the notification that completes what a recorded request asked for, is handed that arrival.
 pub fn arrivals_read_back()

@@ -24,7 +24,7 @@ use Rattle.turning_laws.specs.Sending.sent
 use Rattle.turning_laws.specs.Sending.{Sent, Asks, is_recorded, sent_stream, sent_frame, frame_meant, IsOfStore}
 use Rattle.turning_laws.specs.Servings.{Serves, IsOver, machine_failed, StaysClosed, IsLiveAt}
 use Rattle.turning_laws.specs.Turning.{TurnsBehind}
-use Rattle.vm_errors.specs.Failing.{out_of_memory}
+use Rattle.vm_start.specs.Failing.{out_of_memory}
 use Rattle.schedule_model.specs.declared.held.HeldAttempt.{HeldAttempt}
 use Rattle.schedule_model.specs.First.{with_first}
 use Rattle.schedule_model.specs.Held.{is_held, held_of}

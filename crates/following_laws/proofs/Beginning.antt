@@ -22,7 +22,7 @@ use Rattle.position_laws.specs.Beginning.{AttemptStart, start_after}
 use Rattle.machine_laws.specs.Living.{IsLiveMachine, attempt_begun}
 use Rattle.vm_types.specs.Options.{run_options}
 use Rattle.vm_types.specs.declared.options.VMOptions.{VMOptions}
-use Rattle.vm_errors.specs.Failing.{out_of_memory}
+use Rattle.vm_start.specs.Failing.{out_of_memory}
 use Rattle.turning_laws.specs.Attempts.{Feeds, output_of}
 use Rattle.turning_laws.specs.Reading.{IsRunOf}
 use Rattle.turning_laws.specs.Sending.{frame_meant}

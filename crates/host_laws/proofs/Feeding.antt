@@ -12,26 +12,26 @@ use Rattle.protocol_stream.specs.declared.decoder.DecodingError.{DecodingError}
 use Rattle.protocol_stream.specs.declared.decoder.RawMessage.{RawMessage}
 use Rattle.protocol_types.specs.declared.message_type.MessageType.TheVariants.{InputCommand}
 use Rattle.vm_awaits.specs.Views.{AsyncResults, delivery_of}
-use Rattle.vm_beginning.specs.Reading.{Gives, ReadsAs, AnswersReading, ReadsInputs, IsRead}
-use Rattle.vm_beginning.specs.declared.reading.Reading.{Reading}
-use Rattle.vm_beginning.specs.declared.reading.Reading.TheVariants as readings
+use Rattle.vm_feeding.specs.Reading.{Gives, ReadsAs, AnswersReading, ReadsInputs, IsRead}
+use Rattle.vm_feeding.specs.declared.reading.Reading.{Reading}
+use Rattle.vm_feeding.specs.declared.reading.Reading.TheVariants as readings
 use Rattle.vm_calls.specs.Active.{has_left, still_replays}
 use Rattle.vm_calls.specs.Passed.{commands_of}
 use Rattle.vm_calls.specs.declared.active.Active.{Active}
 use Rattle.vm_context.specs.Eager.{KnownState}
 use Rattle.vm_context.specs.Following.{KnowsState, start_of}
 use Rattle.vm_context.specs.Output.{all_taken}
-use Rattle.vm_entries.specs.Entries.{ComesCommand, ComesNotification}
-use Rattle.vm_entries.specs.Incoming.{incoming_of}
-use Rattle.vm_entries.specs.Input.{Leaves}
-use Rattle.vm_entries.specs.Starting.{ComesStart}
-use Rattle.vm_entries.specs.declared.entry_error.EntryError.{EntryError}
-use Rattle.vm_entries.specs.declared.incoming.Incoming.{Incoming}
-use Rattle.vm_entries.specs.declared.incoming.Incoming.TheVariants as incoming
-use Rattle.vm_entries.specs.declared.input.InputError.{InputError}
-use Rattle.vm_errors.specs.Phases.{phase_after_entry}
-use Rattle.vm_errors.specs.declared.phase.Phase.{Phase}
-use Rattle.vm_errors.specs.declared.phase.Phase.TheVariants as phases
+use Rattle.vm_machine.specs.Entries.{ComesCommand, ComesNotification}
+use Rattle.vm_machine.specs.Incoming.{incoming_of}
+use Rattle.vm_machine.specs.Input.{Leaves}
+use Rattle.vm_machine.specs.Starting.{ComesStart}
+use Rattle.vm_machine.specs.declared.entry_error.EntryError.{EntryError}
+use Rattle.vm_machine.specs.declared.incoming.Incoming.{Incoming}
+use Rattle.vm_machine.specs.declared.incoming.Incoming.TheVariants as incoming
+use Rattle.vm_machine.specs.declared.input.InputError.{InputError}
+use Rattle.vm_start.specs.Phases.{phase_after_entry}
+use Rattle.vm_start.specs.declared.phase.Phase.{Phase}
+use Rattle.vm_start.specs.declared.phase.Phase.TheVariants as phases
 use Rattle.vm_feeding.specs.Asking.{TakesOutput}
 use Rattle.vm_feeding.specs.Closing.{is_waiting, ClosesWhere, ClosesInput, input_closed}
 use Rattle.vm_feeding.specs.Failing.{HasFailed}

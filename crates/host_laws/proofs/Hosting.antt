@@ -5,14 +5,14 @@ use Rattle.journal_model.specs.declared.call.Call.{Call}
 use Rattle.journal_model.specs.declared.options.SignalDelivery.{SignalDelivery}
 use Rattle.protocol_types.specs.declared.version.Version.{Version}
 use Rattle.vm_awaits.specs.Views.{AsyncResults}
-use Rattle.vm_beginning.specs.Beginning.{IsNew}
+use Rattle.vm_feeding.specs.Beginning.{IsNew}
 use Rattle.vm_calls.specs.declared.active.Active.{Active}
 use Rattle.vm_context.specs.Eager.{KnownState, known_from}
 use Rattle.vm_context.specs.Following.{KnowsState}
 use Rattle.vm_context.specs.Output.{Written}
-use Rattle.vm_entries.specs.Starting.{IsFresh}
-use Rattle.vm_errors.specs.declared.phase.Phase.{Phase}
-use Rattle.vm_errors.specs.declared.phase.Phase.TheVariants as phases
+use Rattle.vm_machine.specs.Starting.{IsFresh}
+use Rattle.vm_start.specs.declared.phase.Phase.{Phase}
+use Rattle.vm_start.specs.declared.phase.Phase.TheVariants as phases
 use Rattle.vm_feeding.specs.Passed.{MachineState}
 use Rattle.vm_types.specs.declared.options.VMOptions.{VMOptions}
 use Rattle.host_laws.specs.Hosting.{HostCall, NotifyInput, NotifyInputClosed, NotifyError, TakeOutput, SysInput, EphemeralStateGet, TakeEphemeralNotification, MakeCall, MakesCall, Does, DoesEach}

@@ -19,12 +19,12 @@ use Rattle.vm_calls.specs.declared.active.Active.{Active}
 use Rattle.vm_context.specs.Eager.{KnownState}
 use Rattle.vm_context.specs.Following.{KnowsState}
 use Rattle.vm_context.specs.Output.{Written}
-use Rattle.vm_errors.specs.Failing.{Fails}
-use Rattle.vm_errors.specs.Phases.{kept_error}
-use Rattle.vm_errors.specs.declared.phase.Phase.{Phase}
-use Rattle.vm_errors.specs.declared.phase.Phase.TheVariants as phases
+use Rattle.vm_start.specs.Failing.{Fails}
+use Rattle.vm_start.specs.Phases.{kept_error}
+use Rattle.vm_start.specs.declared.phase.Phase.{Phase}
+use Rattle.vm_start.specs.declared.phase.Phase.TheVariants as phases
 use Rattle.vm_feeding.specs.Passed.{MachineFails, is_active, AdmitsWhere, GoesOn, Steps, Admission, Admitted, Elsewhere, Stopped, MachineState}
-use Rattle.vm_handles.specs.Handles.{id_of}
+use Rattle.vm_feeding.specs.Handles.{id_of}
 use Rattle.vm_refusals.specs.declared.refusal_error.RefusalError.{RefusalError}
 use Rattle.vm_types.specs.declared.options.JournalMismatchRetryBehavior.{JournalMismatchRetryBehavior}
 use Rattle.host_laws.specs.Standing.{IsSeen, IsSpokenOf}

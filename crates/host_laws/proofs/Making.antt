@@ -20,10 +20,10 @@ use Rattle.vm_calls.specs.Spent.{IsSpent, FailsSpent}
 use Rattle.vm_calls.specs.declared.active.Active.{Active}
 use Rattle.vm_calls.specs.declared.call_error.CallError.{CallError}
 use Rattle.vm_feeding.specs.Passed.{checks_off, is_active, IsElsewhere, IsMade, IsOf, Calls, IsUnexpected, MachineState, NumberCauses, Settles, Steps}
-use Rattle.vm_handles.specs.Calling.{AnswersBy, IsCalled}
-use Rattle.vm_handles.specs.Handles.{id_of, MakesSignal, IsNoSignal, MakesAwakeable, IsAwakeableWhere, IsAwakeable, IsNoAwakeableWhere, IsNoAwakeable, TakesFirst, TakeCauses}
+use Rattle.vm_feeding.specs.Calling.{AnswersBy, IsCalled}
+use Rattle.vm_feeding.specs.Handles.{id_of, MakesSignal, IsNoSignal, MakesAwakeable, IsAwakeableWhere, IsAwakeable, IsNoAwakeableWhere, IsNoAwakeable, TakesFirst, TakeCauses}
 use Rattle.vm_machine.specs.Steps.{IsMissed}
-use Rattle.vm_reading.specs.Reading.{ReadKind, IsRead, MissesNext, SettlesRead, StepsOfRead}
+use Rattle.vm_progress.specs.Reading.{ReadKind, IsRead, MissesNext, SettlesRead, StepsOfRead}
 use Rattle.vm_state_reads.specs.Reading.{Reads}
 use Rattle.vm_state_reads.specs.Spent.{ReadFailsSpent}
 use Rattle.vm_state_reads.specs.declared.read_error.ReadError.{ReadError}

@@ -16,10 +16,10 @@ use Rattle.vm_context.specs.Output.{Written, with_frame}
 use Rattle.vm_context.specs.declared.eager_state.EagerGetState.{EagerGetState}
 use Rattle.vm_context.specs.declared.eager_state.EagerGetState.TheVariants as told
 use Rattle.vm_ephemeral.specs.Reads.{asked, known, after_take}
-use Rattle.vm_ephemeral_calls.specs.Reading.{read_message, Registers, Sends, AsksNext, Asks, AsksWhere, Gets, GetsBehind, GetsIn, MissesIn, IsGot, TakesWhere, IsTaken}
-use Rattle.vm_ephemeral_calls.specs.Refusals.{lacks_reads}
-use Rattle.vm_errors.specs.Phases.{kept_error}
-use Rattle.vm_errors.specs.declared.phase.Phase.TheVariants as phases
+use Rattle.vm_feeding.specs.EphemeralReading.{read_message, Registers, Sends, AsksNext, Asks, AsksWhere, Gets, GetsBehind, GetsIn, MissesIn, IsGot, TakesWhere, IsTaken}
+use Rattle.vm_feeding.specs.Refusals.{lacks_reads}
+use Rattle.vm_start.specs.Phases.{kept_error}
+use Rattle.vm_start.specs.declared.phase.Phase.TheVariants as phases
 use Rattle.vm_feeding.specs.Passed.{is_active, IsUnexpected, MachineState}
 use Rattle.vm_progress.specs.Asleep.{FailsUnwritten, SettlesStay, ClosesAs, SleepsAs, Sleeps}
 use Rattle.vm_progress.specs.Awaiting.{ready_read, GoesOnAs, IsAwaited, DoesAwaitWhere, DoesAwait}

@@ -7,9 +7,9 @@ use Rattle.journal_model.specs.declared.handler.Input.{Input}
 use Rattle.journal_model.specs.declared.value.Value.{Value}
 use Rattle.protocol_differences.specs.declared.relationship.CommandRelationship.{CommandRelationship}
 use Rattle.protocol_errors.specs.declared.error.Error.{Error}
-use Rattle.vm_beginning.specs.Reading.{IsRead}
-use Rattle.vm_ephemeral_calls.specs.Reading.{IsGot, IsTaken}
-use Rattle.vm_errors.specs.Phases.{kept_error}
+use Rattle.vm_feeding.specs.Reading.{IsRead}
+use Rattle.vm_feeding.specs.EphemeralReading.{IsGot, IsTaken}
+use Rattle.vm_start.specs.Phases.{kept_error}
 use Rattle.vm_feeding.specs.Asking.{TakesOutput}
 use Rattle.vm_feeding.specs.Closing.{ClosesInput}
 use Rattle.vm_feeding.specs.Feeding.{IsFed}

@@ -4,12 +4,12 @@ use Rattle.journal_model.specs.Run.{Invocation}
 use Rattle.journal_model.specs.declared.options.ImplicitCancellationOption.{ImplicitCancellationOption}
 use Rattle.attempt_model.specs.Machine.{Machine}
 use Rattle.protocol_types.specs.declared.version.Version.{Version}
-use Rattle.vm_beginning.specs.Beginning.{IsNew}
+use Rattle.vm_feeding.specs.Beginning.{IsNew}
 use Rattle.vm_calls.specs.Active.{Sees}
 use Rattle.vm_calls.specs.Spent.{IsSpent}
-use Rattle.vm_errors.specs.declared.phase.Phase.TheVariants as phases
+use Rattle.vm_start.specs.declared.phase.Phase.TheVariants as phases
 use Rattle.vm_feeding.specs.Passed.{IsOf, MachineState}
-use Rattle.vm_handles.specs.Handles.{id_of}
+use Rattle.vm_feeding.specs.Handles.{id_of}
 use Rattle.vm_types.specs.declared.options.VMOptions.{VMOptions}
 use Rattle.host_laws.specs.Hosting.{HostCall, DoesEach}
 

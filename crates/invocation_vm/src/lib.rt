@@ -21,7 +21,7 @@ pub use vm_types::{
 };
 
 // What it is answered of a run, and tells of one. No call does so yet.
-pub use vm_runs::{
+pub use vm_refusals::{
     EntryRetryInfo, Factor, NextRetry, OnMaxAttempts, RetryPolicy, RunExitResult, RunHandle,
 };
 

@@ -49,7 +49,7 @@ use Rattle.vm_commands.specs.Recorded.{unless_wrong, request_read}
 use Rattle.store_frames.specs.Meaning.{unless_faulty, read_as, command_or_broken, error_frame, suspension_frame, frame_of}
 use Rattle.store_frames.specs.Requests.{suspension_of_tree, suspension_of_lists}
 use Rattle.store_frames.proofs.Payloads.{lists_payload as lists_spelled}
-use Rattle.vm_errors.specs.Failure.{told_error}
+use Rattle.vm_start.specs.Failure.{told_error}
 use Rattle.vm_waiting.specs.Suspending.{listed, lists_payload}
 use Rattle.request_laws.specs.Fitting.{RequestFits}
 use Rattle.request_laws.proofs.Requests.{payload_read}

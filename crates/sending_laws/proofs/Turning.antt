@@ -19,7 +19,7 @@ use Rattle.vm_context.specs.Output.{Written}
 use Rattle.vm_calls.specs.declared.active.Active.{Active}
 use Rattle.vm_waiting.specs.Suspending.{over_ids}
 use Rattle.vm_waiting.proofs.TellsAsRun.{left_out}
-use Rattle.vm_errors.specs.Failure.{told_error}
+use Rattle.vm_start.specs.Failure.{told_error}
 use Rattle.request_laws.specs.Fitting.{RequestFits}
 use Rattle.sending_laws.specs.Sent.{Asks, Awaits, Suspends, Fails, Ends, AllFit, is_recorded, suspension_told, frame_meant}
 use Rattle.sending_laws.specs.Writing.{Sends}

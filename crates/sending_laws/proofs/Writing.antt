@@ -13,7 +13,7 @@ use Rattle.protocol_stream.proofs.Spellings.{spelled-frame_bytes}
 use Rattle.vm_context.specs.Output.{Written, with_frame}
 use Rattle.vm_calls.specs.declared.active.Active.{Active}
 use Rattle.vm_waiting.specs.Suspending.{over_ids}
-use Rattle.vm_errors.specs.Failure.{told_error}
+use Rattle.vm_start.specs.Failure.{told_error}
 use Rattle.sending_laws.specs.Sent.{Sent, Asks, Awaits, Suspends, Fails, Ends, sent_frame, sent_stream}
 use Rattle.sending_laws.specs.Writing.{Sends, CommandsAreWritten, AwaitsAreWritten, SuspensionsAreWritten, ErrorsAreWritten, EndsAreWritten, FramesAreWritten}
 

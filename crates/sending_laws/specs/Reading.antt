@@ -13,7 +13,7 @@ use Rattle.protocol_errors.specs.declared.error.Error.{Error}
 use Rattle.store_frames.specs.Meaning.{frame_of}
 use Rattle.store_frames.specs.Requests.{behavior_in}
 use Rattle.std.specs.Prelude.{option_map}
-use Rattle.vm_errors.specs.Failure.{told_error, told_delay, behavior_number}
+use Rattle.vm_start.specs.Failure.{told_error, told_delay, behavior_number}
 use Rattle.sending_laws.specs.Sent.{Sent, Fails, sent_frame, sent_stream, sent_payload, sent_message, SentFits, AllFit, frame_meant}
 
 -- ---- one frame

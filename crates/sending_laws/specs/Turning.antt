@@ -16,7 +16,7 @@ use Rattle.vm_context.specs.Output.{Written}
 use Rattle.vm_calls.specs.declared.active.Active.{Active}
 use Rattle.vm_calls.specs.Making.{Replies}
 use Rattle.vm_waiting.specs.Suspending.{over_ids, Writes, IsSuspended, TellsIf}
-use Rattle.vm_errors.specs.Failing as failing
+use Rattle.vm_start.specs.Failing as failing
 use Rattle.protocol_errors.specs.declared.error.Error.{Error}
 use Rattle.request_laws.specs.Fitting.{RequestFits}
 use Rattle.handle_laws.specs.Trees.{TreeFits}

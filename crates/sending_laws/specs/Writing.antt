@@ -8,8 +8,8 @@ use Rattle.vm_context.specs.Output.{Written}
 use Rattle.vm_calls.specs.declared.active.Active.{Active}
 use Rattle.vm_calls.specs.Active.{writes_frames}
 use Rattle.vm_waiting.specs.Suspending.{over_ids, Writes, IsSuspended, TellsIf}
-use Rattle.vm_errors.specs.Failure.{told_error}
-use Rattle.vm_errors.specs.Failing as failing
+use Rattle.vm_start.specs.Failure.{told_error}
+use Rattle.vm_start.specs.Failing as failing
 use Rattle.handle_laws.specs.Trees.{TreeFits}
 use Rattle.sending_laws.specs.Sent.{Sent, Asks, Awaits, Suspends, Fails, Ends, sent_stream, SentFits}
 

@@ -9,7 +9,7 @@ use Rattle.protocol_types.specs.declared.version.ContentTypeError.{ContentTypeEr
 use Rattle.protocol_types.proofs.Versions.{content_types_read_back}
 use Rattle.journal_model.specs.declared.options.SignalDelivery.{SignalDelivery}
 use Rattle.journal_model.specs.Start.{start_payload_of}
-use Rattle.vm_entries.specs.Starting.{IsFresh}
+use Rattle.vm_machine.specs.Starting.{IsFresh}
 use Rattle.vm_start.specs.Negotiation.{Negotiates}
 use Rattle.vm_start.specs.declared.negotiation.NegotiationError.{NegotiationError}
 use Rattle.beginning_laws.proofs.Messages.{all_in_front}

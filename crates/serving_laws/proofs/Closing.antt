@@ -1,7 +1,7 @@
 -- The input of an attempt is closed.
 use Rattle.std.proofs.Common.{◌≡◌, ◌⊎◌, inl, inr, ◌∙◌, ℕ, Bool, true, ◌++◌, map, Option, Some, None, Ok, refl, sym, ap, subst}
 use Rattle.std.specs.List.{AllByRecursion}
-use Rattle.vm_errors.specs.Phases.{kept_error}
+use Rattle.vm_start.specs.Phases.{kept_error}
 use Rattle.serving_laws.specs.Serving.{kind_where, HasNotRead, HasRead, Serves}
 use Rattle.serving_laws.specs.Keeping.{early_error, StaysClosed, ClosesEarly, ClosesServing, WritesNothing}
 use Rattle.serving_laws.proofs.Notes.{TellsNotes, cause_tells, fails_with, waits_more}

@@ -7,8 +7,8 @@ use Rattle.turn_laws.proofs.Sending.{sends-append}
 use Rattle.turn_laws.proofs.Turning.{writes_send}
 use Rattle.protocol_types.specs.Feature.{has_feature}
 use Rattle.protocol_types.specs.declared.feature.Feature.TheVariants as features
-use Rattle.vm_errors.specs.Failure.{asked_behavior, failed_with}
-use Rattle.vm_errors.specs.Phases.{kept_error}
+use Rattle.vm_start.specs.Failure.{asked_behavior, failed_with}
+use Rattle.vm_start.specs.Phases.{kept_error}
 use Rattle.vm_types.specs.declared.options.JournalMismatchRetryBehavior.{JournalMismatchRetryBehavior}
 use Rattle.sending_laws.specs.Writing.{Sends}
 use Rattle.sending_laws.proofs.Writing.{frames_are_written}

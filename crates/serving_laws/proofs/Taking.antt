@@ -2,7 +2,7 @@
 use Rattle.std.proofs.Common.{◌≡◌, ◌⊎◌, inl, inr, ◌∙◌, ℕ, zero, suc, Bool, List, [], ◌++◌, drop, Result, Ok, Err, sym, ap, subst}
 use Rattle.std.specs.declared.alloc.AllocError.{AllocError}
 use Rattle.protocol_records.specs.declared.start.StartMessage.{StartMessage}
-use Rattle.vm_entries.specs.Gathering.{Gathers as GathersAll}
+use Rattle.vm_machine.specs.Gathering.{Gathers as GathersAll}
 use Rattle.serving_laws.specs.Serving.{asking_by_text, kind_where, HasNotRead, HasRead, Serves}
 use Rattle.serving_laws.specs.Keeping.{TakesServing}
 use Rattle.serving_laws.proofs.Beginning.{nothing_held, nothing_more}

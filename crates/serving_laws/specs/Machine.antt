@@ -6,9 +6,9 @@ pub use Rattle.vm_attempt.specs.Outcomes.{IsDriven, Fails, Cause, ByFault, NoNum
 pub use Rattle.vm_calls.specs.Active.{Sees, Fits}
 pub use Rattle.vm_calls.specs.declared.active.Active.{Active}
 pub use Rattle.vm_context.specs.Output.{Written, with_frame}
-pub use Rattle.vm_errors.specs.Failing.{FailsNow, FailsAs, TellsCause, Tells, IsTooLong, Writes, out_of_memory}
-pub use Rattle.vm_errors.specs.Failure.{told_error}
-pub use Rattle.vm_errors.specs.declared.phase.Phase.TheVariants as phases
-pub use Rattle.vm_errors.specs.declared.phase.Phase.{Phase}
+pub use Rattle.vm_start.specs.Failing.{FailsNow, FailsAs, TellsCause, Tells, IsTooLong, Writes, out_of_memory}
+pub use Rattle.vm_start.specs.Failure.{told_error}
+pub use Rattle.vm_start.specs.declared.phase.Phase.TheVariants as phases
+pub use Rattle.vm_start.specs.declared.phase.Phase.{Phase}
 pub use Rattle.vm_machine.specs.Calls.{checks_off}
 pub use Rattle.vm_machine.specs.declared.machine_state.MachineState.{MachineState}

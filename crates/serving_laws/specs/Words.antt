@@ -34,6 +34,6 @@ pub use Rattle.protocol_types.specs.declared.version.Version.{Version}
 pub use Rattle.protocol_wire.specs.declared.record.TheConstants.{LEVELS}
 pub use Rattle.turn_laws.specs.Sending.{requests_sent, FollowsSo}
 pub use Rattle.turn_laws.specs.Turning.{IsNote, notes}
-pub use Rattle.vm_handles.specs.Handles.{id_of}
+pub use Rattle.vm_feeding.specs.Handles.{id_of}
 pub use Rattle.vm_types.specs.Options.{run_options}
 pub use Rattle.vm_types.specs.declared.options.VMOptions.{VMOptions}

@@ -2,9 +2,9 @@
 use Rattle.std.proofs.Common.{◌≡◌, inl, inr, ap, sym, subst}
 use Rattle.journal_model.specs.declared.call.Call.{Call}
 use Rattle.request_laws.specs.Calls.{IsTypedCall}
-use Rattle.vm_driving.specs.Machine.{CoreVM}
-use Rattle.vm_driving.specs.Outcomes.outcomes
-use Rattle.vm_driving.specs.Outcomes.{CarriesOut, CallOutcome}
+use Rattle.vm_core.specs.Machine.{CoreVM}
+use Rattle.vm_core.specs.Outcomes.outcomes
+use Rattle.vm_core.specs.Outcomes.{CarriesOut, CallOutcome}
 use Rattle.vm_attempt.specs.Turning.{TakesOutcome, CarriesCall}
 use Rattle.vm_attempt.specs.declared.attempt.Attempt.{Attempt}
 use Rattle.vm_attempt.specs.declared.turn.Turn.{Turn}

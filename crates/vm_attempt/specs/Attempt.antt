@@ -5,8 +5,8 @@ use Rattle.journal_model.specs.Notification.{Bytes}
 use Rattle.protocol_errors.specs.declared.error.Error.{Error}
 use Rattle.protocol_types.specs.Version.{version_content_type}
 use Rattle.protocol_types.specs.declared.version.Version.{Version}
-use Rattle.vm_beginning.specs.Beginning.{Begins}
-use Rattle.vm_driving.specs.Machine.{state_made, CoreVM}
+use Rattle.vm_feeding.specs.Beginning.{Begins}
+use Rattle.vm_core.specs.Machine.{state_made, CoreVM}
 use Rattle.vm_feeding.specs.Closing as closing
 use Rattle.vm_feeding.specs.Feeding.{IsFed}
 use Rattle.vm_types.specs.declared.options.VMOptions.{VMOptions}

@@ -1,5 +1,5 @@
 -- How a machine begins, takes its input in and is read, passed on, so that crates above name this one alone.
-pub use Rattle.vm_beginning.specs.Beginning.{IsNew, BeginsAs}
+pub use Rattle.vm_feeding.specs.Beginning.{IsNew, BeginsAs}
 pub use Rattle.vm_feeding.specs.Asking.{IsReady}
 pub use Rattle.vm_feeding.specs.Closing.{is_waiting, input_closed, ClosesWhere, ClosesInput}
 pub use Rattle.vm_feeding.specs.Failing.{HasFailed}

@@ -8,12 +8,12 @@ use Rattle.protocol_errors.specs.Code.{unsupported_feature}
 use Rattle.protocol_errors.specs.Error.{plain_error}
 use Rattle.protocol_errors.specs.declared.error.Error.{Error}
 use Rattle.request_laws.specs.Calls.{IsTypedCall}
-use Rattle.vm_beginning.specs.Reading.{IsRead}
-use Rattle.vm_errors.specs.Failing.{out_of_memory}
+use Rattle.vm_feeding.specs.Reading.{IsRead}
+use Rattle.vm_start.specs.Failing.{out_of_memory}
 use Rattle.vm_feeding.specs.Asking.{IsReady}
 use Rattle.vm_feeding.specs.Telling.{IsTold}
-use Rattle.vm_driving.specs.Outcomes.outcomes
-use Rattle.vm_driving.specs.Outcomes.{CarriesOut, CallOutcome}
+use Rattle.vm_core.specs.Outcomes.outcomes
+use Rattle.vm_core.specs.Outcomes.{CarriesOut, CallOutcome}
 use Rattle.vm_attempt.specs.Covered.{is_covered}
 use Rattle.vm_attempt.specs.declared.attempt.Attempt.{Attempt}
 use Rattle.vm_attempt.specs.declared.turn.Finish.{Finish}

@@ -16,7 +16,7 @@ use protocol_types::Version;
 use sequence::Sequence;
 use std::alloc::{AllocError, Global};
 use std::mem::replace;
-use vm_driving::{CallOutcome, CoreVM, VM, carry_out};
+use vm_core::{CallOutcome, CoreVM, VM, carry_out};
 use vm_types::VMOptions;
 
 /// A handler at work on an invocation: its machine, what it was answered, and what is to go out.

@@ -10,4 +10,4 @@ mod typed;
 
 pub use attempt::Attempt;
 pub use turn::{Finish, Turn};
-pub use vm_driving::{CoreVM, VM, VMResult};
+pub use vm_core::{CoreVM, VM, VMResult};

@@ -4,7 +4,7 @@ ghost use Rattle.vm_attempt.specs.Turning.{again, not_carried_out};
 
 use bytes::ByteStr;
 use protocol_errors::{Error, codes};
-use vm_errors::out_of_memory;
+use vm_start::out_of_memory;
 
 /// What a turn of an attempt came to.
 #[derive(Debug, Drop)]

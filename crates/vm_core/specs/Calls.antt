@@ -17,11 +17,11 @@ use Rattle.protocol_differences.specs.Promises.{complete_promise_command_differe
 use Rattle.protocol_differences.specs.State.{clear_all_state_command_difference, clear_state_command_difference, set_state_command_difference}
 use Rattle.protocol_errors.specs.declared.error.Error.{Error}
 use Rattle.protocol_types.specs.declared.message_type.MessageType.TheVariants as messages
-use Rattle.vm_causes.specs.Causes.{NumberCauses}
+use Rattle.vm_machine.specs.Causes.{NumberCauses}
 use Rattle.vm_context.specs.Eager.{is_known}
-use Rattle.vm_handles.specs.Calling.{IsCalled}
-use Rattle.vm_handles.specs.Handles.{IsAwakeable, IsNoAwakeable, MakesSignal, IsNoSignal, TakesFirst, TakeCauses}
-use Rattle.vm_reading.specs.Reading.{value_read, keys_read, StepsOfRead}
+use Rattle.vm_feeding.specs.Calling.{IsCalled}
+use Rattle.vm_feeding.specs.Handles.{IsAwakeable, IsNoAwakeable, MakesSignal, IsNoSignal, TakesFirst, TakeCauses}
+use Rattle.vm_progress.specs.Reading.{value_read, keys_read, StepsOfRead}
 use Rattle.vm_syscalls.specs.Passed.{Calls, IsUnexpected, Steps, MachineState}
 use Rattle.vm_types.specs.declared.handles.AwakeableHandle.{AwakeableHandle}
 use Rattle.vm_types.specs.declared.handles.CallHandle.{CallHandle}

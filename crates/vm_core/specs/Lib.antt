@@ -1,3 +1,5 @@
 pub mod Closed
 pub mod Calls
 pub mod Passed
+pub mod Machine
+pub mod Outcomes

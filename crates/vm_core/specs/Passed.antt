@@ -1,2 +1,2 @@
 -- Names of crates below, passed on, so that crates above name this one alone.
-pub use Rattle.vm_reading.specs.Reading.{value_read, keys_read}
+pub use Rattle.vm_progress.specs.Reading.{value_read, keys_read}

@@ -1,16 +1,16 @@
 // The machine, closed.
 ghost use Rattle.std.specs.Prelude.{◌≡◌, ◌-ℤ◌, pos, IfOk, IfErr};
 ghost use Rattle.journal_model.specs.Future.{tree_of};
-ghost use Rattle.vm_beginning.specs.Beginning.{Begins, head_of};
-ghost use Rattle.vm_beginning.specs.Reading.{IsRead};
-ghost use Rattle.vm_ephemeral_calls.specs.Reading.{IsGot, IsTaken};
-ghost use Rattle.vm_errors.specs.Failing.{out_of_memory};
-ghost use Rattle.vm_errors.specs.Phases.{kept_error};
+ghost use Rattle.vm_feeding.specs.Beginning.{Begins, head_of};
+ghost use Rattle.vm_feeding.specs.Reading.{IsRead};
+ghost use Rattle.vm_feeding.specs.EphemeralReading.{IsGot, IsTaken};
+ghost use Rattle.vm_start.specs.Failing.{out_of_memory};
+ghost use Rattle.vm_start.specs.Phases.{kept_error};
 ghost use Rattle.vm_feeding.specs.Asking.{state_of, IsReady, TakesOutput};
 ghost use Rattle.vm_feeding.specs.Closing.{ClosesInput};
 ghost use Rattle.vm_feeding.specs.Feeding.{IsFed};
 ghost use Rattle.vm_feeding.specs.Telling.{IsTold};
-ghost use Rattle.vm_handles.specs.Handles.{id_of, IsNamed, Looks};
+ghost use Rattle.vm_feeding.specs.Handles.{id_of, IsNamed, Looks};
 ghost use Rattle.vm_progress.specs.Awaiting.{DoesAwait};
 ghost use Rattle.vm_progress.specs.Ending.{EndsAs};
 ghost use Rattle.vm_core.specs.Closed.{state_made};
@@ -28,8 +28,8 @@ use protocol_errors::Error;
 use protocol_stream::HeaderMap;
 use std::alloc::{AllocError, Global};
 use std::fmt;
-use vm_beginning::begin;
-use vm_errors::Phase;
+use vm_feeding::begin;
+use vm_start::Phase;
 use vm_syscalls::MachineState;
 use vm_types::{
     AwaitResponse, AwakeableHandle, CallHandle, EphemeralCompletionId, ResponseHead, SendHandle,
@@ -89,7 +89,7 @@ impl VM for CoreVM {
         ensures head { IfOk result (λ head. head ≡ head_of self.now.state.version) }
         ensures memory { IfErr result (λ error. error ≡ out_of_memory) }
     {
-        vm_beginning::get_response_head(&self.state)
+        vm_feeding::get_response_head(&self.state)
     }
 
     fn notify_input(&mut self, buffer: Bytes)
@@ -125,7 +125,7 @@ impl VM for CoreVM {
     fn is_completed(&self, handle: NotificationHandle) -> bool
         ensures { Looks self.now.state.phase self.now.state.active handle result }
     {
-        vm_handles::is_completed(&self.state, handle)
+        vm_feeding::is_completed(&self.state, handle)
     }
 
     fn do_await(&mut self, future: UnresolvedFuture) -> VMResult<AwaitResponse>
@@ -137,13 +137,13 @@ impl VM for CoreVM {
     fn take_notification(&mut self, handle: NotificationHandle) -> VMResult<Option<Value>>
         ensures { TakeNotification handle self.old.state result self.new.state }
     {
-        vm_handles::take_notification(&mut self.state, handle)
+        vm_feeding::take_notification(&mut self.state, handle)
     }
 
     fn sys_input(&mut self) -> VMResult<Input>
         ensures { IsRead self.old.state result self.new.state }
     {
-        vm_beginning::sys_input(&mut self.state)
+        vm_feeding::sys_input(&mut self.state)
     }
 
     fn sys_state_get(
@@ -154,25 +154,25 @@ impl VM for CoreVM {
     ) -> VMResult<NotificationHandle>
         ensures { SysStateGet key name options self.old.state result self.new.state }
     {
-        vm_reading::sys_state_get(&mut self.state, key, name, options)
+        vm_progress::sys_state_get(&mut self.state, key, name, options)
     }
 
     fn sys_state_get_keys(&mut self, name: Option<ByteStr>) -> VMResult<NotificationHandle>
         ensures { SysStateGetKeys name self.old.state result self.new.state }
     {
-        vm_reading::sys_state_get_keys(&mut self.state, name)
+        vm_progress::sys_state_get_keys(&mut self.state, name)
     }
 
     fn ephemeral_state_get(&mut self, key: ByteStr) -> VMResult<EphemeralCompletionId>
         ensures { IsGot key self.old.state result self.new.state }
     {
-        vm_ephemeral_calls::ephemeral_state_get(&mut self.state, key)
+        vm_feeding::ephemeral_state_get(&mut self.state, key)
     }
 
     fn take_ephemeral_notification(&mut self, id: EphemeralCompletionId) -> VMResult<Option<Value>>
         ensures { IsTaken id self.old.state result self.new.state }
     {
-        vm_ephemeral_calls::take_ephemeral_notification(&mut self.state, id)
+        vm_feeding::take_ephemeral_notification(&mut self.state, id)
     }
 
     fn sys_state_set(
@@ -246,7 +246,7 @@ impl VM for CoreVM {
         ensures text { IsNamed (id_of self.old.state.start) self.old.state.active result }
         ensures steps { SysAwakeable self.old.state result self.new.state }
     {
-        vm_handles::sys_awakeable(&mut self.state)
+        vm_feeding::sys_awakeable(&mut self.state)
     }
 
     fn sys_complete_awakeable(
@@ -263,7 +263,7 @@ impl VM for CoreVM {
     fn create_signal_handle(&mut self, name: ByteStr) -> VMResult<NotificationHandle>
         ensures { CreateSignalHandle name self.old.state result self.new.state }
     {
-        vm_handles::create_signal_handle(&mut self.state, name)
+        vm_feeding::create_signal_handle(&mut self.state, name)
     }
 
     fn sys_complete_signal(

@@ -4,15 +4,15 @@ use Rattle.std.specs.declared.alloc.AllocError.{AllocError}
 use Rattle.protocol_errors.specs.declared.error.Error.{Error}
 use Rattle.protocol_stream.specs.declared.decoder.RawMessage.{RawMessage}
 use Rattle.protocol_stream.specs.Header.{message_type}
-use Rattle.vm_errors.specs.Failing.{FailsAs}
-use Rattle.vm_errors.specs.Phases.{kept_error}
-use Rattle.vm_errors.specs.declared.phase.Phase.{Phase}
-use Rattle.vm_errors.specs.declared.phase.Phase.TheVariants as phases
+use Rattle.vm_start.specs.Failing.{FailsAs}
+use Rattle.vm_start.specs.Phases.{kept_error}
+use Rattle.vm_start.specs.declared.phase.Phase.{Phase}
+use Rattle.vm_start.specs.declared.phase.Phase.TheVariants as phases
 use Rattle.vm_feeding.specs.Failing.{HasFailed}
 use Rattle.vm_feeding.specs.Feeding.{has_failed, with_bytes}
 use Rattle.vm_machine.specs.Failing.{MachineFails}
-use Rattle.vm_machine.specs.Passed.incoming
-use Rattle.vm_machine.specs.Passed.{incoming_of, EntryError, Incoming}
+use Rattle.vm_machine.specs.PassedMachine.incoming
+use Rattle.vm_machine.specs.PassedMachine.{incoming_of, EntryError, Incoming}
 use Rattle.vm_machine.specs.Receiving.{Receives, Takes, TakesAs}
 use Rattle.vm_machine.specs.declared.machine_state.MachineState.{MachineState}
 

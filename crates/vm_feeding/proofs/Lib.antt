@@ -1,3 +1,7 @@
+mod Inputs
+mod Called
+mod Texts
 mod Keeping
 mod Taking
 mod Cuts
+mod ReadSteps

@@ -3,10 +3,10 @@ use Rattle.std.specs.Prelude.{◌≡◌, ℕ, Bool, true, false, List, codes, Re
 use Rattle.std.specs.declared.alloc.AllocError.{AllocError}
 use Rattle.protocol_errors.specs.declared.error.Error.{Error}
 use Rattle.vm_context.specs.Output.{all_taken}
-use Rattle.vm_errors.specs.Failing.{IsCopy}
-use Rattle.vm_errors.specs.Phases.{closed_error}
-use Rattle.vm_errors.specs.declared.phase.Phase.{Phase}
-use Rattle.vm_errors.specs.declared.phase.Phase.TheVariants as phases
+use Rattle.vm_start.specs.Failing.{IsCopy}
+use Rattle.vm_start.specs.Phases.{closed_error}
+use Rattle.vm_start.specs.declared.phase.Phase.{Phase}
+use Rattle.vm_start.specs.declared.phase.Phase.TheVariants as phases
 use Rattle.vm_machine.specs.declared.machine_state.MachineState.{MachineState}
 use Rattle.vm_types.specs.declared.answers.State.{State}
 use Rattle.vm_types.specs.declared.answers.State.TheVariants as states

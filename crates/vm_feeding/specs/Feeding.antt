@@ -8,10 +8,10 @@ use Rattle.protocol_stream.specs.ErrorText.{decoding_text}
 use Rattle.protocol_stream.specs.declared.decoder.DecodingError.{DecodingError}
 use Rattle.protocol_stream.specs.declared.decoder.DecodingError.TheVariants.{OutOfMemory}
 use Rattle.protocol_stream.specs.declared.decoder.RawMessage.{RawMessage}
-use Rattle.vm_errors.specs.declared.phase.Phase.{Phase}
-use Rattle.vm_errors.specs.declared.phase.Phase.TheVariants.{Failed}
+use Rattle.vm_start.specs.declared.phase.Phase.{Phase}
+use Rattle.vm_start.specs.declared.phase.Phase.TheVariants.{Failed}
 use Rattle.vm_feeding.specs.Failing.{HasFailed}
-use Rattle.vm_machine.specs.Passed.{Tells, Unless}
+use Rattle.vm_machine.specs.PassedMachine.{Tells, Unless}
 use Rattle.vm_machine.specs.Receiving.{Takes}
 use Rattle.vm_machine.specs.declared.machine_state.MachineState.{MachineState}
 

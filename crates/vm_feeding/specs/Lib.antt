@@ -1,3 +1,7 @@
+pub mod Reading
+pub mod Beginning
+pub mod Calling
+pub mod Handles
 pub mod Failing
 pub mod Closing
 pub mod Telling
@@ -5,3 +9,5 @@ pub mod Asking
 pub mod Feeding
 pub mod Cuts
 pub mod Passed
+pub mod Refusals
+pub mod EphemeralReading

@@ -12,7 +12,7 @@ use Rattle.protocol_types.specs.declared.feature.Feature.TheVariants as features
 use Rattle.protocol_types.specs.declared.version.Version.{Version}
 use Rattle.vm_context.specs.Journal.{JournalCounts, command_told, copies_name}
 use Rattle.vm_feeding.specs.Failing.{HasFailed}
-use Rattle.vm_machine.specs.Passed.{Tells}
+use Rattle.vm_machine.specs.PassedMachine.{Tells}
 use Rattle.vm_machine.specs.declared.machine_state.MachineState.{MachineState}
 
 -- whether an error has a behaviour that the version cannot tell: that of being retried is what one has where none is told

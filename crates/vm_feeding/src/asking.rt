@@ -5,8 +5,8 @@ ghost use Rattle.vm_feeding.specs.Asking.{active_state, state_of, IsReady, Takes
 use bytes::{ByteStr, Bytes};
 use protocol_errors::Error;
 use std::alloc::{AllocError, Global};
-use vm_errors::{Phase, or_out_of_memory, unexpected};
 use vm_machine::MachineState;
+use vm_start::{Phase, or_out_of_memory, unexpected};
 use vm_types::State;
 
 // How far one has come of which calls are made.

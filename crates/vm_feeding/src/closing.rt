@@ -4,8 +4,8 @@ ghost use Rattle.vm_feeding.specs.Closing.{is_waiting, ClosesInput};
 
 use crate::failing::let_fail;
 use protocol_errors::INPUT_CLOSED_WHILE_WAITING_ENTRIES;
-use vm_errors::Phase;
 use vm_machine::MachineState;
+use vm_start::Phase;
 
 // Whether calls are not made of it yet.
 fn is_waiting(phase: &Phase) -> bool

@@ -7,8 +7,8 @@ use bytes::Bytes;
 use protocol_errors::Error;
 use protocol_stream::{DecodingError, RawMessage};
 use std::alloc::{AllocError, Global};
-use vm_errors::Phase;
 use vm_machine::{MachineState, about_nothing};
+use vm_start::Phase;
 
 // Whether it takes no message any more.
 fn has_failed(phase: &Phase) -> bool

@@ -12,7 +12,7 @@ use Rattle.protocol_errors.specs.declared.error.Error.{Error}
 use Rattle.protocol_types.specs.Version.{version_number}
 use Rattle.protocol_types.specs.declared.version.Version.{Version}
 use Rattle.protocol_types.specs.declared.message_type.MessageType.{MessageType}
-use Rattle.vm_causes.specs.Passed.{Sees, IsAtCommand, Makes, IsSpent, FailsSpent, FindsAs, Active, CallError, kept_error}
+use Rattle.vm_machine.specs.PassedCauses.{Sees, IsAtCommand, Makes, IsSpent, FailsSpent, FindsAs, Active, CallError, kept_error}
 use Rattle.vm_refusals.specs.Refusals.{refusal_meant}
 use Rattle.vm_refusals.specs.declared.refusal.CallRefusal.{CallRefusal}
 use Rattle.vm_refusals.specs.declared.refusal_error.RefusalError.{RefusalError}

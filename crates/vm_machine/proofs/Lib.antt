@@ -1,2 +1,3 @@
+mod Gathering
 pub mod Admitted
 mod Moments

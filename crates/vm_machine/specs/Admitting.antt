@@ -9,9 +9,9 @@ use Rattle.protocol_errors.specs.declared.error.Error.{Error}
 use Rattle.protocol_types.specs.TypeText.{type_text}
 use Rattle.protocol_types.specs.declared.message_type.MessageType.{MessageType}
 use Rattle.protocol_types.specs.declared.version.Version.{Version}
-use Rattle.vm_causes.specs.Causes.{Tells}
-use Rattle.vm_causes.specs.Passed.phases
-use Rattle.vm_causes.specs.Passed.{Active, LacksCompletions, HasCompletions, asking, IsCopy, kept_error, unexpected_error, Phase, no_id_text, command_told}
+use Rattle.vm_machine.specs.Causes.{Tells}
+use Rattle.vm_machine.specs.PassedCauses.phases
+use Rattle.vm_machine.specs.PassedCauses.{Active, LacksCompletions, HasCompletions, asking, IsCopy, kept_error, unexpected_error, Phase, no_id_text, command_told}
 use Rattle.vm_refusals.specs.Refusals.{refusal_code, refusal_text}
 use Rattle.vm_refusals.specs.declared.refusal.CallRefusal.{CallRefusal}
 use Rattle.vm_refusals.specs.declared.refusal_error.RefusalError.{RefusalError}

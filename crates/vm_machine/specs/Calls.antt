@@ -13,7 +13,7 @@ use Rattle.protocol_errors.specs.declared.error.Error.{Error}
 use Rattle.protocol_types.specs.Version.{version_number}
 use Rattle.protocol_types.specs.declared.version.Version.{Version}
 use Rattle.protocol_types.specs.declared.message_type.MessageType.{MessageType}
-use Rattle.vm_causes.specs.Passed.{Sees, IsAtCommand, Makes, IsSpent, FailsSpent, FindsAs, CallError}
+use Rattle.vm_machine.specs.PassedCauses.{Sees, IsAtCommand, Makes, IsSpent, FailsSpent, FindsAs, CallError}
 use Rattle.vm_refusals.specs.Refusals.{refusal_meant}
 use Rattle.vm_refusals.specs.declared.refusal_error.RefusalError.{RefusalError}
 use Rattle.vm_types.specs.declared.options.NonDeterministicChecksOption.{NonDeterministicChecksOption}

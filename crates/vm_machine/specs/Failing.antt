@@ -2,7 +2,7 @@
 use Rattle.std.specs.Prelude.{◌≡◌, Result}
 use Rattle.std.specs.declared.alloc.AllocError.{AllocError}
 use Rattle.protocol_errors.specs.declared.error.Error.{Error}
-use Rattle.vm_causes.specs.Passed.{Fails}
+use Rattle.vm_machine.specs.PassedCauses.{Fails}
 use Rattle.vm_machine.specs.declared.machine_state.MachineState.{MachineState}
 
 -- its phase and its output change, and nothing else

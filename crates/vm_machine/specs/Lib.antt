@@ -1,7 +1,16 @@
+pub mod Incoming
+pub mod Entries
+pub mod Starting
+pub mod Answers
+pub mod Input
+pub mod Gathering
+pub mod Passed
+pub mod Causes
+pub mod PassedCauses
 pub mod Failing
 pub mod Settling
 pub mod Admitting
 pub mod Receiving
 pub mod Steps
 pub mod Calls
-pub mod Passed
+pub mod PassedMachine

@@ -6,9 +6,9 @@ use Rattle.protocol_errors.specs.declared.fixed.FixedError.TheVariants as fixed
 use Rattle.protocol_records.specs.declared.start.StartMessage.{StartMessage}
 use Rattle.protocol_stream.specs.declared.decoder.RawMessage.{RawMessage}
 use Rattle.protocol_stream.specs.Header.{message_type}
-use Rattle.vm_causes.specs.Causes.{EntryCauses}
-use Rattle.vm_causes.specs.Passed.incoming
-use Rattle.vm_causes.specs.Passed.{stage_of, ComesAnswer, ComesAcknowledgement, ComesCommand, ComesNotification, incoming_of, ComesStart, EntryError, Fixed, Incoming}
+use Rattle.vm_machine.specs.Causes.{EntryCauses}
+use Rattle.vm_machine.specs.PassedCauses.incoming
+use Rattle.vm_machine.specs.PassedCauses.{stage_of, ComesAnswer, ComesAcknowledgement, ComesCommand, ComesNotification, incoming_of, ComesStart, EntryError, Fixed, Incoming}
 use Rattle.vm_machine.specs.Failing.{MachineFails}
 use Rattle.vm_machine.specs.declared.machine_state.MachineState.{MachineState}
 

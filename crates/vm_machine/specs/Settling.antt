@@ -2,8 +2,8 @@
 use Rattle.std.specs.Prelude.{◌≡◌, ℕ, List, Result, Ok, Err}
 use Rattle.std.specs.declared.alloc.AllocError.{AllocError}
 use Rattle.protocol_errors.specs.declared.error.Error.{Error}
-use Rattle.vm_causes.specs.Causes.{CallCauses}
-use Rattle.vm_causes.specs.Passed.{CallError}
+use Rattle.vm_machine.specs.Causes.{CallCauses}
+use Rattle.vm_machine.specs.PassedCauses.{CallError}
 use Rattle.vm_machine.specs.Failing.{MachineFails}
 use Rattle.vm_machine.specs.declared.machine_state.MachineState.{MachineState}
 

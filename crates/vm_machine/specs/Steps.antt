@@ -3,8 +3,8 @@ use Rattle.std.specs.Prelude.{◌≡◌, ◌⊎◌, List, ℕ, Option, Some, Res
 use Rattle.std.specs.declared.alloc.AllocError.{AllocError}
 use Rattle.protocol_errors.specs.Code.{internal}
 use Rattle.protocol_errors.specs.declared.error.Error.{Error}
-use Rattle.vm_causes.specs.Causes.{Tells}
-use Rattle.vm_causes.specs.Passed.{unexpected_error, no_id_text}
+use Rattle.vm_machine.specs.Causes.{Tells}
+use Rattle.vm_machine.specs.PassedCauses.{unexpected_error, no_id_text}
 use Rattle.vm_refusals.specs.declared.refusal_error.RefusalError.{RefusalError}
 use Rattle.vm_machine.specs.Admitting.{Admits}
 use Rattle.vm_machine.specs.Failing.{MachineFails}

@@ -3,12 +3,11 @@ ghost use Rattle.std.specs.Prelude.{◌≡◌, Option, IfOk};
 ghost use Rattle.vm_machine.specs.Admitting.{is_active, MissedCauses, ElsewhereCauses, IsElsewhere, Admits, Carries};
 ghost use Rattle.vm_machine.specs.Steps.{IsUnexpected, IsExhausted};
 
-use crate::MachineState;
+use crate::{Active, IdsExhausted, MachineState, Phase, about_nothing, again, unexpected};
 use bytes::ByteStr;
 use protocol_errors::Error;
 use protocol_types::{MessageType, Version};
 use std::alloc::{AllocError, Global};
-use vm_causes::{Active, IdsExhausted, Phase, about_nothing, again, unexpected};
 use vm_refusals::{CallRefusal, RefusalError};
 
 /// What stands before a call.

@@ -1,10 +1,9 @@
 // The machine fails.
 ghost use Rattle.vm_machine.specs.Failing.{MachineFails};
 
-use crate::MachineState;
+use crate::{MachineState, fail};
 use protocol_errors::Error;
 use std::alloc::AllocError;
-use vm_causes::fail;
 
 impl MachineState {
     /// Fails with what came up, or is answered again what it has failed with.

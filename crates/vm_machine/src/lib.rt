@@ -1,16 +1,41 @@
+//! What comes in: the start of an attempt, the entries that were recorded before it, and what comes while it goes on.
+//!
+//! What a machine fails with, by what came up: the error, or that memory was refused for it.
+//!
+//! Memory that was refused to what came up is told as that alone: a machine that fails with it writes no frame.
+//!
 //! The machine of an invocation's attempt, as far as it is no trait of a host's: how far it has come, and how it fails.
 #![tactic(auto)]
 
+mod about;
 mod admitting;
+mod answers;
+mod calls;
+mod causing;
+mod entries;
+mod entry_error;
 mod failing;
+mod incoming;
+mod input;
+mod laws;
 mod machine_state;
 mod receiving;
 mod settling;
 mod sleeping;
+mod starting;
 
+pub use about::{about_last, about_nothing};
 pub use admitting::{Admission, missed_cause, refusal_error};
+pub use answers::{receive_ephemeral_answer, receive_run_acknowledgement};
+pub use calls::{call_cause, input_cause, number_cause};
+pub use causing::entry_cause;
+pub use entries::{receive_command, receive_notification};
+pub use entry_error::EntryError;
+pub use incoming::{Incoming, kind_of};
+pub use input::{InputError, read_input};
+pub use laws::{calls_follow_the_input, entries_are_gathered, starts_begin_attempts};
 pub use machine_state::MachineState;
 pub use sleeping::checks_off;
-pub use vm_causes::{
-    InputError, about_last, about_nothing, fresh_active, input_cause, number_cause, read_input,
-};
+pub use starting::{fresh_active, receive_start};
+pub use vm_calls::{Active, CallError, Command, NumberError, PutError, ReplayError};
+pub use vm_start::{IdsExhausted, Journal, Phase, StartError, again, fail, unexpected};

@@ -1,9 +1,9 @@
 // All that a machine keeps.
+use crate::{Active, Phase};
 use protocol_records::StartMessage;
 use protocol_stream::Decoder;
 use protocol_types::Version;
 use std::alloc::Global;
-use vm_causes::{Active, Phase};
 use vm_ephemeral::EphemeralCommands;
 use vm_types::VMOptions;
 

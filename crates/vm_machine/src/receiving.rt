@@ -1,16 +1,15 @@
 // Messages come.
 ghost use Rattle.std.specs.Prelude.{◌≡◌, Some};
 ghost use Rattle.protocol_stream.specs.Header.{message_type};
-ghost use Rattle.vm_causes.specs.Passed.{incoming_of};
+ghost use Rattle.vm_machine.specs.PassedCauses.{incoming_of};
 ghost use Rattle.vm_machine.specs.Receiving.{ReceivesStart, ReceivesAnswer, ReceivesAcknowledgement, Receives, TakesNot, Takes};
 
-use crate::MachineState;
+use crate::{
+    EntryError, Incoming, MachineState, entry_cause, kind_of, receive_command,
+    receive_ephemeral_answer, receive_notification, receive_run_acknowledgement, receive_start,
+};
 use protocol_errors::UNEXPECTED_INPUT_MESSAGE;
 use protocol_stream::RawMessage;
-use vm_causes::{
-    EntryError, Incoming, entry_cause, kind_of, receive_command, receive_ephemeral_answer,
-    receive_notification, receive_run_acknowledgement, receive_start,
-};
 
 impl MachineState {
     fn receive_start(&mut self, message: RawMessage) -> Result<(), EntryError>

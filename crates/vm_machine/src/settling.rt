@@ -1,9 +1,8 @@
 // A call of one command has been made, or the machine fails with why not.
 ghost use Rattle.vm_machine.specs.Settling.{Settles};
 
-use crate::MachineState;
+use crate::{CallError, Command, MachineState, call_cause};
 use protocol_errors::Error;
-use vm_causes::{CallError, Command, call_cause};
 
 impl MachineState {
     /// The answer of a call that puts one command: what it has made, or what the machine fails with.

@@ -19,8 +19,8 @@ use Rattle.protocol_types.specs.declared.version.Version.{Version}
 use Rattle.vm_calls.specs.declared.active.Active.{Active}
 use Rattle.vm_context.specs.Output.{Written}
 use Rattle.vm_ephemeral.specs.Reads.{EphemeralReads, no_reads}
-use Rattle.vm_errors.specs.declared.phase.Phase.{Phase}
-use Rattle.vm_errors.specs.declared.phase.Phase.TheVariants as phases
+use Rattle.vm_start.specs.declared.phase.Phase.{Phase}
+use Rattle.vm_start.specs.declared.phase.Phase.TheVariants as phases
 use Rattle.vm_feeding.specs.Passed.{checks_off, MachineFails, IsUnexpected, MachineState}
 use Rattle.vm_progress.specs.Asleep.{LacksMemory, FailsUnwritten, SettlesStay, ClosesAs, SleepIs, SleepsAs}
 use Rattle.vm_progress.specs.Awaiting.{ready_read, GoesOnAs, IsAwaited, DoesAwaitWhere, DoesAwait}

@@ -11,9 +11,9 @@ use Rattle.protocol_stream.specs.declared.encoder.EncodingError.TheVariants as u
 use Rattle.protocol_types.specs.declared.message_type.MessageType.TheVariants as messages
 use Rattle.vm_calls.specs.Active.{has_left}
 use Rattle.vm_context.specs.Output.{Written}
-use Rattle.vm_errors.specs.Phases.{kept_error, unexpected_error}
-use Rattle.vm_errors.specs.declared.phase.Phase.{Phase}
-use Rattle.vm_errors.specs.declared.phase.Phase.TheVariants as phases
+use Rattle.vm_start.specs.Phases.{kept_error, unexpected_error}
+use Rattle.vm_start.specs.declared.phase.Phase.{Phase}
+use Rattle.vm_start.specs.declared.phase.Phase.TheVariants as phases
 use Rattle.vm_feeding.specs.Passed.{IsUnexpected, MachineState}
 use Rattle.vm_progress.specs.Ending.{end_place, ClosesEnd, Ends, EndsAt, EndsAs}
 use Rattle.vm_progress.specs.declared.ending.EndPlace.{EndPlace}

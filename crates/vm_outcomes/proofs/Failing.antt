@@ -15,9 +15,9 @@ use Rattle.vm_calls.specs.declared.active.Active.{Active}
 use Rattle.vm_commands.specs.HeaderEquality.{same_header}
 use Rattle.vm_context.specs.Journal.{JournalCounts}
 use Rattle.vm_context.specs.Output.{Written}
-use Rattle.vm_errors.specs.Failing.{FailsAs, FailsNow}
-use Rattle.vm_errors.specs.Phases.{kept_error}
-use Rattle.vm_errors.specs.declared.phase.Phase.TheVariants as phases
+use Rattle.vm_start.specs.Failing.{FailsAs, FailsNow}
+use Rattle.vm_start.specs.Phases.{kept_error}
+use Rattle.vm_start.specs.declared.phase.Phase.TheVariants as phases
 use Rattle.vm_progress.specs.Uncompleted.{started_id}
 use Rattle.vm_refusals.specs.Refusals.{refusal_meant, refusal_code, refusal_text, text_of_refusal}
 use Rattle.vm_refusals.specs.declared.refusal_error.RefusalError.{RefusalError}

@@ -23,9 +23,9 @@ use Rattle.vm_calls.specs.declared.active.Active.{Active}
 use Rattle.vm_calls.specs.declared.call_error.NumberError.{NumberError}
 use Rattle.vm_calls.specs.declared.call_error.NumberError.TheVariants as numbers
 use Rattle.vm_context.specs.Journal.{no_id_text}
-use Rattle.vm_errors.specs.declared.phase.Phase.{Phase}
-use Rattle.vm_handles.specs.Calling.{AnswersBy, IsCalled}
-use Rattle.vm_handles.specs.Handles.{MakesSignal, IsNoSignal, IsAwakeableWhere, IsAwakeable, IsNoAwakeable, TakesFirst, TakeCauses, Looks}
+use Rattle.vm_start.specs.declared.phase.Phase.{Phase}
+use Rattle.vm_feeding.specs.Calling.{AnswersBy, IsCalled}
+use Rattle.vm_feeding.specs.Handles.{MakesSignal, IsNoSignal, IsAwakeableWhere, IsAwakeable, IsNoAwakeable, TakesFirst, TakeCauses, Looks}
 use Rattle.vm_types.specs.declared.handles.AwakeableHandle.{AwakeableHandle}
 use Rattle.vm_types.specs.declared.options.JournalReplay.{JournalReplay}
 use Rattle.vm_types.specs.declared.options.JournalReplay.TheVariants.{Enabled, Disabled}

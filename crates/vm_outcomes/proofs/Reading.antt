@@ -20,8 +20,8 @@ use Rattle.vm_calls.specs.declared.call_error.NumberError.TheVariants as numbers
 use Rattle.vm_commands.specs.declared.replay_error.ReplayError.TheVariants as unmatched
 use Rattle.vm_commands.specs.declared.state_read.StateReadError.TheVariants as errors
 use Rattle.vm_context.specs.Journal.{no_id_text}
-use Rattle.vm_reading.specs.Causes.{ReadCauses}
-use Rattle.vm_reading.specs.Reading.{ReadKind, IsRead, MissesNext, SettlesRead, StepsOfRead}
+use Rattle.vm_progress.specs.Causes.{ReadCauses}
+use Rattle.vm_progress.specs.Reading.{ReadKind, IsRead, MissesNext, SettlesRead, StepsOfRead}
 use Rattle.vm_state_reads.specs.Reading.{ReadFailsAs, Reads}
 use Rattle.vm_state_reads.specs.Telling.{type_in_replay, type_behind, IsAtRead}
 use Rattle.vm_state_reads.specs.declared.read_error.ReadError.{ReadError}

@@ -9,10 +9,10 @@ use Rattle.protocol_errors.specs.declared.error.Error.{Error}
 use Rattle.protocol_types.specs.declared.version.Version.{Version}
 use Rattle.vm_context.specs.Journal.{JournalCounts}
 use Rattle.vm_context.specs.Output.{Written}
-use Rattle.vm_errors.specs.Failing.{Fails as FailsBy}
-use Rattle.vm_errors.specs.Phases.{kept_error}
-use Rattle.vm_errors.specs.declared.phase.Phase.{Phase}
-use Rattle.vm_errors.specs.declared.phase.Phase.TheVariants as phases
+use Rattle.vm_start.specs.Failing.{Fails as FailsBy}
+use Rattle.vm_start.specs.Phases.{kept_error}
+use Rattle.vm_start.specs.declared.phase.Phase.{Phase}
+use Rattle.vm_start.specs.declared.phase.Phase.TheVariants as phases
 use Rattle.vm_feeding.specs.Asking.{IsReady}
 use Rattle.vm_feeding.specs.Passed.{MachineState}
 use Rattle.vm_feeding.specs.Telling.{HostCauses, IsTold}

@@ -1,8 +1,8 @@
 -- What stands before a call of a machine of which calls are made.
 use Rattle.std.proofs.Common.{◌≡◌, true, false, Option, Some, None, Result, Err, refl, sym, ap, subst, ◌∙◌}
 use Rattle.protocol_errors.specs.declared.error.Error.{Error}
-use Rattle.vm_errors.specs.Phases.{kept_error}
-use Rattle.vm_errors.specs.declared.phase.Phase.TheVariants as phases
+use Rattle.vm_start.specs.Phases.{kept_error}
+use Rattle.vm_start.specs.declared.phase.Phase.TheVariants as phases
 use Rattle.vm_refusals.specs.declared.refusal_error.RefusalError.{RefusalError}
 use Rattle.vm_feeding.specs.Passed.{is_active, IsRefused, AdmitsWhere, GoesOn, Steps, Admission, Admitted, Elsewhere, Stopped, MachineState}
 

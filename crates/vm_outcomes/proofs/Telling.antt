@@ -15,9 +15,9 @@ use Rattle.protocol_types.specs.declared.version.Version.{Version}
 use Rattle.vm_calls.specs.Active.{Sees}
 use Rattle.vm_calls.specs.declared.active.Active.{Active}
 use Rattle.vm_context.specs.Output.{Written}
-use Rattle.vm_errors.specs.Failing.{FailsNow, IsCopy, Tells, TellsCause}
-use Rattle.vm_errors.specs.Failure.{failed_with, asked_behavior}
-use Rattle.vm_errors.specs.declared.phase.Phase.{Phase}
+use Rattle.vm_start.specs.Failing.{FailsNow, IsCopy, Tells, TellsCause}
+use Rattle.vm_start.specs.Failure.{failed_with, asked_behavior}
+use Rattle.vm_start.specs.declared.phase.Phase.{Phase}
 use Rattle.vm_types.specs.declared.options.JournalMismatchRetryBehavior.{JournalMismatchRetryBehavior}
 use Rattle.vm_waiting.specs.Suspending.{over_ids, TellsIf}
 use Rattle.vm_outcomes.specs.Outcomes.{awaited_as}

@@ -14,10 +14,10 @@ use Rattle.protocol_types.specs.declared.message_type.MessageType.TheVariants as
 use Rattle.vm_calls.specs.Active.{Sees, Fits, writes_frames}
 use Rattle.vm_calls.specs.declared.active.Active.{Active}
 use Rattle.vm_context.specs.Output.{with_frame}
-use Rattle.vm_errors.specs.Failing.{FailsNow, IsCopy}
-use Rattle.vm_errors.specs.Phases.{closed_error}
-use Rattle.vm_errors.specs.declared.phase.Phase.{Phase}
-use Rattle.vm_errors.specs.declared.phase.Phase.TheVariants as phases
+use Rattle.vm_start.specs.Failing.{FailsNow, IsCopy}
+use Rattle.vm_start.specs.Phases.{closed_error}
+use Rattle.vm_start.specs.declared.phase.Phase.{Phase}
+use Rattle.vm_start.specs.declared.phase.Phase.TheVariants as phases
 use Rattle.vm_waiting.specs.Suspending.{tells_awaiting, TellsIf, IsSuspended}
 use Rattle.vm_feeding.specs.Passed.{MachineState}
 use Rattle.vm_outcomes.specs.Causes.{NumbersLeft, HasCause}

@@ -30,8 +30,8 @@ use Rattle.vm_calls.specs.Making.{IsLong}
 use Rattle.vm_calls.specs.declared.active.Active.{Active}
 use Rattle.vm_commands.specs.Popping.{IsNoRequest, IsNextUnread}
 use Rattle.vm_context.specs.Journal.{JournalCounts, no_id_text}
-use Rattle.vm_errors.specs.Phases.{unexpected_error}
-use Rattle.vm_errors.specs.declared.phase.Phase.TheVariants as phases
+use Rattle.vm_start.specs.Phases.{unexpected_error}
+use Rattle.vm_start.specs.declared.phase.Phase.TheVariants as phases
 use Rattle.vm_progress.specs.Uncompleted.{started_id, TellsUncompleted}
 use Rattle.vm_refusals.specs.Refusals.{refusal_meant, refusal_code, text_of_refusal}
 use Rattle.vm_refusals.specs.declared.refusal.CallRefusal.{CallRefusal}

@@ -7,8 +7,8 @@ use Rattle.attempt_model.specs.Machine.{Machine, Reply, reply_to}
 use Rattle.vm_calls.specs.Active.{Sees}
 use Rattle.vm_commands.specs.HeaderEquality.{same_header}
 use Rattle.vm_ephemeral.specs.Reads.{no_reads}
-use Rattle.vm_errors.specs.declared.phase.Phase.TheVariants as phases
-use Rattle.vm_handles.specs.Handles.{id_of}
+use Rattle.vm_start.specs.declared.phase.Phase.TheVariants as phases
+use Rattle.vm_feeding.specs.Handles.{id_of}
 use Rattle.vm_feeding.specs.Passed.{checks_off, IsOf, MachineState}
 
 -- Calls are made of the machine, and what it keeps for them is what the abstract machine keeps. It is a machine of this invocation:

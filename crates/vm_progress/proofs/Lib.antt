@@ -1,2 +1,3 @@
+mod Made
 mod Machines
 mod Naming

@@ -8,7 +8,7 @@ use Rattle.protocol_errors.specs.Code.{journal_mismatch}
 use Rattle.protocol_errors.specs.Texts.{uncompleted_text}
 use Rattle.protocol_errors.specs.declared.error.Error.{Error}
 use Rattle.protocol_errors.specs.declared.uncompleted.UncompletedDoProgressDuringReplay.{UncompletedDoProgressDuringReplay}
-use Rattle.vm_machine.specs.Passed.{Tells}
+use Rattle.vm_machine.specs.PassedMachine.{Tells}
 use Rattle.vm_progress.specs.Uncompleted.{lists_over, NamesIn, TellsUncompleted}
 
 pub told_by : (invocation : Bytes) (tree : AwaitTree NotificationId) (error : UncompletedDoProgressDuringReplay) (told : Result Error AllocError)

@@ -11,9 +11,9 @@ use Rattle.protocol_stream.specs.ErrorText.{too_long_text}
 use Rattle.protocol_stream.specs.declared.encoder.EncodingError.{EncodingError}
 use Rattle.protocol_stream.specs.declared.encoder.EncodingError.TheVariants.{PayloadTooLong, OutOfMemory}
 use Rattle.vm_calls.specs.declared.active.Active.{Active}
-use Rattle.vm_errors.specs.declared.phase.Phase.TheVariants.{Closed}
+use Rattle.vm_start.specs.declared.phase.Phase.TheVariants.{Closed}
 use Rattle.vm_machine.specs.Failing.{MachineFails}
-use Rattle.vm_machine.specs.Passed.{Tells}
+use Rattle.vm_machine.specs.PassedMachine.{Tells}
 use Rattle.vm_machine.specs.Steps.{FailsBy}
 use Rattle.vm_machine.specs.declared.machine_state.MachineState.{MachineState}
 use Rattle.vm_types.specs.declared.answers.AwaitResponse.{AwaitResponse}

@@ -8,8 +8,8 @@ use Rattle.protocol_errors.specs.declared.error.Error.{Error}
 use Rattle.vm_awaits.specs.Views.{results_of}
 use Rattle.vm_calls.specs.Active.{Sees}
 use Rattle.vm_ephemeral.specs.Reads.{EphemeralReads, least_of}
-use Rattle.vm_errors.specs.declared.phase.Phase.{Phase}
-use Rattle.vm_errors.specs.declared.phase.Phase.TheVariants.{Active}
+use Rattle.vm_start.specs.declared.phase.Phase.{Phase}
+use Rattle.vm_start.specs.declared.phase.Phase.TheVariants.{Active}
 use Rattle.vm_machine.specs.Steps.{IsUnexpected, Steps}
 use Rattle.vm_machine.specs.declared.machine_state.MachineState.{MachineState}
 use Rattle.vm_types.specs.declared.answers.AwaitResponse.{AwaitResponse}

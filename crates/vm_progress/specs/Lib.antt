@@ -1,3 +1,5 @@
+pub mod Causes
+pub mod Reading
 pub mod Uncompleted
 pub mod Asleep
 pub mod Awaiting

@@ -17,7 +17,7 @@ use Rattle.protocol_errors.specs.declared.uncompleted.UncompletedDoProgressDurin
 use Rattle.protocol_messages.specs.Leaves.{lists_of}
 use Rattle.protocol_records.specs.declared.suspension_v6.SuspensionMessageV6.{SuspensionMessageV6}
 use Rattle.protocol_stream.specs.Records.{future_record}
-use Rattle.vm_machine.specs.Passed.{Tells}
+use Rattle.vm_machine.specs.PassedMachine.{Tells}
 use Rattle.vm_machine.specs.Steps.{FailsBy}
 use Rattle.vm_machine.specs.declared.machine_state.MachineState.{MachineState}
 use Rattle.vm_waiting.specs.Suspending.{over_ids}

@@ -8,8 +8,8 @@ use protocol_errors::{Error, INPUT_CLOSED_WHILE_WAITING_EPHEMERAL_NOTIFICATIONS,
 use protocol_stream::EncodingError;
 use std::alloc::AllocError;
 use std::mem::replace;
-use vm_errors::Phase;
 use vm_machine::{MachineState, about_nothing};
+use vm_start::Phase;
 use vm_types::AwaitResponse;
 use vm_waiting::{suspend, tell_awaiting_on};
 

@@ -8,8 +8,8 @@ use crate::asleep::{fail_for_memory, sleep_with};
 use crate::uncompleted::fail_uncompleted;
 use journal_model::UnresolvedFuture;
 use protocol_errors::Error;
-use vm_errors::Phase;
 use vm_machine::{Admission, MachineState};
+use vm_start::Phase;
 use vm_types::{AwaitResponse, EphemeralCompletionId};
 use vm_waiting::{AwaitError, Awaited, await_future};
 

@@ -1,7 +1,7 @@
 // The end of an attempt.
 ghost use Rattle.std.specs.Prelude.{◌≡◌, []};
 ghost use Rattle.protocol_types.specs.declared.message_type.MessageType.TheVariants.{End as end_type};
-ghost use Rattle.vm_errors.specs.Phases.{kept_error};
+ghost use Rattle.vm_start.specs.Phases.{kept_error};
 ghost use Rattle.vm_waiting.specs.Suspending.{Writes};
 ghost use Rattle.vm_progress.specs.Ending.{end_place, ClosesEnd, Ends, EndsAt, EndsAs};
 
@@ -12,8 +12,8 @@ use protocol_stream::EncodingError;
 use std::alloc::Global;
 use std::mem::replace;
 use vm_context::Output;
-use vm_errors::{Phase, again};
 use vm_machine::MachineState;
+use vm_start::{Phase, again};
 
 /// Where a machine that has not failed stands to an end.
 #[derive(Clone, Copy, Debug, PartialEq, Eq)]

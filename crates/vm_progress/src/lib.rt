@@ -1,3 +1,5 @@
+//! The reads of the object's state of a machine in any phase: each is made of the attempt, and answered; or the machine fails.
+//!
 //! An await, and the end, of a machine in any phase.
 //!
 //! An await is answered by what has come, fails where the journal goes on behind it, or waits: then it suspends the attempt, or
@@ -6,10 +8,14 @@
 
 mod asleep;
 mod awaiting;
+mod causes;
 mod ending;
 mod lists;
+mod reading;
 mod uncompleted;
 
 pub use asleep::Sleep;
 pub use awaiting::do_await;
+pub use causes::read_cause;
 pub use ending::{EndPlace, sys_end};
+pub use reading::{sys_state_get, sys_state_get_keys};

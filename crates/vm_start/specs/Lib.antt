@@ -1,2 +1,6 @@
 pub mod Negotiation
 pub mod Starts
+pub mod Failure
+pub mod Phases
+pub mod Failing
+pub mod Passed

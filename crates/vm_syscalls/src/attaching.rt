@@ -10,9 +10,9 @@ use bytes::ByteStr;
 use journal_model::{AttachInvocationTarget, NotificationHandle};
 use protocol_errors::Error;
 use protocol_types::MessageType;
-use vm_invocations::{attach, get_output};
 use vm_machine::{Admission, MachineState, checks_off, refusal_error};
 use vm_refusals::refuse_attach;
+use vm_waiting::{attach, get_output};
 
 /// Waits for the answer of another invocation: the handle's notification brings it.
 pub fn sys_attach_invocation(

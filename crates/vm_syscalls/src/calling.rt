@@ -12,10 +12,10 @@ use journal_model::{PayloadOptions, Target};
 use protocol_errors::Error;
 use protocol_types::MessageType;
 use vm_calls::or_empty;
-use vm_invocations::call;
 use vm_machine::{Admission, MachineState, checks_off, refusal_error};
 use vm_refusals::refuse_target;
 use vm_types::CallHandle;
+use vm_waiting::call;
 
 /// Calls another handler: of the two notifications the first tells the invocation's id, the second brings its answer.
 pub fn sys_call(

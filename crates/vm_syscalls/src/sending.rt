@@ -14,10 +14,10 @@ use journal_model::{Moment, NotificationHandle, PayloadOptions, Target};
 use protocol_errors::Error;
 use protocol_types::MessageType;
 use vm_calls::{CallError, or_empty};
-use vm_invocations::send;
 use vm_machine::{Admission, MachineState, checks_off, refusal_error};
 use vm_refusals::{refuse_target, to_millis};
 use vm_types::SendHandle;
+use vm_waiting::send;
 
 // The moment in milliseconds, 0 where there is none. Of one that is refused nothing is said.
 fn invoke_time(execution_time: &Option<Moment>) -> u64

@@ -7,3 +7,6 @@ pub mod AwaitReplies
 pub mod Listing
 pub mod Sending
 pub mod TellsAsRun
+pub mod Pairing
+pub mod Calls
+pub mod AnswerCalls

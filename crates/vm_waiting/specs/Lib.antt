@@ -1,3 +1,4 @@
 pub mod Waiting
 pub mod Suspending
 pub mod Telling
+pub mod Pairing

@@ -1,8 +1,0 @@
-use Rattle.std.proofs.Common.{refl}
-use Rattle.journal_model.specs.declared.call.Call.{Call}
-use Rattle.vm_outcomes.proofs.Calling.{handle_carried}
-use Rattle.vm_driving.proofs.promises.complete_promise.Goals as goal
-
-pub returns : goal.returns
-returns c =
-    handle_carried (Call.CompletePromise c.args.key c.args.value c.args.options) c.args.vm.now.state c.sys_complete_promise.result c.sys_complete_promise.new.self.state c.handled.result c.handled.ensures (λ n signal. refl) refl c.sys_complete_promise.ensures

@@ -1,5 +1,0 @@
-use Rattle.vm_entries.proofs.Gathering.{begins_gathering}
-use Rattle.vm_entries.proofs.laws.starts_begin_attempts.Goals as goal
-
-pub returns : goal.returns
-returns c = begins_gathering

@@ -1,5 +1,0 @@
-use Rattle.std.proofs.Common.{inl, refl}
-use Rattle.vm_errors.proofs.failing.tell.Goals as goal
-
-pub returns-in-Ok : goal.returns-in-Ok
-returns-in-Ok c = inl (refl, c.in-Ok.ensures.ok)

@@ -1,4 +1,0 @@
-pub mod Failure
-pub mod Phases
-pub mod Failing
-pub mod Passed

@@ -1,2 +1,0 @@
-mod Called
-mod Texts

@@ -1,3 +1,0 @@
-pub mod Pairing
-pub mod Calls
-pub mod AnswerCalls
