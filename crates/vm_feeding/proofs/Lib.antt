@@ -2,6 +2,6 @@ mod Inputs
 mod Called
 mod Texts
 mod Keeping
-mod Taking
+mod TakenMessages
 mod Cuts
 mod ReadSteps

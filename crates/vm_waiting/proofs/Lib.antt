@@ -5,7 +5,7 @@ pub mod ResolveLemmas
 pub mod MachineAwaits
 pub mod AwaitReplies
 pub mod Listing
-pub mod Sending
+pub mod WaitingFrames
 pub mod TellsAsRun
 pub mod Pairing
 pub mod Calls

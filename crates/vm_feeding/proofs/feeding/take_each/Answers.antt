@@ -1,4 +1,4 @@
-use Rattle.vm_feeding.proofs.Taking.{next_is_shorter, takes_more, took_all}
+use Rattle.vm_feeding.proofs.TakenMessages.{next_is_shorter, takes_more, took_all}
 use Rattle.vm_feeding.proofs.feeding.take_each.Goals as goal
 
 pub loop-message-smaller : goal.loop-message-smaller

@@ -1,6 +1,6 @@
 -- Messages were taken so far; each has left fewer bytes.
 use Rattle.std.proofs.Common.{length}
-use Rattle.vm_feeding.proofs.Taking.{TookSome}
+use Rattle.vm_feeding.proofs.TakenMessages.{TookSome}
 use Rattle.vm_feeding.proofs.feeding.take_each.Given as goal
 
 abbrev pub invariant-loop-message : goal.invariant-loop-message

@@ -1,6 +1,6 @@
 use Rattle.std.proofs.Common.{arith, refl, []}
 use Rattle.protocol_types.specs.declared.message_type.MessageType.TheVariants.{End}
-use Rattle.vm_waiting.proofs.Sending.{writes}
+use Rattle.vm_waiting.proofs.WaitingFrames.{writes}
 use Rattle.vm_progress.proofs.ending.write_end.Goals as goal
 
 pub returns : goal.returns

@@ -2,7 +2,7 @@ use Rattle.std.proofs.Common.{sym, subst}
 use Rattle.journal_model.specs.Future.{tree_of}
 use Rattle.vm_context.specs.Output.{Written}
 use Rattle.vm_waiting.specs.Suspending.{over_ids, IsSuspended}
-use Rattle.vm_waiting.proofs.Sending.{suspended}
+use Rattle.vm_waiting.proofs.WaitingFrames.{suspended}
 use Rattle.vm_waiting.proofs.suspending.suspend.Goals as goal
 
 pub returns : goal.returns

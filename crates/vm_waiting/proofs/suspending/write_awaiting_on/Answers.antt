@@ -1,7 +1,7 @@
 use Rattle.std.proofs.Common.{arith, false}
 use Rattle.journal_model.specs.Spelling.{awaiting_on_payload}
 use Rattle.protocol_types.specs.declared.message_type.MessageType.TheVariants.{AwaitingOn}
-use Rattle.vm_waiting.proofs.Sending.{awaiting_on_is, writes}
+use Rattle.vm_waiting.proofs.WaitingFrames.{awaiting_on_is, writes}
 use Rattle.vm_waiting.proofs.suspending.write_awaiting_on.Goals as goal
 
 pub returns : goal.returns
