@@ -1,6 +1,7 @@
 //! The machine of an invocation's attempt, as a host embeds it: bytes in, calls, bytes out.
 //!
-//! A handler's call, carried out by the machine of its attempt: what it is answered, or that it waits, or that the attempt is over.
+//! `VM` is the trait that a host calls, and `CoreVM` is what answers it. `carry_out` carries out one call of a handler by the
+//! methods of the trait: it tells what the call is answered, or that it waits, or that the attempt is over.
 #![tactic(auto)]
 
 mod awaits;

@@ -1,11 +1,8 @@
-//! How a machine begins: it is made of a request, answers how the response begins, and reads the input of its invocation.
+//! How a machine begins, what is told it and asked of it, and its calls that put no command, each in any phase.
 //!
-//! The calls of a machine in any phase that put no command: those that make a handle, a take, and a look.
-//!
-//! What a machine is told from outside, and what is asked of it: bytes that come, the end of the input, errors of its host, and what
-//! it has written and how far it has come.
-//!
-//! The calls of a machine in any phase that read the object's state ephemerally: nothing of them is recorded.
+//! A machine is made of a request and answers how the response begins. It is told bytes, the end of the input and errors of its
+//! host, and asked for what it has written and how far it has come. Its calls here read the invocation's input, make a handle for
+//! an awakeable or a signal, look at a handle, take of one, and read the object's state ephemerally, which nothing is recorded of.
 #![tactic(auto)]
 
 mod answering;

@@ -1,10 +1,8 @@
-//! What comes in: the start of an attempt, the entries that were recorded before it, and what comes while it goes on.
+//! All that a machine keeps of an invocation's attempt (`MachineState`), what comes in, and what it fails with.
 //!
-//! What a machine fails with, by what came up: the error, or that memory was refused for it.
-//!
-//! Memory that was refused to what came up is told as that alone: a machine that fails with it writes no frame.
-//!
-//! The machine of an invocation's attempt, as far as it is no trait of a host's: how far it has come, and how it fails.
+//! What comes in is the start of the attempt, the entries that were recorded before it, and what comes while it goes on. What the
+//! machine fails with is the error of what came up; where memory was refused that alone is told, and no frame is written. `admit`
+//! stands before a call in any phase and `settle` behind one that puts a command, for the calls that crates above have.
 #![tactic(auto)]
 
 mod about;

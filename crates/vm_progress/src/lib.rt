@@ -1,9 +1,8 @@
-//! The reads of the object's state of a machine in any phase: each is made of the attempt, and answered; or the machine fails.
+//! The reads of the object's state, an await, and the end, of a machine in any phase.
 //!
-//! An await, and the end, of a machine in any phase.
-//!
-//! An await is answered by what has come, fails where the journal goes on behind it, or waits: then it suspends the attempt, or
-//! tells what it waits for, by whether more input can come.
+//! A read is made of the attempt and answered, or the machine fails. An await is answered by what has come, fails where the journal
+//! goes on behind it, or waits: then it suspends the attempt, or tells what it waits for, by whether more input can come. An end is
+//! written once, and nothing behind it.
 #![tactic(auto)]
 
 mod asleep;

@@ -1,8 +1,8 @@
-//! What a host is answered of a run, what it tells of one, and how a run that has failed is tried again: plain types. The calls
-//! that take and answer them are still to come.
+//! Why a call is refused before anything is looked at, by the version of the protocol and its arguments alone: the first refusal
+//! of each call, its code and its text.
 //!
-//! Which calls are refused before anything is looked at, by the version of the protocol and their arguments alone: the first
-//! refusal of each, its code and its text.
+//! Beside these stand plain types of runs: what a host is answered of a run, what it tells of one, and how a run that has failed is
+//! tried again. No call takes or answers them yet.
 #![tactic(auto)]
 
 mod refusal;

@@ -1,6 +1,8 @@
-//! What stands before the handler's first call: the version that a request is in, and what a start tells of its attempt.
+//! What stands before the handler's first call, and what a machine fails with.
 //!
-//! What becomes of an error that a machine fails with: what is kept of it, what is answered, and the frame that tells it.
+//! `negotiate` tells the version that a request is in, and `read_start` what a start tells of its attempt. `Phase` is how far a
+//! machine has come. `fail` says of a machine that fails what is kept of the error and what is answered, and writes the frame that
+//! tells it.
 #![tactic(auto)]
 
 mod error;

@@ -1,13 +1,9 @@
-//! What an await, a look and a take do to an attempt, and what one writes that waits.
+//! An await, a look and a take of an attempt, what one writes that waits, and the calls about other invocations.
 //!
-//! None of them makes a command. An await, a look and a take change what has come and what handles stand for alone, and each says
-//! that it does what the attempt without bytes does. A suspension, and a message that tells what is waited for, are written by the
-//! definitions of their frames, of what is left of the awaited tree. That this is what the run still waits for is a law beside them.
-//!
-//! The calls that are of other invocations, or about their answers.
-//!
-//! Each makes one command of an attempt, and says that it does what the attempt without bytes does. They stand above `vm_calls`,
-//! which has the other calls as methods of `Active`.
+//! An await, a look and a take make no command: they change what has come and what handles stand for alone. A call, a send, an
+//! attach and the read of an output make one command each, above `vm_calls`, which has other calls as methods of `Active`. Each of
+//! the seven says that it does what the attempt without bytes does. A suspension, and a message that tells what is waited for, are
+//! written of what is left of the awaited tree; that the run still waits for this is a law beside them.
 #![tactic(auto)]
 
 mod attaching;
