@@ -1,4 +1,4 @@
--- Names of crates below, passed on, so that crates above name this one alone.
+-- Names of this crate, and of crates below it, under one more name, by which it cites them itself.
 pub use Rattle.vm_machine.specs.Answers.{stage_of, ComesAnswer, ComesAcknowledgement}
 pub use Rattle.vm_machine.specs.Entries.{ComesCommand, ComesNotification}
 pub use Rattle.vm_machine.specs.Incoming.{incoming_of}

@@ -1,4 +1,4 @@
-// A law: what the definitions of this crate mean in the run.
+// A law: what an attempt that waits tells is what its run still waits for.
 ghost use Rattle.vm_waiting.specs.Telling.{WaitsTellAsRun};
 
 /// What an await that waits tells, and what its suspension tells, is what the run still waits for.
