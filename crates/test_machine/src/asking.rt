@@ -49,18 +49,14 @@ fn send<V: VM>(
     }
 }
 
-fn moment_or_none(millis: &str) -> Option<Option<Moment>> {
-    if millis == "-" {
-        return Some(None);
-    }
-    Some(Some(moment(millis)?))
-}
-
 fn send_words<V: VM>(alloc: Global, vm: &mut V, operands: &[&str]) -> Option<String> {
     let [service, handler, key, parameter, millis] = operands else {
         return None;
     };
-    let at = moment_or_none(*millis)?;
+    let at = match *millis {
+        "-" => None,
+        millis => Some(moment(millis)?),
+    };
     let parameter = bytes(alloc, *parameter)?;
     let target = target(alloc, *service, *handler, *key)?;
     send(alloc, vm, target, parameter, at)

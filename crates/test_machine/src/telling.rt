@@ -8,19 +8,15 @@ use invocation_vm::{Error, ErrorBehavior, InvocationErrorCode, NotificationHandl
 use std::alloc::Global;
 use test_rows::number;
 
-fn quoted(alloc: Global, error: Error) -> Option<String> {
+fn why<V: VM>(alloc: Global, vm: &V) -> Option<String> {
+    let Err(error) = vm.is_ready_to_execute() else {
+        return None;
+    };
     let text = format!(in alloc; "{error}");
     drop(error);
     let text = text.ok()?;
     let text = text.as_str();
     format!(in alloc; "{text:?}").ok()
-}
-
-fn why<V: VM>(alloc: Global, vm: &V) -> Option<String> {
-    match vm.is_ready_to_execute() {
-        Ok(_) => None,
-        Err(error) => quoted(alloc, error),
-    }
 }
 
 fn read<V: VM>(alloc: Global, vm: &mut V) -> Option<String> {
