@@ -11,8 +11,10 @@ use Rattle.vm_start.specs.declared.phase.Phase.TheVariants as phases
 use Rattle.vm_feeding.specs.Failing.{HasFailed}
 use Rattle.vm_feeding.specs.Feeding.{has_failed, with_bytes}
 use Rattle.vm_machine.specs.Failing.{MachineFails}
-use Rattle.vm_machine.specs.PassedMachine.incoming
-use Rattle.vm_machine.specs.PassedMachine.{incoming_of, EntryError, Incoming}
+use Rattle.vm_machine.specs.Incoming.{incoming_of}
+use Rattle.vm_machine.specs.declared.entry_error.EntryError.{EntryError}
+use Rattle.vm_machine.specs.declared.incoming.Incoming.TheVariants as incoming
+use Rattle.vm_machine.specs.declared.incoming.Incoming.{Incoming}
 use Rattle.vm_machine.specs.Receiving.{Receives, Takes, TakesAs}
 use Rattle.vm_machine.specs.declared.machine_state.MachineState.{MachineState}
 

@@ -12,7 +12,9 @@ use Rattle.vm_input.specs.Input.{input_given}
 use Rattle.vm_types.specs.declared.options.VMOptions.{VMOptions}
 use Rattle.vm_machine.specs.Admitting.{IsElsewhere}
 use Rattle.vm_machine.specs.Failing.{MachineFails}
-use Rattle.vm_machine.specs.PassedMachine.{InputCauses, ReadsInput, InputError}
+use Rattle.vm_machine.specs.Input.{ReadsInput}
+use Rattle.vm_machine.specs.PassedMachine.{InputCauses}
+use Rattle.vm_machine.specs.declared.input.InputError.{InputError}
 use Rattle.vm_machine.specs.Steps.{Steps}
 use Rattle.vm_machine.specs.declared.machine_state.MachineState.{MachineState}
 use Rattle.vm_feeding.specs.declared.reading.Reading.{Reading}
