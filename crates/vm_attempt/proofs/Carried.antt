@@ -2,7 +2,7 @@
 use Rattle.std.proofs.Common.{◌≡◌, inl, inr, ap, sym, subst}
 use Rattle.journal_model.specs.declared.call.Call.{Call}
 use Rattle.request_laws.specs.Calls.{IsTypedCall}
-use Rattle.vm_core.specs.Machine.{CoreVM}
+use Rattle.vm_core.specs.declared.core_vm.CoreVM.{CoreVM}
 use Rattle.vm_core.specs.Outcomes.outcomes
 use Rattle.vm_core.specs.Outcomes.{CarriesOut, CallOutcome}
 use Rattle.vm_attempt.specs.Turning.{TakesOutcome, CarriesCall}

@@ -6,7 +6,8 @@ use Rattle.protocol_errors.specs.declared.error.Error.{Error}
 use Rattle.protocol_types.specs.Version.{version_content_type}
 use Rattle.protocol_types.specs.declared.version.Version.{Version}
 use Rattle.vm_feeding.specs.Beginning.{Begins}
-use Rattle.vm_core.specs.Machine.{state_made, CoreVM}
+use Rattle.vm_core.specs.Closed.{state_made}
+use Rattle.vm_core.specs.declared.core_vm.CoreVM.{CoreVM}
 use Rattle.vm_feeding.specs.Closing as closing
 use Rattle.vm_feeding.specs.Feeding.{IsFed}
 use Rattle.vm_types.specs.declared.options.VMOptions.{VMOptions}

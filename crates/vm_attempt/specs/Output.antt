@@ -2,7 +2,7 @@
 use Rattle.std.specs.Prelude.{◌≡◌, ◌≤◌, ◌⊎◌, ℕ, [], ◌++◌, length, take, drop, Result, Ok, Err}
 use Rattle.std.specs.declared.alloc.AllocError.{AllocError}
 use Rattle.journal_model.specs.Notification.{Bytes}
-use Rattle.vm_core.specs.Machine.{CoreVM}
+use Rattle.vm_core.specs.declared.core_vm.CoreVM.{CoreVM}
 use Rattle.vm_attempt.specs.declared.attempt.Attempt.{Attempt}
 
 -- nothing of a machine but what it has written and was not taken

@@ -1,5 +1,4 @@
 pub mod Closed
 pub mod Calls
 pub mod Passed
-pub mod Machine
 pub mod Outcomes
