@@ -28,8 +28,9 @@ use Rattle.store_invocations.specs.Rows.{IsStoreOf}
 use Rattle.store_steps.specs.declared.frame.FrameReply.{FrameReply}
 use Rattle.store_steps.specs.declared.frame.PreparedFrame.{PreparedFrame}
 use Rattle.store_steps.specs.Stateless.{is_of_state, LeavesState}
-use Rattle.store_steps.specs.Taken.{IsLive, IsReply, IsTaken, does_end, lies_in_frame}
+use Rattle.store_steps.specs.Taken.{IsLive, IsReply, IsTaken, Takes, does_end, lies_in_frame}
 use Rattle.store_steps.proofs.Live.{begun_open}
+use Rattle.store_steps.proofs.Stateless.{all_leave}
 use Rattle.store_steps.proofs.Tests.{causes_left}
 use Rattle.store_live.specs.declared.attempt.LiveAttempt.{LiveAttempt}
 use Rattle.store_live.specs.Attempts.{Attempts, ByInvocation, attempt_of, IsNow, after_take}
@@ -45,7 +46,7 @@ use Rattle.store_calls.proofs.Live.{told_end}
 use Rattle.store_calls.proofs.Taking.{same_stays}
 use Rattle.journal_store.specs.Stored.{Stored, stored}
 use Rattle.journal_store.specs.Stands.{Stands, IsStanding, Leads, Keeps, KeepsAll, Endures, WaitsNow}
-use Rattle.journal_store.specs.Taking.{HasMessage, HasMessageOf, IsEndedBy, IsFirstOf, IsSeen, SettlesStep, passed}
+use Rattle.journal_store.specs.Taking.{HasMessage, HasMessageOf, IsEndedBy, IsFirstOf, IsSeen, IsSeenOf, SettlesStep, passed}
 use Rattle.journal_store.specs.Writing.{Writes}
 use Rattle.journal_store.proofs.Lasting.{outlasts_now}
 use Rattle.journal_store.proofs.Standing.{all_stored, landed, store_still, stands_after}
@@ -157,59 +158,91 @@ module _ {S : Type 0} (g : Ghosts S) (old new : Stored S) (s : Standing) (is : I
       record { kept = store; live = subst (λ (all : ByInvocation). (one : Text) → Agrees s.events one (attempt_of all one)) (sym ends) is.stands.live } in
       let it = stays g s old new is still (same_waits old.live.attempts new.live.attempts ends) in (it.0, it.1, refuses_first why here cause false lies it.0 it.2)
 
-module _ {S : Type 0} (g : Ghosts S) (a mid b : Held S) (before after : Attempts) (id : Text) (n : ℕ) (attempt : LiveAttempt) (it : SeenFrame) (seen : IsSeen attempt it)
-    (found : attempt_of before.attempts id ≡ Some attempt) (here : has_number n (attempt_of before.attempts id) ≡ true) where
+-- ---- a whole frame
+
+-- it stands first of the live attempt with this number
+pub record IsHere (n : ℕ) (it : SeenFrame) (live : Option LiveAttempt) : Type 0 where
+  pub here : has_number n live ≡ true
+  pub attempt : LiveAttempt
+  pub found : live ≡ Some attempt
+  pub seen : IsSeen attempt it
+
+-- as it does in a store of these parts
+pub is_here : {S : Type 0} (a : Held S) (before : Attempts) (old : Stored S) → stored a before ≡ old → (id : Text) (n : ℕ) (it : SeenFrame)
+    → has_number n (attempt_of old.live.attempts id) ≡ true → IsSeenOf (attempt_of old.live.attempts id) it → IsHere n it (attempt_of before.attempts id)
+is_here {S} a before old view id n it live seen =
+    let here : has_number n (attempt_of before.attempts id) ≡ true = subst (λ (store : Stored S). has_number n (attempt_of store.live.attempts id) ≡ true) (sym view) live in
+    let one = this_one n (attempt_of before.attempts id) here in
+    record {
+      here = here;
+      attempt = one.attempt;
+      found = one.is;
+      seen = subst (λ (o : Option LiveAttempt). IsSeenOf o it) one.is (subst (λ (store : Stored S). IsSeenOf (attempt_of store.live.attempts id) it) (sym view) seen);
+    }
+
+module _ {S : Type 0} (g : Ghosts S) (a mid b : Held S) (before after : Attempts) (id : Text) (n : ℕ) (it : SeenFrame) (one : IsHere n it (attempt_of before.attempts id)) where
+  abbrev frame : Frame
+  frame = frame_of (version_number one.attempt.version) one.seen.message_is
+
   abbrev event : Event
-  event = Event.Take id n (frame_of (version_number attempt.version) seen.message_is)
+  event = Event.Take id n frame
 
   abbrev left_of : Bytes
-  left_of = drop it.len attempt.output
+  left_of = drop it.len one.attempt.output
 
   -- a step that takes this frame, or is refused
   abbrev pub StepsBy : Result (Option FrameReply) Refusal → Standing → Standing → Type 0
   StepsBy result s t = Steps id n result s t × OnOk result (t.events ≡ event ∷ s.events)
 
   -- what the events say of its attempt
-  pub live_of : (events : List Event) → Stands events (state g a) before.attempts → IsLive events id n it.facts
+  live_of : (events : List Event) → Stands events (state g a) before.attempts → IsLive events id n it.facts
   live_of events stands =
-      is_live_here events id n attempt it (subst (Agrees events id) found (stands.live id)) (live_here events (state g a) before.attempts id n stands ∙ here) seen
+      is_live_here events id n one.attempt it (subst (Agrees events id) one.found (stands.live id)) (live_here events (state g a) before.attempts id n stands ∙ one.here) one.seen
+
+  stateless : LeavesState frame
+  stateless = all_leave (version_number one.attempt.version) one.seen.message_is
+
+  -- what was made ready of it, if anything was
+  abbrev pub IsPrepared : Result PreparedFrame Refusal → Type 0
+  IsPrepared result = HasCleanDisk (state g mid) → (events : List Event) → IsStoreOf events (state g a) → Takes events id it.facts it.frame result
+
+  ready_of : (made : PreparedFrame) → IsPrepared (Ok made) → HasCleanDisk (state g mid) → (events : List Event) → Stands events (state g a) before.attempts
+      → (causes_of events event ≡ []) × IsTaken events id n frame made
+  ready_of made prepared clean events stands = prepared clean events stands.kept n frame (live_of events stands) stateless one.seen.read
 
   -- it is refused, and with it its attempt where the cause lies in it
-  pub seen_refused : (why : Refusal) → Looks g a b → IsEndedBy (lies_in_frame why) id before.attempts after.attempts
-      → (HasCleanDisk (state g b) → (events : List Event) → Stands events (state g a) before.attempts → IsRefused (causes_of events event) why)
-      → Leads g (Steps id n (Err why)) (stored a before) (stored b after)
-  seen_refused why looks ends cause clean s is =
-      let it = item_refused g (stored a before) (stored b after) s is id n attempt (message seen.message_is) left_of found seen.first why here (cause clean s.events is.stands)
-      (store_still s.events (state g a) (state g b) (λ _. ⊥) looks.crash looks.kept is.stands.kept) (lies_in_frame why) refl ends in
+  pub seen_refused : (why : Refusal) → Looks g a mid → IsEndedBy (lies_in_frame why) id before.attempts after.attempts
+      → IsPrepared (Err why)
+      → Leads g (Steps id n (Err why)) (stored a before) (stored mid after)
+  seen_refused why looks ends prepared clean s is =
+      let it = item_refused g (stored a before) (stored mid after) s is id n one.attempt (message one.seen.message_is) left_of one.found one.seen.first why one.here (prepared clean s.events is.stands.kept n frame (live_of s.events is.stands) stateless one.seen.read)
+      (store_still s.events (state g a) (state g mid) (λ _. ⊥) looks.crash looks.kept is.stands.kept) (lies_in_frame why) refl ends in
       (it.0, it.1, inr it.2)
 
   -- what was made ready was written, and the frame is passed; or nothing was done
   pub seen_taken : (made : PreparedFrame) (result : Result (Option FrameReply) Refusal) → Looks g a mid → Writes g made.writes.items mid b result
-      → LeavesState (frame_of (version_number attempt.version) seen.message_is)
-      → (HasCleanDisk (state g mid) → (events : List Event) → Stands events (state g a) before.attempts
-      → (causes_of events event ≡ []) × IsTaken events id n (frame_of (version_number attempt.version) seen.message_is) made)
+      → IsPrepared (Ok made)
       → IfOk result (λ reply. reply ≡ Some made.reply)
       → OnOk result (IsNow id (passed (does_end made.reply) it.len (attempt_of before.attempts id)) before.attempts after.attempts)
       → OnErr result (after.attempts ≡ before.attempts)
       → Leads g (StepsBy result) (stored a before) (stored b after)
-  seen_taken made (Ok None) looks wrote stateless prepared replied now same clean s is = cc
-  seen_taken made (Ok (Some reply)) looks wrote stateless prepared told now same clean s is =
+  seen_taken made (Ok None) looks wrote prepared replied now same clean s is = cc
+  seen_taken made (Ok (Some reply)) looks wrote prepared told now same clean s is =
       let replied : reply ≡ made.reply = cc in
-      let frame : Frame = frame_of (version_number attempt.version) seen.message_is in
       let early : HasCleanDisk (state g mid) = omega (arith, wrote.crash.clean, clean) in
-      let ready = prepared early s.events is.stands in
+      let ready = ready_of made prepared early s.events is.stands in
       let store = store_still s.events (state g a) (state g mid) (λ _. ⊥) looks.crash looks.kept is.stands.kept in
-      let all = all_stored s.events event (state g mid) (state g b) (Lands made.writes.items (state g mid)) made.writes.items wrote.crash clean store (version_number attempt.version, seen.message_is, refl) ready.0 ready.1.writes
+      let all = all_stored s.events event (state g mid) (state g b) (Lands made.writes.items (state g mid)) made.writes.items wrote.crash clean store (version_number one.attempt.version, one.seen.message_is, refl) ready.0 ready.1.writes
       (wrote.done clean) in
-      let agrees : Agrees s.events id (Some attempt) = subst (Agrees s.events id) found (is.stands.live id) in
+      let agrees : Agrees s.events id (Some one.attempt) = subst (Agrees s.events id) one.found (is.stands.live id) in
       let is_reply : IsReply s.events id frame reply = subst (IsReply s.events id frame) (sym replied) ready.1.reply in
-      let is_now : IsNow id (attempt_left (does_end reply) left_of attempt) before.attempts after.attempts =
+      let is_now : IsNow id (attempt_left (does_end reply) left_of one.attempt) before.attempts after.attempts =
       subst (λ (o : Option LiveAttempt). IsNow id o before.attempts after.attempts)
-      (ap (λ (r : FrameReply). passed (does_end r) it.len (attempt_of before.attempts id)) (sym replied) ∙ passed_left (does_end reply) it.len (attempt_of before.attempts id) attempt found) now in
-      let then = stands_after s.events event id (attempt_left (does_end reply) left_of attempt) (state g b) before.attempts after.attempts refl refl all
-      (agrees_left s.events id n frame it.frame reply attempt left_of stateless seen.read is_reply agrees (does_end reply) refl) is_now is.stands.live in
-      let waits = subst (λ (output : Option Bytes). WaitsNow id output before.attempts after.attempts) (left_alike (does_end reply) left_of attempt)
-      (now_waits id (attempt_left (does_end reply) left_of attempt) before.attempts after.attempts is_now) in
+      (ap (λ (r : FrameReply). passed (does_end r) it.len (attempt_of before.attempts id)) (sym replied) ∙ passed_left (does_end reply) it.len (attempt_of before.attempts id) one.attempt one.found) now in
+      let then = stands_after s.events event id (attempt_left (does_end reply) left_of one.attempt) (state g b) before.attempts after.attempts refl refl all
+      (agrees_left s.events id n frame it.frame reply one.attempt left_of stateless one.seen.read is_reply agrees (does_end reply) refl) is_now is.stands.live in
+      let waits = subst (λ (output : Option Bytes). WaitsNow id output before.attempts after.attempts) (left_alike (does_end reply) left_of one.attempt)
+      (now_waits id (attempt_left (does_end reply) left_of one.attempt) before.attempts after.attempts is_now) in
       let to = leaves g s (stored a before) (stored b after) is event id (rest_after (does_end reply) left_of) then waits in (
         to.0,
         to.1,
@@ -217,16 +250,16 @@ module _ {S : Type 0} (g : Ghosts S) (a mid b : Held S) (before after : Attempts
           record {
             frame = frame;
             rest = left_of;
-            next = next_item g (stored a before) (stored b after) s is id n attempt (message seen.message_is) left_of found seen.first;
+            next = next_item g (stored a before) (stored b after) s is id n one.attempt (message one.seen.message_is) left_of one.found one.seen.first;
             replied = is_reply;
             leaves = to.2;
           },
           to.2.events,
         ),
       )
-  seen_taken made (Err why) looks wrote stateless prepared replied now same clean s is =
+  seen_taken made (Err why) looks wrote prepared replied now same clean s is =
       let store = store_still s.events (state g a) (state g mid) (λ _. ⊥) looks.crash looks.kept is.stands.kept in
-      let it = item_refused g (stored a before) (stored b after) s is id n attempt (message seen.message_is) left_of found seen.first why here (inr wrote.why)
+      let it = item_refused g (stored a before) (stored b after) s is id n one.attempt (message one.seen.message_is) left_of one.found one.seen.first why one.here (inr wrote.why)
       (store_still s.events (state g mid) (state g b) (Lands made.writes.items (state g mid)) wrote.crash wrote.undone store) false (not_in_frame why wrote.why) same in
       (it.0, it.1, (inr it.2, tt))
 
@@ -236,8 +269,7 @@ module _ {S : Type 0} (g : Ghosts S) (a mid b : Held S) (before after : Attempts
   -- what was answered lasts
   pub seen_settled : (made : PreparedFrame) (result : Result (Option FrameReply) Refusal) → Looks g a mid → Writes g made.writes.items mid b result
       → (IsTrue (state g a).is_open → Lasts (state g a)) → (HasCleanDisk (state g mid) → IsTrue (state g a).is_open)
-      → (HasCleanDisk (state g mid) → (events : List Event) → Stands events (state g a) before.attempts
-      → (causes_of events event ≡ []) × IsTaken events id n (frame_of (version_number attempt.version) seen.message_is) made)
+      → IsPrepared (Ok made)
       → IfOk result (λ reply. reply ≡ Some made.reply) → Leads g (StepsBy result) (stored a before) (stored b after) → SettlesStep g id n result (stored a before) (stored b after)
   seen_settled made (Ok None) looks wrote idle asked prepared replied leads = cc
   seen_settled made (Err why) looks wrote idle asked prepared replied leads = tt
@@ -246,7 +278,7 @@ module _ {S : Type 0} (g : Ghosts S) (a mid b : Held S) (before after : Attempts
       let t = leads clean s is in
       let early : HasCleanDisk (state g mid) = omega (arith, wrote.crash.clean, clean) in
       let first : HasCleanDisk (state g a) = omega (arith, looks.crash.clean, early) in
-      let ready = prepared early s.events is.stands in (
+      let ready = ready_of made prepared early s.events is.stands in (
         t.0,
         t.1,
         t.2.0,
@@ -256,7 +288,7 @@ module _ {S : Type 0} (g : Ghosts S) (a mid b : Held S) (before after : Attempts
               elim (looks.crash.crash early trees (subst (λ (held : Held S). (state g held).may_leave trees) none.1 may)) [ inl earlier ↦ earlier | inr never ↦ absurd never ] in
               let same : trees ≡ (state g a).now.trees = (idle (asked early)).left trees before_it in
               subst (λ (events : List Event). KeepsAll events trees) (sym t.2.1)
-              (landed s.events event (state g a) made.writes.items trees is.stands.kept (version_number attempt.version, seen.message_is, refl) first ready.0 ready.1.writes (asked early)
+              (landed s.events event (state g a) made.writes.items trees is.stands.kept (version_number one.attempt.version, one.seen.message_is, refl) first ready.0 ready.1.writes (asked early)
               (λ records held. subst (λ (writes : List Write). Holds trees (applied_all writes records)) (sym none.0) (subst (λ (db : Trees). Holds db records) (sym same) held)))
           | inr all ↦ outlasts_now t.0.events (state g b) after.attempts clean t.1.stands all
         ],
@@ -264,18 +296,17 @@ module _ {S : Type 0} (g : Ghosts S) (a mid b : Held S) (before after : Attempts
 
   -- where a crash comes
   pub seen_lands : (made : PreparedFrame) → Looks g a mid → Survives (state g mid) (state g b) (Lands made.writes.items (state g mid))
-      → (HasCleanDisk (state g mid) → (events : List Event) → Stands events (state g a) before.attempts
-      → (causes_of events event ≡ []) × IsTaken events id n (frame_of (version_number attempt.version) seen.message_is) made)
+      → IsPrepared (Ok made)
       → Endures g (TakesOne id n) (stored a before) (stored b after)
   seen_lands made looks lives prepared =
       survives_then (state g a) (state g mid) (state g b) (λ _. ⊥) (Lands made.writes.items (state g mid)) (Keeps g (TakesOne id n) (stored a before)) (λ _ db none. absurd none)
       (λ clean db lands s is.
       let early : HasCleanDisk (state g mid) = omega (arith, lives.clean, clean) in
-      let ready = prepared early s.events is.stands in
+      let ready = ready_of made prepared early s.events is.stands in
       let store = store_still s.events (state g a) (state g mid) (λ _. ⊥) looks.crash looks.kept is.stands.kept in
-      let all = landed s.events event (state g mid) made.writes.items db store (version_number attempt.version, seen.message_is, refl) early ready.0 ready.1.writes lands.0 lands.1 in
-      let next = next_item g (stored a before) (stored b after) s is id n attempt (message seen.message_is) left_of found seen.first in
-      let to = frame_landed s id n (frame_of (version_number attempt.version) seen.message_is) left_of made.reply next ready.1.reply ready.0 in
+      let all = landed s.events event (state g mid) made.writes.items db store (version_number one.attempt.version, one.seen.message_is, refl) early ready.0 ready.1.writes lands.0 lands.1 in
+      let next = next_item g (stored a before) (stored b after) s is id n one.attempt (message one.seen.message_is) left_of one.found one.seen.first in
+      let to = frame_landed s id n frame left_of made.reply next ready.1.reply ready.0 in
       (to.0, (made.reply, to.2), subst (λ (events : List Event). KeepsAll events db) (sym to.1) all))
       looks.crash lives
 

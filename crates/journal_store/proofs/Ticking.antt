@@ -162,16 +162,6 @@ module _ (events : List Event) (now : ℕ) (writes : List Write) (keeps : KeepsB
 
 -- ---- the call
 
--- in room that was made
-pub puts_all : (added : List AddedFrames) (old mid new : ByInvocation) (result : Result ℕ Refusal) → AreAsBefore old mid → (AreAlone added → HaveRoomFor mid added)
-    → OnOk result (ArePut added mid new) → OnOk result (PutsAll added old new)
-puts_all added old mid new (Ok count) before room put = record { between = mid; before = before; room = room; put = put }
-puts_all added old mid new (Err why) before room put = tt
-
-pub stays_in_room : (old mid new : ByInvocation) (result : Result ℕ Refusal) → AreAsBefore old mid → OnErr result (new ≡ mid) → OnErr result (AreAsBefore old new)
-stays_in_room old mid new (Ok count) before same = tt
-stays_in_room old mid new (Err why) before same = subst (AreAsBefore old) (sym same) before
-
 -- what was made ready of a tick
 abbrev pub IsReadyTick : State → State → ℕ → PreparedTick → Type 0
 IsReadyTick old mid now made = HasCleanDisk mid → (events : List Event) → IsStoreOf events old → (causes_of events (Event.Tick now) ≡ []) × IsTickReady events now made

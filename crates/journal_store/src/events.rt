@@ -42,39 +42,6 @@ fn commit_ready<S: Alter>(tables: &mut StoreTables<S>, writes: Vec<Write>) -> Re
     done
 }
 
-/// Writes an arrival that was made ready, and puts its frame behind the input of the live attempt, if one is live: it is recorded
-/// before a byte of it is handed out.
-fn record_arrival<S: Alter>(
-    tables: &mut StoreTables<S>,
-    live: &mut LiveAttempts,
-    id: &ByteStr,
-    made: PreparedArrival,
-) -> Result<u32, Refusal>
-    requires place { made.place + 1 < 2 ^ 32 }
-    ensures place { IfOk result (λ place. place ≡ made.place) }
-    ensures made { Writes S.Store made.writes.items tables.old tables.new result }
-    ensures put { OnOk result (Changes id.now (after_put made.place made.frame) live.old.attempts live.new.attempts) }
-    ensures stays { OnErr result (AreAsBefore live.old.attempts live.new.attempts) }
-{
-    let room = live.reserve(id, made.frame.len());
-    if room.is_err() {
-        drop(made);
-        return Err(Refusal::OutOfMemory);
-    }
-    match commit(tables, made.writes.as_slice()) {
-        Ok(()) => {
-            let place = made.place;
-            live.put(id, place, made.frame.as_slice(), &[]);
-            drop(made);
-            Ok(place)
-        }
-        Err(why) => {
-            drop(made);
-            Err(why)
-        }
-    }
-}
-
 /// The attempt that is begun: all of its input is left, and it wrote nothing.
 fn fresh_attempt(
     alloc: Global,
@@ -107,85 +74,81 @@ fn room_for(live: &mut LiveAttempts, id: &ByteStr) -> Result<ByteStr, AllocError
     id.clone()
 }
 
-/// Makes the attempt that is begun, and room for it; then writes what was made ready of the begin, and takes the attempt in.
-fn take_in<S: Alter>(
-    tables: &mut StoreTables<S>,
-    live: &mut LiveAttempts,
-    id: &ByteStr,
-    writes: &[Write],
-    number: u32,
-    version: Version,
-    journal: JournalFrames,
-) -> Result<(), Refusal>
-    ensures made { Writes S.Store writes.now tables.old tables.new result }
-    ensures put { OnOk result (TakesIn id.now number version journal live.old.attempts live.new.attempts) }
-    ensures waits { WaitsAfter id.now (Some []) result live.old.attempts live.new.attempts }
-    ensures stays { OnErr result (live.new.attempts ≡ live.old.attempts) }
-{
-    let Ok(attempt) = fresh_attempt(tables.alloc(), number, version, journal) else {
-        return Err(Refusal::OutOfMemory);
-    };
-    let Ok(own) = room_for(live, id) else {
-        drop(attempt);
-        return Err(Refusal::OutOfMemory);
-    };
-    match commit(tables, writes) {
-        Ok(()) => {
-            live.put_begun(own, attempt);
-            Ok(())
+impl<S: Alter + Drop> Store<S> {
+    /// Writes an arrival that was made ready, and puts its frame behind the input of the live attempt, if one is live: it is recorded
+    /// before a byte of it is handed out.
+    fn record_arrival(&mut self, id: &ByteStr, made: PreparedArrival) -> Result<u32, Refusal>
+        requires place { made.place + 1 < 2 ^ 32 }
+        ensures place { IfOk result (λ place. place ≡ made.place) }
+        ensures made { Writes S.Store made.writes.items self.old.connection self.new.connection result }
+        ensures put { OnOk result (Changes id.now (after_put made.place made.frame) self.old.live.attempts self.new.live.attempts) }
+        ensures stays { OnErr result (AreAsBefore self.old.live.attempts self.new.live.attempts) }
+    {
+        let room = self.live.reserve(id, made.frame.len());
+        if room.is_err() {
+            drop(made);
+            return Err(Refusal::OutOfMemory);
         }
-        Err(why) => {
-            drop(own);
-            drop(attempt);
-            Err(why)
+        match commit(&mut self.tables, made.writes.as_slice()) {
+            Ok(()) => {
+                let place = made.place;
+                self.live.put(id, place, made.frame.as_slice(), &[]);
+                drop(made);
+                Ok(place)
+            }
+            Err(why) => {
+                drop(made);
+                Err(why)
+            }
         }
     }
-}
 
-/// Begins an attempt that was made ready.
-fn begin_prepared<S: Alter>(
-    tables: &mut StoreTables<S>,
-    live: &mut LiveAttempts,
-    id: &ByteStr,
-    made: PreparedAttempt,
-) -> Result<BegunAttempt, Refusal>
-    ensures told { IfOk result (IsToldAs made) }
-    ensures made { Writes S.Store made.writes.items tables.old tables.new result }
-    ensures put { OnOk result (TakesIn id.now made.number made.version made.frames.journal live.old.attempts live.new.attempts) }
-    ensures waits { WaitsAfter id.now (Some []) result live.old.attempts live.new.attempts }
-    ensures stays { OnErr result (live.new.attempts ≡ live.old.attempts) }
-{
-    let PreparedAttempt {
-        writes,
-        number,
-        version,
-        frames,
-    } = made;
-    let AttemptFrames { start, journal } = frames;
-    let done = take_in(
-        tables,
-        live,
-        id,
-        writes.as_slice(),
-        number,
-        version,
-        journal,
-    );
-    drop(writes);
-    match done {
-        Ok(()) => Ok(BegunAttempt {
+    /// Makes the attempt that is begun, and room for it; then writes what was made ready of the begin, and takes the attempt in.
+    fn record_begin(&mut self, id: &ByteStr, made: PreparedAttempt) -> Result<BegunAttempt, Refusal>
+        ensures told { IfOk result (IsToldAs made) }
+        ensures made { Writes S.Store made.writes.items self.old.connection self.new.connection result }
+        ensures put { OnOk result (TakesIn id.now made.number made.version made.frames.journal self.old.live.attempts self.new.live.attempts) }
+        ensures waits { WaitsAfter id.now (Some []) result self.old.live.attempts self.new.live.attempts }
+        ensures stays { OnErr result (self.new.live.attempts ≡ self.old.live.attempts) }
+    {
+        let PreparedAttempt {
+            writes,
             number,
             version,
-            start,
-        }),
-        Err(why) => {
+            frames,
+        } = made;
+        let AttemptFrames { start, journal } = frames;
+        let Ok(attempt) = fresh_attempt(self.tables.alloc(), number, version, journal) else {
+            drop(writes);
             drop(start);
-            Err(why)
+            return Err(Refusal::OutOfMemory);
+        };
+        let Ok(own) = room_for(&mut self.live, id) else {
+            drop(attempt);
+            drop(writes);
+            drop(start);
+            return Err(Refusal::OutOfMemory);
+        };
+        let done = commit(&mut self.tables, writes.as_slice());
+        drop(writes);
+        match done {
+            Ok(()) => {
+                self.live.put_begun(own, attempt);
+                Ok(BegunAttempt {
+                    number,
+                    version,
+                    start,
+                })
+            }
+            Err(why) => {
+                drop(own);
+                drop(attempt);
+                drop(start);
+                Err(why)
+            }
         }
     }
-}
 
-impl<S: Alter + Drop> Store<S> {
     /// A new invocation. Its object may have had others, but none of them is open.
     pub fn invoke(&mut self, new: NewInvocation) -> Result<(), Refusal>
         ensures does { Leads S.Store (Invokes new result) self.old self.new }
@@ -216,7 +179,7 @@ impl<S: Alter + Drop> Store<S> {
         ensures crash { EnduresAlways S.Store (Adds (Event.Complete id.now completion brought)) self.old self.new }
     {
         match prepare_result(&mut self.tables, id, completion, brought) {
-            Ok(made) => record_arrival(&mut self.tables, &mut self.live, id, made),
+            Ok(made) => self.record_arrival(id, made),
             Err(why) => Err(why),
         }
     }
@@ -230,7 +193,7 @@ impl<S: Alter + Drop> Store<S> {
         ensures crash { EnduresAlways S.Store (BeginsSome id.now now) self.old self.new }
     {
         match prepare_begin(&mut self.tables, id, now) {
-            Ok(made) => begin_prepared(&mut self.tables, &mut self.live, id, made),
+            Ok(made) => self.record_begin(id, made),
             Err(why) => Err(why),
         }
     }

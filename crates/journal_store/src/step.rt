@@ -5,7 +5,6 @@ ghost use Rattle.store_steps.specs.Taken.{does_end, lies_in_frame};
 ghost use Rattle.store_live.specs.Attempts.{IsNow};
 ghost use Rattle.store_calls.specs.Frames.{Steps, TakesOne};
 ghost use Rattle.journal_store.specs.Stands.{Endures, Leads};
-ghost use Rattle.journal_store.specs.Stored.{stored};
 ghost use Rattle.journal_store.specs.Taking.{HasMessage, HasMessageOf, IsEndedBy, IsFirstOf, IsFirstSeen, IsSeenOf, SettlesStep, passed};
 ghost use Rattle.journal_store.specs.Words.{state, IsKept, attempt_of, has_number};
 ghost use Rattle.journal_store.specs.Writing.{Writes};
@@ -20,7 +19,6 @@ use store_frames::{AttemptFrame, read_frame_at};
 use store_live::{FirstItem, HEADER_LEN, LiveAttempt, LiveAttempts};
 use store_refusals::Refusal;
 use store_steps::{FrameReply, LiveFacts, PreparedFrame, prepare_frame, refusal_ends_attempt};
-use store_tables::StoreTables;
 
 /// A whole frame that stands first.
 #[derive(Debug, Drop)]
@@ -87,32 +85,6 @@ fn pass_frame(live: &mut LiveAttempts, id: &ByteStr, len: usize, reply: FrameRep
     }
 }
 
-/// Writes what was made ready of a frame of so many bytes, and passes the frame.
-fn take_prepared<S: Alter>(
-    tables: &mut StoreTables<S>,
-    live: &mut LiveAttempts,
-    id: &ByteStr,
-    len: usize,
-    made: PreparedFrame,
-) -> Result<Option<FrameReply>, Refusal>
-    requires len { ForSome (attempt_of live.old.attempts id.now) (λ attempt. len ≤ length attempt.output) }
-    ensures reply { IfOk result (λ reply. reply ≡ Some made.reply) }
-    ensures made { Writes S.Store made.writes.items tables.old tables.new result }
-    ensures left { OnOk result (IsNow id.now (passed (does_end made.reply) len (attempt_of live.old.attempts id.now)) live.old.attempts live.new.attempts) }
-    ensures stays { OnErr result (live.new.attempts ≡ live.old.attempts) }
-{
-    let reply = made.reply;
-    let done = commit(tables, made.writes.as_slice());
-    drop(made);
-    match done {
-        Ok(()) => {
-            pass_frame(live, id, len, reply);
-            Ok(Some(reply))
-        }
-        Err(why) => Err(why),
-    }
-}
-
 /// Ends the attempt whose frame was refused, where the cause lies in the frame.
 fn end_refused(live: &mut LiveAttempts, id: &ByteStr, why: Refusal)
     ensures { IsEndedBy (lies_in_frame why) id.now live.old.attempts live.new.attempts }
@@ -122,35 +94,59 @@ fn end_refused(live: &mut LiveAttempts, id: &ByteStr, why: Refusal)
     }
 }
 
-/// Takes the frame that stands first of a live attempt. One that is refused waits, unless the cause lies in it: then its attempt is
-/// over.
-fn take_seen<S: Alter>(
-    tables: &mut StoreTables<S>,
-    live: &mut LiveAttempts,
-    id: &ByteStr,
-    attempt: u32,
-    seen: SeenFrame,
-) -> Result<Option<FrameReply>, Refusal>
-    requires live { has_number attempt (attempt_of live.old.attempts id.now) ≡ true }
-    requires seen { IsSeenOf (attempt_of live.old.attempts id.now) seen }
-    ensures does { Leads S.Store (Steps id.now attempt result) (stored tables.old live.old) (stored tables.new live.new) }
-    ensures settled { SettlesStep S.Store id.now attempt result (stored tables.old live.old) (stored tables.new live.new) }
-    ensures kept { OnErr result (IsKept (state S.Store tables.old) (state S.Store tables.new)) }
-    ensures crash { Endures S.Store (TakesOne id.now attempt) (stored tables.old live.old) (stored tables.new live.new) }
-{
-    let SeenFrame { frame, len, facts } = seen;
-    // It does nothing: its contract says that a frame of which nothing is written lasts too.
-    let _settled = tables.is_settled();
-    match prepare_frame(tables, id, facts, frame) {
-        Ok(made) => take_prepared(tables, live, id, len, made),
-        Err(why) => {
-            end_refused(live, id, why);
-            Err(why)
+impl<S: Alter + Drop> Store<S> {
+    /// Writes what was made ready of a frame of so many bytes, and passes the frame.
+    fn take_prepared(
+        &mut self,
+        id: &ByteStr,
+        len: usize,
+        made: PreparedFrame,
+    ) -> Result<Option<FrameReply>, Refusal>
+        requires len { ForSome (attempt_of self.old.live.attempts id.now) (λ attempt. len ≤ length attempt.output) }
+        ensures reply { IfOk result (λ reply. reply ≡ Some made.reply) }
+        ensures made { Writes S.Store made.writes.items self.old.connection self.new.connection result }
+        ensures left { OnOk result (IsNow id.now (passed (does_end made.reply) len (attempt_of self.old.live.attempts id.now)) self.old.live.attempts self.new.live.attempts) }
+        ensures stays { OnErr result (self.new.live.attempts ≡ self.old.live.attempts) }
+    {
+        let reply = made.reply;
+        let done = commit(&mut self.tables, made.writes.as_slice());
+        drop(made);
+        match done {
+            Ok(()) => {
+                pass_frame(&mut self.live, id, len, reply);
+                Ok(Some(reply))
+            }
+            Err(why) => Err(why),
         }
     }
-}
 
-impl<S: Alter + Drop> Store<S> {
+    /// Takes the frame that stands first of a live attempt. One that is refused waits, unless the cause lies in it: then its attempt
+    /// is over.
+    fn take_seen(
+        &mut self,
+        id: &ByteStr,
+        attempt: u32,
+        seen: SeenFrame,
+    ) -> Result<Option<FrameReply>, Refusal>
+        requires live { has_number attempt (attempt_of self.old.live.attempts id.now) ≡ true }
+        requires seen { IsSeenOf (attempt_of self.old.live.attempts id.now) seen }
+        ensures does { Leads S.Store (Steps id.now attempt result) self.old self.new }
+        ensures settled { SettlesStep S.Store id.now attempt result self.old self.new }
+        ensures kept { OnErr result (IsKept (state S.Store self.old.connection) (state S.Store self.new.connection)) }
+        ensures crash { Endures S.Store (TakesOne id.now attempt) self.old self.new }
+    {
+        let SeenFrame { frame, len, facts } = seen;
+        // It does nothing: its contract says that a frame of which nothing is written lasts too.
+        let _settled = self.tables.is_settled();
+        match prepare_frame(&mut self.tables, id, facts, frame) {
+            Ok(made) => self.take_prepared(id, len, made),
+            Err(why) => {
+                end_refused(&mut self.live, id, why);
+                Err(why)
+            }
+        }
+    }
+
     /// Takes the next frame of the attempt, if a whole one waits: what it asks for is recorded, and its answer is told. A frame that
     /// is refused for a cause of its own ends the attempt; refused for want of memory or of numbers it waits, and is taken again.
     pub fn step(&mut self, id: &ByteStr, attempt: u32) -> Result<Option<FrameReply>, Refusal>
@@ -168,9 +164,7 @@ impl<S: Alter + Drop> Store<S> {
                 self.live.remove(id);
                 Err(Refusal::FrameNotAccepted)
             }
-            Ok(FirstSeen::Frame(seen)) => {
-                take_seen(&mut self.tables, &mut self.live, id, attempt, seen)
-            }
+            Ok(FirstSeen::Frame(seen)) => self.take_seen(id, attempt, seen),
             Err(_) => Err(Refusal::OutOfMemory),
         }
     }

@@ -17,14 +17,14 @@ pub returns-in-Ok-clause-does : goal.returns-in-Ok-clause-does
 returns-in-Ok-clause-does g c =
     let old : State = state g.S.Store c.self.inside.tables in
     let mid : State = state g.S.Store c.prepare_begin.new.tables in
-    let new : State = state g.S.Store c.begin_prepared.new.tables in
-    rw (← c.self.view_is) (begins g.S.Store (stored c.self.inside.tables c.self.inside.live) (stored c.begin_prepared.new.tables c.begin_prepared.new.live) c.args.id.now c.args.now c.begin_prepared.result
+    let new : State = state g.S.Store c.record_begin.new.self.connection in
+    rw (← c.self.view_is) (begins g.S.Store (stored c.self.inside.tables c.self.inside.live) c.record_begin.new.self c.args.id.now c.args.now c.record_begin.result
     (λ clean events stands.
-    let early : HasCleanDisk mid = omega (arith, c.begin_prepared.ensures.made.crash.clean, clean) in
-    begin_recorded events c.args.id.now c.args.now old mid new _ _ c.self.inside.live.attempts c.begin_prepared.new.live.attempts c.in-Ok.made (other_tests events c.args.id.now c.args.now) c.begin_prepared.result refl
-    c.prepare_begin.ensures.looks.crash c.prepare_begin.ensures.looks.kept c.begin_prepared.ensures.made.crash clean (c.in-Ok.ensures.prepared early events stands.kept)
-    c.begin_prepared.ensures.told (c.begin_prepared.ensures.made.done clean) c.begin_prepared.ensures.put c.begin_prepared.ensures.made.why c.begin_prepared.ensures.made.undone c.begin_prepared.ensures.stays stands)
-    c.begin_prepared.ensures.waits)
+    let early : HasCleanDisk mid = omega (arith, c.record_begin.ensures.made.crash.clean, clean) in
+    begin_recorded events c.args.id.now c.args.now old mid new _ _ c.self.inside.live.attempts c.record_begin.new.self.live.attempts c.in-Ok.made (other_tests events c.args.id.now c.args.now) c.record_begin.result refl
+    c.prepare_begin.ensures.looks.crash c.prepare_begin.ensures.looks.kept c.record_begin.ensures.made.crash clean (c.in-Ok.ensures.prepared early events stands.kept)
+    c.record_begin.ensures.told (c.record_begin.ensures.made.done clean) c.record_begin.ensures.put c.record_begin.ensures.made.why c.record_begin.ensures.made.undone c.record_begin.ensures.stays stands)
+    c.record_begin.ensures.waits)
 
 pub returns-in-Err-clause-does : goal.returns-in-Err-clause-does
 returns-in-Err-clause-does g c =
@@ -33,18 +33,18 @@ returns-in-Err-clause-does g c =
 
 pub returns-in-Ok-clause-crash : goal.returns-in-Ok-clause-crash
 returns-in-Ok-clause-crash g c =
-    rw (← c.self.view_is) (commits_after (BeginsSome c.args.id.now c.args.now) (state g.S.Store c.self.inside.tables) (state g.S.Store c.prepare_begin.new.tables) (state g.S.Store c.begin_prepared.new.tables)
+    rw (← c.self.view_is) (commits_after (BeginsSome c.args.id.now c.args.now) (state g.S.Store c.self.inside.tables) (state g.S.Store c.prepare_begin.new.tables) (state g.S.Store c.record_begin.new.self.connection)
     (Event.Begin c.args.id.now c.args.now) c.in-Ok.made.writes.items tt (λ s causes. begin_landed s c.args.id.now c.args.now causes) (λ s t it. it.1.leaves.events) c.prepare_begin.ensures.looks.crash c.prepare_begin.ensures.looks.kept
-    c.begin_prepared.ensures.made.crash (λ clean events store. let ready = c.in-Ok.ensures.prepared clean events store in (ready.0, ready.1.writes)))
+    c.record_begin.ensures.made.crash (λ clean events store. let ready = c.in-Ok.ensures.prepared clean events store in (ready.0, ready.1.writes)))
 
 pub returns-in-Ok-clause-settled : goal.returns-in-Ok-clause-settled
 returns-in-Ok-clause-settled g c =
-    settled_written g.S.Store c.self.inside.tables c.prepare_begin.new.tables c.begin_prepared.new.tables c.self.inside.live c.begin_prepared.new.live c.args.self.now c.self.view_is
-    (Event.Begin c.args.id.now c.args.now) c.in-Ok.made.writes.items (BeginsAttempt c.args.id.now c.args.now c.begin_prepared.result)
-    c.begin_prepared.result c.begin_prepared.ensures.made (λ clean events store. (c.in-Ok.ensures.prepared clean events store).1.writes) (λ events none. cc) (returns-in-Ok-clause-does g c)
+    settled_written g.S.Store c.self.inside.tables c.prepare_begin.new.tables c.record_begin.new.self.connection c.self.inside.live c.record_begin.new.self.live c.args.self.now c.self.view_is
+    (Event.Begin c.args.id.now c.args.now) c.in-Ok.made.writes.items (BeginsAttempt c.args.id.now c.args.now c.record_begin.result)
+    c.record_begin.result c.record_begin.ensures.made (λ clean events store. (c.in-Ok.ensures.prepared clean events store).1.writes) (λ events none. cc) (returns-in-Ok-clause-does g c)
 
 pub returns-in-Ok-clause-kept : goal.returns-in-Ok-clause-kept
 returns-in-Ok-clause-kept g c =
     let mid : State = state g.S.Store c.prepare_begin.new.tables in
-    rw (← c.self.view_is) (undone_kept c.begin_prepared.result (state g.S.Store c.self.inside.tables) mid (state g.S.Store c.begin_prepared.new.tables)
-    (λ clean. omega (arith, c.begin_prepared.ensures.made.crash.clean, clean)) c.prepare_begin.ensures.looks.kept c.begin_prepared.ensures.made.undone)
+    rw (← c.self.view_is) (undone_kept c.record_begin.result (state g.S.Store c.self.inside.tables) mid (state g.S.Store c.record_begin.new.self.connection)
+    (λ clean. omega (arith, c.record_begin.ensures.made.crash.clean, clean)) c.prepare_begin.ensures.looks.kept c.record_begin.ensures.made.undone)

@@ -20,16 +20,16 @@ pub returns-in-Ok-clause-does : goal.returns-in-Ok-clause-does
 returns-in-Ok-clause-does g c =
     let old : State = state g.S.Store c.self.inside.tables in
     let mid : State = state g.S.Store c.prepare_result.new.tables in
-    let new : State = state g.S.Store c.record_arrival.new.tables in
+    let new : State = state g.S.Store c.record_arrival.new.self.connection in
     let id = c.args.id.now in
-    rw (← c.self.view_is) (completes g.S.Store (stored c.self.inside.tables c.self.inside.live) (stored c.record_arrival.new.tables c.record_arrival.new.live) id c.args.completion c.args.brought c.record_arrival.result
+    rw (← c.self.view_is) (completes g.S.Store (stored c.self.inside.tables c.self.inside.live) c.record_arrival.new.self id c.args.completion c.args.brought c.record_arrival.result
     (λ clean events stands.
     let early : HasCleanDisk mid = omega (arith, c.record_arrival.ensures.made.crash.clean, clean) in
     arrival_recorded events (Event.Complete id c.args.completion c.args.brought) id (completion c.args.completion c.args.brought) old mid new _ _
-    c.self.inside.live.attempts c.record_arrival.new.live.attempts c.in-Ok.made c.record_arrival.result refl refl (completed id c.args.completion c.args.brought) refl tt
+    c.self.inside.live.attempts c.record_arrival.new.self.live.attempts c.in-Ok.made c.record_arrival.result refl refl (completed id c.args.completion c.args.brought) refl tt
     c.prepare_result.ensures.looks.crash c.prepare_result.ensures.looks.kept c.record_arrival.ensures.made.crash clean (c.in-Ok.ensures.prepared early events stands.kept)
     c.record_arrival.ensures.place (c.record_arrival.ensures.made.done clean) c.record_arrival.ensures.put c.record_arrival.ensures.made.why c.record_arrival.ensures.made.undone c.record_arrival.ensures.stays stands)
-    (arrived_waits id c.in-Ok.made.place c.in-Ok.made.frame c.self.inside.live.attempts c.record_arrival.new.live.attempts c.record_arrival.result
+    (arrived_waits id c.in-Ok.made.place c.in-Ok.made.frame c.self.inside.live.attempts c.record_arrival.new.self.live.attempts c.record_arrival.result
     c.record_arrival.ensures.put c.record_arrival.ensures.stays))
 
 pub returns-in-Err-clause-does : goal.returns-in-Err-clause-does
@@ -39,24 +39,24 @@ returns-in-Err-clause-does g c =
 
 pub returns-in-Ok-clause-crash : goal.returns-in-Ok-clause-crash
 returns-in-Ok-clause-crash g c =
-    rw (← c.self.view_is) (commits_after (Adds (Event.Complete c.args.id.now c.args.completion c.args.brought)) (state g.S.Store c.self.inside.tables) (state g.S.Store c.prepare_result.new.tables) (state g.S.Store c.record_arrival.new.tables)
+    rw (← c.self.view_is) (commits_after (Adds (Event.Complete c.args.id.now c.args.completion c.args.brought)) (state g.S.Store c.self.inside.tables) (state g.S.Store c.prepare_result.new.tables) (state g.S.Store c.record_arrival.new.self.connection)
     (Event.Complete c.args.id.now c.args.completion c.args.brought) c.in-Ok.made.writes.items tt (λ s causes. complete_landed s c.args.id.now c.args.completion c.args.brought causes)
     (λ s t it. it.events) c.prepare_result.ensures.looks.crash c.prepare_result.ensures.looks.kept
     c.record_arrival.ensures.made.crash (λ clean events store. let ready = c.in-Ok.ensures.prepared clean events store in (ready.0, ready.1.writes)))
 
 pub returns-in-Ok-clause-waits : goal.returns-in-Ok-clause-waits
 returns-in-Ok-clause-waits g c =
-    rw (← c.self.view_is) (arrived_waits c.args.id.now c.in-Ok.made.place c.in-Ok.made.frame c.self.inside.live.attempts c.record_arrival.new.live.attempts c.record_arrival.result
+    rw (← c.self.view_is) (arrived_waits c.args.id.now c.in-Ok.made.place c.in-Ok.made.frame c.self.inside.live.attempts c.record_arrival.new.self.live.attempts c.record_arrival.result
     c.record_arrival.ensures.put c.record_arrival.ensures.stays)
 
 pub returns-in-Ok-clause-settled : goal.returns-in-Ok-clause-settled
 returns-in-Ok-clause-settled g c =
-    settled_written g.S.Store c.self.inside.tables c.prepare_result.new.tables c.record_arrival.new.tables c.self.inside.live c.record_arrival.new.live c.args.self.now c.self.view_is
+    settled_written g.S.Store c.self.inside.tables c.prepare_result.new.tables c.record_arrival.new.self.connection c.self.inside.live c.record_arrival.new.self.live c.args.self.now c.self.view_is
     (Event.Complete c.args.id.now c.args.completion c.args.brought) c.in-Ok.made.writes.items (Completes c.args.id.now c.args.completion c.args.brought c.record_arrival.result)
     c.record_arrival.result c.record_arrival.ensures.made (λ clean events store. (c.in-Ok.ensures.prepared clean events store).1.writes) (λ events none. cc) (returns-in-Ok-clause-does g c)
 
 pub returns-in-Ok-clause-kept : goal.returns-in-Ok-clause-kept
 returns-in-Ok-clause-kept g c =
     let mid : State = state g.S.Store c.prepare_result.new.tables in
-    rw (← c.self.view_is) (undone_kept c.record_arrival.result (state g.S.Store c.self.inside.tables) mid (state g.S.Store c.record_arrival.new.tables)
+    rw (← c.self.view_is) (undone_kept c.record_arrival.result (state g.S.Store c.self.inside.tables) mid (state g.S.Store c.record_arrival.new.self.connection)
     (λ clean. omega (arith, c.record_arrival.ensures.made.crash.clean, clean)) c.prepare_result.ensures.looks.kept c.record_arrival.ensures.made.undone)

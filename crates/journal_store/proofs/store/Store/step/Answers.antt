@@ -28,10 +28,10 @@ returns-then-not-is_live-clause-does g c =
     rw (← c.self.view_is) (dead g.S.Store c.self.inside.tables c.stale_refusal.new.tables c.self.inside.live c.args.id.now c.args.attempt (λ why. Steps c.args.id.now c.args.attempt (Err why)) (step_dead c.args.id.now c.args.attempt) c.stale_refusal.result (search rules) c.stale_refusal.ensures.looks c.stale_refusal.ensures.told)
 
 pub returns-in-Ok-Frame-clause-does : goal.returns-in-Ok-Frame-clause-does
-returns-in-Ok-Frame-clause-does g c = rw (← c.self.view_is) c.take_seen.ensures.does
+returns-in-Ok-Frame-clause-does g c = c.take_seen.ensures.does
 
 pub returns-in-Ok-Frame-clause-settled : goal.returns-in-Ok-Frame-clause-settled
-returns-in-Ok-Frame-clause-settled g c = rw (← c.self.view_is) c.take_seen.ensures.settled
+returns-in-Ok-Frame-clause-settled g c = c.take_seen.ensures.settled
 
 pub returns-in-Ok-Partial-clause-settled : goal.returns-in-Ok-Partial-clause-settled
 returns-in-Ok-Partial-clause-settled g c = rw (← c.self.view_is) refl

@@ -9,7 +9,7 @@ use Rattle.journal_store.proofs.store.Store.tick.Goals as goal
 
 pub returns-in-Ok-clause-does : goal.returns-in-Ok-clause-does
 returns-in-Ok-clause-does g c =
-    rw (← c.self.view_is) (ticks g.S.Store c.self.inside.tables c.prepare_tick.new.tables c.record_tick.new.tables c.self.inside.live c.record_tick.new.live c.args.now c.in-Ok.made
+    rw (← c.self.view_is) (ticks g.S.Store c.self.inside.tables c.prepare_tick.new.tables c.record_tick.new.self.connection c.self.inside.live c.record_tick.new.self.live c.args.now c.in-Ok.made
     c.prepare_tick.ensures.looks c.in-Ok.ensures.prepared c.record_tick.result c.record_tick.ensures.made c.record_tick.ensures.count c.record_tick.ensures.put c.record_tick.ensures.stays)
 
 pub returns-in-Err-clause-does : goal.returns-in-Err-clause-does
@@ -18,23 +18,23 @@ returns-in-Err-clause-does g c =
 
 pub returns-in-Ok-clause-waits : goal.returns-in-Ok-clause-waits
 returns-in-Ok-clause-waits g c =
-    rw (← c.self.view_is) (tick_waits g.S.Store c.self.inside.tables c.prepare_tick.new.tables c.record_tick.new.tables c.self.inside.live c.record_tick.new.live c.args.now c.in-Ok.made
+    rw (← c.self.view_is) (tick_waits g.S.Store c.self.inside.tables c.prepare_tick.new.tables c.record_tick.new.self.connection c.self.inside.live c.record_tick.new.self.live c.args.now c.in-Ok.made
     c.prepare_tick.ensures.looks c.in-Ok.ensures.prepared c.record_tick.result c.record_tick.ensures.put c.record_tick.ensures.stays)
 
 pub returns-in-Ok-clause-crash : goal.returns-in-Ok-clause-crash
 returns-in-Ok-clause-crash g c =
-    rw (← c.self.view_is) (tick_lands g.S.Store c.self.inside.tables c.prepare_tick.new.tables c.record_tick.new.tables c.self.inside.live c.record_tick.new.live c.args.now c.in-Ok.made
+    rw (← c.self.view_is) (tick_lands g.S.Store c.self.inside.tables c.prepare_tick.new.tables c.record_tick.new.self.connection c.self.inside.live c.record_tick.new.self.live c.args.now c.in-Ok.made
     c.prepare_tick.ensures.looks c.in-Ok.ensures.prepared c.record_tick.ensures.made.crash)
 
 pub returns-in-Ok-clause-settled : goal.returns-in-Ok-clause-settled
 returns-in-Ok-clause-settled g c =
-    rw (← c.self.view_is) (tick_settled g.S.Store c.self.inside.tables c.prepare_tick.new.tables c.record_tick.new.tables c.self.inside.live c.record_tick.new.live c.args.now c.in-Ok.made
+    rw (← c.self.view_is) (tick_settled g.S.Store c.self.inside.tables c.prepare_tick.new.tables c.record_tick.new.self.connection c.self.inside.live c.record_tick.new.self.live c.args.now c.in-Ok.made
     c.prepare_tick.ensures.looks c.in-Ok.ensures.prepared c.record_tick.result c.record_tick.ensures.made c.is_settled-settled.ensures.settled c.in-Ok.ensures.asked
-    (ticks g.S.Store c.self.inside.tables c.prepare_tick.new.tables c.record_tick.new.tables c.self.inside.live c.record_tick.new.live c.args.now c.in-Ok.made
+    (ticks g.S.Store c.self.inside.tables c.prepare_tick.new.tables c.record_tick.new.self.connection c.self.inside.live c.record_tick.new.self.live c.args.now c.in-Ok.made
     c.prepare_tick.ensures.looks c.in-Ok.ensures.prepared c.record_tick.result c.record_tick.ensures.made c.record_tick.ensures.count c.record_tick.ensures.put c.record_tick.ensures.stays))
 
 pub returns-in-Ok-clause-kept : goal.returns-in-Ok-clause-kept
 returns-in-Ok-clause-kept g c =
     let mid : State = state g.S.Store c.prepare_tick.new.tables in
-    rw (← c.self.view_is) (undone_kept c.record_tick.result (state g.S.Store c.self.inside.tables) mid (state g.S.Store c.record_tick.new.tables)
+    rw (← c.self.view_is) (undone_kept c.record_tick.result (state g.S.Store c.self.inside.tables) mid (state g.S.Store c.record_tick.new.self.connection)
     (λ clean. omega (arith, c.record_tick.ensures.made.crash.clean, clean)) c.prepare_tick.ensures.looks.kept c.record_tick.ensures.made.undone)
