@@ -15,9 +15,9 @@ use Rattle.store_refusals.specs.Names.{name_of}
 use Rattle.store_refusals.specs.Refused.{IsRefused}
 use Rattle.store_invocations.specs.Rows.{known_tests}
 use Rattle.journal_model.specs.Cause.{those_that_hold}
-use Rattle.store_reads.specs.declared.recorded.RecordedEntry.{RecordedEntry}
-use Rattle.store_reads.specs.Told.{entries_told}
-use Rattle.store_reads.specs.Answered.{answer_told}
+use Rattle.store_invocations.specs.declared.recorded.RecordedEntry.{RecordedEntry}
+use Rattle.store_invocations.specs.Told.{entries_told}
+use Rattle.store_invocations.specs.Answered.{answer_told}
 use Rattle.journal_store.specs.Stands.{IsQuiet}
 use Rattle.schedule_runs.specs.Passed.{Scheduler, IsScheduled}
 use Rattle.schedule_runs.specs.Schedules.{Scheduled}

@@ -12,8 +12,8 @@ use Rattle.store_refusals.specs.declared.refusal.Refusal.{Refusal}
 use Rattle.store_refusals.specs.Names.{name_of}
 use Rattle.store_refusals.specs.Refused.{IsRefused}
 use Rattle.store_invocations.specs.Rows.{known_tests}
-use Rattle.store_reads.specs.Told.{entries_told}
-use Rattle.store_reads.specs.Answered.{answer_told}
+use Rattle.store_invocations.specs.Told.{entries_told}
+use Rattle.store_invocations.specs.Answered.{answer_told}
 use Rattle.schedule_runs.specs.Schedules.{Scheduled}
 use Rattle.script_lines.specs.Text.{value_line, failure_line, open_text, refused_text}
 use Rattle.script_entries.specs.declared.entry.ShownEntry.{ShownEntry}

@@ -24,8 +24,8 @@ use Rattle.store_refusals.specs.declared.refusal.Refusal.{Refusal}
 use Rattle.store_refusals.specs.Refused.{is_circumstance}
 use Rattle.store_refusals.specs.Prepared.{Keeps}
 use Rattle.store_invocations.proofs.Opened.{begun_named}
-use Rattle.store_begins.specs.declared.attempt.PreparedAttempt.{PreparedAttempt}
-use Rattle.store_begins.specs.Begun.{IsBegun}
+use Rattle.store_invocations.specs.declared.attempt.PreparedAttempt.{PreparedAttempt}
+use Rattle.store_invocations.specs.Begun.{IsBegun}
 use Rattle.store_live.specs.declared.input.PieceLeft.{PieceLeft}
 use Rattle.store_live.specs.Input.{pieces_from}
 use Rattle.store_live.specs.Attempts.{ByInvocation, attempt_of}

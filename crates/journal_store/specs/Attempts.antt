@@ -5,8 +5,8 @@ use Rattle.journal_model.specs.Event.{Event}
 use Rattle.protocol_types.specs.declared.version.Version.{Version}
 use Rattle.store_refusals.specs.declared.refusal.Refusal.{Refusal}
 use Rattle.store_refusals.specs.Refused.{refusal_of, is_circumstance}
-use Rattle.store_begins.specs.declared.attempt.PreparedAttempt.{PreparedAttempt}
-use Rattle.store_begins.specs.declared.frames.JournalFrames.{JournalFrames}
+use Rattle.store_invocations.specs.declared.attempt.PreparedAttempt.{PreparedAttempt}
+use Rattle.store_invocations.specs.declared.frames.JournalFrames.{JournalFrames}
 use Rattle.store_live.specs.declared.attempt.LiveAttempt.{LiveAttempt}
 use Rattle.store_live.specs.declared.added.AddedFrames.{AddedFrames}
 use Rattle.store_live.specs.Input.{journal_left}

@@ -16,9 +16,10 @@ use protocol_stream::Version;
 use sqlite::Alter;
 use std::alloc::{AllocError, Global};
 use store_arrivals::{PreparedArrival, prepare_result};
-use store_begins::{AttemptFrames, JournalFrames, PreparedAttempt, prepare_begin};
 use store_calls::BegunAttempt;
-use store_invocations::prepare_invoke;
+use store_invocations::{
+    AttemptFrames, JournalFrames, PreparedAttempt, prepare_begin, prepare_invoke,
+};
 use store_live::{AttemptInput, AttemptOutput, LiveAttempt, LiveAttempts};
 use store_refusals::Refusal;
 use store_tables::{StoreTables, Write, commit_all};

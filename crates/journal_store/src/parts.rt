@@ -2,7 +2,6 @@
 //! `store_laws`, stand above it and are named by themselves.
 pub use sql_tables as sql;
 pub use store_arrivals as arrivals;
-pub use store_begins as begins;
 pub use store_calls as calls;
 pub use store_frames as frames;
 pub use store_invocations as invocations;
@@ -10,9 +9,7 @@ pub use store_live as live;
 pub use store_live_laws as live_laws;
 pub use store_lookups as lookups;
 pub use store_model as model;
-pub use store_reads as reads;
 pub use store_refusals as refusals;
-pub use store_sleeps as sleeps;
 pub use store_steps as steps;
 pub use store_tables as tables;
 pub use store_ticks as ticks;

@@ -2,15 +2,15 @@
 ghost use Rattle.std.specs.Prelude.{◌≡◌};
 ghost use Rattle.journal_model.specs.Journal.{is_open as is_open_after};
 ghost use Rattle.store_model.specs.Progress.{last_error_of};
-ghost use Rattle.store_reads.specs.Told.{entries_told};
-ghost use Rattle.store_reads.specs.Answered.{answer_told};
+ghost use Rattle.store_invocations.specs.Told.{entries_told};
+ghost use Rattle.store_invocations.specs.Answered.{answer_told};
 ghost use Rattle.journal_store.specs.Stands.{IsQuiet, TellsOf};
 
 use crate::store::Store;
 use bytes::ByteStr;
 use journal_model::NonEmptyValue;
 use sqlite::Alter;
-use store_reads::{RecordedEntry, answer, entries, failure, is_open};
+use store_invocations::{RecordedEntry, answer, entries, failure, is_open};
 use store_refusals::Refusal;
 use store_tables::LastError;
 

@@ -1,7 +1,7 @@
 -- Entries, one after another, as they are shown.
 use Rattle.std.proofs.Common.{ℕ, zero, suc, ◌<◌, List, [], ◌∷◌, ◌++◌, length, get_or, inl, inr, arith}
 use Rattle.store_refusals.specs.declared.refusal.Refusal.{Refusal}
-use Rattle.store_reads.specs.declared.recorded.RecordedEntry.{RecordedEntry}
+use Rattle.store_invocations.specs.declared.recorded.RecordedEntry.{RecordedEntry}
 use Rattle.script_entries.specs.declared.entry.ShownEntry.{ShownEntry}
 use Rattle.script_entries.specs.Entries.{AreShown, HasUnread, IsShown, IsUnread}
 

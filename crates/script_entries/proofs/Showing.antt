@@ -5,7 +5,7 @@ use Rattle.journal_model.specs.Notification.{Arrival as Brought}
 use Rattle.journal_model.specs.Journal.{Entry, Recorded, Arrived, entries_of}
 use Rattle.journal_model.specs.Attempt.{notification_type}
 use Rattle.feeding_laws.proofs.Arrivals.{decodes}
-use Rattle.store_reads.specs.Told.{entry_told, told_from}
+use Rattle.store_invocations.specs.Told.{entry_told, told_from}
 use Rattle.script_entries.specs.declared.entry.ShownEntry.{ShownEntry}
 use Rattle.script_entries.specs.declared.entry.ShownEntry.TheVariants.{Arrival, Request}
 use Rattle.script_entries.specs.Entries.{AreShown, IsShown, entry_text}

@@ -10,8 +10,8 @@ use Rattle.protocol_stream.specs.Frame.{message_of}
 use Rattle.protocol_messages.specs.Decoded.{DecodesNotification}
 use Rattle.store_refusals.specs.declared.refusal.Refusal.{Refusal}
 use Rattle.store_refusals.specs.declared.refusal.Refusal.TheVariants.{ForeignRow, OutOfMemory}
-use Rattle.store_reads.specs.declared.recorded.EntryKind.TheVariants as kinds
-use Rattle.store_reads.specs.declared.recorded.RecordedEntry.{RecordedEntry}
+use Rattle.store_invocations.specs.declared.recorded.EntryKind.TheVariants as kinds
+use Rattle.store_invocations.specs.declared.recorded.RecordedEntry.{RecordedEntry}
 use Rattle.script_lines.specs.Text.{request_line}
 use Rattle.script_lines.specs.Arrival.{arrival_line, completion_word, failure_words, id_words, keys_words, name_word, signal_word, value_words}
 use Rattle.script_entries.specs.declared.entry.ShownEntry.{ShownEntry}

@@ -14,7 +14,7 @@ use script_lines::arrival::{ShownArrival, ShownId, ShownResult};
 use script_lines::text::ShownRequest;
 use std::alloc::Global;
 use std::fmt;
-use store_reads::{EntryKind, RecordedEntry};
+use store_invocations::{EntryKind, RecordedEntry};
 use store_refusals::Refusal;
 
 /// What is recorded at a place: a request by its frame, an arrival by what it is for and what it brings.

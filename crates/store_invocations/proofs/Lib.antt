@@ -4,3 +4,14 @@ pub mod Refusing
 pub mod Framing
 pub mod Opened
 pub mod Beginning
+pub mod Telling
+pub mod Rows
+pub mod Closing
+pub mod Holding
+pub mod Recording
+pub mod Putting
+pub mod Attempts
+pub mod AttemptBeginning
+pub mod Next
+pub mod Starts
+pub mod Deciding

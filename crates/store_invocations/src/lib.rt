@@ -1,12 +1,32 @@
-//! What a store reads of an invocation before it changes one, and what a new invocation makes ready: whether it is refused, and
-//! otherwise the writes by which it is recorded. Nothing is written here.
+//! What is read of an invocation's rows, and what is made ready of a new invocation and of an attempt that is begun. Nothing is
+//! written here.
+//!
+//! A call that changes an invocation begins with its row. A store tells of one whether it is open, its requests and arrivals by
+//! place, what it answers once it is closed, and the last error that an attempt of it told. A new invocation, and a begun attempt,
+//! is refused for its least cause, or made ready: with the writes by which it is recorded, and with the frames that the attempt is
+//! handed.
 #![tactic(auto)]
 
+mod answering;
+mod attempt;
+mod begin;
+mod begun;
 mod frame;
+mod frames;
 mod input;
 mod invoke;
+mod prepare;
+mod progress;
+mod recorded;
 mod row;
+mod start;
 
+pub use answering::answer;
+pub use attempt::{AttemptFrames, PreparedAttempt};
+pub use begin::prepare_begin;
 pub use frame::payload_frame;
+pub use frames::JournalFrames;
 pub use invoke::prepare_invoke;
+pub use progress::{failure, is_open};
+pub use recorded::{EntryKind, RecordedEntry, entries};
 pub use row::{known_row, open_row, row_of};

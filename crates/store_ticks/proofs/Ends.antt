@@ -14,7 +14,7 @@ use Rattle.store_model.specs.Steps.{grown}
 use Rattle.store_refusals.specs.declared.refusal.Refusal.{Refusal}
 use Rattle.store_invocations.specs.Rows.{Decides}
 use Rattle.store_invocations.proofs.Refusing.{none_of_one}
-use Rattle.store_sleeps.specs.Ended.{end_frame, end_row, end_rows}
+use Rattle.store_ticks.specs.Ended.{end_frame, end_row, end_rows}
 use Rattle.store_live.specs.declared.added.AddedFrames.{AddedFrames}
 use Rattle.store_ticks.specs.declared.ended.SleepEnd.{SleepEnd}
 use Rattle.store_ticks.specs.Made.{AreEndsOf, IsEnd, end_row_of, progress_writes, room_tests}

@@ -1,3 +1,7 @@
+pub mod SideBySide
+pub mod Ending
+pub mod Counting
+pub mod Grouping
 pub mod Short
 pub mod Ends
 pub mod Ready

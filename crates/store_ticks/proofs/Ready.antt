@@ -21,11 +21,11 @@ use Rattle.store_model.proofs.Following.{ticks}
 use Rattle.store_model.proofs.States.{itself}
 use Rattle.store_lookups.specs.Lookups.{ended_sleeps, row_frame}
 use Rattle.store_lookups.proofs.Sleeping.{answer_of_sleep}
-use Rattle.store_sleeps.specs.Groups.{Group, group_of, those_ended}
-use Rattle.store_sleeps.specs.Ended.{end_frame, end_rows}
+use Rattle.store_ticks.specs.Groups.{Group, group_of, those_ended}
+use Rattle.store_ticks.specs.Ended.{end_frame, end_rows}
 use Rattle.store_live.specs.declared.added.AddedFrames.{AddedFrames}
 use Rattle.store_ticks.specs.Made.{AreEnds, AreFrames, AreOpen, AreToldOf, group_writes, ids_ended, next_place, ready_writes, until_writes}
-use Rattle.store_sleeps.proofs.Ending.{found, id_of, rows_of_tick}
+use Rattle.store_ticks.proofs.Ending.{found, id_of, rows_of_tick}
 
 abbrev pub named : Text → Group → Bool
 named id group = bytes_eq group.0 id

@@ -19,8 +19,8 @@ use Rattle.store_refusals.specs.declared.refusal.Refusal.{Refusal}
 use Rattle.store_refusals.specs.Refused.{IsRefused, first_of}
 use Rattle.store_invocations.specs.Rows.{Decides, IsRowOf}
 use Rattle.store_invocations.proofs.Refusing.{none_of_both, refused_later, refused_more}
-use Rattle.store_sleeps.specs.Ended.{end_rows}
-use Rattle.store_sleeps.specs.Groups.{Group}
+use Rattle.store_ticks.specs.Ended.{end_rows}
+use Rattle.store_ticks.specs.Groups.{Group}
 use Rattle.store_live.specs.declared.added.AddedFrames.{AddedFrames}
 use Rattle.store_ticks.proofs.Ends.{was_ended}
 use Rattle.store_ticks.specs.Made.{AreEnds, AreEndsOf, AreGroupsEnded, AreOpen, AreToldOf, IsGroupEnded, closed_until, group_tests, group_writes, next_place, room_tests, row_writes, tests_of, until_writes}

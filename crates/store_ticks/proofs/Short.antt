@@ -10,7 +10,7 @@ use Rattle.store_refusals.specs.Prepared.{Tells}
 use Rattle.store_invocations.specs.Rows.{Decides, payload_tests}
 use Rattle.store_invocations.proofs.Reading.{told_err}
 use Rattle.store_invocations.proofs.Refusing.{none_of_one}
-use Rattle.store_sleeps.specs.Ended.{end_payload}
+use Rattle.store_ticks.specs.Ended.{end_payload}
 
 groups_within : (k n : ℕ) → length (varint_groups k n) ≤ k
 groups_within zero n = omega arith

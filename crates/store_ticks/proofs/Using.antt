@@ -21,9 +21,9 @@ use Rattle.store_lookups.proofs.Sleeping.{answer_of_sleep}
 use Rattle.store_refusals.specs.declared.refusal.Refusal.{Refusal}
 use Rattle.store_refusals.specs.Refused.{IsRefused, first_of}
 use Rattle.store_refusals.specs.Prepared.{Keeps}
-use Rattle.store_sleeps.specs.Groups.{Group, group_of, those_ended}
+use Rattle.store_ticks.specs.Groups.{Group, group_of, those_ended}
 use Rattle.store_ticks.specs.Made.{next_place, tests_of}
-use Rattle.store_sleeps.proofs.Ending.{found}
+use Rattle.store_ticks.proofs.Ending.{found}
 use Rattle.store_ticks.proofs.Ready.{IsGroupOf, named}
 
 -- ---- a row holds how many entries there are

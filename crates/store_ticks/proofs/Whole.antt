@@ -17,12 +17,12 @@ use Rattle.store_refusals.specs.declared.refusal.Refusal.{Refusal}
 use Rattle.store_refusals.specs.Refused.{IsRefused, is_circumstance, reading_refusal}
 use Rattle.store_refusals.specs.Prepared.{Keeps, Prepares}
 use Rattle.store_invocations.specs.Rows.{Decides}
-use Rattle.store_sleeps.specs.Groups.{Group, grouped, those_ended}
+use Rattle.store_ticks.specs.Groups.{Group, grouped, those_ended}
 use Rattle.store_ticks.specs.Made.{AreOpen, IsEndedUntil, IsTickReady, ready_writes, tests_of}
 use Rattle.store_ticks.specs.declared.tick.PreparedTick.{PreparedTick}
-use Rattle.store_sleeps.proofs.Ending.{all_ending, found, id_of}
+use Rattle.store_ticks.proofs.Ending.{all_ending, found, id_of}
 use Rattle.store_ticks.proofs.Ready.{all_framed, all_groups, all_named, all_open, all_written}
-use Rattle.store_sleeps.proofs.Counting.{all_ended_counted}
+use Rattle.store_ticks.proofs.Counting.{all_ended_counted}
 use Rattle.store_ticks.proofs.Using.{accepted_tick, refused_tick}
 
 module _ (events : List Event) (now : ℕ) (s : State) (k : Keeps events s) where

@@ -1,1 +1,4 @@
+pub mod Ended
+pub mod Groups
+pub mod Grouped
 pub mod Made

@@ -18,8 +18,8 @@ use Rattle.store_model.specs.Progress.{progress_of}
 use Rattle.store_model.specs.Steps.{grown}
 use Rattle.store_model.specs.Writes.{AreEnding, rows_added, tick_writes}
 use Rattle.store_lookups.specs.Lookups.{row_frame}
-use Rattle.store_sleeps.specs.Ended.{end_frame, end_row, end_rows}
-use Rattle.store_sleeps.specs.Groups.{Group}
+use Rattle.store_ticks.specs.Ended.{end_frame, end_row, end_rows}
+use Rattle.store_ticks.specs.Groups.{Group}
 use Rattle.store_ticks.specs.declared.ended.SleepEnd.{SleepEnd}
 use Rattle.store_live.specs.declared.added.AddedFrames.{AddedFrames}
 use Rattle.store_ticks.specs.declared.tick.PreparedTick.{PreparedTick}

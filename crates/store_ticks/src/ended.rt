@@ -7,7 +7,7 @@ ghost use Rattle.store_tables.specs.declared.row.Write.{Write as RowWrite};
 ghost use Rattle.store_model.specs.Steps.{grown};
 ghost use Rattle.store_refusals.specs.Prepared.{Tells};
 ghost use Rattle.store_invocations.specs.Rows.{Decides};
-ghost use Rattle.store_sleeps.specs.Ended.{end_frame, end_row, end_rows};
+ghost use Rattle.store_ticks.specs.Ended.{end_frame, end_row, end_rows};
 ghost use Rattle.store_live.specs.Added.{HasPlaces};
 ghost use Rattle.store_ticks.specs.Made.{AreEndsOf, IsEnd, end_row_of, progress_writes, room_tests};
 

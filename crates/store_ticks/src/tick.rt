@@ -9,19 +9,19 @@ ghost use Rattle.journal_model.specs.Journal.{is_open};
 ghost use Rattle.store_tables.specs.Looks.{Looks};
 ghost use Rattle.store_model.specs.Sleeps.{due_until as the_last_due};
 ghost use Rattle.store_refusals.specs.Prepared.{Prepares};
-ghost use Rattle.store_sleeps.specs.Grouped.{as_group};
+ghost use Rattle.store_ticks.specs.Grouped.{as_group};
 ghost use Rattle.store_invocations.specs.Rows.{Decides, IsStoreOf};
 ghost use Rattle.store_live.specs.Added.{HasPlaces};
 ghost use Rattle.store_ticks.specs.Made.{AreGroupsEnded, AreOpen, IsEndedUntil, IsGroupEnded, IsTickReady, closed_until, group_tests, tests_of};
 
 use crate::ended::end_sleeps;
+use crate::groups::{SleepGroup, groups_of};
 use sqlite::Alter;
 use std::alloc::AllocError;
 use std::collections::VecDeque;
 use store_invocations::open_row;
 use store_live::AddedFrames;
 use store_refusals::Refusal;
-use store_sleeps::{SleepGroup, groups_of};
 use store_tables::{StoreTables, Write, sleeps_until};
 
 /// What a tick writes, and what it adds to the input of live attempts.

@@ -2,7 +2,7 @@ use Rattle.std.proofs.Common.{◌∙◌, List, ◌∷◌, [], ◌++◌, length, 
 use Rattle.std.proofs.lemmas.Result.{err_from_is_err_and}
 use Rattle.std.proofs.lemmas.Iterator.Consumers.{YieldsList-turn}
 use Rattle.std.proofs.lemmas.Iterator.Adapters.{YieldsList-from_vec}
-use Rattle.store_reads.specs.declared.recorded.RecordedEntry.{RecordedEntry}
+use Rattle.store_invocations.specs.declared.recorded.RecordedEntry.{RecordedEntry}
 use Rattle.script_entries.specs.declared.entry.ShownEntry.{ShownEntry}
 use Rattle.script_entries.specs.Entries.{AreShown, IsUnread}
 use Rattle.script_entries.proofs.Reading.{shown_more, unread_at}

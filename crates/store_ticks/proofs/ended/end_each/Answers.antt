@@ -1,7 +1,7 @@
 use Rattle.std.proofs.Common.{◌≡◌, ◌∙◌, sym, subst, ℕ, List, ◌++◌, append-nil, map}
 use Rattle.std.proofs.lemmas.List.{drop_all}
 use Rattle.store_tables.specs.declared.row.Write.TheVariants.{AddEntry}
-use Rattle.store_sleeps.specs.Ended.{end_frame, end_rows}
+use Rattle.store_ticks.specs.Ended.{end_frame, end_rows}
 use Rattle.store_ticks.proofs.Short.{told_again}
 use Rattle.store_ticks.proofs.ended.end_each.Goals as goal
 

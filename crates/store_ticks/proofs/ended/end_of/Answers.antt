@@ -1,6 +1,6 @@
 use Rattle.protocol_types.specs.declared.message_type.MessageType.TheVariants.{SleepCompletionNotification}
 use Rattle.store_arrivals.proofs.Framing.{long_enough}
-use Rattle.store_sleeps.specs.Ended.{end_payload}
+use Rattle.store_ticks.specs.Ended.{end_payload}
 use Rattle.store_ticks.specs.Made.{IsEnd}
 use Rattle.store_ticks.proofs.Ends.{end_made}
 use Rattle.store_ticks.proofs.Short.{told_again, told_memory}

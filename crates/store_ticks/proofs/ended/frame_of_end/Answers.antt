@@ -1,5 +1,5 @@
 use Rattle.std.proofs.Common.{◌≡◌}
-use Rattle.store_sleeps.specs.Ended.{end_frame}
+use Rattle.store_ticks.specs.Ended.{end_frame}
 use Rattle.store_ticks.proofs.Short.{told_short}
 use Rattle.store_ticks.proofs.ended.frame_of_end.Goals as goal
 

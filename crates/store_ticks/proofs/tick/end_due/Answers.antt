@@ -4,7 +4,7 @@ use Rattle.store_tables.specs.declared.row.Write.{Write}
 use Rattle.store_refusals.specs.Refused.{IsRefused}
 use Rattle.store_invocations.proofs.Reading.{decided_err}
 use Rattle.store_invocations.proofs.Refusing.{refused_memory}
-use Rattle.store_sleeps.specs.Grouped.{as_group}
+use Rattle.store_ticks.specs.Grouped.{as_group}
 use Rattle.store_ticks.specs.Made.{AreGroupsEnded, IsEndedUntil, tests_of}
 use Rattle.store_ticks.proofs.Rowed.{closed_with}
 use Rattle.store_ticks.proofs.tick.end_due.Goals as goal

@@ -1,7 +1,7 @@
 use Rattle.std.proofs.Common.{arith}
 use Rattle.sqlite.specs.Held.{state}
 use Rattle.sqlite.specs.State.{State, HasCleanDisk}
-use Rattle.store_sleeps.specs.Grouped.{as_group}
+use Rattle.store_ticks.specs.Grouped.{as_group}
 use Rattle.store_ticks.specs.Made.{group_tests}
 use Rattle.store_ticks.proofs.Rowed.{group_ended, is_no_cause}
 use Rattle.store_ticks.proofs.tick.end_group.Goals as goal

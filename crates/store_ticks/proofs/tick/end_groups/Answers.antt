@@ -10,7 +10,7 @@ use Rattle.store_invocations.proofs.Refusing.{refused_memory}
 use Rattle.store_invocations.proofs.Standing.{store_kept}
 use Rattle.store_live.specs.declared.added.AddedFrames.{AddedFrames}
 use Rattle.store_live.specs.Added.{HasPlaces}
-use Rattle.store_sleeps.specs.Grouped.{as_group}
+use Rattle.store_ticks.specs.Grouped.{as_group}
 use Rattle.store_ticks.specs.Made.{AreGroupsEnded, tests_of}
 use Rattle.store_ticks.proofs.Rowed.{HasEnded, all_more, ends_all, goes_on, looks_first, none_ended, stops}
 use Rattle.store_ticks.proofs.tick.end_groups.Goals as goal

@@ -6,7 +6,7 @@ use Rattle.sqlite.specs.State.{HasCleanDisk}
 use Rattle.journal_model.specs.Event.{Event}
 use Rattle.store_tables.specs.Looks.{Looks}
 use Rattle.store_invocations.specs.Rows.{IsStoreOf}
-use Rattle.store_sleeps.specs.Grouped.{as_group}
+use Rattle.store_ticks.specs.Grouped.{as_group}
 use Rattle.store_live.specs.Added.{HasPlaces}
 use Rattle.store_ticks.specs.Made.{AreOpen}
 use Rattle.store_ticks.proofs.Rowed.{HasEnded}

@@ -1,0 +1,111 @@
+-- What is made ready of the row of an open invocation is what the definitions say of its events.
+use Rattle.std.proofs.Common.{◌≡◌, refl, sym, ap, ◌∙◌, ℕ, suc, arith, ◌+◌, ◌-◌, ◌==◌, Bool, if◌then◌else◌, List, [], ◌∷◌, ◌++◌, append-nil, length, map, Option, Some, None, option_map, unwrap_or}
+use Rattle.std.proofs.lemmas.Bool.{ne_eqb}
+use Rattle.journal_model.specs.Notification.{Bytes, Text}
+use Rattle.journal_model.specs.State.{StateMap}
+use Rattle.journal_model.specs.declared.invocation.NewInvocation.{NewInvocation}
+use Rattle.journal_model.specs.declared.invocation.StateMode.{StateMode}
+use Rattle.journal_model.specs.declared.invocation.StateMode.TheVariants as modes
+use Rattle.journal_model.specs.Event.{Event}
+use Rattle.journal_model.specs.Spelling.{plain_number, plain_bytes, repeated_bytes}
+use Rattle.journal_model.specs.Cause.{IsAccepted}
+use Rattle.journal_model.specs.Journal.{invocation_begun, version_of, object_of, object_state, entries_of}
+use Rattle.journal_model.specs.Attempt.{attempts_begun}
+use Rattle.journal_model.specs.Start.{attempts_since_entry, since_first as model_since_first, state_entry, state_fields, start_payload, start_payload_for, start_payload_of}
+use Rattle.protocol_types.specs.Version.{version_number}
+use Rattle.store_tables.specs.declared.row.InvocationRow.{InvocationRow}
+use Rattle.store_tables.specs.declared.row.Progress.{Progress}
+use Rattle.store_tables.specs.declared.row.Write.{Write}
+use Rattle.store_tables.specs.declared.row.Write.TheVariants.{SetProgress}
+use Rattle.store_model.specs.Progress.{first_of, number_or_zero, progress_of}
+use Rattle.store_model.specs.Kept.{is_shown_whole, invocation_row, state_row}
+use Rattle.store_model.proofs.Versions.{kept_number}
+use Rattle.store_model.specs.Writes.{invocation_writes, state_writes, writes_of}
+use Rattle.store_model.specs.Steps.{after_begin}
+use Rattle.store_model.proofs.Following.{follows}
+use Rattle.store_invocations.specs.Rows.{IsRowOf}
+use Rattle.store_invocations.specs.Begun.{shown_states}
+use Rattle.store_invocations.specs.Start.{partial_number, start_of, state_bytes}
+
+-- ---- the start
+
+states_are : (object : Text) (state : StateMap) → map state_bytes (map (state_row object) state) ≡ map state_entry state
+states_are object [] = refl
+states_are object (entry ∷ state) = ap (λ (rest : List Bytes). state_entry entry ∷ rest) (states_are object state)
+
+since_is : (moments : List ℕ) (now : ℕ) → (if length moments == 0 then 0 else now - number_or_zero (first_of moments)) ≡ model_since_first moments now
+since_is [] now = refl
+since_is (moment ∷ moments) now = ap (λ (b : Bool). if b then 0 else now - moment) (ne_eqb (suc (length moments)) 0 (λ e. absurd (apart (length moments) e)))
+  where
+    apart : (n : ℕ) → suc n ≡ 0 → ⊥
+    apart n e = omega arith
+
+-- what stands around the state in a start
+abbrev around : NewInvocation → ℕ → ℕ → ℕ → Bytes → Bytes
+around new known retries since fields =
+    plain_bytes 1 new.id ++ (plain_bytes 2 new.id ++ (plain_number 3 known ++ (fields
+    ++ (plain_bytes 6 new.object ++ (plain_number 7 retries ++ (plain_number 8 since ++ plain_number 9 new.seed))))))
+
+module _ (events : List Event) (new : NewInvocation) (now : ℕ) where
+  rest : Bytes
+  rest = plain_bytes 6 new.object ++ (plain_number 7 (length (attempts_since_entry events new.id))
+      ++ (plain_number 8 (if length (attempts_since_entry events new.id) == 0 then 0 else now - number_or_zero (first_of (attempts_since_entry events new.id))) ++ plain_number 9 new.seed))
+
+  state_is : (mode : StateMode)
+      → repeated_bytes 4 (map state_bytes (if is_shown_whole mode then map (state_row new.object) (object_state events new.object) else []))
+      ++ (plain_number 5 (partial_number (is_shown_whole mode)) ++ rest)
+      ≡ state_fields mode (object_state events new.object) ++ rest
+  unfolding rest
+  state_is modes.Whole = ap (λ (entries : List Bytes). repeated_bytes 4 entries ++ rest) (states_are new.object (object_state events new.object))
+  state_is modes.None = refl
+
+  start_is : start_of (invocation_row events new) (shown_states events (invocation_row events new)) now
+      ≡ start_payload_of new (object_state events new.object) (1 + length (entries_of events new.id)) (length (attempts_since_entry events new.id)) (model_since_first (attempts_since_entry events new.id) now)
+  unfolding rest
+  start_is =
+      ap (λ (more : Bytes). plain_bytes 1 new.id ++ (plain_bytes 2 new.id ++ (plain_number 3 (1 + length (entries_of events new.id)) ++ more))) (state_is new.state)
+      ∙ ap (λ (since : ℕ). around new (1 + length (entries_of events new.id)) (length (attempts_since_entry events new.id)) since (state_fields new.state (object_state events new.object)))
+      (since_is (attempts_since_entry events new.id) now)
+
+module _ (events : List Event) (id : Text) (now : ℕ) (row : InvocationRow) (it : IsRowOf events id row) where
+  at_id : invocation_begun events it.new.id ≡ Some it.new
+  at_id = ap (invocation_begun events) it.named ∙ it.begun
+
+  pub start_payload_is : start_of row (shown_states events row) now ≡ start_payload events id now
+  start_payload_is =
+      ap (λ (r : InvocationRow). start_of r (shown_states events r) now) it.is
+      ∙ start_is events it.new now
+      ∙ ap (λ (o : Option NewInvocation). start_payload_for events o it.new.id now) (sym at_id)
+      ∙ ap (λ (x : Text). start_payload events x now) it.named
+
+  pub row_named : row.id ≡ id
+  row_named = ap (λ (r : InvocationRow). r.id) it.is ∙ it.named
+
+  pub progress_is : row.progress ≡ progress_of events id
+  progress_is = ap (λ (r : InvocationRow). r.progress) it.is ∙ ap (progress_of events) it.named
+
+  pub attempts_is : row.progress.attempts ≡ attempts_begun events id
+  attempts_is = ap (λ (p : Progress). p.attempts) progress_is
+
+  pub version_is : IsAccepted events → version_number row.version ≡ version_of events id
+  version_is accepted = ap (λ (r : InvocationRow). version_number r.version) it.is ∙ kept_number events id it.new accepted it.begun
+
+-- ---- the writes
+
+no_state_writes : (o : Option Text) → state_writes o [] ≡ []
+no_state_writes None = refl
+no_state_writes (Some object) = refl
+
+writes_are : (events : List Event) (id : Text) (now : ℕ) → writes_of events (Event.Begin id now) ≡ SetProgress id (progress_of (Event.Begin id now ∷ events) id) ∷ []
+writes_are events id now =
+    ap (λ (more : List Write). (invocation_writes events (Event.Begin id now) id ++ []) ++ more) (no_state_writes (object_of events (Event.Begin id now)))
+    ∙ append-nil (invocation_writes events (Event.Begin id now) id ++ [])
+    ∙ append-nil (invocation_writes events (Event.Begin id now) id)
+
+pub begin_writes_are : (events : List Event) (id : Text) (now : ℕ) (row : InvocationRow) → IsRowOf events id row
+    → SetProgress row.id (after_begin now row.progress) ∷ [] ≡ writes_of events (Event.Begin id now)
+begin_writes_are events id now row it =
+    ap (λ (x : Text). SetProgress x (after_begin now row.progress) ∷ []) (row_named events id now row it)
+    ∙ ap (λ (p : Progress). SetProgress id (after_begin now p) ∷ []) (progress_is events id now row it)
+    ∙ sym (ap (λ (p : Progress). SetProgress id p ∷ []) (follows events (Event.Begin id now) id refl refl))
+    ∙ sym (writes_are events id now)

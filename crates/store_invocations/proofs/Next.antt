@@ -1,0 +1,71 @@
+-- The next attempt of an open invocation, by its row.
+use Rattle.std.proofs.Common.{◌≡◌, refl, sym, ap, subst, ◌∙◌, inl, inr, ℕ, ◌+◌, ◌-◌, ◌<◌, ◌≤◌, ◌^◌, nat_le, List, [], ◌∷◌, arith}
+use Rattle.std.proofs.lemmas.Bool.{cases_Bool, leb-false}
+use Rattle.journal_model.specs.Notification.{Bytes, Text}
+use Rattle.journal_model.specs.Event.{Event}
+use Rattle.journal_model.specs.Spelling.{frame_bytes}
+use Rattle.journal_model.specs.Attempt.{attempts_begun}
+use Rattle.journal_model.specs.Start.{start_payload}
+use Rattle.journal_model.specs.Cause.{Cause, IsAccepted, those_that_hold, own_tests}
+use Rattle.protocol_types.specs.declared.message_type.MessageType.{MessageType}
+use Rattle.protocol_types.specs.Version.{version_number}
+use Rattle.store_tables.specs.declared.row.InvocationRow.{InvocationRow}
+use Rattle.store_tables.specs.declared.row.Progress.{Progress}
+use Rattle.store_tables.specs.declared.row.Write.TheVariants.{SetProgress}
+use Rattle.store_model.specs.Kept.{journal_rows}
+use Rattle.store_lookups.specs.Lookups.{row_frame}
+use Rattle.store_model.specs.Steps.{after_begin}
+use Rattle.store_refusals.specs.declared.refusal.Refusal.{Refusal}
+use Rattle.store_refusals.specs.declared.refusal.Refusal.TheVariants.{NumbersUsedUp}
+use Rattle.store_refusals.specs.Refused.{IsRefused}
+use Rattle.store_invocations.specs.Rows.{IsRowOf, payload_tests}
+use Rattle.store_invocations.proofs.Refusing.{none_of_both, refused_by, refused_later}
+use Rattle.store_invocations.specs.declared.attempt.PreparedAttempt.{PreparedAttempt}
+use Rattle.store_invocations.specs.Begun.{AreHanded, IsBegun, shown_states}
+use Rattle.store_invocations.specs.Frames.{AreFrames}
+use Rattle.store_invocations.specs.Start.{start_of}
+use Rattle.store_invocations.proofs.Attempts.{attempts_among}
+use Rattle.store_invocations.proofs.AttemptBeginning.{attempts_is, begin_writes_are, progress_is, row_named, start_payload_is, version_is}
+use Rattle.store_invocations.proofs.Deciding.{none_at_least}
+
+module _ (events : List Event) (id : Text) (now : ℕ) (row : InvocationRow) (it : IsRowOf events id row) where
+  pub among : row.progress.attempts_since_entry ≤ row.progress.attempts
+  among = subst (λ (p : Progress). p.attempts_since_entry ≤ p.attempts) (sym (progress_is events id now row it)) (attempts_among events id)
+
+  left : row.progress.attempts + 1 < 2 ^ 32 → attempts_begun events id + 1 ≤ 2 ^ 32 - 1
+  left room = let same = attempts_is events id now row it in omega arith
+
+  -- a number is left
+  pub next_none : row.progress.attempts + 1 < 2 ^ 32 → those_that_hold (payload_tests (start_of row (shown_states events row) now)) ≡ []
+      → those_that_hold (own_tests events (Event.Begin id now)) ≡ []
+  next_none room none =
+      none_of_both ((nat_le (2 ^ 32 - 1) (attempts_begun events id), Cause.NumbersUsedUp) ∷ []) (payload_tests (start_payload events id now))
+      (none_at_least (2 ^ 32 - 1) (attempts_begun events id) Cause.NumbersUsedUp (left room))
+      (subst (λ (payload : Bytes). those_that_hold (payload_tests payload) ≡ []) (start_payload_is events id now row it) none)
+
+  pub next_refused : (why : Refusal) → row.progress.attempts + 1 < 2 ^ 32 → IsRefused (those_that_hold (payload_tests (start_of row (shown_states events row) now))) why
+      → IsRefused (those_that_hold (own_tests events (Event.Begin id now))) why
+  next_refused why room refused =
+      refused_later ((nat_le (2 ^ 32 - 1) (attempts_begun events id), Cause.NumbersUsedUp) ∷ []) (payload_tests (start_payload events id now)) why
+      (none_at_least (2 ^ 32 - 1) (attempts_begun events id) Cause.NumbersUsedUp (left room))
+      (subst (λ (payload : Bytes). IsRefused (those_that_hold (payload_tests payload)) why) (start_payload_is events id now row it) refused)
+
+  -- none is left
+  pub next_used_up : 2 ^ 32 ≤ row.progress.attempts + 1 → IsRefused (those_that_hold (own_tests events (Event.Begin id now))) NumbersUsedUp
+  next_used_up full =
+      let same = attempts_is events id now row it in
+      elim (cases_Bool (nat_le (2 ^ 32 - 1) (attempts_begun events id))) [
+        | inl reached ↦ refused_by (own_tests events (Event.Begin id now)) NumbersUsedUp (rw reached refl)
+        | inr below_it ↦ absurd (let below = leb-false (2 ^ 32 - 1) (attempts_begun events id) below_it in omega arith)
+      ]
+
+  pub next_made : IsAccepted events → (made : PreparedAttempt) → made.writes.items ≡ SetProgress row.id (after_begin now row.progress) ∷ [] → made.number ≡ row.progress.attempts + 1 → made.version ≡ row.version
+      → AreHanded events row now made.frames → IsBegun events id now made
+  next_made accepted made writes number version frames =
+      let same = attempts_is events id now row it in record {
+        writes = writes ∙ begin_writes_are events id now row it;
+        number = omega arith;
+        version = ap version_number version ∙ version_is events id now row it accepted;
+        start = frames.0 ∙ ap (frame_bytes MessageType.Start) (start_payload_is events id now row it);
+        journal = subst (λ (x : Text). AreFrames (journal_rows events x) made.frames.journal) (row_named events id now row it) frames.1;
+      }

@@ -1,0 +1,18 @@
+use Rattle.std.proofs.Common.{sym, subst, arith}
+use Rattle.journal_model.specs.Cause.{open_tests, those_that_hold}
+use Rattle.store_refusals.specs.Refused.{IsRefused}
+use Rattle.store_invocations.proofs.Standing.{store_kept}
+use Rattle.store_invocations.specs.Begun.{IsBegun}
+use Rattle.store_invocations.proofs.Deciding.{prepares_err, prepares_then}
+use Rattle.store_invocations.proofs.begin.prepare_begin.Goals as goal
+
+pub returns-clause-prepared : goal.returns-clause-prepared
+returns-clause-prepared g c clean events store =
+    let first = c.in_ok-row.ensures.decided (omega (arith, c.prepare_next.ensures.looks.crash.clean, clean)) events store in
+    prepares_then (IsBegun events c.args.id.now c.args.now) events c.args.id.now c.args.now c.prepare_next.result first.0
+    (c.prepare_next.ensures.decided clean events c.args.id.now (store_kept events _ _ c.open_row.ensures.looks.crash c.open_row.ensures.looks.kept store) first.1)
+
+pub returns-in_err-row-clause-prepared : goal.returns-in_err-row-clause-prepared
+returns-in_err-row-clause-prepared g c clean events store =
+    prepares_err (IsBegun events c.args.id.now c.args.now) events c.args.id.now c.args.now c.from_residual.result c.from_residual.ensures.1 (λ why gives.
+    subst (IsRefused (those_that_hold (open_tests events c.args.id.now))) (sym gives) (c.in_err-row.ensures.decided clean events store))

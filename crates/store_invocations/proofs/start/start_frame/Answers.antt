@@ -1,0 +1,18 @@
+use Rattle.std.proofs.Common.{◌≡◌, ◌∙◌, subst}
+use Rattle.journal_model.specs.Notification.{Bytes}
+use Rattle.journal_model.specs.Spelling.{frame_bytes}
+use Rattle.protocol_types.specs.declared.message_type.MessageType.{MessageType}
+use Rattle.store_invocations.proofs.Refusing.{refused_memory}
+use Rattle.store_invocations.specs.Rows.{Decides, payload_tests}
+use Rattle.store_invocations.specs.Start.{start_of}
+use Rattle.store_invocations.proofs.start.start_frame.Goals as goal
+
+pub returns : goal.returns
+returns c =
+    subst (λ (payload : Bytes). Decides (payload_tests payload) (λ start. start ≡ frame_bytes MessageType.Start payload) c.payload_frame.result)
+    (c.as_slice.ensures.value ∙ c.in_ok-payload.ensures) c.payload_frame.ensures
+
+pub returns-in_err-payload : goal.returns-in_err-payload
+returns-in_err-payload c =
+    let payload = start_of c.args.row.now c.args.states.now c.args.now in
+    refused_memory (payload_tests payload) (λ start. start ≡ frame_bytes MessageType.Start payload) c.from_residual.result c.from_residual.ensures.1

@@ -1,0 +1,32 @@
+// What a begin makes ready.
+ghost use Rattle.std.specs.Prelude.{◌≡◌, List};
+ghost use Rattle.sqlite.specs.Held.{state};
+ghost use Rattle.sqlite.specs.State.{HasCleanDisk};
+ghost use Rattle.journal_model.specs.Event.{Event};
+ghost use Rattle.store_tables.specs.Looks.{Looks};
+ghost use Rattle.store_refusals.specs.Prepared.{Prepares};
+ghost use Rattle.store_invocations.specs.Rows.{IsStoreOf};
+ghost use Rattle.store_invocations.specs.Begun.{IsBegun};
+
+use crate::attempt::PreparedAttempt;
+use crate::prepare::prepare_next;
+use crate::row::open_row;
+use bytes::ByteStr;
+use sqlite::Alter;
+use std::alloc::Global;
+use store_refusals::Refusal;
+use store_tables::StoreTables;
+
+/// What a begin of an attempt makes ready: what is to be written of the invocation, and the frames that the attempt is handed. Of
+/// an invocation that is shown its object's state that state is read, and the journal of every one.
+pub fn prepare_begin<S: Alter>(
+    tables: &mut StoreTables<S>,
+    id: &ByteStr,
+    now: u64,
+) -> Result<PreparedAttempt, Refusal>
+    ensures prepared { HasCleanDisk (state S.Store tables.new) → (events : List Event) → IsStoreOf events (state S.Store tables.old) → Prepares events (Event.Begin id.now now) (IsBegun events id.now now) result }
+    ensures looks { Looks S.Store tables.old tables.new }
+{
+    let row = open_row(tables, id)?;
+    prepare_next(tables, row, now)
+}

@@ -1,0 +1,111 @@
+// The next attempt of an invocation whose row was read.
+ghost use Rattle.std.specs.Prelude.{◌≡◌, List, ℕ};
+ghost use Rattle.sqlite.specs.Held.{state};
+ghost use Rattle.sqlite.specs.State.{HasCleanDisk};
+ghost use Rattle.journal_model.specs.Spelling.{frame_bytes};
+ghost use Rattle.journal_model.specs.Event.{Event};
+ghost use Rattle.journal_model.specs.Cause.{own_tests};
+ghost use Rattle.store_tables.specs.Looks.{Looks};
+ghost use Rattle.store_model.specs.Kept.{journal_rows};
+ghost use Rattle.store_lookups.specs.Lookups.{row_frame};
+ghost use Rattle.store_refusals.specs.Prepared.{Tells};
+ghost use Rattle.store_invocations.specs.Rows.{Decides, IsOpenRow, IsStoreOf, payload_tests};
+ghost use Rattle.store_invocations.specs.Begun.{AreHanded, IsBegun, shown_states};
+ghost use Rattle.protocol_types.specs.declared.message_type.MessageType.{MessageType};
+ghost use Rattle.store_invocations.specs.Frames.{AreFrames};
+ghost use Rattle.store_invocations.specs.Start.{start_of};
+
+use crate::attempt::{AttemptFrames, PreparedAttempt};
+use crate::begun::begun_writes;
+use crate::frames::{JournalFrames, journal_frames};
+use crate::start::start_frame;
+use bytes::{ByteStr, Bytes};
+use sqlite::Alter;
+use std::alloc::Global;
+use store_refusals::Refusal;
+use store_tables::{InvocationRow, StateRow, StoreTables, journal, states_of};
+
+/// The state that an attempt is shown: all of its object's, or none.
+fn shown_states<S: Alter>(
+    tables: &mut StoreTables<S>,
+    row: &InvocationRow,
+) -> Result<Vec<StateRow>, Refusal>
+    ensures told { HasCleanDisk (state S.Store tables.new) → (events : List Event) → IsStoreOf events (state S.Store tables.old) → Tells (λ states. states.items ≡ shown_states events row.now) result }
+    ensures looks { Looks S.Store tables.old tables.new }
+{
+    if !row.is_whole {
+        return Ok(Vec::new(tables.alloc()));
+    }
+    let states = states_of(tables, &row.object)?;
+    Ok(states)
+}
+
+/// The start frame, with that state.
+fn begun_start<S: Alter>(
+    tables: &mut StoreTables<S>,
+    row: &InvocationRow,
+    now: u64,
+) -> Result<Bytes, Refusal>
+    ensures decided { HasCleanDisk (state S.Store tables.new) → (events : List Event) → IsStoreOf events (state S.Store tables.old) → Decides (payload_tests (start_of row.now (shown_states events row.now) now)) (λ start. start ≡ frame_bytes MessageType.Start (start_of row.now (shown_states events row.now) now)) result }
+    ensures looks { Looks S.Store tables.old tables.new }
+{
+    let states = shown_states(tables, row)?;
+    let start = start_frame(tables.alloc(), row, states.as_slice(), now);
+    drop(states);
+    start
+}
+
+/// The frames of an invocation's journal.
+fn read_journal<S: Alter>(
+    tables: &mut StoreTables<S>,
+    id: &ByteStr,
+) -> Result<JournalFrames, Refusal>
+    ensures told { HasCleanDisk (state S.Store tables.new) → (events : List Event) → IsStoreOf events (state S.Store tables.old) → Tells (AreFrames (journal_rows events id.now)) result }
+    ensures looks { Looks S.Store tables.old tables.new }
+{
+    let rows = journal(tables, id)?;
+    let frames = journal_frames(tables.alloc(), rows.as_slice());
+    drop(rows);
+    let frames = frames?;
+    Ok(frames)
+}
+
+/// All frames that an attempt is handed which is begun at this moment.
+fn attempt_frames<S: Alter>(
+    tables: &mut StoreTables<S>,
+    row: &InvocationRow,
+    now: u64,
+) -> Result<AttemptFrames, Refusal>
+    ensures decided { HasCleanDisk (state S.Store tables.new) → (events : List Event) → IsStoreOf events (state S.Store tables.old) → Decides (payload_tests (start_of row.now (shown_states events row.now) now)) (AreHanded events row.now now) result }
+    ensures looks { Looks S.Store tables.old tables.new }
+{
+    let start = begun_start(tables, row, now)?;
+    let journal = read_journal(tables, &row.id)?;
+    Ok(AttemptFrames { start, journal })
+}
+
+/// The next attempt of an open invocation.
+pub(crate) fn prepare_next<S: Alter>(
+    tables: &mut StoreTables<S>,
+    row: InvocationRow,
+    now: u64,
+) -> Result<PreparedAttempt, Refusal>
+    ensures decided { HasCleanDisk (state S.Store tables.new) → (events : List Event) → (id : List ℕ) → IsStoreOf events (state S.Store tables.old) → IsOpenRow events id row → Decides (own_tests events (Event.Begin id now)) (IsBegun events id now) result }
+    ensures looks { Looks S.Store tables.old tables.new }
+{
+    let Some(number) = row.progress.attempts.checked_add(1) else {
+        drop(row);
+        return Err(Refusal::NumbersUsedUp);
+    };
+    let version = row.version;
+    let read = attempt_frames(tables, &row, now);
+    let made = begun_writes(tables.alloc(), row, now);
+    let frames = read?;
+    let writes = made?;
+    Ok(PreparedAttempt {
+        writes,
+        number,
+        version,
+        frames,
+    })
+}

@@ -1,4 +1,0 @@
-pub mod SideBySide
-pub mod Ending
-pub mod Counting
-pub mod Grouping
