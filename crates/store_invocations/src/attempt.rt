@@ -1,4 +1,5 @@
-// An attempt that is to be begun.
+//! An attempt that is to be begun.
+
 use crate::frames::JournalFrames;
 use bytes::Bytes;
 use protocol_stream::Version;

@@ -1,4 +1,5 @@
-// What a begin makes ready.
+//! What a begin makes ready.
+
 ghost use Rattle.std.specs.Prelude.{◌≡◌, List};
 ghost use Rattle.sqlite.specs.Held.{state};
 ghost use Rattle.sqlite.specs.State.{HasCleanDisk};

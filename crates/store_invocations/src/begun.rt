@@ -1,4 +1,5 @@
-// How far an invocation is once an attempt of it is begun.
+//! How far an invocation is once an attempt of it is begun.
+
 ghost use Rattle.std.specs.Prelude.{◌≡◌, [], ◌∷◌, ◌+◌, ◌<◌, ◌≤◌, ◌^◌, IfOk};
 ghost use Rattle.store_model.specs.Steps.{after_begin};
 ghost use Rattle.store_tables.specs.declared.row.Write.TheVariants.{SetProgress};

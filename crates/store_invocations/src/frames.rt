@@ -1,4 +1,5 @@
-// Frames of what is recorded.
+//! Frames of what is recorded.
+
 ghost use Rattle.std.specs.Prelude.{◌≡◌, IfOk};
 ghost use Rattle.store_invocations.specs.Frames.{AreFrames};
 

@@ -1,4 +1,5 @@
-// The next attempt of an invocation whose row was read.
+//! The next attempt of an invocation whose row was read.
+
 ghost use Rattle.std.specs.Prelude.{◌≡◌, List, ℕ};
 ghost use Rattle.sqlite.specs.Held.{state};
 ghost use Rattle.sqlite.specs.State.{HasCleanDisk};

@@ -1,4 +1,5 @@
-// The start of an attempt.
+//! The start of an attempt.
+
 ghost use Rattle.std.specs.Prelude.{◌≡◌, map, IfOk};
 ghost use Rattle.store_invocations.specs.Start.{since_first, start_of, start_record, state_record};
 ghost use Rattle.journal_model.specs.Spelling.{frame_bytes};
