@@ -25,8 +25,7 @@ use sqlite::{Alter, Unknown};
 use std::env;
 use std::process::ExitCode;
 use std::rt::HostRuntime;
-use store_files::open_file;
-use store_memory::open_in_memory;
+use store_files::{open_file, open_in_memory};
 use timed::Timed;
 use vm_types::VMOptions;
 

@@ -23,8 +23,7 @@ use std::io::Read;
 use std::process::ExitCode;
 use std::rt::{Env, HostRuntime};
 use std::{env, io};
-use store_files::{close_file, leave_file, open_file};
-use store_memory::{MemoryFile, open_in_memory};
+use store_files::{MemoryFile, close_file, leave_file, open_file, open_in_memory};
 
 /// The two words that the program is called with.
 #[derive(Drop)]

@@ -8,7 +8,7 @@ use bytes::{ByteStr, Bytes};
 use reminder::Reminder;
 use schedule_runs::{Event, NewInvocation, Reply, Sequence, StateMode, VMOptions, run_schedule};
 use std::alloc::{AllocError, Global};
-use store_memory::open_in_memory;
+use store_files::open_in_memory;
 
 const ALL: usize = usize::MAX;
 

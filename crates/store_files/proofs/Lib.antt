@@ -2,4 +2,5 @@ pub mod Closing
 pub mod Finding
 pub mod Lasting
 pub mod Leaving
+mod Made
 pub mod Opening

@@ -1,4 +1,5 @@
 pub mod Files
 pub mod Left
+pub mod Made
 pub mod Refused
 pub mod Taken

@@ -1,14 +1,17 @@
 //! A store that is kept in a file, by the database's own files: the one at a path is opened, and in the end what was recorded is left
-//! in that file alone.
+//! in that file alone. And one whose database lies in memory, and is let go of with it.
 #![tactic(auto)]
 
 mod close;
 mod laws;
 mod leave;
 mod make;
+mod memory;
 mod open;
 
 pub use close::close_file;
 pub use laws::opened_files_last;
 pub use leave::leave_file;
+pub use memory::{memory_stays_clean, open_in_memory};
+pub use memory_disk::MemoryFile;
 pub use open::{FileNotTaken, NotTaken, open_file};

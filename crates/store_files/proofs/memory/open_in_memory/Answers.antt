@@ -1,6 +1,6 @@
 use Rattle.std.proofs.Common.{refl}
-use Rattle.store_memory.proofs.Made.{never_in_doubt, only_circumstances}
-use Rattle.store_memory.proofs.open.open_in_memory.Goals as goal
+use Rattle.store_files.proofs.Made.{never_in_doubt, only_circumstances}
+use Rattle.store_files.proofs.memory.open_in_memory.Goals as goal
 
 pub returns-in-Ok-clause-none : goal.returns-in-Ok-clause-none
 returns-in-Ok-clause-none c = c.in-Ok.ensures.fresh (never_in_doubt c.in-Ok.store.connection.store (λ disk. refl)) c.in_ok-connection.ensures.ok.none

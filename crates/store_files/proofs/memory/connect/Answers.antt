@@ -1,7 +1,7 @@
 use Rattle.std.proofs.Common.{refl, ap, ◌∙◌}
 use Rattle.sqlite_trees.specs.Objects.{catalog_tree}
-use Rattle.store_memory.proofs.Made.{never_in_doubt, nothing_listed}
-use Rattle.store_memory.proofs.open.connect.Goals as goal
+use Rattle.store_files.proofs.Made.{never_in_doubt, nothing_listed}
+use Rattle.store_files.proofs.memory.connect.Goals as goal
 
 pub over-requires : goal.over-requires
 over-requires c = λ clean. c.in_ok-database.ensures.made.fresh

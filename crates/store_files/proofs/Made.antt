@@ -20,7 +20,7 @@ use Rattle.sql_tables.specs.Columns.{no_schema}
 use Rattle.store_refusals.specs.declared.refusal.Refusal.{Refusal}
 use Rattle.store_refusals.specs.Refused.{is_circumstance}
 use Rattle.journal_store.specs.Opened.{IsNotTaken}
-use Rattle.store_memory.specs.Made.{IsEmptyAndIdle}
+use Rattle.store_files.specs.Made.{IsEmptyAndIdle}
 
 -- a database over disks that are always clean is
 pub never_in_doubt : {D : Type 0} {g : Ghosts D} (database : FileStore D g) → ((disk : D) → g.is_clean disk ≡ true) → IsClean (view database)

@@ -5,7 +5,7 @@ ghost use Rattle.sqlite.specs.State.{HasCleanDisk};
 ghost use Rattle.sqlite.specs.Files.{file_state};
 ghost use Rattle.journal_store.specs.Stands.{Stands};
 ghost use Rattle.store_refusals.specs.Refused.{is_circumstance};
-ghost use Rattle.store_memory.specs.Made.{IsMadeEmpty, IsEmptyAndIdle};
+ghost use Rattle.store_files.specs.Made.{IsMadeEmpty, IsEmptyAndIdle};
 
 use journal_store::Store;
 use memory_disk::MemoryFile;

@@ -2,8 +2,8 @@ use Rattle.std.proofs.Common.{refl, ap, ◌∙◌}
 use Rattle.sqlite_store.specs.Listing.{listed_from}
 use Rattle.sqlite_store.specs.Listed.{catalog_rows}
 use Rattle.sqlite_trees.proofs.Doubt.{clean_of}
-use Rattle.store_memory.proofs.Made.{never_in_doubt}
-use Rattle.store_memory.proofs.open.new_database.Goals as goal
+use Rattle.store_files.proofs.Made.{never_in_doubt}
+use Rattle.store_files.proofs.memory.new_database.Goals as goal
 
 pub returns-in-Ok-clause-made : goal.returns-in-Ok-clause-made
 returns-in-Ok-clause-made c =
