@@ -17,22 +17,22 @@ use Rattle.store_calls.specs.Calls.{Invokes, Completes, Ticks, Stops}
 use Rattle.store_calls.proofs.Live.{live_when}
 use Rattle.store_calls.proofs.Taking.{bytes_stay}
 use Rattle.fitting_events.specs.Fitting.{ResultFits}
-use Rattle.following_laws.specs.Following.{asking_by_text, ReplaysInLine, FollowsBegun, FollowsWhere, Follows}
-use Rattle.following_laws.proofs.Acting.{fed, closed, turned, advanced}
-use Rattle.following_laws.proofs.Beginning.{made, unheld, begun}
-use Rattle.following_laws.proofs.Events.{IsPlain, where_on}
-use Rattle.following_laws.proofs.Fittings.{apart}
-use Rattle.following_laws.proofs.Following.{same_held, beside}
+use Rattle.schedule_laws.specs.Following.{asking_by_text, ReplaysInLine, FollowsBegun, FollowsWhere, Follows}
+use Rattle.schedule_laws.proofs.Acting.{fed, closed, turned, advanced}
+use Rattle.schedule_laws.proofs.Beginning.{made, unheld, begun}
+use Rattle.schedule_laws.proofs.Events.{IsPlain, where_on}
+use Rattle.fitting_laws.proofs.Fits.{apart}
+use Rattle.schedule_laws.proofs.Following.{same_held, beside}
 use Rattle.schedule_laws.proofs.Moving.{stopped, rested, moved}
-use Rattle.following_laws.proofs.Others.{into, stands_still, other_on}
-use Rattle.following_laws.proofs.Schedules.{with_same, some_none, found_is, held_is, held_with, held_other_invocation}
-use Rattle.following_laws.proofs.Serving.{ServingLaws}
-use Rattle.following_laws.proofs.Taking.{took_each}
-use Rattle.following_laws.specs.Attempts.{Feeds, ClosesInput, Gathers, Turns, Attempt, Turn}
-use Rattle.following_laws.specs.Schedules.event
-use Rattle.following_laws.specs.Schedules.reply
-use Rattle.following_laws.specs.Schedules.refusal
-use Rattle.following_laws.specs.Schedules.{Event, Reply, HeldAttempt, with_first, is_held, held_of, with_attempt, RepliesDone, RepliesPlace, RepliesCount, BeginDoes, IfHeld, FeedsOne, ClosesOne, TurnsOne, MovesOne, Does, Brings, FitsEvent}
+use Rattle.schedule_laws.proofs.Others.{into, stands_still, other_on}
+use Rattle.schedule_laws.proofs.Schedules.{with_same, some_none, found_is, held_is, held_with, held_other_invocation}
+use Rattle.schedule_laws.proofs.Serving.{ServingLaws}
+use Rattle.schedule_laws.proofs.Taking.{took_each}
+use Rattle.schedule_laws.specs.Attempts.{Feeds, ClosesInput, Gathers, Turns, Attempt, Turn}
+use Rattle.schedule_laws.specs.Schedules.event
+use Rattle.schedule_laws.specs.Schedules.reply
+use Rattle.schedule_laws.specs.Schedules.refusal
+use Rattle.schedule_laws.specs.Schedules.{Event, Reply, HeldAttempt, with_first, is_held, held_of, with_attempt, RepliesDone, RepliesPlace, RepliesCount, BeginDoes, IfHeld, FeedsOne, ClosesOne, TurnsOne, MovesOne, Does, Brings, FitsEvent}
 
 never : (b : Bool) → (b && false) ≡ false
 never true = refl

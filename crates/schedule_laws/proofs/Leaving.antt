@@ -11,17 +11,17 @@ use Rattle.store_refusals.specs.declared.refusal.Refusal.{Refusal}
 use Rattle.store_refusals.specs.declared.refusal.Refusal.TheVariants.{OutOfMemory}
 use Rattle.store_steps.specs.Taken.{lies_in_frame}
 use Rattle.store_calls.specs.Frames.{Rests}
-use Rattle.following_laws.specs.Following.{ReplaysInLine, HoldsOf, given_of, Follows, FollowsByText}
+use Rattle.schedule_laws.specs.Following.{ReplaysInLine, HoldsOf, given_of, Follows, FollowsByText}
 use Rattle.schedule_laws.specs.Laws.{KeptByEach, NoneRefused, RefusesNoFrame, RefuseNoFrame, HoldsHeadline, HoldsNeverLate, HoldsWakesExactly}
-use Rattle.following_laws.proofs.Beginning.{holds_follows, follows_holds}
-use Rattle.following_laws.proofs.Schedules.{found_is, held_is, held_with}
+use Rattle.schedule_laws.proofs.Beginning.{holds_follows, follows_holds}
+use Rattle.schedule_laws.proofs.Schedules.{found_is, held_is, held_with}
 use Rattle.schedule_laws.proofs.Moving.{moved, none_refused}
-use Rattle.following_laws.proofs.Serving.{ServingLaws}
-use Rattle.following_laws.proofs.Taking.{took_each}
-use Rattle.following_laws.specs.Attempts.{Attempt}
-use Rattle.following_laws.specs.Schedules.event
-use Rattle.following_laws.specs.Schedules.reply
-use Rattle.following_laws.specs.Schedules.{Event, Reply, HeldAttempt, held_of, with_attempt, IfHeld, MovesOne, Does, Scheduled, Brings, AppliesAll, FitsEvent}
+use Rattle.schedule_laws.proofs.Serving.{ServingLaws}
+use Rattle.schedule_laws.proofs.Taking.{took_each}
+use Rattle.schedule_laws.specs.Attempts.{Attempt}
+use Rattle.schedule_laws.specs.Schedules.event
+use Rattle.schedule_laws.specs.Schedules.reply
+use Rattle.schedule_laws.specs.Schedules.{Event, Reply, HeldAttempt, held_of, with_attempt, IfHeld, MovesOne, Does, Scheduled, Brings, AppliesAll, FitsEvent}
 
 module _ {H : Type 0} (function : H → Handler) (next : Handler) (options : VMOptions) (id : Text) (each : KeptByEach function) (in_line : ReplaysInLine options) where
   -- a list of events keeps an invocation in its run

@@ -1,3 +1,11 @@
+pub mod Serving
+pub mod Following
+pub mod Events
+pub mod Others
+pub mod Acting
+pub mod Taking
+pub mod ByText
+pub mod Beginning
 pub mod Moving
 pub mod Keeping
 pub mod Leaving

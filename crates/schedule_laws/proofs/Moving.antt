@@ -21,20 +21,20 @@ use Rattle.store_calls.specs.Standing.{Standing, Leaves}
 use Rattle.store_calls.specs.Calls.{PutsBehind}
 use Rattle.store_calls.specs.Frames.{LeavesRefused, RefusesFrame, Rests}
 use Rattle.store_calls.proofs.Live.{live_when}
-use Rattle.following_laws.specs.Following.{given_of, Flies, FollowsBegun, FollowsWhere, Follows}
-use Rattle.following_laws.proofs.Acting.{advanced}
-use Rattle.following_laws.proofs.Events.{IsPlain, where_on}
-use Rattle.following_laws.proofs.Fittings.{apart}
-use Rattle.following_laws.proofs.Following.{same_held}
-use Rattle.following_laws.proofs.Others.{into, stands_still, other_on}
-use Rattle.following_laws.proofs.Schedules.{some_none, held_other_invocation}
-use Rattle.following_laws.proofs.Sending.{none_lie_in_frames}
-use Rattle.following_laws.proofs.Serving.{ServingLaws}
-use Rattle.following_laws.proofs.Taking.{first_on_its_way}
-use Rattle.following_laws.specs.Attempts.{output_of, Attempt}
+use Rattle.schedule_laws.specs.Following.{given_of, Flies, FollowsBegun, FollowsWhere, Follows}
+use Rattle.schedule_laws.proofs.Acting.{advanced}
+use Rattle.schedule_laws.proofs.Events.{IsPlain, where_on}
+use Rattle.fitting_laws.proofs.Fits.{apart}
+use Rattle.schedule_laws.proofs.Following.{same_held}
+use Rattle.schedule_laws.proofs.Others.{into, stands_still, other_on}
+use Rattle.schedule_laws.proofs.Schedules.{some_none, held_other_invocation}
+use Rattle.turning_laws.proofs.Passed.{none_lie_in_frames}
+use Rattle.schedule_laws.proofs.Serving.{ServingLaws}
+use Rattle.schedule_laws.proofs.Taking.{first_on_its_way}
+use Rattle.schedule_laws.specs.Attempts.{output_of, Attempt}
 use Rattle.sending_laws.proofs.Taking.{lies_as}
-use Rattle.following_laws.specs.Schedules.{HeldAttempt, with_first, is_held, held_of, with_attempt, Advances}
-use Rattle.following_laws.specs.Sending.{Sent, frame_meant, IsOfStore}
+use Rattle.schedule_laws.specs.Schedules.{HeldAttempt, with_first, is_held, held_of, with_attempt, Advances}
+use Rattle.turning_laws.specs.Sending.{Sent, frame_meant, IsOfStore}
 
 never : (b : Bool) → (b && false) ≡ false
 never true = refl

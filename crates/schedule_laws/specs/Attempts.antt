@@ -1,2 +1,2 @@
 -- An attempt, its turns and its output, passed on, so that crates above name this one alone.
-pub use Rattle.following_laws.specs.Attempts.{Attempt, output_of}
+pub use Rattle.turning_laws.specs.Attempts.{Feeds, ClosesInput, Gathers, output_of, Turns, Attempt, Turn}

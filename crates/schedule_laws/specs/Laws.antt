@@ -13,11 +13,11 @@ use Rattle.vm_types.specs.declared.options.VMOptions.{VMOptions}
 use Rattle.store_calls.specs.Standing.{Standing}
 use Rattle.store_refusals.specs.declared.refusal.Refusal.{Refusal}
 use Rattle.store_steps.specs.Taken.{lies_in_frame}
-use Rattle.following_laws.specs.Attempts.{Attempt}
-use Rattle.following_laws.specs.Following.{ReplaysInLine, HoldsOf, given_of, FollowsByText}
-use Rattle.following_laws.specs.Schedules.event
-use Rattle.following_laws.specs.Schedules.reply
-use Rattle.following_laws.specs.Schedules.{Event, Reply, HeldAttempt, held_of, MovesOne, Does, Scheduled, AppliesAll, Brings, FitsEvent}
+use Rattle.schedule_laws.specs.Attempts.{Attempt}
+use Rattle.schedule_laws.specs.Following.{ReplaysInLine, HoldsOf, given_of, FollowsByText}
+use Rattle.schedule_laws.specs.Schedules.event
+use Rattle.schedule_laws.specs.Schedules.reply
+use Rattle.schedule_laws.specs.Schedules.{Event, Reply, HeldAttempt, held_of, MovesOne, Does, Scheduled, AppliesAll, Brings, FitsEvent}
 
 -- ---- what is answered of frames
 

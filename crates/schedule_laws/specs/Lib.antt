@@ -1,5 +1,5 @@
+pub mod Following
 pub mod Laws
-pub mod Words
 pub mod Schedules
 pub mod Attempts
 pub mod Isolation

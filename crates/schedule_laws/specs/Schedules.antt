@@ -1,6 +1,12 @@
 -- Schedules and their events, passed on, so that crates above name this one alone.
-pub use Rattle.following_laws.specs.Schedules.scheduled
-pub use Rattle.following_laws.specs.Schedules.event
-pub use Rattle.following_laws.specs.Schedules.reply
-pub use Rattle.following_laws.specs.Schedules.refusal
-pub use Rattle.following_laws.specs.Schedules.{Reply, HeldAttempt, held_of, RepliesDone, RepliesPlace, RepliesCount, BeginDoes, FeedsOne, ClosesOne, TurnsOne, MovesOne, IfHeld, Does, Scheduled, AppliesAll, Event, Brings, FitsEvent, Applies}
+pub use Rattle.schedule_model.specs.First.{with_first}
+pub use Rattle.schedule_model.specs.Fitting.{FitsEvent}
+pub use Rattle.schedule_model.specs.Held.{is_held, held_of, with_attempt}
+pub use Rattle.schedule_model.specs.Schedule.{RepliesDone, RepliesPlace, RepliesCount, BeginDoes, IfHeld, FeedsOne, ClosesOne, TurnsOne, MovesOne, Does, Brings, Scheduled, AppliesAll, Advances, Applies}
+pub use Rattle.schedule_model.specs.declared.event.Event as scheduled
+pub use Rattle.schedule_model.specs.declared.event.Event.TheVariants as event
+pub use Rattle.schedule_model.specs.declared.event.Event.{Event}
+pub use Rattle.schedule_model.specs.declared.event.Refusal.TheVariants as refusal
+pub use Rattle.schedule_model.specs.declared.event.Reply.TheVariants as reply
+pub use Rattle.schedule_model.specs.declared.event.Reply.{Reply}
+pub use Rattle.schedule_model.specs.declared.held.HeldAttempt.{HeldAttempt}

@@ -1,19 +1,20 @@
 //! What schedules keep of each invocation, and what they leave: its records are those of the one uninterrupted run of its handler. Laws
-//! over the events of a schedule, the attempts that are held and what is on its way between them. The functions do nothing: their
-//! contracts are the laws.
+//! over the events of a schedule, the attempts that are held and what is on its way between them. An invocation in its run is what is
+//! recorded of it, what is on its way from its live attempt, and where that attempt stands; what each kind of event keeps of that
+//! follows from what an attempt keeps that serves a live attempt. The functions do nothing: their contracts are the laws.
 #![tactic(auto)]
 
 ghost use Rattle.schedule_laws.specs.Isolation.{AllAnswerAlone, AllKeepState, AllStandAlone};
 ghost use Rattle.schedule_laws.specs.Laws.{FollowsHolds, FramesAreTaken, HoldsFollows, HoldsHeadline, HoldsNeverLate, HoldsWakesExactly, KeptByEach, LeavesHolds, NoneRefused};
 
-pub use following_laws::inputs_are_handed_out;
-use following_laws::{
-    attempts_begin, closes_keep, events_keep, feeds_keep, notes_follow, overs_stay, takes_keep,
-    turns_keep,
-};
+pub use fitting_laws::inputs_are_handed_out;
 use journal_laws::invocations_isolated;
 use journal_model::Handler;
 use machine_laws::{machines_begin, machines_stay_live};
+use turning_laws::{
+    attempts_begin, closes_keep, events_keep, feeds_keep, notes_follow, overs_stay, takes_keep,
+    turns_keep,
+};
 
 /// Each event keeps an invocation in its run, whatever is stopped, overtaken or refused, and no frame of it is refused for a cause that
 /// lies in the frame.

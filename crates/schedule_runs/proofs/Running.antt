@@ -19,7 +19,7 @@ use Rattle.schedule_laws.proofs.Schedules.{schedules_grow}
 use Rattle.schedule_laws.specs.Isolation.{AllAnswerAlone, AllKeepState, AllStandAlone}
 use Rattle.schedule_laws.specs.Laws.{FramesAreTaken, HoldsHeadline, HoldsNeverLate, HoldsWakesExactly, LeavesHolds}
 use Rattle.schedule_laws.specs.Schedules.{Event, Reply, HeldAttempt, Scheduled, AppliesAll, Brings, FitsEvent}
-use Rattle.schedule_laws.specs.Words.{HoldsOf, ReplaysInLine}
+use Rattle.schedule_laws.specs.Following.{HoldsOf, ReplaysInLine}
 use Rattle.durable_schedule.specs.declared.scheduler.Scheduler.{Scheduler}
 use Rattle.durable_schedule.specs.Scheduled.{IsScheduled, AppliesWith}
 use Rattle.schedule_runs.specs.Runs.{AppliesFirst, LastsBehind, Leaves, LeavesFirst, StandsInRun, at_first}

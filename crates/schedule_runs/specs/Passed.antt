@@ -4,4 +4,4 @@ pub use Rattle.durable_schedule.specs.declared.scheduler.Scheduler.{Scheduler}
 pub use Rattle.schedule_laws.specs.Isolation.{AllAnswerAlone, AllKeepState, AllStandAlone}
 pub use Rattle.schedule_laws.specs.Laws as laws
 pub use Rattle.schedule_laws.specs.Laws.{LeavesHolds}
-pub use Rattle.schedule_laws.specs.Words.{HoldsOf, ReplaysInLine}
+pub use Rattle.schedule_laws.specs.Following.{HoldsOf, ReplaysInLine}

@@ -20,7 +20,7 @@ use Rattle.schedule_laws.specs.Schedules.event
 use Rattle.schedule_laws.specs.Schedules.reply
 use Rattle.schedule_laws.specs.Schedules.refusal
 use Rattle.schedule_laws.specs.Schedules.{Reply, HeldAttempt, Scheduled, Applies, AppliesAll, Brings}
-use Rattle.schedule_laws.specs.Words.{ReplaysInLine, HoldsOf, given_of}
+use Rattle.schedule_laws.specs.Following.{ReplaysInLine, HoldsOf, given_of}
 use Rattle.schedule_runs.specs.Handed.{HandsEach, IsHandedInput}
 
 -- ---- its events, one after another

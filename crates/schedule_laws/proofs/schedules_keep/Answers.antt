@@ -1,7 +1,7 @@
 -- The laws are proved in `Beginning`, `Keeping` and `Leaving`, from those of attempts that serve.
-use Rattle.following_laws.specs.Following.{asking_by_text}
-use Rattle.following_laws.proofs.Beginning.{holds_follows, follows_holds}
-use Rattle.following_laws.proofs.Serving.{laws_by_text}
+use Rattle.schedule_laws.specs.Following.{asking_by_text}
+use Rattle.schedule_laws.proofs.Beginning.{holds_follows, follows_holds}
+use Rattle.schedule_laws.proofs.Serving.{laws_by_text}
 use Rattle.schedule_laws.proofs.Keeping.{keeps, brings_by_text}
 use Rattle.schedule_laws.proofs.Leaving.{frames_taken}
 use Rattle.schedule_laws.proofs.schedules_keep.Goals as goal

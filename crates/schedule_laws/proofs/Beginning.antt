@@ -36,15 +36,15 @@ use Rattle.schedule_model.specs.Schedule.{HoldsBegun}
 use Rattle.schedule_model.proofs.Firsts.{first_push_none, first_push_other}
 use Rattle.schedule_model.proofs.Holding.{some_is, some_none, is_held_by, not_held_number, not_held_invocation}
 use Rattle.fitting_events.specs.Fitting.{InvocationFits}
-use Rattle.following_laws.specs.Following.{ReplaysInLine, HoldsOf, given_of, IsServed, Flies, FollowsBegun, FollowsWhere, Follows, FollowsByText}
+use Rattle.schedule_laws.specs.Following.{ReplaysInLine, HoldsOf, given_of, IsServed, Flies, FollowsBegun, FollowsWhere, Follows, FollowsByText}
 use Rattle.fitting_laws.proofs.Fits.{apart, unborn_fits}
 use Rattle.fitting_laws.specs.Laws.{CanStart, IsFedWell}
 use Rattle.fitting_laws.proofs.Beginnings.{can_start, fed_begun}
-use Rattle.following_laws.proofs.ByText.{holds_by_text, holds_own}
-use Rattle.following_laws.proofs.Following.{same_held}
-use Rattle.following_laws.proofs.Others.{into, other_on}
-use Rattle.following_laws.proofs.Serving.{ServingLaws}
-use Rattle.following_laws.proofs.Taking.{version_begun}
+use Rattle.schedule_laws.proofs.ByText.{holds_by_text, holds_own}
+use Rattle.schedule_laws.proofs.Following.{same_held}
+use Rattle.schedule_laws.proofs.Others.{into, other_on}
+use Rattle.schedule_laws.proofs.Serving.{ServingLaws}
+use Rattle.schedule_laws.proofs.Taking.{version_begun}
 
 begun_some : (o : Option NewInvocation) → is_some o ≡ true → (new : NewInvocation) × (o ≡ Some new)
 begun_some (Some new) is = (new, refl)

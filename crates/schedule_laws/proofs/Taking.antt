@@ -27,11 +27,11 @@ use Rattle.schedule_model.specs.declared.held.HeldAttempt.{HeldAttempt}
 use Rattle.schedule_model.specs.Held.{held_of}
 use Rattle.schedule_model.proofs.Holding.{some_is, some_none}
 use Rattle.fitting_laws.specs.Fitting.{FrameFits}
-use Rattle.following_laws.specs.Following.{Flies, FollowsWhere, FollowsIn, Follows}
-use Rattle.following_laws.proofs.Events.{IsPlain, begun_on}
+use Rattle.schedule_laws.specs.Following.{Flies, FollowsWhere, FollowsIn, Follows}
+use Rattle.schedule_laws.proofs.Events.{IsPlain, begun_on}
 use Rattle.fitting_laws.proofs.Fits.{apart, not_same}
-use Rattle.following_laws.proofs.Others.{into, stands_still, other_on}
-use Rattle.following_laws.proofs.Serving.{ServingLaws}
+use Rattle.schedule_laws.proofs.Others.{into, stands_still, other_on}
+use Rattle.schedule_laws.proofs.Serving.{ServingLaws}
 
 never : (b : Bool) → (b && false) ≡ false
 never true = refl

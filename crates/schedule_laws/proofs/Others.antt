@@ -11,10 +11,10 @@ use Rattle.turn_laws.specs.Sending.{PassesOn}
 use Rattle.vm_types.specs.declared.options.VMOptions.{VMOptions}
 use Rattle.store_calls.specs.Standing.{Standing, Stays}
 use Rattle.schedule_model.specs.declared.held.HeldAttempt.{HeldAttempt}
-use Rattle.following_laws.specs.Following.{FollowsIn, Follows}
-use Rattle.following_laws.proofs.Events.{IsPlain, where_on}
+use Rattle.schedule_laws.specs.Following.{FollowsIn, Follows}
+use Rattle.schedule_laws.proofs.Events.{IsPlain, where_on}
 use Rattle.fitting_laws.proofs.Fits.{other_fits}
-use Rattle.following_laws.proofs.Serving.{ServingLaws}
+use Rattle.schedule_laws.proofs.Serving.{ServingLaws}
 
 other_invokes : (id : Text) (event : Event) → is_of id event ≡ false → begins id event ≡ false
 other_invokes id (Event.Invoke new) e = e

@@ -25,9 +25,9 @@ use Rattle.schedule_model.specs.declared.held.HeldAttempt.{HeldAttempt}
 use Rattle.schedule_model.specs.Held.{held_of}
 use Rattle.schedule_model.proofs.Holding.{some_none}
 use Rattle.fitting_laws.specs.Fitting.{AcceptedFits, AllFit}
-use Rattle.following_laws.specs.Following.{given_of, IsServed, Flies, FollowsBegun, FollowsWhere, FollowsIn}
+use Rattle.schedule_laws.specs.Following.{given_of, IsServed, Flies, FollowsBegun, FollowsWhere, FollowsIn}
 use Rattle.fitting_laws.proofs.Fits.{may_come}
-use Rattle.following_laws.proofs.Serving.{ServingLaws}
+use Rattle.schedule_laws.proofs.Serving.{ServingLaws}
 
 -- an event that begins neither the invocation nor an attempt of it, hands it nothing and closes nothing of it
 pub record IsPlain (id : Text) (event : Event) : Type 0 where

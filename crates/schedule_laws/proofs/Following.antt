@@ -16,7 +16,7 @@ use Rattle.schedule_model.specs.First.{with_first}
 use Rattle.schedule_model.specs.Held.{is_held, held_of}
 use Rattle.schedule_model.proofs.Holding.{some_is, some_none, held_with, held_other_number}
 use Rattle.fitting_laws.specs.Fitting.{AllFit}
-use Rattle.following_laws.specs.Following.{given_of, Flies, FollowsBegun, FollowsWhere}
+use Rattle.schedule_laws.specs.Following.{given_of, Flies, FollowsBegun, FollowsWhere}
 
 module _ {H : Type 0} (function : H → Handler) (next : Handler) (options : VMOptions) (id : Text) where
   -- what is held of the live attempt, and of those beyond, is all that counts

@@ -29,10 +29,10 @@ use Rattle.schedule_model.specs.declared.held.HeldAttempt.{HeldAttempt}
 use Rattle.schedule_model.specs.First.{with_first}
 use Rattle.schedule_model.specs.Held.{is_held, held_of}
 use Rattle.schedule_model.specs.Schedule.{Advances}
-use Rattle.following_laws.specs.Following.{ReplaysInLine, given_of, IsServed, Flies, FollowsBegun}
+use Rattle.schedule_laws.specs.Following.{ReplaysInLine, given_of, IsServed, Flies, FollowsBegun}
 use Rattle.fitting_laws.proofs.Fits.{may_come}
-use Rattle.following_laws.proofs.Following.{IsFlown, flown, flown_still}
-use Rattle.following_laws.proofs.Serving.{ServingLaws}
+use Rattle.schedule_laws.proofs.Following.{IsFlown, flown, flown_still}
+use Rattle.schedule_laws.proofs.Serving.{ServingLaws}
 
 never : (b : Bool) → (b && false) ≡ false
 never true = refl

@@ -1,4 +1,0 @@
-pub mod Following
-pub mod Attempts
-pub mod Schedules
-pub mod Sending
