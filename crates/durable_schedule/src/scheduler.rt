@@ -15,10 +15,11 @@ ghost use Rattle.durable_schedule.specs.Scheduled.{AppliesWith, HasBegun, IsOfHe
 use crate::held::{make, take_in};
 use crate::replies::{done, placed, ticked};
 use bytes::ByteStr;
-use fitting_events::{invocation_fits, result_fits};
 use journal_model::{Handler, NewInvocation, NonEmptyValue, NotificationResult};
 use journal_store::Store;
-use schedule_model::{Event, HeldAttempt, HeldAttempts, Refusal, Reply};
+use schedule_model::{
+    Event, HeldAttempt, HeldAttempts, Refusal, Reply, invocation_fits, result_fits,
+};
 use sqlite::Alter;
 use std::alloc::Global;
 use store_calls::BegunAttempt;

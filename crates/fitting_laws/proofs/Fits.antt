@@ -24,7 +24,7 @@ use Rattle.request_laws.specs.Fitting.{RequestFits}
 use Rattle.beginning_laws.proofs.Passed.{of_asked}
 use Rattle.beginning_laws.specs.Reading.{ArrivalFits, IsAsked, IsNotificationType, MayCome}
 use Rattle.sending_laws.specs.Sent.{is_recorded}
-use Rattle.fitting_events.specs.Fitting.{InvocationFits, ResultFits}
+use Rattle.schedule_model.specs.Fitting.{InvocationFits, ResultFits}
 use Rattle.fitting_laws.specs.Fitting.{AcceptedFits, AllFit}
 use Rattle.fitting_laws.specs.Laws.{MessagesMayCome, UnbornFit}
 

@@ -5,7 +5,7 @@ use Rattle.journal_model.specs.Notification.{Text}
 use Rattle.journal_model.specs.Event.{Event, Frame}
 use Rattle.journal_model.specs.Journal.{completion}
 use Rattle.request_laws.specs.Fitting.{RequestFits}
-use Rattle.fitting_events.specs.Fitting.{InvocationFits, ResultFits}
+use Rattle.schedule_model.specs.Fitting.{InvocationFits, ResultFits}
 use Rattle.sending_laws.specs.Sent.{is_recorded}
 
 -- a request that a store records; no run is executed, so none has an outcome

@@ -35,7 +35,7 @@ use Rattle.schedule_model.specs.Held.{is_held, held_of}
 use Rattle.schedule_model.specs.Schedule.{HoldsBegun}
 use Rattle.schedule_model.proofs.Firsts.{first_push_none, first_push_other}
 use Rattle.schedule_model.proofs.Holding.{some_is, some_none, is_held_by, not_held_number, not_held_invocation}
-use Rattle.fitting_events.specs.Fitting.{InvocationFits}
+use Rattle.schedule_model.specs.Fitting.{InvocationFits}
 use Rattle.schedule_laws.specs.Following.{ReplaysInLine, HoldsOf, given_of, IsServed, Flies, FollowsBegun, FollowsWhere, Follows, FollowsByText}
 use Rattle.fitting_laws.proofs.Fits.{apart, unborn_fits}
 use Rattle.fitting_laws.specs.Laws.{CanStart, IsFedWell}

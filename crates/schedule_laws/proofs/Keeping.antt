@@ -16,7 +16,7 @@ use Rattle.store_calls.specs.Standing.{Standing, Stays, Adds}
 use Rattle.store_calls.specs.Calls.{Invokes, Completes, Ticks, Stops}
 use Rattle.store_calls.proofs.Live.{live_when}
 use Rattle.store_calls.proofs.Taking.{bytes_stay}
-use Rattle.fitting_events.specs.Fitting.{ResultFits}
+use Rattle.schedule_model.specs.Fitting.{ResultFits}
 use Rattle.schedule_laws.specs.Following.{asking_by_text, ReplaysInLine, FollowsBegun, FollowsWhere, Follows}
 use Rattle.schedule_laws.proofs.Acting.{fed, closed, turned, advanced}
 use Rattle.schedule_laws.proofs.Beginning.{made, unheld, begun}

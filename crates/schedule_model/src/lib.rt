@@ -1,14 +1,17 @@
-//! What the events of a schedule answer and leave, over a store that stands for accepted events and the attempts that are held.
+//! What the events of a schedule answer and leave, over a store that stands for accepted events and the attempts that are held. And
+//! that what a call brings fits.
 #![tactic(auto)]
 
 mod attempts;
 mod event;
+mod fitting;
 mod held;
 mod laws;
 mod places;
 
 pub use attempts::HeldAttempts;
 pub use event::{Event, Refusal, Reply};
+pub use fitting::{invocation_fits, result_fits};
 pub use held::HeldAttempt;
 pub use laws::{attempts_are_held, schedules_grow};
 pub use vm_attempt::{Attempt, Turn};

@@ -1,7 +1,5 @@
-//! Does what a call brings fit? A type says so of each text and number in it; here it is said of all of them together, by functions that
-//! look at each and change nothing.
-#![tactic(auto)]
-
+// Does what a call brings fit? A type says so of each text and number in it; here it is said of all of them together, by functions that
+// look at each and change nothing.
 ghost use Rattle.std.specs.Prelude.{◌<◌, ◌^◌, IsUtf8, map, Some};
 ghost use Rattle.std.specs.List.{AllByRecursion};
 ghost use Rattle.protocol_controls.specs.Notification.{NotificationFits, NotificationMessageResultFits};
