@@ -22,7 +22,8 @@ use Rattle.vm_types.specs.declared.options.VMOptions.{VMOptions}
 use Rattle.turning_laws.specs.Attempts.{Feeds, ClosesInput, output_of, Turns, Attempt, Turn}
 use Rattle.turning_laws.specs.Sending.sent
 use Rattle.turning_laws.specs.Sending.{Sent, Asks, is_recorded, sent_stream, sent_frame, frame_meant, IsOfStore}
-use Rattle.turning_laws.specs.Servings.{Serves, IsOver, machine_failed, StaysClosed, IsLiveAt}
+use Rattle.turning_laws.specs.Keeping.{StaysClosed, IsLiveAt}
+use Rattle.turning_laws.specs.Serving.{Serves, IsOver, machine_failed}
 use Rattle.turning_laws.specs.Turning.{TurnsBehind}
 use Rattle.vm_start.specs.Failing.{out_of_memory}
 use Rattle.schedule_model.specs.declared.held.HeldAttempt.{HeldAttempt}

@@ -26,7 +26,8 @@ use Rattle.vm_start.specs.Failing.{out_of_memory}
 use Rattle.turning_laws.specs.Attempts.{Feeds, output_of}
 use Rattle.turning_laws.specs.Reading.{IsRunOf}
 use Rattle.turning_laws.specs.Sending.{frame_meant}
-use Rattle.turning_laws.specs.Servings.{asking_by_text, Serves, IsOver, machine_failed, LacksMemory, attempt_started}
+use Rattle.turning_laws.specs.Keeping.{LacksMemory, attempt_started}
+use Rattle.turning_laws.specs.Serving.{asking_by_text, Serves, IsOver, machine_failed}
 use Rattle.store_calls.specs.declared.begun.BegunAttempt.{BegunAttempt}
 use Rattle.store_calls.specs.Standing.{Standing, Adds}
 use Rattle.store_calls.specs.Calls.{Begins}

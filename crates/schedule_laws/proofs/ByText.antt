@@ -25,7 +25,7 @@ use Rattle.headline_laws.proofs.Following.{handed_first, answered_next}
 use Rattle.fitting_laws.specs.Fitting.{AcceptedFits, AllFit}
 use Rattle.fitting_laws.proofs.Fits.{all_both, all_behind}
 use Rattle.turning_laws.specs.Sending.{is_recorded}
-use Rattle.turning_laws.specs.Servings.{text_or_empty, with_text_key, asking_by_text}
+use Rattle.turning_laws.specs.Serving.{text_or_empty, with_text_key, asking_by_text}
 
 abbrev IsRecorded : Request → Type 0
 IsRecorded request = is_recorded request ≡ true

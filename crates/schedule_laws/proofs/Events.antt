@@ -20,7 +20,7 @@ use Rattle.vm_types.specs.declared.options.VMOptions.{VMOptions}
 use Rattle.turning_laws.specs.Attempts.{output_of, Attempt}
 use Rattle.turning_laws.specs.Sending.sent
 use Rattle.turning_laws.specs.Sending.{Sent, sent_stream, frame_meant, IsOfStore}
-use Rattle.turning_laws.specs.Servings.{Serves}
+use Rattle.turning_laws.specs.Serving.{Serves}
 use Rattle.schedule_model.specs.declared.held.HeldAttempt.{HeldAttempt}
 use Rattle.schedule_model.specs.Held.{held_of}
 use Rattle.schedule_model.proofs.Holding.{some_none}

@@ -28,7 +28,7 @@ use Rattle.fitting_laws.proofs.Fits.{apart}
 use Rattle.schedule_laws.proofs.Following.{same_held}
 use Rattle.schedule_laws.proofs.Others.{into, stands_still, other_on}
 use Rattle.schedule_laws.proofs.Schedules.{some_none, held_other_invocation}
-use Rattle.turning_laws.proofs.Passed.{none_lie_in_frames}
+use Rattle.turning_laws.proofs.Reading.{none_lie_in_frames}
 use Rattle.schedule_laws.proofs.Serving.{ServingLaws}
 use Rattle.schedule_laws.proofs.Taking.{first_on_its_way}
 use Rattle.schedule_laws.specs.Attempts.{output_of, Attempt}

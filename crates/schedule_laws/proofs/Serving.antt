@@ -3,7 +3,9 @@ use Rattle.journal_model.specs.Run.{Handler}
 use Rattle.protocol_types.specs.declared.version.Version.{Version}
 use Rattle.vm_types.specs.declared.options.VMOptions.{VMOptions}
 use Rattle.machine_laws.specs.Laws.{MachinesBegin, MachinesStayLive}
-use Rattle.turning_laws.specs.Servings.{asking_by_text, OfEach, NotesFollow, BeginsServing, StaysServing, FeedsServing, ClosesServing, TakesServing, OversStay}
+use Rattle.turning_laws.specs.Keeping.{NotesFollow, BeginsServing, StaysServing, FeedsServing, ClosesServing, TakesServing, OversStay}
+use Rattle.turning_laws.specs.Laws.{OfEach}
+use Rattle.turning_laws.specs.Serving.{asking_by_text}
 use Rattle.turning_laws.specs.Turning.{TurnServes}
 
 pub record ServingLaws {H : Type 0} (function : H → Handler) (next : Handler) (options : VMOptions) : Type 0 where

@@ -12,7 +12,7 @@ use Rattle.protocol_types.specs.Version.{version_number}
 use Rattle.protocol_types.specs.declared.version.Version.{Version}
 use Rattle.protocol_stream.specs.Item.{Item}
 use Rattle.input_laws.proofs.Events.{itself}
-use Rattle.turning_laws.proofs.Passed.{streams_are_read}
+use Rattle.turning_laws.proofs.Reading.{streams_are_read}
 use Rattle.turning_laws.specs.Attempts.{output_of}
 use Rattle.turning_laws.specs.Sending.sent
 use Rattle.turning_laws.specs.Sending.{Sent, Asks, Awaits, Suspends, Fails, Ends, is_recorded, sent_stream, sent_message, frame_meant, IsOfStore}

@@ -20,8 +20,9 @@ use Rattle.vm_types.specs.declared.options.JournalReplay.TheVariants.{Enabled}
 use Rattle.turning_laws.specs.Attempts.{output_of, Attempt}
 use Rattle.turning_laws.specs.Sending.sent
 use Rattle.turning_laws.specs.Sending.{Sent, sent_stream, frame_meant, IsOfStore}
-pub use Rattle.turning_laws.specs.Servings.{asking_by_text}
-use Rattle.turning_laws.specs.Servings.{IsOver, Serves, IsLiveAt}
+pub use Rattle.turning_laws.specs.Serving.{asking_by_text}
+use Rattle.turning_laws.specs.Keeping.{IsLiveAt}
+use Rattle.turning_laws.specs.Serving.{IsOver, Serves}
 use Rattle.store_calls.specs.Standing.{Standing}
 use Rattle.schedule_model.specs.declared.held.HeldAttempt.{HeldAttempt}
 use Rattle.schedule_model.specs.Held.{held_of}

@@ -11,19 +11,18 @@ use Rattle.vm_refusals.specs.declared.refusal.CallRefusal.{CallRefusal}
 use Rattle.vm_types.specs.declared.options.JournalMismatchRetryBehavior.{JournalMismatchRetryBehavior}
 use Rattle.vm_types.specs.declared.options.JournalReplay.{JournalReplay}
 use Rattle.vm_types.specs.declared.options.JournalReplay.TheVariants.{Enabled, Disabled}
-use Rattle.serving_laws.specs.Serving.{IsOfStore}
-use Rattle.serving_laws.proofs.Notes.{TellsNotes, cause_tells, fails_with}
-use Rattle.serving_laws.specs.Machine.phases
-use Rattle.serving_laws.specs.Keeping.{FailsWith, TellsBy}
-use Rattle.serving_laws.specs.Machine.{MachineState, Written, TellsCause, out_of_memory, told_error, Fails, Cause, ByFault, NoNumber, TooLong, NoReplay, NoRuns, NoMemory, FailsWhen}
-use Rattle.serving_laws.specs.Reading.{Kind}
-use Rattle.serving_laws.specs.Sending.{Sent, Fails as SentFails, sent_stream, AllFit, frame_meant}
-use Rattle.serving_laws.specs.Words.{internal, unsupported_feature, journal_mismatch, Error, Version, Answer, Call, Event, answers_of, Text, Handler, arrivals_carried, requests_carried, IsNote, LiveAttempt, untracked, childless, VMOptions}
+use Rattle.turning_laws.specs.Serving.{IsOfStore}
+use Rattle.turning_laws.proofs.Notes.{TellsNotes, cause_tells, fails_with}
+use Rattle.turning_laws.specs.Machine.phases
+use Rattle.turning_laws.specs.Keeping.{FailsWith, TellsBy}
+use Rattle.turning_laws.specs.Machine.{MachineState, Written, TellsCause, out_of_memory, told_error, Fails, Cause, ByFault, NoNumber, TooLong, NoReplay, NoRuns, NoMemory, FailsWhen}
+use Rattle.turning_laws.specs.Reading.{Kind}
+use Rattle.turning_laws.specs.Sending.{Sent, Fails as SentFails, sent_stream, AllFit, frame_meant}
+use Rattle.turning_laws.specs.Words.{internal, unsupported_feature, journal_mismatch, Error, Version, Answer, Call, Event, answers_of, Text, Handler, arrivals_carried, requests_carried, IsNote, LiveAttempt, untracked, childless, VMOptions, Refusal, RepliesAsRun}
 use Rattle.turning_laws.specs.Turning.{IsOwnCause, IsToldAs, FailsBy}
 use Rattle.turning_laws.proofs.Now.{Now, call_of, reply_at}
 use Rattle.turning_laws.proofs.Replies.{failed_of}
 use Rattle.turning_laws.proofs.Sending.{of_output, opened}
-use Rattle.turning_laws.specs.Words.{Refusal, RepliesAsRun}
 
 -- what a failing turn has told, and why
 pub record FailsSo (next : Handler) (version : Version) (live : LiveAttempt) (answers : List Answer) (vm new : MachineState) (error : Error) : Type 0 where

@@ -1,3 +1,14 @@
+pub mod Over
+pub mod Taking
+pub mod Driven
+pub mod Messages
+pub mod Beginning
+pub mod Feeding
+pub mod Phases
+pub mod Notes
+pub mod Closing
+pub mod Reading
+pub mod Covered
 pub mod Texts
 pub mod Replies
 pub mod Now
@@ -9,4 +20,3 @@ pub mod Turning
 pub mod Turns
 pub mod Matching
 pub mod Progress
-pub mod Passed

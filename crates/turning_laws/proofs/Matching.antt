@@ -2,11 +2,11 @@
 use Rattle.std.proofs.Common.{◌≡◌, ◌⊎◌, inl, inr, ◌∙◌, List, ap}
 use Rattle.attempt_model.specs.Machine.{Mismatch, UncompletedInReplay, EndInReplay, KeysNotText, ChildNotId, Refused}
 use Rattle.vm_refusals.specs.Refusals.{refusal_code}
-use Rattle.serving_laws.specs.Attempts.{Turn}
-use Rattle.serving_laws.specs.Keeping.{FailsWith}
-use Rattle.serving_laws.specs.Machine.{MachineState, Written, Cause, ByFault, NoNumber, TooLong, NoReplay, NoRuns, NoMemory}
-use Rattle.serving_laws.specs.Sending.{Sent}
-use Rattle.serving_laws.specs.Words.{internal, unsupported_feature, Error, Version, Call, Handler, arrivals_carried, LiveAttempt, VMOptions}
+use Rattle.turning_laws.specs.Attempts.{Turn}
+use Rattle.turning_laws.specs.Keeping.{FailsWith}
+use Rattle.turning_laws.specs.Machine.{MachineState, Written, Cause, ByFault, NoNumber, TooLong, NoReplay, NoRuns, NoMemory}
+use Rattle.turning_laws.specs.Sending.{Sent}
+use Rattle.turning_laws.specs.Words.{internal, unsupported_feature, Error, Version, Call, Handler, arrivals_carried, LiveAttempt, VMOptions}
 use Rattle.turning_laws.specs.Turning.{IsOwnCause, IsToldAs, FailsBy, TurnServes, TurnsMatch}
 use Rattle.turning_laws.proofs.Failing.{refused_code, either_code}
 

@@ -8,16 +8,15 @@ use Rattle.attempt_laws.proofs.Coming.{kinds_by_asking}
 use Rattle.children_laws.proofs.Coming.{next_replies_are_same}
 use Rattle.vm_commands.specs.HeaderEquality.{same_header}
 use Rattle.vm_commands.proofs.Comparing.{compares_reflexively}
-use Rattle.serving_laws.specs.Serving.{IsOfStore, AwaitsWithin, HasNumbers, kind_where, HasRead, Serves}
-use Rattle.serving_laws.specs.Keeping.{IsLiveAt}
-use Rattle.serving_laws.proofs.Covered.{covered_stored, covered_within, covered_same}
-use Rattle.serving_laws.proofs.Messages.{unread_fit}
-use Rattle.serving_laws.proofs.Reading.{no_arrival_is_held}
-use Rattle.serving_laws.specs.Attempts.{Attempt, is_covered}
-use Rattle.serving_laws.specs.Machine.{checks_off, MachineState, IsDriven, TracksNone}
-use Rattle.serving_laws.specs.Reading.{kind_of}
-use Rattle.serving_laws.specs.Words.{version_number, Version, Answer, Call, item_at, arrivals_within, input_left, is_input_closed, child_of, Event, answers_of, Text, Arrival, Request, Handler, Invocation, Progress, piece_of, arrivals_carried, requests_carried, FollowsSo, Machine, Reply, reply_to, IsInRun, LiveAttempt, without_children, untracked, childless, childless_reply, is_cancellation, run_options, VMOptions, ImplicitCancellationOption, Disabled, Enabled, starting_state}
-use Rattle.turning_laws.specs.Words.{Queued, Fits, next_call, RepliesAsRun, StandsWithJournal, JournalsStand, KeepsOn, MachinesKeepOn, HasTextKeys, IsTypedCall}
+use Rattle.turning_laws.specs.Serving.{IsOfStore, AwaitsWithin, HasNumbers, kind_where, HasRead, Serves}
+use Rattle.turning_laws.specs.Keeping.{IsLiveAt}
+use Rattle.turning_laws.proofs.Covered.{covered_stored, covered_within, covered_same}
+use Rattle.turning_laws.proofs.Messages.{unread_fit}
+use Rattle.turning_laws.proofs.Reading.{no_arrival_is_held}
+use Rattle.turning_laws.specs.Attempts.{Attempt, is_covered}
+use Rattle.turning_laws.specs.Machine.{checks_off, MachineState, IsDriven, TracksNone}
+use Rattle.turning_laws.specs.Reading.{kind_of}
+use Rattle.turning_laws.specs.Words.{version_number, Version, Answer, Call, item_at, arrivals_within, input_left, is_input_closed, child_of, Event, answers_of, Text, Arrival, Request, Handler, Invocation, Progress, piece_of, arrivals_carried, requests_carried, FollowsSo, Machine, Reply, reply_to, IsInRun, LiveAttempt, without_children, untracked, childless, childless_reply, is_cancellation, run_options, VMOptions, ImplicitCancellationOption, Disabled, Enabled, starting_state, Queued, Fits, next_call, RepliesAsRun, StandsWithJournal, JournalsStand, KeepsOn, MachinesKeepOn, HasTextKeys, IsTypedCall}
 use Rattle.turning_laws.proofs.Texts.{shown_text, asks_by_keys, asks_by_text}
 
 -- what its requests are compared by

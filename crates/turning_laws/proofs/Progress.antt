@@ -1,14 +1,13 @@
 -- Turns one after the other, with the journal read and the input closed.
 use Rattle.std.proofs.Common.{◌≡◌, ◌⊎◌, inl, inr, ◌∙◌, ◌+◌, arith, ℕ, suc, Bool, true, false, true≢false, List, [], ◌∷◌, ◌++◌, length, map, sym, ap, subst}
-use Rattle.serving_laws.specs.Serving.{Serves, IsOver}
-use Rattle.serving_laws.specs.Keeping.{IsLiveAt}
-use Rattle.serving_laws.proofs.Over.{overs_stay}
-use Rattle.serving_laws.specs.Attempts.turns
-use Rattle.serving_laws.specs.Attempts.{Attempt, Turn}
-use Rattle.serving_laws.specs.Sending.{Sent, frame_meant}
-use Rattle.serving_laws.specs.Words.{Version, is_input_closed, Event, Text, Handler, FollowsSo, LiveAttempt, HasReadJournal, after_turn, VMOptions}
+use Rattle.turning_laws.specs.Serving.{Serves, IsOver}
+use Rattle.turning_laws.specs.Keeping.{IsLiveAt}
+use Rattle.turning_laws.proofs.Over.{overs_stay}
+use Rattle.turning_laws.specs.Attempts.turns
+use Rattle.turning_laws.specs.Attempts.{Attempt, Turn}
+use Rattle.turning_laws.specs.Sending.{Sent, frame_meant}
+use Rattle.turning_laws.specs.Words.{Version, is_input_closed, Event, Text, Handler, FollowsSo, LiveAttempt, HasReadJournal, after_turn, VMOptions, Queued}
 use Rattle.turning_laws.specs.Turning.{turns_answered, TurnsBehind, TurnKeeps, TurnServes, TurnsEach, AnswersEach, TurnsAnswer}
-use Rattle.turning_laws.specs.Words.{Queued}
 
 module _ {H : Type 0} (function : H → Handler) (next : Handler) (version : Version) (options : VMOptions) (id : Text) (events : List Event) where
   -- one that is over stays so

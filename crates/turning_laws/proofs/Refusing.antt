@@ -1,14 +1,14 @@
 -- A call that is none that is carried out: the machine fails for it, and nothing of the call is done.
 use Rattle.std.proofs.Common.{◌≡◌, ◌∙◌, inr, false, List, ◌++◌, map, refl, sym, ap, subst}
 use Rattle.std.specs.List.{AllByRecursion}
-use Rattle.serving_laws.specs.Serving.{HasRead, Serves, machine_failed}
-use Rattle.serving_laws.proofs.Covered.{covered_by_text}
-use Rattle.serving_laws.proofs.Notes.{fails_now, TellsNotes, cause_tells, notes_follow, waits_more}
-use Rattle.serving_laws.specs.Attempts.{is_covered, RefusesCall, Attempt, Turn}
-use Rattle.serving_laws.specs.Machine.{MachineState, Written, FailsNow}
-use Rattle.serving_laws.specs.Reading.{Kind}
-use Rattle.serving_laws.specs.Sending.{sent_stream, AllFit, frame_meant}
-use Rattle.serving_laws.specs.Words.{Version, ImplicitCancellationOption, is_input_closed, Event, Text, Handler, FollowsSo, IsNote, LiveAttempt, VMOptions}
+use Rattle.turning_laws.specs.Serving.{HasRead, Serves, machine_failed}
+use Rattle.turning_laws.proofs.Covered.{covered_by_text}
+use Rattle.turning_laws.proofs.Notes.{fails_now, TellsNotes, cause_tells, notes_follow, waits_more}
+use Rattle.turning_laws.specs.Attempts.{is_covered, RefusesCall, Attempt, Turn}
+use Rattle.turning_laws.specs.Machine.{MachineState, Written, FailsNow}
+use Rattle.turning_laws.specs.Reading.{Kind}
+use Rattle.turning_laws.specs.Sending.{sent_stream, AllFit, frame_meant}
+use Rattle.turning_laws.specs.Words.{Version, ImplicitCancellationOption, is_input_closed, Event, Text, Handler, FollowsSo, IsNote, LiveAttempt, VMOptions}
 use Rattle.turning_laws.specs.Turning.{TurnKeeps}
 use Rattle.turning_laws.proofs.Stored.{notes_of_store}
 

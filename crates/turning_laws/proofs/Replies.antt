@@ -1,14 +1,13 @@
 -- What a reply makes of a machine that tracks no child: which requests it writes, and which numbers it takes.
 use Rattle.std.proofs.Common.{◌≡◌, ◌∙◌, ◌+◌, ℕ, arith, Bool, true, false, List, [], ◌∷◌, ◌++◌, append-nil, append_assoc, if◌then◌else◌, option_and_then, Option, Some, None, refl, sym, ap, subst}
 use Rattle.std.specs.List.{AllByRecursion, list_all}
-use Rattle.serving_laws.specs.Words.{Answer, Call, awaited_tree, AwaitTree, completions_of, signals_of, Arrival, Request, Invocation, childless, childless_reply}
+use Rattle.turning_laws.specs.Words.{Answer, Call, awaited_tree, AwaitTree, completions_of, signals_of, Arrival, Request, Invocation, childless, childless_reply, Refusal, refusal_of, Commands, PutState, put_one, put_all, requests_by}
 use Rattle.journal_model.specs.declared.notification.NotificationResult.{NotificationResult}
 use Rattle.journal_model.specs.Value.{as_taken}
 use Rattle.attempt_model.specs.Children.{Child, ChildrenOutcome, AllKnown, FirstUnknown, OneIsNoId, children_outcome, cancel_requests_for, may_take}
 use Rattle.attempt_model.specs.Results.{Ready, slot_of, waiting_for, Resolution, Awake, Asleep, resolution_of, are_keys_text}
 use Rattle.attempt_model.specs.Machine.{Machine, Reply, Answered, AwaitsTree, AwaitsChild, Finished, FailedBy, Fault, Work, ToAwait, ToEnd, ToTake, ToLook, ToMake, work_of, is_cancelled, reply_to_take, reply_where_taken, reply_where_unknown, reply_where_asleep, reply_to_end, reply_to_make, reply_where_cancelled, reply_to_children, reply_where_awake, reply_to_await, reply_to_work, reply_unless_refused, reply_to}
 use Rattle.attempt_calls.proofs.CallKinds.{inv-await}
-use Rattle.turning_laws.specs.Words.{Refusal, refusal_of, Commands, PutState, put_one, put_all, requests_by}
 
 -- ---- requests
 

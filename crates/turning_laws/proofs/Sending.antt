@@ -13,15 +13,14 @@ use Rattle.handle_laws.proofs.Handles.{awaited_trees_fit}
 use Rattle.handle_laws.proofs.Machines.{machines_fit}
 use Rattle.vm_awaits.specs.Views.{AsyncResults, slots_of}
 use Rattle.vm_waiting.specs.Suspending.{over_ids, tells_awaiting, TellsIf}
-use Rattle.serving_laws.proofs.Reading.{turns_send, frames_are_written}
-use Rattle.serving_laws.specs.Machine.{MachineState, Fits, Active, Written, with_frame, Answers, Waits, Suspends, Ends, IsDriven}
-use Rattle.serving_laws.specs.Reading.{Kind}
-use Rattle.serving_laws.specs.Sending.{Sent, Asks, sent_stream, AllFit, is_recorded, frame_meant, TurnSends}
-use Rattle.serving_laws.specs.Serving.{AwaitsWithin, HasNumbers}
-use Rattle.serving_laws.specs.Words.{LEVELS, version_number, Version, Answer, Call, is_input_closed, awaited_tree, AwaitTree, Event, Frame, completions_of, signals_of, Text, Request, Handler, Invocation, RunOptions, Machine, Reply, Answered, AwaitsTree, Finished, reply_to, LiveAttempt, untracked, childless, run_options, VMOptions, IsWithin, SlotsFit, TreeFits}
+use Rattle.turning_laws.proofs.Reading.{turns_send, frames_are_written}
+use Rattle.turning_laws.specs.Machine.{MachineState, Fits, Active, Written, with_frame, Answers, Waits, Suspends, Ends, IsDriven}
+use Rattle.turning_laws.specs.Reading.{Kind}
+use Rattle.turning_laws.specs.Sending.{Sent, Asks, sent_stream, AllFit, is_recorded, frame_meant, TurnSends}
+use Rattle.turning_laws.specs.Serving.{AwaitsWithin, HasNumbers}
+use Rattle.turning_laws.specs.Words.{LEVELS, version_number, Version, Answer, Call, is_input_closed, awaited_tree, AwaitTree, Event, Frame, completions_of, signals_of, Text, Request, Handler, Invocation, RunOptions, Machine, Reply, Answered, AwaitsTree, Finished, reply_to, LiveAttempt, untracked, childless, run_options, VMOptions, IsWithin, SlotsFit, TreeFits, refusal_of, Slots, slot_of, requests_by, SendsReply}
 use Rattle.turning_laws.proofs.Now.{Now, compares, call_of, reply_at}
 use Rattle.turning_laws.proofs.Replies.{Grown, Stayed, Grows, reply_grows, awaits_of, answered_of, awaiting_of, finished_of}
-use Rattle.turning_laws.specs.Words.{refusal_of, Slots, slot_of, requests_by, SendsReply}
 
 -- ---- requests
 

@@ -1,9 +1,8 @@
 -- What a turn sends asks for what a store records.
 use Rattle.std.proofs.Common.{◌≡◌, inl, inr, ℕ, Bool, true, false, if◌then◌else◌, List, [], ◌∷◌, map, Option, refl, sym, subst}
 use Rattle.std.specs.List.{AllByRecursion}
-use Rattle.serving_laws.specs.Sending.{Sent, Asks, Awaits, Suspends, Fails, Ends, is_recorded, frame_meant, IsOfStore}
-use Rattle.serving_laws.specs.Words.{Version, AwaitTree, Frame, Request, NotificationId, IsNote, Machine, Reply, Answered, AwaitsTree, AwaitsChild, Finished, FailedBy}
-use Rattle.turning_laws.specs.Words.{SendsWaiting, SendsReply}
+use Rattle.turning_laws.specs.Sending.{Sent, Asks, Awaits, Suspends, Fails, Ends, is_recorded, frame_meant, IsOfStore}
+use Rattle.turning_laws.specs.Words.{Version, AwaitTree, Frame, Request, NotificationId, IsNote, Machine, Reply, Answered, AwaitsTree, AwaitsChild, Finished, FailedBy, SendsWaiting, SendsReply}
 
 abbrev IsAccepted : Frame → Type 0
 IsAccepted Frame.NotAccepted = ⊥

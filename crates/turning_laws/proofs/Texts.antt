@@ -12,9 +12,8 @@ use Rattle.journal_model.specs.Run.{Kind, Awaits, Ends, Answers, kind_of, name_o
 use Rattle.attempt_laws.proofs.Coming.{all-both}
 use Rattle.machine_laws.specs.Asking.{AsksByText}
 use Rattle.machine_laws.proofs.Texts.{text_after, keys_text}
-use Rattle.serving_laws.specs.Serving.{text_or_empty, with_text_key, asking_by_text}
-use Rattle.serving_laws.specs.Words.{Bytes, Answer, Call, Input, NotificationId, RunOptions, AwaitTree, keys_of, Step, answers_of, requests_of, Arrival, Request, Handler, Invocation, Progress, Ending, GoesOn, run, next_completion, StateMap, knows_key, knows_all_keys, known_value, known_keys, state_after}
-use Rattle.turning_laws.specs.Words.{HasTextKeys}
+use Rattle.turning_laws.specs.Serving.{text_or_empty, with_text_key, asking_by_text}
+use Rattle.turning_laws.specs.Words.{Bytes, Answer, Call, Input, NotificationId, RunOptions, AwaitTree, keys_of, Step, answers_of, requests_of, Arrival, Request, Handler, Invocation, Progress, Ending, GoesOn, run, next_completion, StateMap, knows_key, knows_all_keys, known_value, known_keys, state_after, HasTextKeys}
 
 abbrev has_text : Request → Bool
 has_text request = list_all is_utf8 (keys_of request)

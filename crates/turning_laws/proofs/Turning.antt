@@ -4,21 +4,20 @@ use Rattle.std.proofs.Math.Path.{fun_ext}
 use Rattle.journal_model.specs.AwaitTree.{map_leaves}
 use Rattle.journal_model.specs.History.{stands_for}
 use Rattle.waking_laws.proofs.Awaits.{awaits_tell}
-use Rattle.serving_laws.specs.Serving.{asking_by_text, HasNumbers, HasRead, Serves, finished, machine_failed}
-use Rattle.serving_laws.specs.Keeping.{IsLiveAt}
-use Rattle.serving_laws.proofs.Notes.{notes_follow, waits_more}
-use Rattle.serving_laws.specs.Attempts.finishes
-use Rattle.serving_laws.specs.Attempts.{output_of, FinishesBy, TakesAnswer, Attempt, Turn}
-use Rattle.serving_laws.specs.Machine.{MachineState, Written, out_of_memory, CoreVM, Answers, Waits, Suspends, Ends, Fails, NoMemory, IsDriven}
-use Rattle.serving_laws.specs.Reading.{Kind, kind_of}
-use Rattle.serving_laws.specs.Sending.{Sent, sent_stream, frame_meant}
-use Rattle.serving_laws.specs.Words.{item_at, Error, Version, Answer, Input, NotificationId, is_input_closed, AwaitTree, Event, Frame, answers_of, Text, Request, Handler, Progress, Waits as WaitsFor, run, arrivals_carried, requests_carried, Machine, Reply, AwaitsTree, LiveAttempt, after_turn, untracked, childless, VMOptions}
+use Rattle.turning_laws.specs.Serving.{asking_by_text, HasNumbers, HasRead, Serves, finished, machine_failed}
+use Rattle.turning_laws.specs.Keeping.{IsLiveAt}
+use Rattle.turning_laws.proofs.Notes.{notes_follow, waits_more}
+use Rattle.turning_laws.specs.Attempts.finishes
+use Rattle.turning_laws.specs.Attempts.{output_of, FinishesBy, TakesAnswer, Attempt, Turn}
+use Rattle.turning_laws.specs.Machine.{MachineState, Written, out_of_memory, CoreVM, Answers, Waits, Suspends, Ends, Fails, NoMemory, IsDriven}
+use Rattle.turning_laws.specs.Reading.{Kind, kind_of}
+use Rattle.turning_laws.specs.Sending.{Sent, sent_stream, frame_meant}
+use Rattle.turning_laws.specs.Words.{item_at, Error, Version, Answer, Input, NotificationId, is_input_closed, AwaitTree, Event, Frame, answers_of, Text, Request, Handler, Progress, Waits as WaitsFor, run, arrivals_carried, requests_carried, Machine, Reply, AwaitsTree, LiveAttempt, after_turn, untracked, childless, VMOptions, slot_of, AnswersNext, RepliesAsRun, SendsReply, goes_on}
 use Rattle.turning_laws.specs.Turning.{RunComesTo, turns_answered, GoesOnWith, FailsBy, FailsFor, SuspendsWith, TurnsBehind, TurnKeeps}
 use Rattle.turning_laws.proofs.Failing.{fails_so}
 use Rattle.turning_laws.proofs.Now.{Now, call_of, reply_at}
 use Rattle.turning_laws.proofs.Stored.{sent_of_store, notes_of_store}
 use Rattle.turning_laws.proofs.Sending.{SendsFor, AnswersSo, answers_so, waits_behind, waits_written, waits_number, waits_send, suspends_send, ends_send}
-use Rattle.turning_laws.specs.Words.{slot_of, AnswersNext, RepliesAsRun, SendsReply, goes_on}
 
 module _ {H : Type 0} (function : H → Handler) (next : Handler) (version : Version) (options : VMOptions) (id : Text) (events : List Event) (live : LiveAttempt) (before : Attempt H)
     (l : IsLiveAt function next version options id events live) (s : Serves function next version options live (is_input_closed events id) before)

@@ -1,23 +1,22 @@
 -- A turn of an attempt, wherever it stands.
 use Rattle.std.proofs.Common.{◌≡◌, ◌⊎◌, inl, inr, ◌∙◌, ℕ, suc, Bool, true, false, List, [], ◌++◌, append-nil, Option, Some, None, Result, Ok, refl, sym, ap, subst}
-use Rattle.serving_laws.specs.Serving.{asking_by_text, HasNumbers, kind_where, HasNotRead, HasRead, Serves, finished, machine_failed}
-use Rattle.serving_laws.specs.Keeping.{IsLiveAt}
-use Rattle.serving_laws.proofs.Driven.{begins_driven, numbers_begin}
-use Rattle.serving_laws.proofs.Messages.{read_input}
-use Rattle.serving_laws.proofs.Over.{waits_same}
-use Rattle.serving_laws.proofs.Phases.{stage}
-use Rattle.serving_laws.specs.Attempts.finishes
-use Rattle.serving_laws.specs.Attempts.{output_of, FinishesBy, TakesOutcome, CarriesCall, GivesInput, ReadsInput, ReadsOrAsks, TurnsWhere, TurnsOn, TurnsUnless, Attempt, Finish, Turn, is_covered, CarriesWhere, AnswersCall}
-use Rattle.serving_laws.specs.Machine.phases
-use Rattle.serving_laws.specs.Machine.outcomes
-use Rattle.serving_laws.specs.Machine.{MachineState, Written, out_of_memory, Phase, Comes, NoMemory, IsDriven, CallOutcome, IsReady}
-use Rattle.serving_laws.specs.Reading.{AnswersInput, RefusesInput, InputsAreAnswered}
-use Rattle.serving_laws.specs.Words.{item_at, Error, Version, Call, Input, is_input_closed, Event, Frame, answers_of, Text, Handler, run, arrivals_carried, FollowsSo, Machine, machine_at_start, with_messages, LiveAttempt, HasReadJournal, after_turn, untracked, childless, VMOptions}
+use Rattle.turning_laws.specs.Serving.{asking_by_text, HasNumbers, kind_where, HasNotRead, HasRead, Serves, finished, machine_failed}
+use Rattle.turning_laws.specs.Keeping.{IsLiveAt}
+use Rattle.turning_laws.proofs.Driven.{begins_driven, numbers_begin}
+use Rattle.turning_laws.proofs.Messages.{read_input}
+use Rattle.turning_laws.proofs.Over.{waits_same}
+use Rattle.turning_laws.proofs.Phases.{stage}
+use Rattle.turning_laws.specs.Attempts.finishes
+use Rattle.turning_laws.specs.Attempts.{output_of, FinishesBy, TakesOutcome, CarriesCall, GivesInput, ReadsInput, ReadsOrAsks, TurnsWhere, TurnsOn, TurnsUnless, Attempt, Finish, Turn, is_covered, CarriesWhere, AnswersCall}
+use Rattle.turning_laws.specs.Machine.phases
+use Rattle.turning_laws.specs.Machine.outcomes
+use Rattle.turning_laws.specs.Machine.{MachineState, Written, out_of_memory, Phase, Comes, NoMemory, IsDriven, CallOutcome, IsReady}
+use Rattle.turning_laws.specs.Reading.{AnswersInput, RefusesInput, InputsAreAnswered}
+use Rattle.turning_laws.specs.Words.{item_at, Error, Version, Call, Input, is_input_closed, Event, Frame, answers_of, Text, Handler, run, arrivals_carried, FollowsSo, Machine, machine_at_start, with_messages, LiveAttempt, HasReadJournal, after_turn, untracked, childless, VMOptions, Queued, JournalsStand, MachinesKeepOn}
 use Rattle.turning_laws.specs.Turning.{turns_answered, GoesOnWith, FailsFor, TurnsBehind, TurnKeeps, TurnServes}
 use Rattle.turning_laws.proofs.Now.{Now, call_of, tracks_none, now, called}
 use Rattle.turning_laws.proofs.Refusing.{refused}
 use Rattle.turning_laws.proofs.Turning.{answered, waiting, suspended, ended as has_ended, failed}
-use Rattle.turning_laws.specs.Words.{Queued, JournalsStand, MachinesKeepOn}
 
 -- ---- readiness
 

@@ -1,6 +1,9 @@
+pub mod Serving
+pub mod Keeping
 pub mod Turning
+pub mod Laws
 pub mod Words
-pub mod Servings
-pub mod Attempts
+pub mod Machine
 pub mod Reading
+pub mod Attempts
 pub mod Sending

@@ -6,13 +6,12 @@ use Rattle.journal_model.specs.Run.{Handler, Invocation, Ending, Waits, RefusedC
 use Rattle.waking_laws.specs.Suspended.{WaitsAll}
 use Rattle.vm_awaits.specs.Views.{slots_of}
 use Rattle.vm_outcomes.specs.Causes.{CauseTells}
-use Rattle.serving_laws.specs.Attempts.{output_of, Turns, Attempt, Turn, is_covered, not_carried_out}
-use Rattle.serving_laws.specs.Serving.{Serves, IsOver}
-use Rattle.serving_laws.specs.Keeping.{FailsWith, IsLiveAt}
-use Rattle.serving_laws.specs.Machine.{MachineState, out_of_memory, told_error, Cause, ByFault, NoReplay, NoRuns, NoMemory, FailsWhen}
-use Rattle.serving_laws.specs.Sending.{Sent, Fails, sent_stream, AllFit, frame_meant, IsOfStore}
-use Rattle.serving_laws.specs.Words.{internal, unsupported_feature, Error, Version, Call, Input, NotificationId, AwaitTree, Text, Arrival, Request, Event, is_input_closed, arrivals_carried, requests_carried, FollowsSo, Machine, Refused, LiveAttempt, HasReadJournal, after_turn, untracked, childless, VMOptions}
-use Rattle.turning_laws.specs.Words.{Queued}
+use Rattle.turning_laws.specs.Attempts.{output_of, Turns, Attempt, Turn, is_covered, not_carried_out}
+use Rattle.turning_laws.specs.Serving.{Serves, IsOver}
+use Rattle.turning_laws.specs.Keeping.{FailsWith, IsLiveAt}
+use Rattle.turning_laws.specs.Machine.{MachineState, out_of_memory, told_error, Cause, ByFault, NoReplay, NoRuns, NoMemory, FailsWhen}
+use Rattle.turning_laws.specs.Sending.{Sent, Fails, sent_stream, AllFit, frame_meant, IsOfStore}
+use Rattle.turning_laws.specs.Words.{internal, unsupported_feature, Error, Version, Call, Input, NotificationId, AwaitTree, Text, Arrival, Request, Event, is_input_closed, arrivals_carried, requests_carried, FollowsSo, Machine, Refused, LiveAttempt, HasReadJournal, after_turn, untracked, childless, VMOptions, Queued}
 
 -- the run over these arrivals comes to this with one more call, with exactly these requests
 pub record RunComesTo (next : Handler) (given : Invocation) (arrivals : List Arrival) (calls : ℕ) (requests : List Request) (ending : Ending) : Type 0 where

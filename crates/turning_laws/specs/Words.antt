@@ -1,10 +1,48 @@
 -- The words that the laws of an attempt name: its invocation and run, its live attempt, its abstract machine.
+pub use Rattle.attempt_model.specs.Attempts.{with_entry, with_entries}
+pub use Rattle.attempt_model.specs.Machine.{Machine, machine_at_start, with_arrival, Reply, reply_to, Answered, AwaitsTree, Finished, AwaitsChild, FailedBy, Refused}
 pub use Rattle.attempt_model.specs.Requests.{Commands, PutState, put_one, put_all, requests_by}
 pub use Rattle.attempt_model.specs.Results.{Slots, slot_of}
 pub use Rattle.attempt_model.specs.Standing.{RepliesAsRun, Fits, next_call, AnswersNext}
+pub use Rattle.children_laws.specs.Childless.{untracked, childless, without_children, is_cancellation, childless_reply}
+pub use Rattle.handle_laws.specs.Trees.{IsWithin, AreWithin, SlotsFit, TreeFits}
+pub use Rattle.input_laws.specs.Message.{InputMessage, CarriesInput, piece_of, arrivals_carried, CarriesRequest, CarriesArrival, CarriesOutcome, requests_carried}
+pub use Rattle.journal_model.specs.Attempt.{input_bytes, input_left, is_input_closed, arrivals_within}
+pub use Rattle.journal_model.specs.Await.{ends_awaits, awaited_tree, child_of}
+pub use Rattle.journal_model.specs.AwaitTree.{AwaitTree}
+pub use Rattle.journal_model.specs.Cause.{IsAccepted, keys_of}
+pub use Rattle.journal_model.specs.Event.{Event, Frame}
+pub use Rattle.journal_model.specs.History.{answers_of, Step, requests_of, completions_of, signals_of, next_completion}
+pub use Rattle.journal_model.specs.Journal.{Entry, Recorded, Arrived, completion, recorded_requests, starting_state}
+pub use Rattle.journal_model.specs.Notification.{Bytes, Text, Arrival}
 pub use Rattle.journal_model.specs.Refusal.{Refusal, refusal_of}
+pub use Rattle.journal_model.specs.Request.{Request}
+pub use Rattle.journal_model.specs.Run.{Handler, Invocation, Progress, Ending, GoesOn, Waits, run}
+pub use Rattle.journal_model.specs.State.{StartState, StateMap, knows_key, knows_all_keys, known_value, known_keys, state_after}
+pub use Rattle.journal_model.specs.declared.call.Answer.{Answer}
+pub use Rattle.journal_model.specs.declared.call.Call.{Call}
+pub use Rattle.journal_model.specs.declared.handler.Input.{Input}
+pub use Rattle.journal_model.specs.declared.notification.NotificationId.{NotificationId}
+pub use Rattle.journal_model.specs.declared.options.ImplicitCancellationOption.{ImplicitCancellationOption}
+pub use Rattle.journal_model.specs.declared.options.ImplicitCancellationOption.TheVariants.{Disabled, Enabled}
+pub use Rattle.journal_model.specs.declared.options.RunOptions.{RunOptions}
 pub use Rattle.journal_model.specs.declared.options.SignalDelivery.TheVariants.{Queued}
 pub use Rattle.machine_laws.specs.Laws.{StandsWithJournal, JournalsStand, KeepsOn, MachinesKeepOn}
+pub use Rattle.machine_laws.specs.Living.{attempt_begun, LiveAttempt, HasReadJournal, handed_bytes, after_reading, IsLiveMachine, after_turn}
+pub use Rattle.position_laws.specs.Beginning.{AttemptStart, ShowsStart}
+pub use Rattle.position_laws.specs.Reading.{entries_carried, with_messages, IsMachineAt, IsInRun}
 pub use Rattle.position_laws.specs.Replies.{SendsReply, SendsWaiting, goes_on}
+pub use Rattle.protocol_errors.specs.Code.{internal, unsupported_feature, journal_mismatch}
+pub use Rattle.protocol_errors.specs.Error.{plain_error}
+pub use Rattle.protocol_errors.specs.declared.error.Error.{Error}
+pub use Rattle.protocol_stream.specs.Item.{item_at, message}
+pub use Rattle.protocol_types.specs.Version.{version_content_type, version_number}
+pub use Rattle.protocol_types.specs.declared.version.Version.{Version}
+pub use Rattle.protocol_wire.specs.declared.record.TheConstants.{LEVELS}
 pub use Rattle.request_laws.specs.Calls.{IsTypedCall}
 pub use Rattle.state_laws.specs.Keys.{HasTextKeys}
+pub use Rattle.turn_laws.specs.Sending.{requests_sent, FollowsSo}
+pub use Rattle.turn_laws.specs.Turning.{IsNote, notes}
+pub use Rattle.vm_feeding.specs.Handles.{id_of}
+pub use Rattle.vm_types.specs.Options.{run_options}
+pub use Rattle.vm_types.specs.declared.options.VMOptions.{VMOptions}

@@ -1,0 +1,87 @@
+-- A call that is carried out asks for what a store records, and what it awaits can be told. It is by no key.
+use Rattle.std.proofs.Common.{◌≡◌, ◌-◌, ℕ, zero, suc, Bool, true, false, true≢false, ◌&&◌, [], ◌∷◌, None, refl, sym}
+use Rattle.protocol_wire.specs.declared.record.TheConstants.{LEVELS}
+use Rattle.journal_model.specs.declared.call.Call.{Call}
+use Rattle.journal_model.specs.declared.options.RunOptions.{RunOptions}
+use Rattle.journal_model.specs.Await.{awaited_tree}
+use Rattle.journal_model.specs.AwaitTree.{AwaitTree, Single, Combined, AwaitTrees, no_trees, and_trees}
+use Rattle.journal_model.specs.State.{StartState}
+use Rattle.vm_attempt.specs.Covered.{asks_of_store, is_nested_within, are_nested_within, is_covered}
+use Rattle.turning_laws.specs.Serving.{IsOfStore, AwaitsWithin, with_text_key}
+use Rattle.turning_laws.specs.Words.{ImplicitCancellationOption, IsWithin, AreWithin}
+
+-- ---- what it asks for
+
+-- what is told by its kind is so, whatever was asked and recorded before
+pub stored : (call : Call) → asks_of_store call ≡ true → IsOfStore call
+stored (Call.Sleep name wake_up now) e = λ start done left completion. (refl, tt)
+stored (Call.Call target parameter name options) e = λ start done left completion. (refl, tt)
+stored (Call.Output value options) e = λ start done left completion. (refl, tt)
+stored Call.Awakeable e = λ start done left completion. tt
+stored (Call.Signal name) e = λ start done left completion. tt
+stored (Call.IsCompleted handle) e = λ start done left completion. tt
+stored (Call.Take handle) e = λ start done left completion. tt
+stored (Call.Await tree) e = λ start done left completion. tt
+stored Call.End e = λ start done left completion. tt
+stored _ e = cc
+
+abbrev no_state : StartState
+no_state = record { is_whole = false; entries = [] }
+
+-- and no other is
+pub asks_stored : (call : Call) → IsOfStore call → asks_of_store call ≡ true
+asks_stored (Call.Sleep name wake_up now) h = refl
+asks_stored (Call.Call target parameter name options) h = refl
+asks_stored (Call.Output value options) h = refl
+asks_stored Call.Awakeable h = refl
+asks_stored (Call.Signal name) h = refl
+asks_stored (Call.IsCompleted handle) h = refl
+asks_stored (Call.Take handle) h = refl
+asks_stored (Call.Await tree) h = refl
+asks_stored Call.End h = refl
+asks_stored (Call.StateGet key name options) h = absurd (true≢false (sym (h no_state [] (None ∷ []) 0).0))
+asks_stored (Call.StateGetKeys name) h = absurd (true≢false (sym (h no_state [] (None ∷ []) 0).0))
+asks_stored _ h = absurd (true≢false (sym (h no_state [] [] 0).0))
+
+pub covered_stored : (cancellation : ImplicitCancellationOption) (call : Call) → is_covered cancellation call ≡ true → IsOfStore call
+covered_stored cancellation (Call.Await tree) e = λ start done left completion. tt
+covered_stored cancellation call e = stored call e
+
+-- ---- the keys that it is by
+
+-- whether it is carried out is no matter of its key
+pub covered_by_text : (cancellation : ImplicitCancellationOption) (call : Call) → is_covered cancellation (with_text_key call) ≡ is_covered cancellation call
+covered_by_text cancellation (Call.StateGet key name options) = refl
+covered_by_text cancellation (Call.StateSet key value name options) = refl
+covered_by_text cancellation (Call.StateClear key name) = refl
+covered_by_text cancellation call = refl
+
+-- and if it is, it is by none
+pub covered_same : (cancellation : ImplicitCancellationOption) (call : Call) → is_covered cancellation call ≡ true → with_text_key call ≡ call
+covered_same cancellation (Call.StateGet key name options) e = cc
+covered_same cancellation (Call.StateSet key value name options) e = cc
+covered_same cancellation (Call.StateClear key name) e = cc
+covered_same cancellation call e = refl
+
+-- ---- what it awaits
+
+and_true : (a b : Bool) → (a && b) ≡ true → (a ≡ true) × (b ≡ true)
+and_true true b e = (refl, e)
+and_true false b e = cc
+
+mutual
+  within_of : (levels : ℕ) (tree : AwaitTree ℕ) → is_nested_within (suc levels) tree ≡ true → IsWithin (suc levels) tree
+  within_of levels (Single handle) e = tt
+  within_of levels (Combined combinator children) e = are_within_of levels children e
+
+  are_within_of : (levels : ℕ) (trees : AwaitTrees ℕ) → are_nested_within levels trees ≡ true → AreWithin levels trees
+  are_within_of levels no_trees e = tt
+  are_within_of levels (and_trees (Single handle) trees) e = are_within_of levels trees e
+  are_within_of zero (and_trees (Combined combinator children) trees) e = cc
+  are_within_of (suc levels) (and_trees (Combined combinator children) trees) e =
+      let both = and_true (are_nested_within levels children) (are_nested_within (suc levels) trees) e in
+      (within_of levels (Combined combinator children) both.0, are_within_of (suc levels) trees both.1)
+
+pub covered_within : (options : RunOptions) (call : Call) → is_covered options.implicit_cancellation call ≡ true → AwaitsWithin options call
+covered_within options (Call.Await tree) e = within_of (LEVELS - 2) (awaited_tree options.implicit_cancellation tree) e
+covered_within options call e = tt
