@@ -3,6 +3,8 @@ pub mod Reaching
 pub mod Following
 pub mod Leaving
 pub mod Printing
+pub mod Entries
+pub mod EntriesShown
 pub mod Showing
 pub mod Doing
 pub mod Turning

@@ -22,8 +22,8 @@ use Rattle.journal_store.specs.Stands.{IsQuiet}
 use Rattle.schedule_runs.specs.Passed.{Scheduler, IsScheduled}
 use Rattle.schedule_runs.specs.Schedules.{Scheduled}
 use Rattle.script_lines.specs.Text.{refused_text}
-use Rattle.script_entries.specs.declared.entry.ShownEntry.{ShownEntry}
-use Rattle.script_entries.specs.Entries.{AreShown, SomeUnread}
+use Rattle.durable_script.specs.declared.entry.ShownEntry.{ShownEntry}
+use Rattle.durable_script.specs.Entries.{AreShown, SomeUnread}
 use Rattle.durable_script.specs.Reaching.{Reaches, Nowhere}
 use Rattle.durable_script.specs.Shown.{shown_text, HasEntries, HasRecords, IsKnown, Looks, RefusesShow, Shows}
 use Rattle.durable_script.proofs.Reaching.{reaches_both, reaches_so, reaches_told}

@@ -1,6 +1,8 @@
 pub mod Fault
 pub mod Reaching
 pub mod Printed
+pub mod Entries
+pub mod EntriesShown
 pub mod Shown
 pub mod Line
 pub mod Runner

@@ -16,8 +16,8 @@ use Rattle.store_invocations.specs.Told.{entries_told}
 use Rattle.store_invocations.specs.Answered.{answer_told}
 use Rattle.schedule_runs.specs.Schedules.{Scheduled}
 use Rattle.script_lines.specs.Text.{value_line, failure_line, open_text, refused_text}
-use Rattle.script_entries.specs.declared.entry.ShownEntry.{ShownEntry}
-use Rattle.script_entries.specs.Entries.{AreShown, SomeUnread, entry_text}
+use Rattle.durable_script.specs.declared.entry.ShownEntry.{ShownEntry}
+use Rattle.durable_script.specs.Entries.{AreShown, SomeUnread, entry_text}
 
 abbrev pub answer_line : Option NonEmptyValue → List ℕ
 answer_line None = codes "answer none"

@@ -1,4 +1,5 @@
 //! Laws of the definitions. The functions do nothing: their contracts are the laws.
+ghost use Rattle.durable_script.specs.EntriesShown.{EntriesAreShown};
 ghost use Rattle.durable_script.specs.Run.{HandlersAreNamed, LinesFollow};
 
 use built_in_handlers::BuiltIn;
@@ -16,4 +17,10 @@ pub fn lines_follow()
 /// out `ok`, and ends.
 pub fn handlers_are_named()
     ensures { HandlersAreNamed }
+{}
+
+/// What is shown of an invocation's entries, of which each arrival is such as a caller can bring, is each with its place, from 1 on: a
+/// request as it was spelled, an arrival as it was brought.
+pub fn entries_are_shown()
+    ensures { EntriesAreShown }
 {}

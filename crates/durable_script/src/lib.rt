@@ -1,6 +1,7 @@
 //! A script, run over a scheduler line by line: what each line does, and what is written of it.
 #![tactic(auto)]
 
+mod entry;
 mod fault;
 pub mod laws;
 mod output;
@@ -9,6 +10,7 @@ mod run;
 mod runner;
 mod show;
 
+pub use entry::{ShownEntry, read_entries};
 pub use fault::ScriptFault;
 pub use run::{ScriptEnd, run_script};
 pub use schedule_runs::{Event, Reply, Scheduler, run_schedule};

@@ -5,12 +5,12 @@ ghost use Rattle.durable_script.specs.Printed.{Makes};
 ghost use Rattle.durable_script.specs.Reaching.{Nowhere, Reaches};
 ghost use Rattle.durable_script.specs.Shown.{answer_line, shown_text, HasEntries, HasRecords, Looks, RefusesShow, Shows};
 
+use crate::entry::{ShownEntry, read_entries};
 use crate::reply::reply_line;
 use built_in_handlers::BuiltIn;
 use bytes::ByteStr;
 use journal_model::NonEmptyValue;
 use schedule_runs::Scheduler;
-use script_entries::{ShownEntry, read_entries};
 use script_lines::text::{LineReply, ShownAnswer, ShownOpenness};
 use sqlite::Alter;
 use std::alloc::AllocError;

@@ -1,7 +1,7 @@
 use Rattle.std.proofs.Common.{take}
 use Rattle.std.specs.List.{flat_map}
 use Rattle.std.specs.Fmt.{HasWritten, IsPlainFormatter}
-use Rattle.script_entries.specs.Entries.{entry_text}
+use Rattle.durable_script.specs.Entries.{entry_text}
 use Rattle.durable_script.proofs.show.ShownInvocationDisplay.fmt.Given as goal
 
 abbrev pub invariant-loop-entry : goal.invariant-loop-entry

@@ -1,5 +1,5 @@
-use Rattle.script_entries.specs.Entries.{AreShown}
-use Rattle.script_entries.proofs.entry.read_entries.Given as goal
+use Rattle.durable_script.specs.Entries.{AreShown}
+use Rattle.durable_script.proofs.entry.read_entries.Given as goal
 
 abbrev pub invariant-loop-entry : goal.invariant-loop-entry
 invariant-loop-entry l = AreShown l.yielded l.shown.items
