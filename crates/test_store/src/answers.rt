@@ -3,8 +3,8 @@ use crate::fault::Fault;
 use journal_store::{
     Accepted, BegunAttempt, EntryKind, FrameReply, LastError, NonEmptyValue, RecordedEntry, Refusal,
 };
-use script_lines::text::Hex;
 use std::fmt;
+use test_rows::Hex;
 
 /// A refusal by its name, and why a statement was refused.
 pub fn print_refusal<R: Print>(rt: &R, why: Refusal) -> Result<(), Fault> {

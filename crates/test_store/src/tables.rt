@@ -6,7 +6,6 @@ use crate::words::parse_new;
 use bytes::{ByteStr, Bytes};
 use journal_model::{Notification, NotificationId, NotificationResult};
 use protocol_stream::MessageType;
-use script_lines::text::Hex;
 use sqlite::MemStore;
 use std::alloc::Global;
 use store_arrivals::prepare_arrival;
@@ -14,6 +13,7 @@ use store_tables::{
     InvocationRow, StateRow, StoreTables, Write, commit_all, invocation_by_id, is_ready, journal,
     states_of,
 };
+use test_rows::Hex;
 
 type Tables = StoreTables<MemStore>;
 
