@@ -9,6 +9,8 @@ mod handlers;
 #[cfg(test)]
 mod live;
 #[cfg(test)]
+mod reading;
+#[cfg(test)]
 mod sequences;
 #[cfg(test)]
 mod values;
