@@ -6,8 +6,13 @@ mod reminder;
 use anyhow::{Result, bail};
 use bytes::{ByteStr, Bytes};
 use reminder::Reminder;
-use schedule_runs::{Event, NewInvocation, Reply, Sequence, StateMode, VMOptions, run_schedule};
+use schedule_runs::{
+    Event, NewInvocation, NoRoom, Reply, Scheduler, Sequence, StateMode, Store, VMOptions,
+    run_schedule,
+};
+use sqlite::Alter;
 use std::alloc::{AllocError, Global};
+use std::io;
 use store_files::open_in_memory;
 
 const ALL: usize = usize::MAX;
@@ -66,7 +71,7 @@ fn stop(attempt: u32) -> Event<Reminder> {
     }
 }
 
-// The first attempt is stopped where it sleeps; ten milliseconds later a second one goes on.
+// The first attempt is stopped where it sleeps. A second one makes no turn before it is begun, and goes on ten milliseconds later.
 fn events(alloc: Global) -> Result<Vec<Event<Reminder>>, AllocError> {
     Ok(vec![in alloc;
         Event::Invoke(invocation(alloc)),
@@ -77,6 +82,7 @@ fn events(alloc: Global) -> Result<Vec<Event<Reminder>>, AllocError> {
         turn(1),
         transfer(1),
         stop(1),
+        turn(2),
         Event::Tick(10),
         begin(10),
         feed(2),
@@ -89,11 +95,31 @@ fn events(alloc: Global) -> Result<Vec<Event<Reminder>>, AllocError> {
     ]?)
 }
 
-fn print_replies<R: Print>(rt: &R, replies: &[Reply]) -> Result<()> {
+fn print_replies<R: Print>(rt: &R, replies: &[Reply]) -> io::Result<()> {
     for reply in replies {
         println!(rt; "{reply:?}")?;
     }
     Ok(())
+}
+
+// Whether the invocation is open, what it has answered, and which error it was told last.
+fn print_told<R: Print, S: Alter + Drop>(
+    rt: &R,
+    scheduler: &mut Scheduler<Reminder, S>,
+) -> io::Result<()> {
+    println!(rt; "{:?}", scheduler.is_open(&id()))?;
+    println!(rt; "{:?}", scheduler.answer(&id()))?;
+    println!(rt; "{:?}", scheduler.failure(&id()))
+}
+
+// What is recorded of it behind its input.
+fn print_entries<R: Print, S: Alter + Drop>(rt: &R, store: &mut Store<S>) -> io::Result<()> {
+    println!(rt; "{:?}", store.entries(&id()))
+}
+
+// Lets go of a store. Each library lets go of its own part, so that nothing is proved here of how that is done.
+fn close<S: Alter + Drop>(store: Store<S>) {
+    drop(store.into_connection().into_store());
 }
 
 fn run<R: Print>(rt: &R, alloc: Global) -> Result<()> {
@@ -101,20 +127,25 @@ fn run<R: Print>(rt: &R, alloc: Global) -> Result<()> {
         bail!("no store was made");
     };
     let Ok(events) = events(alloc) else {
-        drop(store);
+        close(store);
         bail!("memory was refused");
     };
-    let Ok((mut scheduler, replies)) = run_schedule(alloc, store, VMOptions::default(), events)
-    else {
-        bail!("memory was refused");
+    let (mut scheduler, replies) = match run_schedule(alloc, store, VMOptions::default(), events) {
+        Ok(done) => done,
+        Err(NoRoom { store }) => {
+            close(store);
+            bail!("memory was refused");
+        }
     };
     let printed = print_replies(rt, replies.as_slice());
     drop(replies);
-    let answer = scheduler.answer(&id());
-    drop(scheduler);
+    let told = print_told(rt, &mut scheduler);
+    let mut store = scheduler.into_store();
+    let kept = print_entries(rt, &mut store);
+    close(store);
     printed?;
-    println!(rt; "{answer:?}")?;
-    Ok(())
+    told?;
+    Ok(kept?)
 }
 
 fn main(rt: HostRuntime) -> Result<()> {
