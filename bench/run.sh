@@ -18,11 +18,11 @@ trap 'rm -rf "$built"' EXIT
 protoc --cpp_out="$built" records.proto
 c++ -std=c++17 -O2 -I. -I"$built" protobuf_times.cc "$built"/records.pb.cc -o "$built"/protobuf_times \
     $(pkg-config --cflags --libs protobuf 2>/dev/null || echo -lprotobuf)
-# Builds the program, and runs it with no word: it does a little then.
+# Builds the program, and runs it with no word: each of its parts does a little then.
 (cd "$crate" && rt run) >&2
 
 uptime || true
-"$crate"/out/bench "$count" > "$built"/ours
+"$crate"/out/bench protocol "$count" > "$built"/ours
 "$built"/protobuf_times "$count" > "$built"/theirs
 uptime || true
 

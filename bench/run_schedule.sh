@@ -8,11 +8,11 @@
 #
 #     apt-get install libsqlite3-dev gcc
 #
-# The first call proves bench_schedule and every crate below it, which takes long.
+# The first call proves bench and every crate below it, which takes long.
 set -e
 cd "$(dirname "$0")"
 count=${1:-100}
-crate=../crates/bench_schedule
+crate=../crates/bench
 built=$(mktemp -d)
 files=$(mktemp -d -p "${2:-.}")
 trap 'rm -rf "$built" "$files"' EXIT
@@ -20,11 +20,11 @@ trap 'rm -rf "$built" "$files"' EXIT
 # The statements of both are the same.
 ./statements.sh
 cc -std=c11 -D_POSIX_C_SOURCE=199309L -O2 schedule_times.c -o "$built"/schedule_times -lsqlite3
-# Builds the program, and runs it with no word: it does a little then.
+# Builds the program, and runs it with no word: each of its parts does a little then.
 (cd "$crate" && rt run) >&2
 
 uptime || true
-"$crate"/out/bench_schedule "$count" "$files"/ours.db > "$built"/ours
+"$crate"/out/bench schedule "$count" "$files"/ours.db > "$built"/ours
 "$built"/schedule_times "$count" "$files"/theirs.db > "$built"/theirs
 uptime || true
 

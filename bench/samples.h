@@ -1,4 +1,4 @@
-// The values of each command in the journal. crates/bench/src/samples.rt has the same values, as payloads.
+// The values of each command in the journal. crates/bench/src/protocol/samples.rt has the same values, as payloads.
 #pragma once
 
 #include "records.pb.h"

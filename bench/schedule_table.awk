@@ -1,4 +1,4 @@
-# A table of what bench_schedule printed (the file that the variable `ours` names) and what schedule_times printed.
+# A table of what `bench schedule` printed (the file that the variable `ours` names) and what schedule_times printed.
 
 function put(name, time) {
     if (FILENAME != ours) {

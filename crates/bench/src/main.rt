@@ -1,31 +1,65 @@
-//! `bench COUNT`: reads and writes a journal of so many commands, the twenty in turn, and prints what a frame takes.
+//! What frames, a machine and a schedule take:
 //!
-//! With no word it does a little of it, and prints what came of it without times.
+//! - `bench protocol COUNT` reads and writes a journal of so many commands, the twenty in turn.
+//! - `bench machine COUNT`: a handler sleeps and calls another handler COUNT times in turn, and waits for each answer. It is replayed
+//!   over its whole journal, and then makes as many calls anew, beside what decoding the same bytes alone takes.
+//! - `bench schedule COUNT [FILE]` brings COUNT invocations of `race` and COUNT of `ask` from invoke to end, each of whose first attempt
+//!   is stopped where it waits, in memory, and in a new file of that name with its syncs; then one whose journal grows to 10,000
+//!   entries, resumed at each tenth of them. `bench schedule memory COUNT` does so in memory alone, also with scattered ids.
+//!
+//! A part with no word behind it does a little, and prints what came of it without times. With no word at all each part does so.
 #![tactic(auto)]
 
-mod commands;
-mod journal;
-mod report;
-mod samples;
+mod fault;
+mod machine;
+mod protocol;
+mod schedule;
 mod timing;
-mod whole;
 
-use anyhow::Result;
-use report::{time_journal, try_journal};
+use fault::Fault;
+use machine::run_machine;
+use protocol::run_protocol;
+use schedule::run_schedule;
 use std::env;
-use std::rt::Env;
-use std::time::CpuClock;
+use std::process::ExitCode;
+use std::rt::HostRuntime;
 
-fn run<R: CpuClock + Env + Print + AllocGlobal>(rt: &R) -> Result<()> {
-    let mut words = env::args(rt)?;
-    let _program = words.next();
-    let Some(count) = words.next() else {
-        return try_journal(rt, 40);
-    };
-    let count: u32 = count.as_str().parse()?;
-    time_journal(rt, count)
+/// The number that is the word at a place of the call, unless the call is shorter.
+fn number_at(words: &[String], place: usize) -> Result<Option<u32>, Fault> {
+    match words.get(place) {
+        Some(word) => Ok(Some(word.as_str().parse()?)),
+        None => Ok(None),
+    }
 }
 
-fn main(rt: HostRuntime) -> Result<()> {
-    run(&rt)
+/// Does what the words say behind the program's own name.
+fn run_words(rt: &HostRuntime, words: &[String]) -> Result<(), Fault> {
+    let Some(part) = words.get(1) else {
+        run_protocol(rt, None)?;
+        run_machine(rt, None)?;
+        return run_schedule(rt, words);
+    };
+    match part.as_str() {
+        "protocol" => run_protocol(rt, number_at(words, 2)?),
+        "machine" => run_machine(rt, number_at(words, 2)?),
+        "schedule" => run_schedule(rt, words),
+        _ => Err(Fault::NotUnderstood),
+    }
+}
+
+fn run(rt: &HostRuntime) -> Result<(), Fault> {
+    let words: Vec<String> = env::args(rt)?.collect(rt.alloc())?;
+    let done = run_words(rt, words.as_slice());
+    drop(words);
+    done
+}
+
+fn main(rt: HostRuntime) -> ExitCode {
+    match run(&rt) {
+        Ok(()) => ExitCode::SUCCESS,
+        Err(fault) => {
+            let _ = eprintln!(rt; "{fault:?}");
+            ExitCode::FAILURE
+        }
+    }
 }

@@ -1,78 +1,73 @@
-// What messages of one type take, apart from their framing.
-use crate::commands::read_as;
-use anyhow::Result;
-use journal_protocol::{Encoder, PlainMessage, RawMessage, RawMessageExt, RestateMessage, Version};
-use std::alloc::Global;
-use std::time::{CpuClock, Duration};
+//! How a time is taken, and how it is printed.
+use crate::fault::Fault;
+use std::fmt;
+use std::rt::HostRuntime;
+use std::time::{Clock, CpuClock, Duration};
 
-/// How many records are written between two looks at the clock: so many that a look costs none of them a nanosecond.
-const BLOCK: usize = 512;
+fn look(rt: &HostRuntime, by_clock: bool) -> Result<Duration, Fault> {
+    if by_clock {
+        Ok(rt.monotonic()?)
+    } else {
+        Ok(rt.thread_cpu_time()?)
+    }
+}
 
-/// The processor time that messages took.
+/// Tells the time from one look at it to the next.
 #[derive(Clone, Copy)]
-pub struct Clocked {
-    pub reading: Duration,
-    pub writing: Duration,
+pub struct Stopwatch {
+    by_clock: bool,
+    last: Duration,
 }
 
-// Lets each record go before the next is read.
-fn read_messages<M: RestateMessage>(alloc: Global, messages: &[RawMessage]) -> Result<()> {
-    for message in messages {
-        read_as::<M>(alloc, message)?;
+impl Stopwatch {
+    /// The first look, at the time that the processor takes.
+    pub fn start(rt: &HostRuntime) -> Result<Stopwatch, Fault> {
+        Stopwatch::start_by(rt, false)
     }
-    Ok(())
-}
 
-fn keep_records<M: RestateMessage>(alloc: Global, messages: &[RawMessage]) -> Result<Vec<M>> {
-    let mut records = Vec::with_capacity(alloc, messages.len())?;
-    for message in messages {
-        let record: M = message.decode_to(alloc, 0)?;
-        records.push(record)?;
+    /// The first look, at the clock, where a disk is waited for.
+    pub fn start_by_clock(rt: &HostRuntime) -> Result<Stopwatch, Fault> {
+        Stopwatch::start_by(rt, true)
     }
-    Ok(records)
-}
 
-fn write_records<M: PlainMessage>(alloc: Global, records: &[M]) -> Result<()> {
-    let encoder = Encoder::new(Version::V8);
-    for record in records {
-        let frame = encoder.encode(alloc, record)?;
-        drop(frame);
+    fn start_by(rt: &HostRuntime, by_clock: bool) -> Result<Stopwatch, Fault> {
+        let last = look(rt, by_clock)?;
+        Ok(Stopwatch { by_clock, last })
     }
-    Ok(())
-}
 
-// The time of writing alone.
-fn time_writing<M: PlainMessage, R: CpuClock>(
-    rt: &R,
-    alloc: Global,
-    block: &[RawMessage],
-) -> Result<Duration> {
-    let records = keep_records::<M>(alloc, block)?;
-    let start = rt.thread_cpu_time();
-    let done = write_records(alloc, records.as_slice());
-    let end = rt.thread_cpu_time();
-    drop(records);
-    done?;
-    let start = start?;
-    let end = end?;
-    Ok(end.saturating_sub(start))
-}
-
-/// How long these messages take to be read as this record, with letting it go again, and how long to be written.
-pub fn time_messages<M: PlainMessage, R: CpuClock>(
-    rt: &R,
-    alloc: Global,
-    messages: &[RawMessage],
-) -> Result<Clocked> {
-    let start = rt.thread_cpu_time()?;
-    read_messages::<M>(alloc, messages)?;
-    let end = rt.thread_cpu_time()?;
-    let mut writing = Duration::ZERO;
-    for block in messages.chunks(BLOCK) {
-        writing = writing.saturating_add(time_writing::<M, R>(rt, alloc, block)?);
+    /// The time since the last look.
+    pub fn lap(&mut self, rt: &HostRuntime) -> Result<Duration, Fault> {
+        let now = look(rt, self.by_clock)?;
+        let lap = now.saturating_sub(self.last);
+        self.last = now;
+        Ok(lap)
     }
-    Ok(Clocked {
-        reading: end.saturating_sub(start),
-        writing,
-    })
+}
+
+/// What one of so many took, in nanoseconds, of what all of them took.
+pub fn nanoseconds_each(took: Duration, count: usize) -> u128 {
+    took.as_nanos() / (count.max(1) as u128)
+}
+
+/// What one of so many took, in microseconds with two decimal places.
+#[derive(Clone, Copy)]
+pub struct Micros {
+    hundredths: u128,
+}
+
+impl Micros {
+    /// What one of the events took, of what all of them took.
+    pub fn each(took: Duration, events: u32) -> Micros {
+        Micros {
+            hundredths: nanoseconds_each(took, events as usize) / 10,
+        }
+    }
+}
+
+impl fmt::Display for Micros {
+    fn fmt<W: fmt::Write>(&self, f: &mut fmt::Formatter<W>) -> fmt::Result {
+        let whole = self.hundredths / 100;
+        let rest = self.hundredths % 100;
+        write!(f, "{whole}.{rest:02}")
+    }
 }

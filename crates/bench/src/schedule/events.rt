@@ -1,6 +1,6 @@
 // Events of one invocation, each of which has to come to what it is meant to.
 use crate::fault::Fault;
-use crate::timed::Timed;
+use crate::schedule::timed::Timed;
 use bytes::{ByteStr, Bytes};
 use durable_schedule::{Event, Reply, Scheduler};
 use journal_store::{NewInvocation, NotificationResult, StateMode};

@@ -14,7 +14,7 @@ pub enum Timed {
 }
 
 impl Handler for Timed {
-    ghost use Rattle.bench_schedule.specs.Timed.{function_of};
+    ghost use Rattle.bench.specs.Timed.{function_of};
 
     ghost next_call = { function_of };
 

@@ -1,6 +1,7 @@
 // The journal: made, and taken apart.
-use crate::handler::{begin, write};
-use anyhow::Result;
+use crate::fault::Fault;
+use crate::machine::handler::{begin, write};
+use crate::protocol::{append, read_as};
 use bytes::{ByteStr, Bytes};
 use invocation_vm::{CoreVM, VM};
 use journal_protocol::messages::{
@@ -8,12 +9,11 @@ use journal_protocol::messages::{
     SleepCommandMessage, StartMessage, Value, Void,
 };
 use journal_protocol::{
-    Decoder, Encoder, MessageType, RawMessage, RawMessageExt, RestateMessage, Sequence, Version,
-    encode_record,
+    Decoder, Encoder, MessageType, RawMessage, RawMessageExt, Sequence, Version, encode_record,
 };
 use std::alloc::Global;
 
-fn start(alloc: Global, known_entries: u32) -> Result<Bytes> {
+fn start(alloc: Global, known_entries: u32) -> Result<Bytes, Fault> {
     let message = StartMessage {
         id: Bytes::from_static(b"inv_1"),
         debug_id: ByteStr::from_static("inv_1"),
@@ -42,48 +42,33 @@ fn put_notification(
     ty: MessageType,
     completion_id: u32,
     brought: NotificationMessageResult,
-) -> Result<()> {
+) -> Result<(), Fault> {
     let message = NotificationMessage {
         id: Some(NotificationMessageId::CompletionId(completion_id)),
         result: Some(brought),
     };
     let frame = encode_record(alloc, ty, &message, Version::V7);
     drop(message);
-    out.extend_from_slice(frame?.as_slice())?;
-    Ok(())
+    append(out, frame?)
 }
 
 // A sleep takes one completion id, a call two.
-fn put_results(alloc: Global, out: &mut Vec<u8>, first: u32) -> Result<()> {
+fn put_results(alloc: Global, out: &mut Vec<u8>, first: u32) -> Result<(), Fault> {
+    let (second, third) = (first.wrapping_add(1), first.wrapping_add(2));
+    let ty = MessageType::SleepCompletionNotification;
     let slept = NotificationMessageResult::Void(Void {});
-    put_notification(
-        alloc,
-        out,
-        MessageType::SleepCompletionNotification,
-        first,
-        slept,
-    )?;
+    put_notification(alloc, out, ty, first, slept)?;
+    let ty = MessageType::CallInvocationIdCompletionNotification;
     let id = NotificationMessageResult::InvocationId(ByteStr::from_static("inv_2"));
-    put_notification(
-        alloc,
-        out,
-        MessageType::CallInvocationIdCompletionNotification,
-        first.wrapping_add(1),
-        id,
-    )?;
+    put_notification(alloc, out, ty, second, id)?;
+    let ty = MessageType::CallCompletionNotification;
     let answer = NotificationMessageResult::Value(Value {
         content: Bytes::from_static(b"\"Hello, Ada\""),
     });
-    put_notification(
-        alloc,
-        out,
-        MessageType::CallCompletionNotification,
-        first.wrapping_add(2),
-        answer,
-    )
+    put_notification(alloc, out, ty, third, answer)
 }
 
-fn write_anew<V: VM>(alloc: Global, vm: &mut V, count: u32) -> Result<Bytes> {
+fn write_anew<V: VM>(alloc: Global, vm: &mut V, count: u32) -> Result<Bytes, Fault> {
     vm.notify_input(start(alloc, 1)?);
     vm.notify_input(Bytes::from_static(INPUT));
     drop(vm.sys_input()?);
@@ -91,54 +76,29 @@ fn write_anew<V: VM>(alloc: Global, vm: &mut V, count: u32) -> Result<Bytes> {
 }
 
 // The frames of so many sleeps and calls, as the machine writes them.
-fn commands(alloc: Global, count: u32) -> Result<Bytes> {
+fn commands(alloc: Global, count: u32) -> Result<Bytes, Fault> {
     let mut vm: CoreVM = begin(alloc)?;
     let written = write_anew(alloc, &mut vm, count);
     drop(vm);
     written
 }
 
-fn put(out: &mut Vec<u8>, frames: Bytes) -> Result<()> {
-    let put = out.extend_from_slice(frames.as_slice());
-    drop(frames);
-    Ok(put?)
-}
-
-fn put_journal(alloc: Global, out: &mut Vec<u8>, count: u32) -> Result<()> {
-    put(
-        out,
-        start(alloc, count.saturating_mul(5).saturating_add(1))?,
-    )?;
+/// Puts a journal of so many sleeps and calls, and their results behind them.
+pub fn put_journal(alloc: Global, out: &mut Vec<u8>, count: u32) -> Result<(), Fault> {
+    let entries = count.saturating_mul(5).saturating_add(1);
+    append(out, start(alloc, entries)?)?;
     out.extend_from_slice(INPUT)?;
-    put(out, commands(alloc, count)?)?;
+    append(out, commands(alloc, count)?)?;
     for at in 0..count {
         put_results(alloc, out, at.wrapping_mul(3).wrapping_add(1))?;
     }
     Ok(())
 }
 
-/// A journal of so many sleeps and calls, and their results behind them.
-pub fn make_journal(alloc: Global, count: u32) -> Result<Vec<u8>> {
-    let mut journal = Vec::new(alloc);
-    match put_journal(alloc, &mut journal, count) {
-        Ok(()) => Ok(journal),
-        Err(error) => {
-            drop(journal);
-            Err(error)
-        }
-    }
-}
-
-fn decode_as<M: RestateMessage>(alloc: Global, message: &RawMessage) -> Result<()> {
-    let record: M = message.decode_to(alloc, 0)?;
-    drop(record);
-    Ok(())
-}
-
-fn decode_one(alloc: Global, message: &RawMessage) -> Result<()> {
+fn decode_one(alloc: Global, message: &RawMessage) -> Result<(), Fault> {
     match message.ty() {
-        MessageType::SleepCommand => decode_as::<SleepCommandMessage>(alloc, message),
-        MessageType::CallCommand => decode_as::<CallCommandMessage>(alloc, message),
+        MessageType::SleepCommand => read_as::<SleepCommandMessage>(alloc, message),
+        MessageType::CallCommand => read_as::<CallCommandMessage>(alloc, message),
         ty if ty.is_notification() => {
             drop(message.decode_as_notification(alloc)?);
             Ok(())
@@ -147,7 +107,10 @@ fn decode_one(alloc: Global, message: &RawMessage) -> Result<()> {
     }
 }
 
-fn decode_all(alloc: Global, decoder: &mut Decoder) -> Result<()> {
+/// Decodes all of a journal and lets it go.
+pub fn decode(alloc: Global, journal: &[u8]) -> Result<(), Fault> {
+    let mut decoder = Decoder::new(alloc);
+    decoder.push(journal)?;
     for _ in 0..u64::MAX {
         let Some(message) = decoder.consume_next()? else {
             break;
@@ -157,13 +120,4 @@ fn decode_all(alloc: Global, decoder: &mut Decoder) -> Result<()> {
         decoded?;
     }
     Ok(())
-}
-
-/// Decodes all of a journal and lets it go.
-pub fn decode(alloc: Global, journal: &[u8]) -> Result<()> {
-    let mut decoder = Decoder::new(alloc);
-    decoder.push(journal)?;
-    let decoded = decode_all(alloc, &mut decoder);
-    drop(decoder);
-    decoded
 }

@@ -1,8 +1,8 @@
 -- The handlers whose events are timed.
 use Rattle.journal_model.specs.Run.{Handler}
 use Rattle.built_in_handlers.specs.Handlers.{race, ask, sleep_until}
-use Rattle.bench_schedule.specs.declared.timed.Timed.{Timed}
-use Rattle.bench_schedule.specs.declared.timed.Timed.TheVariants as timed
+use Rattle.bench.specs.declared.schedule.timed.Timed.{Timed}
+use Rattle.bench.specs.declared.schedule.timed.Timed.TheVariants as timed
 
 -- the next-call function of a handler that is timed
 abbrev pub function_of : Timed → Handler

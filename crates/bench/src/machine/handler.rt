@@ -1,5 +1,6 @@
 // The handler: it sleeps and calls in turn.
-use anyhow::{Result, bail};
+use crate::fault::Fault;
+use crate::protocol::PIECE;
 use bytes::{ByteStr, Bytes};
 use invocation_vm::{
     AwaitResponse, Moment, NotificationHandle, PayloadOptions, Sequence, Target, UnresolvedFuture,
@@ -7,11 +8,8 @@ use invocation_vm::{
 };
 use std::alloc::Global;
 
-/// How many bytes of a journal come at a time.
-const PIECE: usize = 64 * 1024;
-
 /// A machine that was told nothing yet.
-pub fn begin<V: VM>(alloc: Global) -> Result<V> {
+pub fn begin<V: VM>(alloc: Global) -> Result<V, Fault> {
     let mut headers = Vec::new(alloc);
     headers.push((
         ByteStr::from_static("content-type"),
@@ -25,12 +23,11 @@ pub fn begin<V: VM>(alloc: Global) -> Result<V> {
     }
 }
 
-fn sleep<V: VM>(vm: &mut V) -> Result<NotificationHandle> {
-    let handle = vm.sys_sleep(ByteStr::new(), Moment::from_millis(10), None)?;
-    Ok(handle)
+fn sleep<V: VM>(vm: &mut V) -> Result<NotificationHandle, Fault> {
+    Ok(vm.sys_sleep(ByteStr::new(), Moment::from_millis(10), None)?)
 }
 
-fn call<V: VM>(alloc: Global, vm: &mut V) -> Result<NotificationHandle> {
+fn call<V: VM>(alloc: Global, vm: &mut V) -> Result<NotificationHandle, Fault> {
     let target = Target {
         service: ByteStr::from_static("Greeter"),
         handler: ByteStr::from_static("greet"),
@@ -46,16 +43,16 @@ fn call<V: VM>(alloc: Global, vm: &mut V) -> Result<NotificationHandle> {
 }
 
 // What the handle stands for has come, and is taken.
-fn take<V: VM>(vm: &mut V, handle: NotificationHandle) -> Result<()> {
+fn take<V: VM>(vm: &mut V, handle: NotificationHandle) -> Result<(), Fault> {
     let response = vm.do_await(UnresolvedFuture::Single(handle))?;
     if response != AwaitResponse::AnyCompleted {
-        bail!("an await of the journal is not over");
+        return Err(Fault::Machine);
     }
     drop(vm.take_notification(handle)?);
     Ok(())
 }
 
-fn take_both<V: VM>(alloc: Global, vm: &mut V) -> Result<()> {
+fn take_both<V: VM>(alloc: Global, vm: &mut V) -> Result<(), Fault> {
     let slept = sleep(vm)?;
     take(vm, slept)?;
     let answer = call(alloc, vm)?;
@@ -63,7 +60,7 @@ fn take_both<V: VM>(alloc: Global, vm: &mut V) -> Result<()> {
 }
 
 /// Goes over a whole journal of so many sleeps and calls.
-pub fn replay<V: VM>(alloc: Global, vm: &mut V, journal: &[u8], count: u32) -> Result<()> {
+pub fn replay<V: VM>(alloc: Global, vm: &mut V, journal: &[u8], count: u32) -> Result<(), Fault> {
     for piece in journal.chunks(PIECE) {
         vm.notify_input(Bytes::copy_from_slice(alloc, piece)?);
     }
@@ -75,11 +72,10 @@ pub fn replay<V: VM>(alloc: Global, vm: &mut V, journal: &[u8], count: u32) -> R
 }
 
 /// Makes so many sleeps and calls anew, and hands out their frames.
-pub fn write<V: VM>(alloc: Global, vm: &mut V, count: u32) -> Result<Bytes> {
+pub fn write<V: VM>(alloc: Global, vm: &mut V, count: u32) -> Result<Bytes, Fault> {
     for _ in 0..count {
         sleep(vm)?;
         call(alloc, vm)?;
     }
-    let frames = vm.take_output()?;
-    Ok(frames)
+    Ok(vm.take_output()?)
 }

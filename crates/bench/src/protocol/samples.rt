@@ -1,5 +1,5 @@
 // A message of each command.
-use anyhow::{Result, bail};
+use crate::fault::Fault;
 use bytes::Bytes;
 use journal_protocol::{MessageHeader, MessageType, RawMessage};
 
@@ -55,17 +55,21 @@ fn late_payload(place: usize) -> &'static [u8] {
 }
 
 /// A message of the command at this place.
-pub fn sample_at(place: usize) -> Result<RawMessage> {
-    let Ok(offset) = u16::try_from(place) else {
-        bail!("there are {COMMANDS} commands");
-    };
+pub fn sample_at(place: usize) -> Result<RawMessage, Fault> {
     let payload = if place < 9 {
         early_payload(place)
     } else {
         late_payload(place)
     };
-    let ty = MessageType::try_from(FIRST_COMMAND.wrapping_add(offset))?;
-    let length = u32::try_from(payload.len())?;
+    let Ok(offset) = u16::try_from(place) else {
+        return Err(Fault::Message);
+    };
+    let Ok(length) = u32::try_from(payload.len()) else {
+        return Err(Fault::Message);
+    };
+    let Ok(ty) = MessageType::try_from(FIRST_COMMAND.wrapping_add(offset)) else {
+        return Err(Fault::Message);
+    };
     Ok(RawMessage {
         header: MessageHeader::new(ty, length),
         payload: Bytes::from_static(payload),

@@ -1,29 +1,16 @@
-//! `bench_schedule COUNT [FILE]`: brings COUNT invocations of `race` and COUNT of `ask` from invoke to end, each of whose first attempt
-//! is stopped where it waits, and whose second goes on; and prints what an event takes, in memory, and in a new file of that name with
-//! its syncs. Then one invocation whose journal grows to 10,000 entries, resumed at each tenth of them.
-//!
-//! `bench_schedule memory COUNT` does the same in memory alone, with ids that come one behind the other, and again with ids that are
-//! scattered.
-//!
-//! With no word it does a little of it in memory, and prints what came of it without times.
-#![tactic(auto)]
-
+//! What an event of a schedule takes, in memory and in a file, and whether that grows with the invocations and the journal.
 mod events;
-mod fault;
 mod growth;
 mod handlers;
-mod micros;
 mod timed;
 
+use crate::fault::Fault;
 use durable_schedule::Scheduler;
 use events::Place;
-use fault::Fault;
 use growth::tell_growth;
 use handlers::{Numbers, Told, tell_both};
 use journal_store::Store;
 use sqlite::{Alter, Unknown};
-use std::env;
-use std::process::ExitCode;
 use std::rt::HostRuntime;
 use store_files::{open_file, open_in_memory};
 use timed::Timed;
@@ -86,14 +73,14 @@ fn tell_in_file(rt: &HostRuntime, path: &str, work: Work) -> Result<(), Fault> {
     }
 }
 
-/// Does what the words say behind the program's own name.
-fn run_words(rt: &HostRuntime, words: &[String]) -> Result<(), Fault> {
-    let Some(first) = words.get(1) else {
+/// Does what the words say behind the part's name, or, where there are none, a little of it.
+pub fn run_schedule(rt: &HostRuntime, words: &[String]) -> Result<(), Fault> {
+    let Some(first) = words.get(2) else {
         tell_in_memory(rt, Told::Count, Work::Invocations(Numbers::Counted, 2))?;
         return tell_in_memory(rt, Told::Count, Work::Growth(20, 1));
     };
     let is_memory = first.as_str() == "memory";
-    let second = words.get(2);
+    let second = words.get(3);
     let count = match second {
         Some(count) if is_memory => count.as_str().parse()?,
         _ => first.as_str().parse()?,
@@ -107,21 +94,4 @@ fn run_words(rt: &HostRuntime, words: &[String]) -> Result<(), Fault> {
         tell_in_file(rt, path.as_str(), counted)?;
     }
     tell_in_memory(rt, Told::Memory, GROWTH)
-}
-
-fn run(rt: &HostRuntime) -> Result<(), Fault> {
-    let words: Vec<String> = env::args(rt)?.collect(rt.alloc())?;
-    let done = run_words(rt, words.as_slice());
-    drop(words);
-    done
-}
-
-fn main(rt: HostRuntime) -> ExitCode {
-    match run(&rt) {
-        Ok(()) => ExitCode::SUCCESS,
-        Err(fault) => {
-            let _ = eprintln!(rt; "{fault:?}");
-            ExitCode::FAILURE
-        }
-    }
 }

@@ -1,13 +1,12 @@
 // An invocation whose journal grows, resumed part by part.
-use crate::events::{Place, Step, apply_each};
 use crate::fault::Fault;
-use crate::handlers::Told;
-use crate::micros::Micros;
-use crate::timed::Timed;
+use crate::schedule::events::{Place, Step, apply_each};
+use crate::schedule::handlers::Told;
+use crate::schedule::timed::Timed;
+use crate::timing::{Micros, Stopwatch};
 use durable_schedule::Scheduler;
 use sqlite::Alter;
 use std::rt::HostRuntime;
-use std::time::CpuClock;
 
 /// The journal grows to so many entries from so many, each moved as it is made. Then the attempt is stopped, and the next one is handed
 /// its input, reads it, and makes the sleeps again that are recorded behind it.
@@ -20,20 +19,21 @@ fn tell_part<S: Alter + Drop>(
     to: u32,
 ) -> Result<(), Fault> {
     let more = to.saturating_sub(from);
-    let start = rt.thread_cpu_time()?;
+    let mut watch = Stopwatch::start(rt)?;
     apply_each(scheduler, place, &[Step::Turn, Step::Move(1)], more)?;
-    let grown = rt.thread_cpu_time()?;
+    let growing = watch.lap(rt)?;
     apply_each(scheduler, place, &[Step::Stop], 1)?;
-    let stopped = rt.thread_cpu_time()?;
+    let stopping = watch.lap(rt)?;
     apply_each(scheduler, place, &[Step::Begin], 1)?;
-    let begun = rt.thread_cpu_time()?;
+    let beginning = watch.lap(rt)?;
     apply_each(scheduler, place, &[Step::Feed], 1)?;
     apply_each(scheduler, place, &[Step::Turn], to)?;
-    let resumed = rt.thread_cpu_time()?;
+    let rest = watch.lap(rt)?;
+    let resuming = rest.saturating_add(stopping).saturating_add(beginning);
     let events = place.events;
-    let grow = Micros::each(grown.saturating_sub(start), more.wrapping_mul(2));
-    let begin = Micros::each(begun.saturating_sub(stopped), 1);
-    let resume = Micros::each(resumed.saturating_sub(grown), to.wrapping_add(3));
+    let grow = Micros::each(growing, more.wrapping_mul(2));
+    let begin = Micros::each(beginning, 1);
+    let resume = Micros::each(resuming, to.wrapping_add(3));
     match told {
         Told::Count => println!(rt; "journal {to} events {events}")?,
         _ => println!(rt; "journal {to} grow {grow} begin {begin} resume {resume}")?,
@@ -54,9 +54,8 @@ pub fn tell_growth<S: Alter + Drop>(
     let first = [Step::Invoke, Step::Begin, Step::Feed, Step::Turn];
     apply_each(scheduler, place, &first, 1)?;
     let mut from = 1u32;
-    let mut to = 0u32;
-    for _ in 0..times {
-        to = to.wrapping_add(entries);
+    for part in 0..times {
+        let to = part.wrapping_add(1).wrapping_mul(entries);
         tell_part(rt, scheduler, place, told, from, to)?;
         from = to;
     }
