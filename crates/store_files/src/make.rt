@@ -17,8 +17,8 @@ use std::fs;
 use std::hash::{BuildHasher, RandomState};
 use std::rt::HostRuntime;
 
-/// How many bytes a page of a new file has. A commit writes the pages that it changes, and a page costs by its bytes.
-const PAGE_BYTES: usize = 1024;
+/// How many bytes a page of a new database has. A commit writes the pages that it changes, and a page costs by its bytes.
+pub(crate) const PAGE_BYTES: usize = 1024;
 
 /// An empty database in these files, as far as it can be made.
 fn with_database<D: Disk>(

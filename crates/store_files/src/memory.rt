@@ -7,6 +7,7 @@ ghost use Rattle.journal_store.specs.Stands.{Stands};
 ghost use Rattle.store_refusals.specs.Refused.{is_circumstance};
 ghost use Rattle.store_files.specs.Made.{IsMadeEmpty, IsEmptyAndIdle};
 
+use crate::make::PAGE_BYTES;
 use journal_store::Store;
 use memory_disk::MemoryFile;
 use sqlite::{Connection, FileStore, Files, Options};
@@ -17,9 +18,6 @@ use store_refusals::Refusal;
 
 /// What the salts of the log are made from. Nobody else reads it.
 const SEED: u64 = 1;
-
-/// How many bytes a page has. Each commit writes the pages that it changes, and a page costs by its bytes.
-const PAGE_BYTES: usize = 1024;
 
 /// Two files of no bytes, over which no database was made yet. Such files fail for want of memory alone.
 fn new_files(alloc: Global) -> Result<Unopened<MemoryFile>, Refusal>
