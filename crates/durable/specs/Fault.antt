@@ -1,6 +1,6 @@
 -- The text and the status of a fault of the program.
 use Rattle.std.specs.Prelude.{ℕ, List, codes}
-use Rattle.durable_script.specs.Fault as script
+use Rattle.script_lines.specs.Fault as script
 use Rattle.durable.specs.declared.fault.ProgramFault.{ProgramFault}
 use Rattle.durable.specs.declared.fault.ProgramFault.TheVariants.{Usage, DatabaseRefused, Script}
 

@@ -8,4 +8,3 @@ pub mod EntriesShown
 pub mod Showing
 pub mod Doing
 pub mod Turning
-pub mod Writing

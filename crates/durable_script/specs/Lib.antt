@@ -1,4 +1,3 @@
-pub mod Fault
 pub mod Reaching
 pub mod Printed
 pub mod Entries

@@ -22,8 +22,9 @@ use Rattle.script_lines.specs.declared.word.HandlerName.TheVariants as name
 use Rattle.script_lines.specs.declared.line.Line.{Line}
 use Rattle.script_lines.specs.Line.{spelled, IsLine}
 use Rattle.script_lines.specs.Script.{numbered_lines}
-use Rattle.durable_script.specs.declared.fault.ScriptFault.{ScriptFault}
-use Rattle.durable_script.specs.declared.fault.ScriptFault.TheVariants.{LineNotUnderstood, ScriptUnreadable, LineOutOfMemory, TextOutOfMemory, OutputUnwritable}
+use Rattle.script_lines.specs.declared.fault.ScriptFault.{ScriptFault}
+use Rattle.script_lines.specs.declared.fault.ScriptFault.TheVariants.{LineNotUnderstood, ScriptUnreadable, LineOutOfMemory, TextOutOfMemory, OutputUnwritable}
+use Rattle.script_lines.specs.Output.{EndsWith}
 use Rattle.durable_script.specs.Line.{IsNamed, AreOfLine, DoesLine, DoesSomeLine, BringsFunction}
 use Rattle.durable_script.specs.Runner.{IsNotUnderstood}
 
@@ -156,10 +157,6 @@ module _ (lines : List (ℕ × List ℕ)) (Does : List DoneLine → Type 0) wher
     pub output : List ℕ
     pub appended : Appends had has output
     pub comes_to : ComesSoFar output result
-
--- the last call of the writer may fail too
-abbrev pub EndsWith : Result (Unit {0}) ScriptFault → Result (Unit {0}) ScriptFault → Type 0
-EndsWith reached result = (result ≡ reached) ⊎ (result ≡ Err OutputUnwritable)
 
 module _ {S : Type 0} (g : Ghosts S) where
   -- these lines were done on a store, of which this is left

@@ -2,15 +2,13 @@
 #![tactic(auto)]
 
 mod entry;
-mod fault;
 pub mod laws;
-mod output;
 mod reply;
 mod run;
 mod runner;
 mod show;
 
 pub use entry::{ShownEntry, read_entries};
-pub use fault::ScriptFault;
 pub use run::{ScriptEnd, run_script};
 pub use schedule_runs::{Event, Reply, Scheduler, run_schedule};
+pub use script_lines::fault::ScriptFault;

@@ -1,16 +1,15 @@
 //! A whole script, from a reader to a writer.
 ghost use Rattle.std.specs.Prelude.{◌≡◌, Err};
-ghost use Rattle.std.specs.Io.KnownBytes.{Keeps};
 ghost use Rattle.script_lines.specs.Script.{numbered_lines};
 ghost use Rattle.durable_script.specs.Reaching.{Reaches};
-ghost use Rattle.durable_script.specs.Run.{DoesAll, DoesFirst, DoesLines, EndsWith, RunsScript};
+ghost use Rattle.durable_script.specs.Run.{DoesAll, DoesFirst, DoesLines, RunsScript};
 
-use crate::fault::ScriptFault;
-use crate::output::write_text;
 use crate::runner::Runner;
 use built_in_handlers::BuiltIn;
 use journal_store::Store;
 use schedule_runs::{frames_are_taken, invocations_stand_alone, records_of_runs, schedules_leave};
+use script_lines::fault::ScriptFault;
+use script_lines::output::{finish, write_text};
 use script_lines::reading::read_script;
 use script_lines::script::ScriptLines;
 use sqlite::Alter;
@@ -39,20 +38,6 @@ fn do_lines<W: Write, S: Alter + Drop>(
         write_text(writer, text.as_bytes())?;
     }
     Ok(())
-}
-
-/// Lets a writer write what it has taken. Where it has failed already, that stays the fault.
-fn finish<W: Write>(writer: &mut W, reached: Result<(), ScriptFault>) -> Result<(), ScriptFault>
-    ensures ends { EndsWith reached result }
-    ensures bytes { Keeps (W.contents writer.old) (W.contents writer.new) }
-{
-    if reached == Err(ScriptFault::OutputUnwritable) {
-        return reached;
-    }
-    match writer.flush() {
-        Ok(()) => reached,
-        Err(_) => Err(ScriptFault::OutputUnwritable),
-    }
 }
 
 /// Runs a script: reads it whole, then does its lines in order on a new scheduler over the store, and writes what each

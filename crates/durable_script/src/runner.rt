@@ -7,7 +7,6 @@ ghost use Rattle.durable_script.specs.Printed.{Makes};
 ghost use Rattle.durable_script.specs.Line.{brought, new_invocation, was_answered, IsBegin, DoesEvent, DoesSomeEvent, TakesTurns, TookTurns, DoesLine, DoesSomeLine};
 ghost use Rattle.durable_script.specs.Runner.{DoesNext, StopsAt};
 
-use crate::fault::ScriptFault;
 use crate::reply::{line_reply, reply_line};
 use crate::show::show;
 use built_in_handlers::BuiltIn;
@@ -15,6 +14,7 @@ use bytes::{ByteStr, Bytes};
 use journal_model::{Failure, NewInvocation, NotificationResult};
 use journal_store::Store;
 use schedule_runs::{Event, Reply, Scheduler, Turn};
+use script_lines::fault::ScriptFault;
 use script_lines::line::{Line, parse_line};
 use script_lines::value::LineValue;
 use script_lines::word::{HandlerName, StateMode};

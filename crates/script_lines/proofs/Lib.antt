@@ -2,3 +2,4 @@ pub mod WordLaws
 pub mod ValueLaws
 pub mod LineLaws
 pub mod SplitLaws
+pub mod Writing

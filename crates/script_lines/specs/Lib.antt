@@ -5,3 +5,5 @@ pub mod Script
 pub mod ScriptLines
 pub mod Text
 pub mod Arrival
+pub mod Fault
+pub mod Output

@@ -1,8 +1,10 @@
-//! The script: its lines, and the texts that it prints.
+//! The script: its lines, the texts that it prints, how they are written, and why it does not come to its end.
 #![tactic(auto)]
 
 pub mod arrival;
+pub mod fault;
 pub mod line;
+pub mod output;
 pub mod reading;
 pub mod script;
 pub mod text;

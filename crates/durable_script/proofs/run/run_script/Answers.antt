@@ -4,7 +4,7 @@ use Rattle.durable_script.specs.Reaching.{Reaches}
 use Rattle.durable_script.specs.Run.{DoneLine, DoesAll, DoesFirst, DoesLines, AreDone}
 use Rattle.durable_script.proofs.Doing.{comes_so}
 use Rattle.durable_script.proofs.Leaving.{are_done}
-use Rattle.durable_script.proofs.Writing.{appends_kept}
+use Rattle.script_lines.proofs.Writing.{appends_kept}
 use Rattle.durable_script.proofs.run.run_script.Goals as goal
 
 pub returns-clause-runs : goal.returns-clause-runs

@@ -1,7 +1,7 @@
 -- The text and the status of a fault.
 use Rattle.std.specs.Prelude.{ℕ, List, ◌++◌, codes, decimal}
-use Rattle.durable_script.specs.declared.fault.ScriptFault.{ScriptFault}
-use Rattle.durable_script.specs.declared.fault.ScriptFault.TheVariants.{LineNotUnderstood, ScriptUnreadable, LineOutOfMemory, TextOutOfMemory, OutputUnwritable}
+use Rattle.script_lines.specs.declared.fault.ScriptFault.{ScriptFault}
+use Rattle.script_lines.specs.declared.fault.ScriptFault.TheVariants.{LineNotUnderstood, ScriptUnreadable, LineOutOfMemory, TextOutOfMemory, OutputUnwritable}
 
 abbrev pub status_of : ScriptFault → ℕ
 status_of (LineNotUnderstood number) = 1

@@ -1,6 +1,6 @@
 //! Why a script does not come to its end.
 ghost use Rattle.std.specs.Prelude.{◌≡◌, Some};
-ghost use Rattle.durable_script.specs.declared.fault.ScriptFault.TheVariants.{LineOutOfMemory};
+ghost use Rattle.script_lines.specs.declared.fault.ScriptFault.TheVariants.{LineOutOfMemory};
 
 use std::alloc::AllocError;
 use std::error::Error;
@@ -22,7 +22,7 @@ pub enum ScriptFault {
 }
 
 impl ScriptFault {
-    ghost use Rattle.durable_script.specs.Fault.{status_of};
+    ghost use Rattle.script_lines.specs.Fault.{status_of};
 
     /// The status that the program ends with.
     pub fn status(self) -> u8
@@ -39,7 +39,7 @@ impl ScriptFault {
 }
 
 impl fmt::Display for ScriptFault {
-    ghost use Rattle.durable_script.specs.Fault.{fault_text};
+    ghost use Rattle.script_lines.specs.Fault.{fault_text};
 
     ghost output = { λ fault. Some (fault_text fault) };
 

@@ -1,7 +1,7 @@
 use Rattle.std.proofs.Common.{subst, sym}
-use Rattle.durable_script.proofs.Writing.{HasTaken, took_more, took_none}
-use Rattle.durable_script.proofs.output.write_text.Goals.{in-Ok, in-Err}
-use Rattle.durable_script.proofs.output.write_text.Goals as goal
+use Rattle.script_lines.proofs.Writing.{HasTaken, took_more, took_none}
+use Rattle.script_lines.proofs.output.write_text.Goals.{in-Ok, in-Err}
+use Rattle.script_lines.proofs.output.write_text.Goals as goal
 
 pub loop-preserved : goal.loop-preserved
 loop-preserved g c = elim c.match-write.branch [
