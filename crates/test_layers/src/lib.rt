@@ -14,3 +14,5 @@ mod reading;
 mod sequences;
 #[cfg(test)]
 mod values;
+#[cfg(test)]
+mod writing;
