@@ -36,9 +36,9 @@ use Rattle.store_live.specs.Before.{AreAsBefore}
 use Rattle.store_live.specs.Added.{AreAlone, ArePut, HasRoomFor, HaveRoomFor, is_added_to, put_in_turn}
 use Rattle.store_live_laws.specs.Agrees.{Agrees}
 use Rattle.store_live_laws.proofs.Ticked.{ticked_at_once, unticked}
-use Rattle.store_ticks.specs.Made.{AreFrames, IsTickReady, ids_ended}
-use Rattle.store_ticks.specs.declared.tick.PreparedTick.{PreparedTick}
-use Rattle.store_ticks.proofs.Keeping.{ready_keeps}
+use Rattle.store_arrivals.specs.Made.{AreFrames, IsTickReady, ids_ended}
+use Rattle.store_arrivals.specs.declared.tick.PreparedTick.{PreparedTick}
+use Rattle.store_arrivals.proofs.Keeping.{ready_keeps}
 use Rattle.store_calls.specs.Standing.{Standing, Adds}
 use Rattle.store_calls.specs.Calls.{Ticks}
 use Rattle.journal_store.specs.Stored.{stored}

@@ -1,5 +1,5 @@
-//! The crates that the store is made of, each whole: for whoever states or proves something of what is inside. The store's laws,
-//! `store_laws`, stand above it and are named by themselves.
+//! The crates that the store is made of, each whole: for whoever states or proves something of what is inside. The laws of what crashes
+//! leave of it stand above it, in `store_files`.
 pub use sql_tables as sql;
 pub use store_arrivals as arrivals;
 pub use store_calls as calls;
@@ -12,4 +12,3 @@ pub use store_model as model;
 pub use store_refusals as refusals;
 pub use store_steps as steps;
 pub use store_tables as tables;
-pub use store_ticks as ticks;

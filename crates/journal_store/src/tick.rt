@@ -13,9 +13,9 @@ ghost use Rattle.journal_store.specs.Writing.{Writes};
 use crate::events::commit;
 use crate::store::Store;
 use sqlite::Alter;
+use store_arrivals::{PreparedTick, prepare_tick};
 use store_live::{put_each, reserve_each};
 use store_refusals::Refusal;
-use store_ticks::{PreparedTick, prepare_tick};
 
 impl<S: Alter + Drop> Store<S> {
     /// Makes room for the frames of the ends that were made ready; then writes what was, if anything, and puts the frames behind: they

@@ -1,2 +1,6 @@
 pub mod Asked
 pub mod Arrivals
+pub mod Ended
+pub mod Groups
+pub mod Grouped
+pub mod Made

@@ -39,7 +39,7 @@ fn answered_id(id: &NotificationId) -> Option<u32>
 }
 
 /// The frame of an arrival, as a message of this type.
-pub fn arrival_frame(
+pub(crate) fn arrival_frame(
     alloc: Global,
     ty: MessageType,
     arrival: Notification,

@@ -1,3 +1,4 @@
+pub mod Crashing
 pub mod Files
 pub mod Left
 pub mod Made

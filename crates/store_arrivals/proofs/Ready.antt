@@ -1,0 +1,131 @@
+-- What is made ready of the groups of the sleeps that are due is what the tick writes.
+use Rattle.std.proofs.Common.{ℕ, suc, ◌+◌, ◌≡◌, refl, sym, ap, ap₂, subst, ◌∙◌, Bool, true, false, ◌&&◌, not, if◌then◌else◌, List, [], ◌∷◌, ◌++◌, length, map, filter, flat_map, bytes_eq}
+use Rattle.std.specs.List.{AllByRecursion}
+use Rattle.sqlite_keyed.proofs.ListLemmas.{map-map}
+use Rattle.journal_model.specs.Notification.{Bytes, Text}
+use Rattle.journal_model.specs.Event.{Event}
+use Rattle.journal_model.specs.Journal.{is_open, is_over, requests_in, sleeps_in, sorted_by_moment, slept, entries_of}
+use Rattle.journal_model.specs.Cause.{IsAccepted, is_empty}
+use Rattle.store_tables.specs.Records.{Records}
+use Rattle.store_tables.specs.declared.row.EntryRow.{EntryRow}
+use Rattle.store_tables.specs.declared.row.Progress.{Progress}
+use Rattle.store_tables.specs.declared.row.SleepRow.{SleepRow}
+use Rattle.store_tables.specs.declared.row.Write.{Write}
+use Rattle.store_tables.specs.declared.row.Write.TheVariants.{AddEntry, SetProgress, CloseSleepsUntil}
+use Rattle.store_model.specs.Kept.{IsKept}
+use Rattle.store_model.specs.Progress.{progress_of}
+use Rattle.store_model.specs.Sleeps.{due_until, sleep_row}
+use Rattle.store_model.specs.Steps.{grown}
+use Rattle.store_model.specs.Writes.{ends_sleep, invocation_writes, rows_added}
+use Rattle.store_model.proofs.Following.{ticks}
+use Rattle.store_model.proofs.States.{itself}
+use Rattle.store_lookups.specs.Lookups.{ended_sleeps, row_frame}
+use Rattle.store_lookups.proofs.Sleeping.{answer_of_sleep}
+use Rattle.store_arrivals.specs.Groups.{Group, group_of, those_ended}
+use Rattle.store_arrivals.specs.Ended.{end_frame, end_rows}
+use Rattle.store_live.specs.declared.added.AddedFrames.{AddedFrames}
+use Rattle.store_arrivals.specs.Made.{AreEnds, AreFrames, AreOpen, AreToldOf, group_writes, ids_ended, next_place, ready_writes, until_writes}
+use Rattle.store_arrivals.proofs.Ending.{found, id_of, rows_of_tick}
+
+abbrev pub named : Text → Group → Bool
+named id group = bytes_eq group.0 id
+
+-- what holds of the groups of each id holds of all
+all_by_id : (P : Group → Type 0) (groups : List Group) → ((id : Text) → AllByRecursion P (filter (named id) groups)) → AllByRecursion P groups
+all_by_id P [] h = tt
+all_by_id P (group ∷ groups) h = (own, all_by_id P groups (λ id. rest id (bytes_eq group.0 id) (h id)))
+  where
+    own : P group
+    own = (subst (λ (b : Bool). AllByRecursion P (if b then group ∷ filter (named group.0) groups else filter (named group.0) groups)) (itself group.0) (h group.0)).0
+
+    rest : (id : Text) (b : Bool) → AllByRecursion P (if b then group ∷ filter (named id) groups else filter (named id) groups) → AllByRecursion P (filter (named id) groups)
+    rest id true all = all.1
+    rest id false all = all
+
+-- the sleeps of an open invocation that the tick ends, and there are some
+pub record IsGroupOf (events : List Event) (now : ℕ) (group : Group) : Type 0 where
+  pub opened : is_open events group.0 ≡ true
+  pub completions : group.1 ≡ map (λ (sleep : ℕ × ℕ). sleep.1) (ended_sleeps events now group.0)
+  pub many : length group.1 ≡ length (slept (entries_of events group.0) now)
+  pub ends : ends_sleep events now group.0 ≡ true
+
+as_many : (id : Text) (sleeps : List (ℕ × ℕ)) → length (map (λ (row : SleepRow). row.completion) (map (sleep_row id) sleeps)) ≡ length (map answer_of_sleep sleeps)
+as_many id [] = refl
+as_many id (sleep ∷ sleeps) = ap suc (as_many id sleeps)
+
+module _ (events : List Event) (now : ℕ) where
+  abbrev over : Text → List (ℕ × ℕ)
+  over id = filter (is_over (entries_of events id) now) (sorted_by_moment (sleeps_in (requests_in (entries_of events id))))
+
+  group_is : (id : Text) (o : Bool) (sleeps : List (ℕ × ℕ)) → is_open events id ≡ o → over id ≡ sleeps
+      → AllByRecursion (IsGroupOf events now) (group_of id (map (sleep_row id) (if o then sleeps else [])))
+  group_is id false sleeps e f = tt
+  group_is id true [] e f = tt
+  group_is id true (sleep ∷ sleeps) e f = (
+    record {
+      opened = e;
+      completions = map-map (λ (row : SleepRow). row.completion) (sleep_row id) (sleep ∷ sleeps)
+          ∙ sym (ap₂ (λ (b : Bool) (xs : List (ℕ × ℕ)). map (λ (one : ℕ × ℕ). one.1) (if b then xs else [])) e f);
+      many = as_many id (sleep ∷ sleeps) ∙ sym (ap (λ (xs : List (ℕ × ℕ)). length (map answer_of_sleep xs)) f);
+      ends = ap₂ (λ (b : Bool) (xs : List (ℕ × ℕ)). b && not (is_empty (map answer_of_sleep xs))) e f;
+    },
+    tt,
+  )
+
+  pub all_groups : (r : Records) → IsAccepted events → IsKept events r → AllByRecursion (IsGroupOf events now) (those_ended now r)
+  all_groups r accepted kept =
+      all_by_id (IsGroupOf events now) (those_ended now r) (λ id.
+      subst (AllByRecursion (IsGroupOf events now)) (sym (found events now r accepted kept id)) (group_is id (is_open events id) (over id) refl refl))
+
+  pub all_open : (groups : List Group) → AllByRecursion (IsGroupOf events now) groups → AreOpen events groups
+  all_open [] all = tt
+  all_open (group ∷ groups) all = (all.0.opened, all_open groups all.1)
+
+  -- ---- writes
+
+  rows_are : (accepted : IsAccepted events) (group : Group) → IsGroupOf events now group
+      → end_rows group.0 (next_place events group.0) group.1 ≡ rows_added events (Event.Tick now) group.0
+  rows_are accepted group it = ap (end_rows group.0 (next_place events group.0)) it.completions ∙ sym (rows_of_tick events now group.0 accepted it.opened)
+
+  group_written : IsAccepted events → (group : Group) → IsGroupOf events now group → group_writes events group ≡ invocation_writes events (Event.Tick now) group.0
+  group_written accepted group it =
+      ap₂ (λ (rows : List EntryRow) (far : Progress). map AddEntry rows ++ SetProgress group.0 far ∷ []) (rows_are accepted group it)
+      (ap (λ (n : ℕ). grown n (progress_of events group.0)) it.many ∙ sym (ticks events now group.0 it.ends))
+
+  groups_written : IsAccepted events → (groups : List Group) → AllByRecursion (IsGroupOf events now) groups
+      → flat_map (group_writes events) groups ≡ flat_map (invocation_writes events (Event.Tick now)) (map id_of groups)
+  groups_written accepted [] all = refl
+  groups_written accepted (group ∷ groups) all = ap₂ (λ (xs ys : List Write). xs ++ ys) (group_written accepted group all.0) (groups_written accepted groups all.1)
+
+  pub all_written : IsAccepted events → (groups : List Group) → AllByRecursion (IsGroupOf events now) groups
+      → until_writes events (due_until now) groups ≡ ready_writes events now (map id_of groups)
+  all_written accepted [] all = refl
+  all_written accepted (group ∷ groups) all =
+      ap (λ (writes : List Write). writes ++ CloseSleepsUntil (due_until now) ∷ []) (groups_written accepted (group ∷ groups) all)
+
+  -- ---- frames
+
+  frames_of : (id : Text) (place : ℕ) (ns : List ℕ) → map end_frame ns ≡ map row_frame (end_rows id place ns)
+  frames_of id place [] = refl
+  frames_of id place (n ∷ ns) = ap (λ (frames : List Bytes). end_frame n ∷ frames) (frames_of id (place + 1) ns)
+
+  one_framed : IsAccepted events → (group : Group) (one : AddedFrames) → IsGroupOf events now group → AreEnds group.0 (next_place events group.0) group.1 one
+      → AreFrames events now one
+  one_framed accepted group one it ends = record {
+    place_is = ends.place_is ∙ ap (next_place events) (sym ends.named);
+    frames = ends.frames ∙ frames_of group.0 (next_place events group.0) group.1 ∙ ap (map row_frame) (rows_are accepted group it)
+        ∙ ap (λ (id : Text). map row_frame (rows_added events (Event.Tick now) id)) (sym ends.named);
+  }
+
+  pub all_framed : IsAccepted events → (groups : List Group) (ended : List AddedFrames) → AllByRecursion (IsGroupOf events now) groups → AreToldOf events groups ended
+      → AllByRecursion (AreFrames events now) ended
+  all_framed accepted [] [] all told = tt
+  all_framed accepted [] (one ∷ others) all told = absurd told
+  all_framed accepted (group ∷ groups) [] all told = absurd told
+  all_framed accepted (group ∷ groups) (one ∷ others) all told = (one_framed accepted group one all.0 told.0, all_framed accepted groups others all.1 told.1)
+
+  pub all_named : (groups : List Group) (ended : List AddedFrames) → AreToldOf events groups ended → ids_ended ended ≡ map id_of groups
+  all_named [] [] told = refl
+  all_named [] (one ∷ others) told = absurd told
+  all_named (group ∷ groups) [] told = absurd told
+  all_named (group ∷ groups) (one ∷ others) told = ap₂ (λ (id : Text) (ids : List Text). id ∷ ids) told.0.named (all_named groups others told.1)

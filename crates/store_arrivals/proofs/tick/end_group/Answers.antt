@@ -1,0 +1,17 @@
+use Rattle.std.proofs.Common.{arith}
+use Rattle.sqlite.specs.Held.{state}
+use Rattle.sqlite.specs.State.{State, HasCleanDisk}
+use Rattle.store_arrivals.specs.Grouped.{as_group}
+use Rattle.store_arrivals.specs.Made.{group_tests}
+use Rattle.store_arrivals.proofs.Rowed.{group_ended, is_no_cause}
+use Rattle.store_arrivals.proofs.tick.end_group.Goals as goal
+
+pub returns-in-Ok-clause-decided : goal.returns-in-Ok-clause-decided
+returns-in-Ok-clause-decided g c clean events store opened =
+    group_ended events (as_group c.args.group) c.in-Ok.row c.args.writes.now.items c.end_sleeps-ended.new.writes.items c.end_sleeps-ended.result
+    (c.in-Ok.ensures.decided clean events store).1.0
+    (rw (c.as_slice.ensures.value, c.into_vec-completions.ensures.items) at c.end_sleeps-ended.ensures.decided)
+
+pub returns-in-Err-clause-decided : goal.returns-in-Err-clause-decided
+returns-in-Err-clause-decided g c clean events store opened =
+    is_no_cause events c.args.group.invocation (group_tests events (as_group c.args.group)) c.in-Err.why opened (c.in-Err.ensures.decided clean events store)

@@ -1,0 +1,149 @@
+//! What a tick makes ready.
+
+ghost use Rattle.std.specs.Prelude.{◌≡◌, List, map, true, IfOk, OnOk, IsTrue};
+ghost use Rattle.std.specs.List.{AllByRecursion};
+ghost use Rattle.sqlite.specs.Held.{state};
+ghost use Rattle.sqlite.specs.State.{HasCleanDisk};
+ghost use Rattle.journal_model.specs.Event.{Event};
+ghost use Rattle.journal_model.specs.Journal.{is_open};
+ghost use Rattle.store_tables.specs.Looks.{Looks};
+ghost use Rattle.store_model.specs.Sleeps.{due_until as the_last_due};
+ghost use Rattle.store_refusals.specs.Prepared.{Prepares};
+ghost use Rattle.store_arrivals.specs.Grouped.{as_group};
+ghost use Rattle.store_invocations.specs.Rows.{Decides, IsStoreOf};
+ghost use Rattle.store_live.specs.Added.{HasPlaces};
+ghost use Rattle.store_arrivals.specs.Made.{AreGroupsEnded, AreOpen, IsEndedUntil, IsGroupEnded, IsTickReady, closed_until, group_tests, tests_of};
+
+use crate::ended::end_sleeps;
+use crate::groups::{SleepGroup, groups_of};
+use sqlite::Alter;
+use std::alloc::AllocError;
+use std::collections::VecDeque;
+use store_invocations::open_row;
+use store_live::AddedFrames;
+use store_refusals::Refusal;
+use store_tables::{StoreTables, Write, sleeps_until};
+
+/// What a tick writes, and what it adds to the input of live attempts.
+#[derive(Debug, Drop)]
+pub struct PreparedTick {
+    /// All in one transaction. Nothing where no sleep is ended.
+    pub writes: Vec<Write>,
+    /// The frames of the ends, of each invocation of which sleeps are ended once.
+    pub ended: Vec<AddedFrames>,
+    /// How many sleeps are ended, over all.
+    pub count: u64,
+}
+
+/// The last moment of which a sleep is kept: a later one is never due.
+fn due_until(now: u64) -> u64
+    ensures { result ≡ the_last_due now }
+{
+    now.min(i64::MAX as u64)
+}
+
+/// Ends the sleeps of one invocation.
+fn end_group<S: Alter>(
+    tables: &mut StoreTables<S>,
+    group: SleepGroup,
+    writes: &mut Vec<Write>,
+) -> Result<AddedFrames, Refusal>
+    ensures decided { HasCleanDisk (state S.Store tables.new) → (events : List Event) → IsStoreOf events (state S.Store tables.old) → is_open events group.invocation ≡ true
+        → Decides (group_tests events (as_group group)) (IsGroupEnded events (as_group group) writes.old.items writes.new.items) result }
+    ensures places { IfOk result HasPlaces }
+    ensures looks { Looks S.Store tables.old tables.new }
+{
+    let SleepGroup {
+        invocation,
+        completions,
+    } = group;
+    let completions = completions.into_vec();
+    match open_row(tables, &invocation) {
+        Ok(row) => {
+            let ended = end_sleeps(
+                tables.alloc(),
+                invocation,
+                row,
+                completions.as_slice(),
+                writes,
+            );
+            drop(completions);
+            ended
+        }
+        Err(why) => {
+            drop(invocation);
+            drop(completions);
+            Err(why)
+        }
+    }
+}
+
+/// Ends the sleeps of one invocation after another.
+fn end_groups<S: Alter>(
+    tables: &mut StoreTables<S>,
+    mut groups: VecDeque<SleepGroup>,
+    writes: &mut Vec<Write>,
+) -> Result<Vec<AddedFrames>, Refusal>
+    ensures decided { HasCleanDisk (state S.Store tables.new) → (events : List Event) → IsStoreOf events (state S.Store tables.old) → AreOpen events (map as_group groups.items)
+        → Decides (tests_of events (map as_group groups.items)) (λ ended. AreGroupsEnded events (map as_group groups.items) writes.old.items writes.new.items ended.items) result }
+    ensures places { IfOk result (λ ended. AllByRecursion HasPlaces ended.items) }
+    ensures looks { Looks S.Store tables.old tables.new }
+{
+    let mut ended = Vec::new(tables.alloc());
+    while let Some(group) = groups.pop_front() {
+        let one = end_group(tables, group, writes)?;
+        ended.push(one)?;
+    }
+    Ok(ended)
+}
+
+/// Closes the sleeps that are due, where there are any.
+fn close_due(until: u64, is_any: bool, writes: &mut Vec<Write>) -> Result<(), AllocError>
+    ensures { OnOk result (writes.new.items ≡ closed_until is_any until writes.old.items) }
+{
+    if is_any {
+        writes.push(Write::CloseSleepsUntil { moment: until })?;
+    }
+    Ok(())
+}
+
+/// Ends the sleeps that are due, and closes them where there are any.
+fn end_due<S: Alter>(
+    tables: &mut StoreTables<S>,
+    until: u64,
+    count: u64,
+    groups: VecDeque<SleepGroup>,
+) -> Result<PreparedTick, Refusal>
+    ensures decided { HasCleanDisk (state S.Store tables.new) → (events : List Event) → IsStoreOf events (state S.Store tables.old) → AreOpen events (map as_group groups.items)
+        → Decides (tests_of events (map as_group groups.items)) (IsEndedUntil events until count (map as_group groups.items)) result }
+    ensures places { IfOk result (λ made. AllByRecursion HasPlaces made.ended.items) }
+    ensures looks { Looks S.Store tables.old tables.new }
+{
+    let mut writes = Vec::new(tables.alloc());
+    let ended = end_groups(tables, groups, &mut writes)?;
+    close_due(until, !ended.is_empty(), &mut writes)?;
+    Ok(PreparedTick {
+        writes,
+        ended,
+        count,
+    })
+}
+
+/// What a tick at this moment makes ready, in milliseconds, or why it is refused: the ends of all sleeps of open invocations that are
+/// due.
+pub fn prepare_tick<S: Alter>(
+    tables: &mut StoreTables<S>,
+    now: u64,
+) -> Result<PreparedTick, Refusal>
+    ensures prepared { HasCleanDisk (state S.Store tables.new) → (events : List Event) → IsStoreOf events (state S.Store tables.old)
+        → Prepares events (Event.Tick now) (IsTickReady events now) result }
+    ensures asked { HasCleanDisk (state S.Store tables.new) → OnOk result (IsTrue (state S.Store tables.old).is_open) }
+    ensures places { IfOk result (λ made. AllByRecursion HasPlaces made.ended.items) }
+    ensures looks { Looks S.Store tables.old tables.new }
+{
+    let until = due_until(now);
+    let rows = sleeps_until(tables, until)?;
+    let count = rows.len() as u64;
+    let groups = groups_of(tables.alloc(), rows)?;
+    end_due(tables, until, count, groups)
+}

@@ -1,4 +1,0 @@
-pub mod Ended
-pub mod Groups
-pub mod Grouped
-pub mod Made
