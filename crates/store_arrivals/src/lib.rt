@@ -1,6 +1,5 @@
-//! Arrivals of every kind: what a result, another notification and a tick, which ends the sleeps that are due, make ready. That is
-//! whether they are refused, and otherwise the writes by which they are recorded and the frames by which live attempts are handed
-//! them. Nothing is written here.
+//! What is made ready of arrivals of any kind: of a result, of another notification, and of a tick, which ends the sleeps that are due.
+//! That is why it is refused, or by which writes it is recorded and which frames live attempts are handed. Nothing is written here.
 #![tactic(auto)]
 
 mod arrival;
