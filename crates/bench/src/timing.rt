@@ -20,17 +20,8 @@ pub struct Stopwatch {
 }
 
 impl Stopwatch {
-    /// The first look, at the time that the processor takes.
-    pub fn start(rt: &HostRuntime) -> Result<Stopwatch, Fault> {
-        Stopwatch::start_by(rt, false)
-    }
-
-    /// The first look, at the clock, where a disk is waited for.
-    pub fn start_by_clock(rt: &HostRuntime) -> Result<Stopwatch, Fault> {
-        Stopwatch::start_by(rt, true)
-    }
-
-    fn start_by(rt: &HostRuntime, by_clock: bool) -> Result<Stopwatch, Fault> {
+    /// The first look, at the time that the processor takes, or at the clock, where a disk is waited for.
+    pub fn start(rt: &HostRuntime, by_clock: bool) -> Result<Stopwatch, Fault> {
         let last = look(rt, by_clock)?;
         Ok(Stopwatch { by_clock, last })
     }
@@ -49,25 +40,20 @@ pub fn nanoseconds_each(took: Duration, count: usize) -> u128 {
     took.as_nanos() / (count.max(1) as u128)
 }
 
-/// What one of so many took, in microseconds with two decimal places.
+/// What one of so many took, in hundredths of a microsecond, printed as microseconds.
 #[derive(Clone, Copy)]
-pub struct Micros {
-    hundredths: u128,
-}
+pub struct Micros(u128);
 
 impl Micros {
     /// What one of the events took, of what all of them took.
     pub fn each(took: Duration, events: u32) -> Micros {
-        Micros {
-            hundredths: nanoseconds_each(took, events as usize) / 10,
-        }
+        Micros(nanoseconds_each(took, events as usize) / 10)
     }
 }
 
 impl fmt::Display for Micros {
     fn fmt<W: fmt::Write>(&self, f: &mut fmt::Formatter<W>) -> fmt::Result {
-        let whole = self.hundredths / 100;
-        let rest = self.hundredths % 100;
+        let (whole, rest) = (self.0 / 100, self.0 % 100);
         write!(f, "{whole}.{rest:02}")
     }
 }

@@ -36,7 +36,7 @@ fn time_writing<M: PlainMessage>(
         let record: M = message.decode_to(rt.alloc(), 0)?;
         records.push(record)?;
     }
-    let mut watch = Stopwatch::start(rt)?;
+    let mut watch = Stopwatch::start(rt, false)?;
     write_records(rt.alloc(), records.as_slice())?;
     watch.lap(rt)
 }
@@ -54,7 +54,7 @@ pub fn time_records<M: PlainMessage>(
     rt: &HostRuntime,
     messages: &[RawMessage],
 ) -> Result<Took, Fault> {
-    let mut watch = Stopwatch::start(rt)?;
+    let mut watch = Stopwatch::start(rt, false)?;
     for message in messages {
         read_as::<M>(rt.alloc(), message)?;
     }

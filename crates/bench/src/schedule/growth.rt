@@ -19,7 +19,7 @@ fn tell_part<S: Alter + Drop>(
     to: u32,
 ) -> Result<(), Fault> {
     let more = to.saturating_sub(from);
-    let mut watch = Stopwatch::start(rt)?;
+    let mut watch = Stopwatch::start(rt, false)?;
     apply_each(scheduler, place, &[Step::Turn, Step::Move(1)], more)?;
     let growing = watch.lap(rt)?;
     apply_each(scheduler, place, &[Step::Stop], 1)?;

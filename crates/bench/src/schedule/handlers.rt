@@ -112,10 +112,7 @@ fn tell_all<S: Alter + Drop>(
     all: Invocations,
 ) -> Result<(), Fault> {
     let before = place.events;
-    let mut watch = match told {
-        Told::File => Stopwatch::start_by_clock(rt)?,
-        _ => Stopwatch::start(rt)?,
-    };
+    let mut watch = Stopwatch::start(rt, matches!(told, Told::File))?;
     do_all(scheduler, place, all)?;
     let took = watch.lap(rt)?;
     let events = place.events.wrapping_sub(before);
