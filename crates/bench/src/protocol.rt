@@ -7,11 +7,12 @@ mod whole;
 
 use crate::fault::Fault;
 use crate::timing::nanoseconds_each;
-pub use commands::read_as;
-use commands::{rewrite_command, time_command};
+use commands::{pass_command, time_command};
+pub use commands::{read_as, write};
 pub use journal::{PIECE, append};
-use journal::{put_by_command, put_journal};
+use journal::{put_command, put_journal};
 use journal_protocol::RawMessage;
+use samples::COMMANDS;
 use std::fmt;
 use std::rt::HostRuntime;
 use std::time::Duration;
@@ -46,7 +47,7 @@ fn speed(took: Duration, bytes: usize) -> u128 {
 }
 
 // Prints the line of the command at this place, unless the journal has none of it.
-fn print_command(rt: &HostRuntime, place: usize, messages: &[RawMessage]) -> Result<(), Fault> {
+fn print_command(rt: &HostRuntime, place: u32, messages: &[RawMessage]) -> Result<(), Fault> {
     let Some(first) = messages.first() else {
         return Ok(());
     };
@@ -55,19 +56,24 @@ fn print_command(rt: &HostRuntime, place: usize, messages: &[RawMessage]) -> Res
     let reading = nanoseconds_each(took.reading, count);
     let writing = nanoseconds_each(took.writing, count);
     let name = first.ty();
-    let frame = rewrite_command(rt.alloc(), first)?;
+    let mut frame = Vec::new(rt.alloc());
+    pass_command(rt.alloc(), first, true, &mut frame)?;
     let hex = Hex(frame.as_slice());
-    println!(rt; "{name} read {reading} write {writing} frames {count} {hex}")?;
-    Ok(())
+    let printed = println!(rt; "{name} read {reading} write {writing} frames {count} {hex}");
+    drop(frame);
+    Ok(printed?)
 }
 
-fn print_commands(rt: &HostRuntime, journal: &[u8]) -> Result<(), Fault> {
-    let mut lists = Vec::new(rt.alloc());
-    put_by_command(rt.alloc(), journal, &mut lists)?;
-    for (place, messages) in lists.as_slice().iter().enumerate() {
-        print_command(rt, place, messages.as_slice())?;
-    }
-    Ok(())
+// Prints the line of the command at this place, over all its frames in the journal.
+fn time_place(rt: &HostRuntime, journal: &[u8], place: u32) -> Result<(), Fault> {
+    let mut messages = Vec::new(rt.alloc());
+    let put = put_command(rt.alloc(), journal, place, &mut messages);
+    let printed = match put {
+        Ok(()) => print_command(rt, place, messages.as_slice()),
+        Err(fault) => Err(fault),
+    };
+    drop(messages);
+    printed
 }
 
 // A word for whether what was written is what was read.
@@ -99,17 +105,17 @@ fn print_whole(
 }
 
 // Times a journal, and prints a line for each command and one for the whole.
-fn time_journal(rt: &HostRuntime, journal: &[u8]) -> Result<(), Fault> {
-    print_commands(rt, journal)?;
-    let mut written = Vec::with_capacity(rt.alloc(), journal.len())?;
-    let whole = time_whole(rt, journal, &mut written)?;
+fn time_journal(rt: &HostRuntime, journal: &[u8], written: &mut Vec<u8>) -> Result<(), Fault> {
+    for place in 0..COMMANDS {
+        time_place(rt, journal, place)?;
+    }
+    let whole = time_whole(rt, journal, written)?;
     print_whole(rt, journal, &whole, written.as_slice())
 }
 
 // Reads and writes a journal, and prints whether what was written is what was read.
-fn try_journal(rt: &HostRuntime, journal: &[u8]) -> Result<(), Fault> {
-    let mut written = Vec::new(rt.alloc());
-    let frames = time_whole(rt, journal, &mut written)?.count;
+fn try_journal(rt: &HostRuntime, journal: &[u8], written: &mut Vec<u8>) -> Result<(), Fault> {
+    let frames = time_whole(rt, journal, written)?.count;
     let end = end_word(journal, written.as_slice());
     println!(rt; "journal frames {frames} {end}")?;
     Ok(())
@@ -119,9 +125,13 @@ fn try_journal(rt: &HostRuntime, journal: &[u8]) -> Result<(), Fault> {
 /// prints what came of it.
 pub fn run_protocol(rt: &HostRuntime, count: Option<u32>) -> Result<(), Fault> {
     let mut journal = Vec::new(rt.alloc());
-    put_journal(rt.alloc(), &mut journal, count.unwrap_or(40))?;
-    match count {
-        Some(_) => time_journal(rt, journal.as_slice()),
-        None => try_journal(rt, journal.as_slice()),
-    }
+    put_journal(&mut journal, count.unwrap_or(40))?;
+    let mut written = Vec::with_capacity(rt.alloc(), journal.len())?;
+    let done = match count {
+        Some(_) => time_journal(rt, journal.as_slice(), &mut written),
+        None => try_journal(rt, journal.as_slice(), &mut written),
+    };
+    drop(written);
+    drop(journal);
+    done
 }

@@ -1,7 +1,7 @@
 // The journal: made, and taken apart.
 use crate::fault::Fault;
 use crate::machine::handler::{begin, write};
-use crate::protocol::{append, read_as};
+use crate::protocol::{append, read_as, write as write_record};
 use bytes::{ByteStr, Bytes};
 use invocation_vm::{CoreVM, VM};
 use journal_protocol::messages::{
@@ -9,7 +9,7 @@ use journal_protocol::messages::{
     SleepCommandMessage, StartMessage, Value, Void,
 };
 use journal_protocol::{
-    Decoder, Encoder, MessageType, RawMessage, RawMessageExt, Sequence, Version, encode_record,
+    Decoder, MessageType, RawMessage, RawMessageExt, Sequence, Version, encode_record,
 };
 use std::alloc::Global;
 
@@ -28,9 +28,9 @@ fn start(alloc: Global, known_entries: u32) -> Result<Bytes, Fault> {
         limit_key: None,
         idempotency_key: None,
     };
-    let frame = Encoder::new(Version::V7).encode(alloc, &message);
+    let frame = write_record(alloc, &message);
     drop(message);
-    Ok(frame?)
+    frame
 }
 
 /// The frame of an input with no value.

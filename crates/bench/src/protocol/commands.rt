@@ -1,5 +1,6 @@
 // Which record each command is. Its place is that among the twenty, in the order of their types.
 use crate::fault::Fault;
+use crate::protocol::journal::append;
 use crate::protocol::records::{Took, time_records};
 use crate::protocol::samples::place_of;
 use bytes::Bytes;
@@ -39,31 +40,54 @@ macro_rules! at_place {
     };
 }
 
+/// The record of this type that a message is.
+pub fn read<M: RestateMessage>(alloc: Global, message: &RawMessage) -> Result<M, Fault> {
+    Ok(message.decode_to(alloc, 0)?)
+}
+
+/// The frame that a record is written as.
+pub fn write<M: PlainMessage>(alloc: Global, record: &M) -> Result<Bytes, Fault> {
+    Ok(Encoder::new(Version::V8).encode(alloc, record)?)
+}
+
 /// Reads a message as this record, and lets it go.
 pub fn read_as<M: RestateMessage>(alloc: Global, message: &RawMessage) -> Result<(), Fault> {
-    let record: M = message.decode_to(alloc, 0)?;
-    drop(record);
+    drop(read::<M>(alloc, message)?);
     Ok(())
 }
 
-fn rewrite_as<M: PlainMessage>(alloc: Global, message: &RawMessage) -> Result<Bytes, Fault> {
-    let record: M = message.decode_to(alloc, 0)?;
-    let frame = Encoder::new(Version::V8).encode(alloc, &record);
+fn put_record<M: PlainMessage>(alloc: Global, record: &M, out: &mut Vec<u8>) -> Result<(), Fault> {
+    append(out, write(alloc, record)?)
+}
+
+/// Reads a message as this record, and lets it go; before that, where it is to be written, puts its frame.
+fn pass_as<M: PlainMessage>(
+    alloc: Global,
+    message: &RawMessage,
+    is_written: bool,
+    out: &mut Vec<u8>,
+) -> Result<(), Fault> {
+    let record: M = read(alloc, message)?;
+    let written = if is_written {
+        put_record(alloc, &record, out)
+    } else {
+        Ok(())
+    };
     drop(record);
-    Ok(frame?)
+    written
 }
 
-/// Reads a command's record, and lets it go.
-pub fn read_command(alloc: Global, message: &RawMessage) -> Result<(), Fault> {
-    at_place!(place_of(message), read_as(alloc, message))
-}
-
-/// Reads a command's record, and gives the frame that it is written as.
-pub fn rewrite_command(alloc: Global, message: &RawMessage) -> Result<Bytes, Fault> {
-    at_place!(place_of(message), rewrite_as(alloc, message))
+/// Reads a command's record, and lets it go; before that, where it is to be written, puts its frame.
+pub fn pass_command(
+    alloc: Global,
+    message: &RawMessage,
+    is_written: bool,
+    out: &mut Vec<u8>,
+) -> Result<(), Fault> {
+    at_place!(place_of(message), pass_as(alloc, message, is_written, out))
 }
 
 /// Times the messages of the command at this place.
-pub fn time_command(rt: &HostRuntime, place: usize, all: &[RawMessage]) -> Result<Took, Fault> {
+pub fn time_command(rt: &HostRuntime, place: u32, all: &[RawMessage]) -> Result<Took, Fault> {
     at_place!(place, time_records(rt, all))
 }

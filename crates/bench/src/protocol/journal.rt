@@ -1,7 +1,6 @@
 // A journal as one stream of bytes: made, and taken apart.
 use crate::fault::Fault;
-use crate::protocol::commands::rewrite_command;
-use crate::protocol::samples::{COMMANDS, place_of, sample_at};
+use crate::protocol::samples::{COMMANDS, place_of, put_sample};
 use bytes::Bytes;
 use journal_protocol::{Decoder, RawMessage};
 use std::alloc::Global;
@@ -16,26 +15,27 @@ pub fn append(out: &mut Vec<u8>, frames: Bytes) -> Result<(), Fault> {
     Ok(put?)
 }
 
-// The frame of the command at this place.
-fn sample_frame(alloc: Global, place: usize) -> Result<Bytes, Fault> {
-    let message = sample_at(place)?;
-    let frame = rewrite_command(alloc, &message);
-    drop(message);
-    frame
-}
-
 /// Puts a journal of so many frames, with the twenty commands in turn.
-pub fn put_journal(alloc: Global, journal: &mut Vec<u8>, count: u32) -> Result<(), Fault> {
+pub fn put_journal(journal: &mut Vec<u8>, count: u32) -> Result<(), Fault> {
     for at in 0..count {
-        append(journal, sample_frame(alloc, at as usize % COMMANDS)?)?;
+        put_sample(journal, at % COMMANDS)?;
     }
     Ok(())
 }
 
-/// Puts the messages that are whole when this piece came.
+// Whether a message is the command at this place, or one of all, where none is named.
+fn is_wanted(message: &RawMessage, place: Option<u32>) -> bool {
+    match place {
+        Some(place) => place_of(message) == place,
+        None => true,
+    }
+}
+
+/// Puts the messages that are whole when this piece came: those that are the command at this place, or all, where none is named.
 pub fn put_messages(
     decoder: &mut Decoder,
     piece: &[u8],
+    place: Option<u32>,
     messages: &mut Vec<RawMessage>,
 ) -> Result<(), Fault> {
     decoder.push(piece)?;
@@ -43,37 +43,25 @@ pub fn put_messages(
         let Some(message) = decoder.consume_next()? else {
             break;
         };
-        messages.push(message)?;
-    }
-    Ok(())
-}
-
-// Puts each message that is whole to the list of its command.
-fn sort_messages(decoder: &mut Decoder, lists: &mut Vec<Vec<RawMessage>>) -> Result<(), Fault> {
-    for _ in 0..u64::MAX {
-        let Some(message) = decoder.consume_next()? else {
-            break;
-        };
-        if let Some(list) = lists.get_mut(place_of(&message)) {
-            list.push(message)?;
+        if is_wanted(&message, place) {
+            messages.push(message)?;
+        } else {
+            drop(message);
         }
     }
     Ok(())
 }
 
-/// Puts the messages of a journal, in a list for each command.
-pub fn put_by_command(
+/// Puts the messages of a journal that are the command at this place.
+pub fn put_command(
     alloc: Global,
     journal: &[u8],
-    lists: &mut Vec<Vec<RawMessage>>,
+    place: u32,
+    messages: &mut Vec<RawMessage>,
 ) -> Result<(), Fault> {
-    for _ in 0..COMMANDS {
-        lists.push(Vec::new(alloc))?;
-    }
     let mut decoder = Decoder::new(alloc);
     for piece in journal.chunks(PIECE) {
-        decoder.push(piece)?;
-        sort_messages(&mut decoder, lists)?;
+        put_messages(&mut decoder, piece, Some(place), messages)?;
     }
     Ok(())
 }

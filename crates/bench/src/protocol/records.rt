@@ -1,8 +1,8 @@
 // What messages of one type take, apart from their framing.
 use crate::fault::Fault;
-use crate::protocol::commands::read_as;
+use crate::protocol::commands::{read, read_as, write};
 use crate::timing::Stopwatch;
-use journal_protocol::{Encoder, PlainMessage, RawMessage, RawMessageExt, Version};
+use journal_protocol::{PlainMessage, RawMessage};
 use std::alloc::Global;
 use std::rt::HostRuntime;
 use std::time::Duration;
@@ -18,10 +18,8 @@ pub struct Took {
 }
 
 fn write_records<M: PlainMessage>(alloc: Global, records: &[M]) -> Result<(), Fault> {
-    let encoder = Encoder::new(Version::V8);
     for record in records {
-        let frame = encoder.encode(alloc, record)?;
-        drop(frame);
+        drop(write(alloc, record)?);
     }
     Ok(())
 }
@@ -33,8 +31,7 @@ fn time_writing<M: PlainMessage>(
     records: &mut Vec<M>,
 ) -> Result<Duration, Fault> {
     for message in block {
-        let record: M = message.decode_to(rt.alloc(), 0)?;
-        records.push(record)?;
+        records.push(read(rt.alloc(), message)?)?;
     }
     let mut watch = Stopwatch::start(rt, false)?;
     write_records(rt.alloc(), records.as_slice())?;

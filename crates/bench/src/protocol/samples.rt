@@ -1,21 +1,20 @@
-// A message of each command.
+// A frame of each command.
 use crate::fault::Fault;
-use bytes::Bytes;
-use journal_protocol::{MessageHeader, MessageType, RawMessage};
+use journal_protocol::RawMessage;
 
 /// How many commands there are.
-pub const COMMANDS: usize = 20;
+pub const COMMANDS: u32 = 20;
 
 /// The number of the first command's type. Those of the others follow it without a gap.
 const FIRST_COMMAND: u16 = 0x0400;
 
 /// Which of the twenty commands a message is. A message that is none has a place past them.
-pub fn place_of(message: &RawMessage) -> usize {
-    usize::from(u16::from(message.ty()).wrapping_sub(FIRST_COMMAND))
+pub fn place_of(message: &RawMessage) -> u32 {
+    u16::from(message.ty()).wrapping_sub(FIRST_COMMAND) as u32
 }
 
-// The payload of the command at this place, up to the reads of state.
-fn early_payload(place: usize) -> &'static [u8] {
+// The payload of the command at this place.
+fn payload_of(place: u32) -> &'static [u8] {
     match place {
         0 =>
             b"\x0a \x0a\x0ccontent-type\x12\x10application/json\x0a \x0a\x0ccontent-type\x12\x10application/jsonr!\x0a\x1f{\"name\": \"somebody\", \"age\": 77}",
@@ -27,13 +26,6 @@ fn early_payload(place: usize) -> &'static [u8] {
         6 => b"X\x09b\x0bthe command",
         7 => b"\x0a\x05countb\x0bthe commandr!\x0a\x1f{\"name\": \"somebody\", \"age\": 77}",
         8 => b"b\x0bthe commandr\x12\x0a\x05count\x0a\x04name\x0a\x03age",
-        _ => b"",
-    }
-}
-
-// The payload of the command at this place, from the promises on.
-fn late_payload(place: usize) -> &'static [u8] {
-    match place {
         9 => b"\x0a\x04doneX\x0ab\x0bthe command",
         10 => b"\x0a\x04doneX\x0bb\x0bthe command",
         11 =>
@@ -54,24 +46,11 @@ fn late_payload(place: usize) -> &'static [u8] {
     }
 }
 
-/// A message of the command at this place.
-pub fn sample_at(place: usize) -> Result<RawMessage, Fault> {
-    let payload = if place < 9 {
-        early_payload(place)
-    } else {
-        late_payload(place)
-    };
-    let Ok(offset) = u16::try_from(place) else {
-        return Err(Fault::Message);
-    };
-    let Ok(length) = u32::try_from(payload.len()) else {
-        return Err(Fault::Message);
-    };
-    let Ok(ty) = MessageType::try_from(FIRST_COMMAND.wrapping_add(offset)) else {
-        return Err(Fault::Message);
-    };
-    Ok(RawMessage {
-        header: MessageHeader::new(ty, length),
-        payload: Bytes::from_static(payload),
-    })
+/// Puts the frame of the command at this place: its type and its payload's length, and the payload.
+pub fn put_sample(journal: &mut Vec<u8>, place: u32) -> Result<(), Fault> {
+    let payload = payload_of(place);
+    let header = (FIRST_COMMAND as u64 + place as u64) << 48 | payload.len() as u64;
+    journal.extend_from_slice(&header.to_be_bytes())?;
+    journal.extend_from_slice(payload)?;
+    Ok(())
 }

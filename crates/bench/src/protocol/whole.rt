@@ -1,10 +1,9 @@
 // What a whole journal takes, in its order.
 use crate::fault::Fault;
-use crate::protocol::commands::{read_command, rewrite_command};
+use crate::protocol::commands::pass_command;
 use crate::protocol::journal::{PIECE, put_messages};
 use crate::timing::Stopwatch;
 use journal_protocol::{Decoder, RawMessage};
-use std::alloc::Global;
 use std::rt::HostRuntime;
 use std::time::Duration;
 
@@ -23,16 +22,18 @@ pub struct Whole {
     pub rewriting: Duration,
 }
 
-fn rewrite_messages(
-    alloc: Global,
+// How long it takes to read messages, and to write them where that is asked for.
+fn time_pass(
+    rt: &HostRuntime,
+    watch: &mut Stopwatch,
     messages: &[RawMessage],
-    written: &mut Vec<u8>,
-) -> Result<(), Fault> {
+    is_written: bool,
+    out: &mut Vec<u8>,
+) -> Result<Duration, Fault> {
     for message in messages {
-        let frame = rewrite_command(alloc, message)?;
-        written.extend_from_slice(frame.as_slice())?;
+        pass_command(rt.alloc(), message, is_written, out)?;
     }
-    Ok(())
+    watch.lap(rt)
 }
 
 // Adds what is done with the messages of a piece, which were taken out of it by now.
@@ -44,12 +45,10 @@ fn time_messages(
     written: &mut Vec<u8>,
 ) -> Result<(), Fault> {
     whole.framing = whole.framing.saturating_add(watch.lap(rt)?);
-    for message in messages {
-        read_command(rt.alloc(), message)?;
-    }
-    whole.reading = whole.reading.saturating_add(watch.lap(rt)?);
-    rewrite_messages(rt.alloc(), messages, written)?;
-    whole.rewriting = whole.rewriting.saturating_add(watch.lap(rt)?);
+    let reading = time_pass(rt, watch, messages, false, written)?;
+    whole.reading = whole.reading.saturating_add(reading);
+    let rewriting = time_pass(rt, watch, messages, true, written)?;
+    whole.rewriting = whole.rewriting.saturating_add(rewriting);
     whole.count = whole.count.wrapping_add(messages.len());
     Ok(())
 }
@@ -64,7 +63,7 @@ fn time_piece(
 ) -> Result<(), Fault> {
     let mut watch = Stopwatch::start(rt, false)?;
     let mut messages = Vec::with_capacity(rt.alloc(), MESSAGES)?;
-    let put = put_messages(decoder, piece, &mut messages);
+    let put = put_messages(decoder, piece, None, &mut messages);
     let timed = time_messages(rt, &mut watch, messages.as_slice(), whole, written);
     drop(messages);
     whole.framing = whole.framing.saturating_add(watch.lap(rt)?);
