@@ -1,4 +1,5 @@
 use journal_protocol::{DecodingError, EncodingError, Error};
+use journal_store::Refusal;
 use std::alloc::{AllocError, AllocFailed};
 use std::io;
 use std::num::ParseIntError;
@@ -63,5 +64,11 @@ impl From<Error> for Fault {
     fn from(error: Error) -> Fault {
         drop(error);
         Fault::Machine
+    }
+}
+
+impl From<Refusal> for Fault {
+    fn from(_refusal: Refusal) -> Fault {
+        Fault::NoStore
     }
 }

@@ -56,10 +56,7 @@ fn tell<S: Alter + Drop>(
 
 /// Over an empty database in memory, as the program's `:memory:` is.
 fn tell_in_memory(rt: &HostRuntime, told: Told, work: Work) -> Result<(), Fault> {
-    match open_in_memory(rt.alloc()) {
-        Ok(store) => tell(rt, store, told, work),
-        Err(_) => Err(Fault::NoStore),
-    }
+    tell(rt, open_in_memory(rt.alloc())?, told, work)
 }
 
 /// Over a store in a new file. Each commit is on the disk.

@@ -16,8 +16,8 @@ pub enum Step {
     Begin,
     /// All of the input is handed out that is left.
     Feed,
-    /// What turns come to is seen by the frames that are moved.
-    Turn,
+    /// So many turns. What they come to is seen by the frames that are moved.
+    Turn(u32),
     /// All of the output is moved, which is so many frames.
     Move(usize),
     Stop,
@@ -60,17 +60,23 @@ impl Place {
         Ok(())
     }
 
-    /// A new invocation of an object of its own.
-    fn new_invocation(&self) -> Result<NewInvocation, Fault> {
-        Ok(NewInvocation {
-            object: self.id.clone()?,
-            id: self.id.clone()?,
-            input: Bytes::new(),
-            headers: Sequence::new(self.alloc),
-            version: 7,
-            seed: 42,
-            state: StateMode::Whole,
-        })
+    /// The invocation, of an object of its own, with this id.
+    fn new_invocation(&self, id: ByteStr) -> Result<NewInvocation, Fault> {
+        match self.id.clone() {
+            Ok(object) => Ok(NewInvocation {
+                id,
+                object,
+                input: Bytes::new(),
+                headers: Sequence::new(self.alloc),
+                version: 7,
+                seed: 42,
+                state: StateMode::Whole,
+            }),
+            Err(_error) => {
+                drop(id);
+                Err(Fault::Memory)
+            }
+        }
     }
 
     /// An event of this invocation, of which there is one already.
@@ -87,7 +93,7 @@ impl Place {
                 attempt,
                 count,
             },
-            Step::Turn => Event::Turn {
+            Step::Turn(_) => Event::Turn {
                 invocation,
                 attempt,
             },
@@ -110,7 +116,7 @@ impl Place {
 
     fn event(&self, step: Step) -> Result<Event<Timed>, Fault> {
         match step {
-            Step::Invoke => Ok(Event::Invoke(self.new_invocation()?)),
+            Step::Invoke => Ok(Event::Invoke(self.new_invocation(self.id.clone()?)?)),
             Step::Tick(now, _) => Ok(Event::Tick(now)),
             _ => Ok(self.event_of(step, self.id.clone()?)),
         }
@@ -151,15 +157,18 @@ fn apply<S: Alter + Drop>(
     }
 }
 
-/// One step behind the other, and all of that so many times.
+/// One step behind the other.
 pub fn apply_each<S: Alter + Drop>(
     scheduler: &mut Scheduler<Timed, S>,
     place: &mut Place,
     steps: &[Step],
-    times: u32,
 ) -> Result<(), Fault> {
-    for _ in 0..times {
-        for step in steps {
+    for step in steps {
+        let events = match *step {
+            Step::Turn(count) => count,
+            _ => 1,
+        };
+        for _ in 0..events {
             apply(scheduler, place, *step)?;
         }
     }

@@ -7,6 +7,22 @@ use crate::timing::{Micros, Stopwatch};
 use durable_schedule::Scheduler;
 use sqlite::Alter;
 use std::rt::HostRuntime;
+use std::time::Duration;
+
+// What so many times these steps take.
+fn time_each<S: Alter + Drop>(
+    rt: &HostRuntime,
+    scheduler: &mut Scheduler<Timed, S>,
+    place: &mut Place,
+    steps: &[Step],
+    times: u32,
+) -> Result<Duration, Fault> {
+    let mut watch = Stopwatch::start(rt, false)?;
+    for _ in 0..times {
+        apply_each(scheduler, place, steps)?;
+    }
+    watch.lap(rt)
+}
 
 /// The journal grows to so many entries from so many, each moved as it is made. Then the attempt is stopped, and the next one is handed
 /// its input, reads it, and makes the sleeps again that are recorded behind it.
@@ -19,17 +35,11 @@ fn tell_part<S: Alter + Drop>(
     to: u32,
 ) -> Result<(), Fault> {
     let more = to.saturating_sub(from);
-    let mut watch = Stopwatch::start(rt, false)?;
-    apply_each(scheduler, place, &[Step::Turn, Step::Move(1)], more)?;
-    let growing = watch.lap(rt)?;
-    apply_each(scheduler, place, &[Step::Stop], 1)?;
-    let stopping = watch.lap(rt)?;
-    apply_each(scheduler, place, &[Step::Begin], 1)?;
-    let beginning = watch.lap(rt)?;
-    apply_each(scheduler, place, &[Step::Feed], 1)?;
-    apply_each(scheduler, place, &[Step::Turn], to)?;
-    let rest = watch.lap(rt)?;
-    let resuming = rest.saturating_add(stopping).saturating_add(beginning);
+    let growing = time_each(rt, scheduler, place, &[Step::Turn(1), Step::Move(1)], more)?;
+    let stopping = time_each(rt, scheduler, place, &[Step::Stop], 1)?;
+    let beginning = time_each(rt, scheduler, place, &[Step::Begin], 1)?;
+    let reading = time_each(rt, scheduler, place, &[Step::Feed, Step::Turn(to)], 1)?;
+    let resuming = stopping.saturating_add(beginning).saturating_add(reading);
     let events = place.events;
     let grow = Micros::each(growing, more.wrapping_mul(2));
     let begin = Micros::each(beginning, 1);
@@ -51,8 +61,8 @@ pub fn tell_growth<S: Alter + Drop>(
     times: u32,
 ) -> Result<(), Fault> {
     place.go_on(0, Timed::Sleeps)?;
-    let first = [Step::Invoke, Step::Begin, Step::Feed, Step::Turn];
-    apply_each(scheduler, place, &first, 1)?;
+    let first = [Step::Invoke, Step::Begin, Step::Feed, Step::Turn(1)];
+    apply_each(scheduler, place, &first)?;
     let mut from = 1u32;
     for part in 0..times {
         let to = part.wrapping_add(1).wrapping_mul(entries);

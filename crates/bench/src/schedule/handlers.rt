@@ -40,19 +40,26 @@ fn apply_all<S: Alter + Drop>(
     place: &mut Place,
 ) -> Result<(), Fault> {
     let (turns, requests, waking) = match place.handler {
-        Timed::Race(_) => (4, Step::Move(3), Step::Tick(20, 2)),
-        _ => (3, Step::Move(2), Step::Result(2)),
+        Timed::Race(_) => (Step::Turn(4), Step::Move(3), Step::Tick(20, 2)),
+        _ => (Step::Turn(3), Step::Move(2), Step::Result(2)),
     };
-    let invoked = [Step::Invoke, Step::Begin, Step::Feed];
-    let stopped = [requests, Step::Stop, Step::Begin, Step::Feed];
-    let woken = [Step::Move(1), waking, Step::Feed];
-    apply_each(scheduler, place, &invoked, 1)?;
-    apply_each(scheduler, place, &[Step::Turn], turns)?;
-    apply_each(scheduler, place, &stopped, 1)?;
-    apply_each(scheduler, place, &[Step::Turn], turns)?;
-    apply_each(scheduler, place, &woken, 1)?;
-    apply_each(scheduler, place, &[Step::Turn], 4)?;
-    apply_each(scheduler, place, &[Step::Move(2)], 1)
+    let steps = [
+        Step::Invoke,
+        Step::Begin,
+        Step::Feed,
+        turns,
+        requests,
+        Step::Stop,
+        Step::Begin,
+        Step::Feed,
+        turns,
+        Step::Move(1),
+        waking,
+        Step::Feed,
+        Step::Turn(4),
+        Step::Move(2),
+    ];
+    apply_each(scheduler, place, &steps)
 }
 
 /// One invocation behind the other.
