@@ -9,8 +9,8 @@ use durable_schedule::Scheduler;
 use events::Place;
 use growth::tell_growth;
 use handlers::{Numbers, Told, tell_both};
-use journal_store::Store;
-use sqlite::{Alter, Unknown};
+use journal_store::{Refusal, Store};
+use sqlite::{Alter, Start, Unknown};
 use std::rt::HostRuntime;
 use store_files::{open_file, open_in_memory};
 use timed::Timed;
@@ -30,13 +30,13 @@ const GROWTH: Work = Work::Growth(1_000, 10);
 
 fn tell<S: Alter + Drop>(
     rt: &HostRuntime,
-    store: Store<S>,
+    opened: Result<Store<S>, Refusal>,
     told: Told,
     work: Work,
 ) -> Result<(), Fault> {
     let mut scheduler: Scheduler<Timed, S> = Scheduler::new(
         rt.alloc(),
-        store,
+        opened?,
         VMOptions::default(),
     );
     let mut place = Place::new(rt.alloc());
@@ -56,13 +56,13 @@ fn tell<S: Alter + Drop>(
 
 /// Over an empty database in memory, as the program's `:memory:` is.
 fn tell_in_memory(rt: &HostRuntime, told: Told, work: Work) -> Result<(), Fault> {
-    tell(rt, open_in_memory(rt.alloc())?, told, work)
+    tell(rt, open_in_memory(rt.alloc()), told, work)
 }
 
 /// Over a store in a new file. Each commit is on the disk.
-fn tell_in_file(rt: &HostRuntime, path: &str, work: Work) -> Result<(), Fault> {
-    match open_file(rt, path, Unknown) {
-        Ok(store) => tell(rt, store, Told::File, work),
+fn tell_in_file<S: Start>(rt: &HostRuntime, path: &str, start: S, work: Work) -> Result<(), Fault> {
+    match open_file(rt, path, start) {
+        Ok(store) => tell(rt, Ok(store), Told::File, work),
         Err(left) => {
             drop(left);
             Err(Fault::NoStore)
@@ -88,7 +88,7 @@ pub fn run_schedule(rt: &HostRuntime, words: &[String]) -> Result<(), Fault> {
         let scattered = Work::Invocations(Numbers::Scattered, count);
         tell_in_memory(rt, Told::Memory, scattered)?;
     } else if let Some(path) = second {
-        tell_in_file(rt, path.as_str(), counted)?;
+        tell_in_file(rt, path.as_str(), Unknown, counted)?;
     }
     tell_in_memory(rt, Told::Memory, GROWTH)
 }

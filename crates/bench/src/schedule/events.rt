@@ -123,6 +123,17 @@ impl Place {
     }
 }
 
+/// What events are applied to: a scheduler, whatever database its store has. Seen so, a function over it says nothing of either.
+pub trait Events {
+    fn apply_event(&mut self, event: Event<Timed>) -> Reply;
+}
+
+impl<S: Alter + Drop> Events for Scheduler<Timed, S> {
+    fn apply_event(&mut self, event: Event<Timed>) -> Reply {
+        self.apply(event)
+    }
+}
+
 fn is_meant(step: Step, attempt: u32, reply: &Reply) -> bool {
     match reply {
         Reply::Refused(_) => false,
@@ -137,17 +148,13 @@ fn is_meant(step: Step, attempt: u32, reply: &Reply) -> bool {
     }
 }
 
-fn apply<S: Alter + Drop>(
-    scheduler: &mut Scheduler<Timed, S>,
-    place: &mut Place,
-    step: Step,
-) -> Result<(), Fault> {
+fn apply<E: Events>(scheduler: &mut E, place: &mut Place, step: Step) -> Result<(), Fault> {
     let event = place.event(step)?;
     if let Step::Begin = step {
         place.attempt = place.attempt.wrapping_add(1);
     }
     place.events = place.events.wrapping_add(1);
-    let reply = scheduler.apply(event);
+    let reply = scheduler.apply_event(event);
     let is_meant = is_meant(step, place.attempt, &reply);
     drop(reply);
     if is_meant {
@@ -158,8 +165,8 @@ fn apply<S: Alter + Drop>(
 }
 
 /// One step behind the other.
-pub fn apply_each<S: Alter + Drop>(
-    scheduler: &mut Scheduler<Timed, S>,
+pub fn apply_each<E: Events>(
+    scheduler: &mut E,
     place: &mut Place,
     steps: &[Step],
 ) -> Result<(), Fault> {

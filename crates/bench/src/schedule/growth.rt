@@ -1,18 +1,16 @@
 // An invocation whose journal grows, resumed part by part.
 use crate::fault::Fault;
-use crate::schedule::events::{Place, Step, apply_each};
+use crate::schedule::events::{Events, Place, Step, apply_each};
 use crate::schedule::handlers::Told;
 use crate::schedule::timed::Timed;
 use crate::timing::{Micros, Stopwatch};
-use durable_schedule::Scheduler;
-use sqlite::Alter;
 use std::rt::HostRuntime;
 use std::time::Duration;
 
 // What so many times these steps take.
-fn time_each<S: Alter + Drop>(
+fn time_each<E: Events>(
     rt: &HostRuntime,
-    scheduler: &mut Scheduler<Timed, S>,
+    scheduler: &mut E,
     place: &mut Place,
     steps: &[Step],
     times: u32,
@@ -26,9 +24,9 @@ fn time_each<S: Alter + Drop>(
 
 /// The journal grows to so many entries from so many, each moved as it is made. Then the attempt is stopped, and the next one is handed
 /// its input, reads it, and makes the sleeps again that are recorded behind it.
-fn tell_part<S: Alter + Drop>(
+fn tell_part<E: Events>(
     rt: &HostRuntime,
-    scheduler: &mut Scheduler<Timed, S>,
+    scheduler: &mut E,
     place: &mut Place,
     told: Told,
     from: u32,
@@ -52,9 +50,9 @@ fn tell_part<S: Alter + Drop>(
 }
 
 /// Makes an invocation whose journal grows by so many entries, so many times, and prints what is told of each time.
-pub fn tell_growth<S: Alter + Drop>(
+pub fn tell_growth<E: Events>(
     rt: &HostRuntime,
-    scheduler: &mut Scheduler<Timed, S>,
+    scheduler: &mut E,
     place: &mut Place,
     told: Told,
     entries: u32,

@@ -1,10 +1,8 @@
 // Invocations of `race` and `ask`, from invoke to end.
 use crate::fault::Fault;
-use crate::schedule::events::{Place, Step, apply_each};
+use crate::schedule::events::{Events, Place, Step, apply_each};
 use crate::schedule::timed::Timed;
 use crate::timing::{Micros, Stopwatch};
-use durable_schedule::Scheduler;
-use sqlite::Alter;
 use std::rt::HostRuntime;
 use std::time::Duration;
 
@@ -35,10 +33,7 @@ struct Invocations {
 /// The invocation of this place, from invoke to end. Its first attempt is stopped where it waits, behind its input and its requests,
 /// which are moved with what it waits for. The second waits too; then what it waits for comes, and it is woken, asks which is over or
 /// takes the answer, puts out and ends. `race` makes two sleeps and waits for the first that is over, `ask` waits for a call.
-fn apply_all<S: Alter + Drop>(
-    scheduler: &mut Scheduler<Timed, S>,
-    place: &mut Place,
-) -> Result<(), Fault> {
+fn apply_all<E: Events>(scheduler: &mut E, place: &mut Place) -> Result<(), Fault> {
     let (turns, requests, waking) = match place.handler {
         Timed::Race(_) => (Step::Turn(4), Step::Move(3), Step::Tick(20, 2)),
         _ => (Step::Turn(3), Step::Move(2), Step::Result(2)),
@@ -63,11 +58,7 @@ fn apply_all<S: Alter + Drop>(
 }
 
 /// One invocation behind the other.
-fn do_all<S: Alter + Drop>(
-    scheduler: &mut Scheduler<Timed, S>,
-    place: &mut Place,
-    all: Invocations,
-) -> Result<(), Fault> {
+fn do_all<E: Events>(scheduler: &mut E, place: &mut Place, all: Invocations) -> Result<(), Fault> {
     for at in 0..all.count {
         let which = number(all.numbers, all.first.wrapping_add(at));
         place.go_on(which, all.handler)?;
@@ -111,9 +102,9 @@ fn print_all(
 }
 
 /// Brings invocations to their ends, and prints what is told of their events.
-fn tell_all<S: Alter + Drop>(
+fn tell_all<E: Events>(
     rt: &HostRuntime,
-    scheduler: &mut Scheduler<Timed, S>,
+    scheduler: &mut E,
     place: &mut Place,
     told: Told,
     all: Invocations,
@@ -127,9 +118,9 @@ fn tell_all<S: Alter + Drop>(
 }
 
 /// Brings so many invocations of each handler to their ends, and prints what is told of their events.
-pub fn tell_both<S: Alter + Drop>(
+pub fn tell_both<E: Events>(
     rt: &HostRuntime,
-    scheduler: &mut Scheduler<Timed, S>,
+    scheduler: &mut E,
     place: &mut Place,
     told: Told,
     numbers: Numbers,
