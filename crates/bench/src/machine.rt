@@ -5,8 +5,8 @@ mod journal;
 use crate::fault::Fault;
 use crate::timing::{Stopwatch, nanoseconds_each};
 use handler::{begin, replay, write};
-use invocation_vm::{CoreVM, VM};
-use journal::{decode, put_journal};
+use invocation_vm::VM;
+use journal::{decode, put_calls};
 use std::rt::HostRuntime;
 use std::time::Duration;
 
@@ -39,8 +39,8 @@ fn time_calls<V: VM>(
     })
 }
 
-fn time_journal(rt: &HostRuntime, journal: &[u8], count: u32) -> Result<Took, Fault> {
-    let mut vm: CoreVM = begin(rt.alloc())?;
+fn time_all<V: VM + Drop>(rt: &HostRuntime, journal: &[u8], count: u32) -> Result<Took, Fault> {
+    let mut vm: V = begin(rt.alloc())?;
     let took = time_calls(rt, &mut vm, journal, count);
     drop(vm);
     took
@@ -51,17 +51,16 @@ fn print_took(rt: &HostRuntime, entries: u32, commands: u32, took: Took) -> Resu
     let replay = nanoseconds_each(took.replaying, entries as usize);
     let decode = nanoseconds_each(took.decoding, entries as usize);
     let write = nanoseconds_each(took.writing, commands as usize);
-    println!(rt; "entries {entries} replay {replay} decode {decode} write {write}")?;
-    Ok(())
+    Ok(println!(rt; "entries {entries} replay {replay} decode {decode} write {write}")?)
 }
 
 /// Replays a journal of so many sleeps and calls, and makes as many anew, and prints what an entry takes; or, where none are asked
 /// for, of two of each, and prints that it came to its end.
-pub fn run_machine(rt: &HostRuntime, count: Option<u32>) -> Result<(), Fault> {
+pub fn run_machine<V: VM + Drop>(rt: &HostRuntime, count: Option<u32>) -> Result<(), Fault> {
     let pairs = count.unwrap_or(2);
     let mut journal = Vec::new(rt.alloc());
-    put_journal(rt.alloc(), &mut journal, pairs)?;
-    let took = time_journal(rt, journal.as_slice(), pairs)?;
+    put_calls::<V>(rt.alloc(), &mut journal, pairs)?;
+    let took = time_all::<V>(rt, journal.as_slice(), pairs)?;
     let entries = pairs.saturating_mul(5);
     match count {
         Some(_) => print_took(rt, entries, pairs.saturating_mul(2), took),

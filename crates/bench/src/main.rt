@@ -17,6 +17,7 @@ mod schedule;
 mod timing;
 
 use fault::Fault;
+use invocation_vm::CoreVM;
 use machine::run_machine;
 use protocol::run_protocol;
 use schedule::run_schedule;
@@ -32,19 +33,24 @@ fn number_at(words: &[String], place: usize) -> Result<Option<u32>, Fault> {
     }
 }
 
-/// Does what the words say behind the program's own name.
-fn run_words(rt: &HostRuntime, words: &[String]) -> Result<(), Fault> {
-    let Some(part) = words.get(1) else {
-        run_protocol(rt, None)?;
-        run_machine(rt, None)?;
-        return run_schedule(rt, words);
-    };
-    match part.as_str() {
+/// Does what the words say behind the name of a part.
+fn run_part(rt: &HostRuntime, part: &str, words: &[String]) -> Result<(), Fault> {
+    match part {
         "protocol" => run_protocol(rt, number_at(words, 2)?),
-        "machine" => run_machine(rt, number_at(words, 2)?),
+        "machine" => run_machine::<CoreVM>(rt, number_at(words, 2)?),
         "schedule" => run_schedule(rt, words),
         _ => Err(Fault::NotUnderstood),
     }
+}
+
+/// Does what the words say behind the program's own name.
+fn run_words(rt: &HostRuntime, words: &[String]) -> Result<(), Fault> {
+    if let Some(part) = words.get(1) {
+        return run_part(rt, part.as_str(), words);
+    }
+    run_part(rt, "protocol", words)?;
+    run_part(rt, "machine", words)?;
+    run_part(rt, "schedule", words)
 }
 
 fn run(rt: &HostRuntime) -> Result<(), Fault> {

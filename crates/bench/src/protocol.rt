@@ -67,13 +67,8 @@ fn print_command(rt: &HostRuntime, place: u32, messages: &[RawMessage]) -> Resul
 // Prints the line of the command at this place, over all its frames in the journal.
 fn time_place(rt: &HostRuntime, journal: &[u8], place: u32) -> Result<(), Fault> {
     let mut messages = Vec::new(rt.alloc());
-    let put = put_command(rt.alloc(), journal, place, &mut messages);
-    let printed = match put {
-        Ok(()) => print_command(rt, place, messages.as_slice()),
-        Err(fault) => Err(fault),
-    };
-    drop(messages);
-    printed
+    put_command(rt.alloc(), journal, place, &mut messages)?;
+    print_command(rt, place, messages.as_slice())
 }
 
 // A word for whether what was written is what was read.
@@ -100,8 +95,7 @@ fn print_whole(
     let (read_speed, write_speed) = (speed(reading, bytes), speed(writing, bytes));
     let hash = checksum(written);
     let end = end_word(journal, written);
-    println!(rt; " MB/s {read_speed} {write_speed} checksum {hash:016x} {end}")?;
-    Ok(())
+    Ok(println!(rt; " MB/s {read_speed} {write_speed} checksum {hash:016x} {end}")?)
 }
 
 // Times a journal, and prints a line for each command and one for the whole.
@@ -117,8 +111,7 @@ fn time_journal(rt: &HostRuntime, journal: &[u8], written: &mut Vec<u8>) -> Resu
 fn try_journal(rt: &HostRuntime, journal: &[u8], written: &mut Vec<u8>) -> Result<(), Fault> {
     let frames = time_whole(rt, journal, written)?.count;
     let end = end_word(journal, written.as_slice());
-    println!(rt; "journal frames {frames} {end}")?;
-    Ok(())
+    Ok(println!(rt; "journal frames {frames} {end}")?)
 }
 
 /// Reads and writes a journal of so many commands, and prints what a frame takes; or, where none are asked for, one of forty, and

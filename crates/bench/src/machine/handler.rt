@@ -17,10 +17,7 @@ pub fn begin<V: VM>(alloc: Global) -> Result<V, Fault> {
     ))?;
     let made = V::new(alloc, &headers, VMOptions::default());
     drop(headers);
-    match made {
-        Ok(vm) => Ok(vm),
-        Err(error) => Err(error.into()),
-    }
+    Ok(made?)
 }
 
 fn sleep<V: VM>(vm: &mut V) -> Result<NotificationHandle, Fault> {
@@ -59,11 +56,16 @@ fn take_both<V: VM>(alloc: Global, vm: &mut V) -> Result<(), Fault> {
     take(vm, answer)
 }
 
-/// Goes over a whole journal of so many sleeps and calls.
-pub fn replay<V: VM>(alloc: Global, vm: &mut V, journal: &[u8], count: u32) -> Result<(), Fault> {
+fn feed<V: VM>(alloc: Global, vm: &mut V, journal: &[u8]) -> Result<(), Fault> {
     for piece in journal.chunks(PIECE) {
         vm.notify_input(Bytes::copy_from_slice(alloc, piece)?);
     }
+    Ok(())
+}
+
+/// Goes over a whole journal of so many sleeps and calls.
+pub fn replay<V: VM>(alloc: Global, vm: &mut V, journal: &[u8], count: u32) -> Result<(), Fault> {
+    feed(alloc, vm, journal)?;
     drop(vm.sys_input()?);
     for _ in 0..count {
         take_both(alloc, vm)?;

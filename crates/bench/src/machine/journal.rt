@@ -3,7 +3,7 @@ use crate::fault::Fault;
 use crate::machine::handler::{begin, write};
 use crate::protocol::{append, read_as, write as write_record};
 use bytes::{ByteStr, Bytes};
-use invocation_vm::{CoreVM, VM};
+use invocation_vm::VM;
 use journal_protocol::messages::{
     CallCommandMessage, NotificationMessage, NotificationMessageId, NotificationMessageResult,
     SleepCommandMessage, StartMessage, Value, Void,
@@ -76,19 +76,19 @@ fn write_anew<V: VM>(alloc: Global, vm: &mut V, count: u32) -> Result<Bytes, Fau
 }
 
 // The frames of so many sleeps and calls, as the machine writes them.
-fn commands(alloc: Global, count: u32) -> Result<Bytes, Fault> {
-    let mut vm: CoreVM = begin(alloc)?;
+fn commands<V: VM + Drop>(alloc: Global, count: u32) -> Result<Bytes, Fault> {
+    let mut vm: V = begin(alloc)?;
     let written = write_anew(alloc, &mut vm, count);
     drop(vm);
     written
 }
 
 /// Puts a journal of so many sleeps and calls, and their results behind them.
-pub fn put_journal(alloc: Global, out: &mut Vec<u8>, count: u32) -> Result<(), Fault> {
+pub fn put_calls<V: VM + Drop>(alloc: Global, out: &mut Vec<u8>, count: u32) -> Result<(), Fault> {
     let entries = count.saturating_mul(5).saturating_add(1);
     append(out, start(alloc, entries)?)?;
     out.extend_from_slice(INPUT)?;
-    append(out, commands(alloc, count)?)?;
+    append(out, commands::<V>(alloc, count)?)?;
     for at in 0..count {
         put_results(alloc, out, at.wrapping_mul(3).wrapping_add(1))?;
     }

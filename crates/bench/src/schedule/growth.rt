@@ -43,10 +43,9 @@ fn tell_part<E: Events>(
     let begin = Micros::each(beginning, 1);
     let resume = Micros::each(resuming, to.wrapping_add(3));
     match told {
-        Told::Count => println!(rt; "journal {to} events {events}")?,
-        _ => println!(rt; "journal {to} grow {grow} begin {begin} resume {resume}")?,
+        Told::Count => Ok(println!(rt; "journal {to} events {events}")?),
+        _ => Ok(println!(rt; "journal {to} grow {grow} begin {begin} resume {resume}")?),
     }
-    Ok(())
 }
 
 /// Makes an invocation whose journal grows by so many entries, so many times, and prints what is told of each time.

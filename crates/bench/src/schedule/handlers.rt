@@ -93,12 +93,14 @@ fn print_all(
         Numbers::Counted => "counted",
         Numbers::Scattered => "scattered",
     };
+    let place = match told {
+        Told::File => "file",
+        _ => "memory",
+    };
     match told {
-        Told::Count => println!(rt; "{name} {count} events {events}")?,
-        Told::Memory => println!(rt; "memory {name} {count} event {event} {order}")?,
-        Told::File => println!(rt; "file {name} {count} event {event} {order}")?,
+        Told::Count => Ok(println!(rt; "{name} {count} events {events}")?),
+        _ => Ok(println!(rt; "{place} {name} {count} event {event} {order}")?),
     }
-    Ok(())
 }
 
 /// Brings invocations to their ends, and prints what is told of their events.
