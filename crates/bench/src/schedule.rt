@@ -9,10 +9,10 @@ use durable_schedule::Scheduler;
 use events::Place;
 use growth::tell_growth;
 use handlers::{Numbers, Told, tell_both};
-use journal_store::{Refusal, Store};
-use sqlite::{Alter, Start, Unknown};
+use journal_store::{NotOpened, Store};
+use sqlite::{Alter, Unknown};
 use std::rt::HostRuntime;
-use store_files::{open_file, open_in_memory};
+use store_files::{NotTaken, open_file, open_in_memory};
 use timed::Timed;
 use vm_types::VMOptions;
 
@@ -28,17 +28,22 @@ enum Work {
 /// A journal that grows to 10,000 entries.
 const GROWTH: Work = Work::Growth(1_000, 10);
 
-fn tell<S: Alter + Drop>(
+/// Over a store that was opened, unless it was not.
+fn tell<S: Alter + Drop, L: Drop>(
     rt: &HostRuntime,
-    opened: Result<Store<S>, Refusal>,
+    opened: Result<Store<S>, NotTaken<L, NotOpened<S>>>,
     told: Told,
     work: Work,
 ) -> Result<(), Fault> {
-    let mut scheduler: Scheduler<Timed, S> = Scheduler::new(
-        rt.alloc(),
-        opened?,
-        VMOptions::default(),
-    );
+    let store = match opened {
+        Ok(store) => store,
+        Err(left) => {
+            drop(left);
+            return Err(Fault::NoStore);
+        }
+    };
+    let options = VMOptions::default();
+    let mut scheduler: Scheduler<Timed, S> = Scheduler::new(rt.alloc(), store, options);
     let mut place = Place::new(rt.alloc());
     let done = match work {
         Work::Invocations(numbers, count) => {
@@ -56,18 +61,14 @@ fn tell<S: Alter + Drop>(
 
 /// Over an empty database in memory, as the program's `:memory:` is.
 fn tell_in_memory(rt: &HostRuntime, told: Told, work: Work) -> Result<(), Fault> {
-    tell(rt, open_in_memory(rt.alloc()), told, work)
+    let store = open_in_memory(rt.alloc())?;
+    tell::<_, ()>(rt, Ok(store), told, work)
 }
 
-/// Over a store in a new file. Each commit is on the disk.
-fn tell_in_file<S: Start>(rt: &HostRuntime, path: &str, start: S, work: Work) -> Result<(), Fault> {
-    match open_file(rt, path, start) {
-        Ok(store) => tell(rt, Ok(store), Told::File, work),
-        Err(left) => {
-            drop(left);
-            Err(Fault::NoStore)
-        }
-    }
+/// Over a store in a new file. Each commit is on the disk. The parts of a store's type are compared where `tell` is called, and where
+/// what is left of one is let go of, at no small cost: so `tell` does that.
+fn tell_in_file(rt: &HostRuntime, path: &str, work: Work) -> Result<(), Fault> {
+    tell(rt, open_file(rt, path, Unknown), Told::File, work)
 }
 
 /// Does what the words say behind the part's name, or, where there are none, a little of it.
@@ -88,7 +89,7 @@ pub fn run_schedule(rt: &HostRuntime, words: &[String]) -> Result<(), Fault> {
         let scattered = Work::Invocations(Numbers::Scattered, count);
         tell_in_memory(rt, Told::Memory, scattered)?;
     } else if let Some(path) = second {
-        tell_in_file(rt, path.as_str(), Unknown, counted)?;
+        tell_in_file(rt, path.as_str(), counted)?;
     }
     tell_in_memory(rt, Told::Memory, GROWTH)
 }
