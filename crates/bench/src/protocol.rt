@@ -118,7 +118,7 @@ fn try_journal(rt: &HostRuntime, journal: &[u8], written: &mut Vec<u8>) -> Resul
 /// prints what came of it.
 pub fn run_protocol(rt: &HostRuntime, count: Option<u32>) -> Result<(), Fault> {
     let mut journal = Vec::new(rt.alloc());
-    put_journal(&mut journal, count.unwrap_or(40))?;
+    put_journal(rt.alloc(), &mut journal, count.unwrap_or(40))?;
     let mut written = Vec::with_capacity(rt.alloc(), journal.len())?;
     let done = match count {
         Some(_) => time_journal(rt, journal.as_slice(), &mut written),

@@ -39,7 +39,7 @@ use Rattle.store_live_laws.proofs.Ticked.{ticked_at_once, unticked}
 use Rattle.store_arrivals.specs.Made.{AreFrames, IsTickReady, ids_ended}
 use Rattle.store_arrivals.specs.declared.tick.PreparedTick.{PreparedTick}
 use Rattle.store_arrivals.proofs.Keeping.{ready_keeps}
-use Rattle.store_calls.specs.Standing.{Standing, Adds}
+use Rattle.store_calls.specs.Standing.{Adds}
 use Rattle.store_calls.specs.Calls.{Ticks}
 use Rattle.journal_store.specs.Stored.{stored}
 use Rattle.journal_store.specs.Attempts.{PutsAll}

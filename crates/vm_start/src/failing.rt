@@ -6,7 +6,6 @@ ghost use Rattle.protocol_stream.specs.declared.encoder.EncodingError.TheVariant
 ghost use Rattle.vm_start.specs.Failing.{out_of_memory, or_out_of_memory, IsTooLong, Writes, Tells, TellsCause, IsCopy, Fails, IsAgain};
 ghost use Rattle.vm_start.specs.Phases.{kept_error};
 
-use crate::fits::record_fits;
 use crate::{Phase, error_message, fail_with};
 use bytes::ByteStr;
 use protocol_controls::ErrorMessage;
@@ -55,7 +54,6 @@ fn write_error(output: &mut Output, alloc: Global, error: &Error) -> Result<(), 
         return Ok(());
     }
     let message = error_message(alloc, error)?;
-    record_fits(&message);
     let sent = output.send(alloc, &message);
     drop(message);
     sent

@@ -8,7 +8,6 @@
 mod error;
 mod failing;
 mod failure;
-mod fits;
 mod negotiation;
 mod phase;
 mod start;

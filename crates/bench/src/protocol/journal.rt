@@ -1,6 +1,6 @@
 // A journal as one stream of bytes: made, and taken apart.
 use crate::fault::Fault;
-use crate::protocol::samples::{COMMANDS, place_of, put_sample};
+use crate::protocol::samples::{place_of, sample_frame};
 use bytes::Bytes;
 use journal_protocol::{Decoder, RawMessage};
 use std::alloc::Global;
@@ -16,9 +16,9 @@ pub fn append(out: &mut Vec<u8>, frames: Bytes) -> Result<(), Fault> {
 }
 
 /// Puts a journal of so many frames, with the twenty commands in turn.
-pub fn put_journal(journal: &mut Vec<u8>, count: u32) -> Result<(), Fault> {
+pub fn put_journal(alloc: Global, journal: &mut Vec<u8>, count: u32) -> Result<(), Fault> {
     for at in 0..count {
-        put_sample(journal, at % COMMANDS)?;
+        append(journal, sample_frame(alloc, at)?)?;
     }
     Ok(())
 }

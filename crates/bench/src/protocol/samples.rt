@@ -1,6 +1,8 @@
 // A frame of each command.
 use crate::fault::Fault;
-use journal_protocol::RawMessage;
+use bytes::Bytes;
+use journal_protocol::{MessageType, RawMessage, frame_of};
+use std::alloc::Global;
 
 /// How many commands there are.
 pub const COMMANDS: u32 = 20;
@@ -46,11 +48,11 @@ fn payload_of(place: u32) -> &'static [u8] {
     }
 }
 
-/// Puts the frame of the command at this place: its type and its payload's length, and the payload.
-pub fn put_sample(journal: &mut Vec<u8>, place: u32) -> Result<(), Fault> {
-    let payload = payload_of(place);
-    let header = (FIRST_COMMAND as u64 + place as u64) << 48 | payload.len() as u64;
-    journal.extend_from_slice(&header.to_be_bytes())?;
-    journal.extend_from_slice(payload)?;
-    Ok(())
+/// The frame of a command, the twenty in turn.
+pub fn sample_frame(alloc: Global, at: u32) -> Result<Bytes, Fault> {
+    let place = at % COMMANDS;
+    match MessageType::try_from(FIRST_COMMAND + place as u16) {
+        Ok(ty) => Ok(frame_of(alloc, ty, payload_of(place))?),
+        Err(_unknown) => Err(Fault::Message),
+    }
 }
