@@ -16,7 +16,7 @@ use Rattle.protocol_types.specs.declared.version.Version.{Version}
 use Rattle.protocol_stream.proofs.Fronts.{item_at-spelled}
 use Rattle.protocol_types.proofs.Types.{named_is_wire}
 use Rattle.protocol_messages.specs.Leaves.{completions_of, signals_of, named_signals_of, lists_of, three_lists}
-use Rattle.protocol_messages.specs.Encoded.{is_before_7, record_message, suspension_parts_as, suspension_message}
+use Rattle.protocol_messages.specs.Encoded.{suspends_by_lists, record_message, suspension_parts_as, suspension_message}
 use Rattle.protocol_messages.specs.Laws.{ReadsSuspension, SuspensionsReadBack}
 use Rattle.protocol_messages.proofs.Frames.{is_frame}
 use Rattle.protocol_messages.proofs.Preorder.{completions_is, signals_is, named_signals_is}
@@ -67,5 +67,5 @@ read_as false one version index h small = (refl, suspension_reads LEVELS one h (
 
 pub suspensions_read_back : SuspensionsReadBack
 suspensions_read_back one version index rest h small =
-    let frame = is_frame messages.Suspension version (payload_of (suspension_parts_as (is_before_7 version) one)) (named_is_wire messages.Suspension refl) small in
-    (frame, item_at-spelled (suspension_message version one) rest frame, read_as (is_before_7 version) one version index h small)
+    let frame = is_frame messages.Suspension version (payload_of (suspension_parts_as (suspends_by_lists version) one)) (named_is_wire messages.Suspension refl) small in
+    (frame, item_at-spelled (suspension_message version one) rest frame, read_as (suspends_by_lists version) one version index h small)

@@ -1,5 +1,5 @@
 -- The message that a record is written as, and what an encoder answers.
-use Rattle.std.specs.Prelude.{◌≡◌, ◌↔◌, ◌≤◌, ◌^◌, ℕ, not, Bool, true, false, List, length, Option, Some, None, Result, Err, IfOk}
+use Rattle.std.specs.Prelude.{◌≡◌, ◌↔◌, ◌≤◌, ◌^◌, ℕ, Bool, true, false, List, length, Option, Some, None, Result, Err, IfOk}
 use Rattle.protocol_table.specs.declared.table.RecordType.{RecordType}
 use Rattle.protocol_wire.specs.Parts.{Part, payload_of}
 use Rattle.protocol_records.specs.Suspension.{suspension_parts}
@@ -11,20 +11,17 @@ use Rattle.protocol_stream.specs.declared.decoder.RawMessage.{RawMessage}
 use Rattle.protocol_stream.specs.declared.encoder.EncodingError.{EncodingError}
 use Rattle.protocol_stream.specs.declared.encoder.EncodingError.TheVariants.{PayloadTooLong}
 use Rattle.protocol_types.specs.declared.version.Version.{Version}
-use Rattle.protocol_types.specs.declared.feature.Feature.TheVariants.{AwaitTree}
-use Rattle.protocol_types.specs.Feature.{lacks_feature}
+use Rattle.protocol_types.specs.declared.feature.Feature.TheVariants.{Acknowledgement, AwaitTree}
+use Rattle.protocol_types.specs.Feature.{has_feature, lacks_feature}
 use Rattle.protocol_types.specs.Version.{version_number}
 use Rattle.protocol_stream.specs.Header.{header_of}
 use Rattle.protocol_stream.specs.Frame.{spelled}
 use Rattle.protocol_messages.specs.RecordMessage.{type_of_record}
 use Rattle.protocol_messages.specs.Leaves.{three_lists}
 
-abbrev pub is_before_7 : Version → Bool
-is_before_7 version = lacks_feature (version_number version) AwaitTree
-
--- the message of this type and payload; from version 7 on an acknowledgement is requested, of a type that says so
+-- the message of this type and payload; a version that has acknowledgements requests one, of a type that says so
 abbrev pub payload_message : MessageType → Version → List ℕ → RawMessage
-payload_message ty version payload = record { header = header_of ty (not (is_before_7 version)) (length payload); payload = payload }
+payload_message ty version payload = record { header = header_of ty (has_feature (version_number version) Acknowledgement) (length payload); payload = payload }
 
 -- its payload is the canonical spelling of these parts
 abbrev pub record_message : MessageType → Version → List Part → RawMessage
@@ -44,9 +41,12 @@ abbrev pub suspension_parts_as : Bool → SuspensionMessage → List Part
 suspension_parts_as true one = suspension_v6_parts (three_lists one)
 suspension_parts_as false one = suspension_parts one
 
--- before version 7 a suspension is three lists
+-- before there were trees a suspension is three lists
+abbrev pub suspends_by_lists : Version → Bool
+suspends_by_lists version = lacks_feature (version_number version) AwaitTree
+
 abbrev pub suspension_message : Version → SuspensionMessage → RawMessage
-suspension_message version one = record_message messages.Suspension version (suspension_parts_as (is_before_7 version) one)
+suspension_message version one = record_message messages.Suspension version (suspension_parts_as (suspends_by_lists version) one)
 
 -- That the length of the payload does not fit the 32 bits that the header has for it is answered exactly where it does not;
 -- otherwise the frame, unless memory was refused.

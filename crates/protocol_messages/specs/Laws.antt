@@ -14,7 +14,7 @@ use Rattle.protocol_types.specs.declared.version.Version.{Version}
 use Rattle.protocol_stream.specs.Item.{message, item_at}
 use Rattle.protocol_stream.specs.Frame.{spelled, IsFrame}
 use Rattle.protocol_messages.specs.RecordMessage.{type_of_record}
-use Rattle.protocol_messages.specs.Encoded.{is_before_7, record_message, suspension_parts_as, suspension_message}
+use Rattle.protocol_messages.specs.Encoded.{suspends_by_lists, record_message, suspension_parts_as, suspension_message}
 use Rattle.protocol_messages.specs.Leaves.{three_lists}
 use Rattle.protocol_messages.specs.Decoded.{DecodesTo}
 
@@ -32,7 +32,7 @@ ReadsSuspension false index m one = DecodesTo records.Suspension suspension_of i
 
 abbrev pub SuspensionsReadBack : Type 0
 SuspensionsReadBack =
-    (one : SuspensionMessage) (version : Version) (index : ℤ) (rest : List ℕ) → SuspensionFits LEVELS one → length (payload_of (suspension_parts_as (is_before_7 version) one)) < 2 ^ 32
+    (one : SuspensionMessage) (version : Version) (index : ℤ) (rest : List ℕ) → SuspensionFits LEVELS one → length (payload_of (suspension_parts_as (suspends_by_lists version) one)) < 2 ^ 32
     → IsFrame (suspension_message version one)
     × (item_at (spelled (suspension_message version one) ++ rest) ≡ Some (message (suspension_message version one), rest))
-    × ReadsSuspension (is_before_7 version) index (suspension_message version one) one
+    × ReadsSuspension (suspends_by_lists version) index (suspension_message version one) one

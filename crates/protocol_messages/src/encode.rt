@@ -2,20 +2,13 @@
 ghost use Rattle.std.specs.Prelude.{◌≡◌};
 ghost use Rattle.protocol_stream.specs.declared.decoder.RawMessage.{RawMessage};
 ghost use Rattle.protocol_types.specs.declared.version.Version.{Version as Versions};
-ghost use Rattle.protocol_messages.specs.Encoded.{is_before_7 as is_before, record_message, plain_message, EncodesTo};
+ghost use Rattle.protocol_messages.specs.Encoded.{record_message, plain_message, EncodesTo};
 
 use crate::message::PlainMessage;
 use bytes::Bytes;
-use protocol_stream::{EncodingError, Feature, HEADER_LEN, MessageHeader, MessageType, Version};
+use protocol_stream::{EncodingError, Feature, MessageHeader, MessageType, Version, begin_frame};
 use protocol_wire::{Record, encoded_len};
 use std::alloc::Global;
-
-/// Whether run proposals are not to be acknowledged yet, and suspensions are lists and no tree.
-pub(crate) fn is_before_7(version: Version) -> bool
-    ensures { result ≡ is_before version }
-{
-    Feature::AwaitTree.is_later_than(version.number())
-}
 
 /// What an encoder writes as a message.
 pub trait RestateEncodableMessage {
@@ -49,9 +42,9 @@ pub fn encode_record<R: Record>(
     let Some(length) = encoded_len(one) else {
         return Err(EncodingError::PayloadTooLong);
     };
-    let header = MessageHeader::new_with_requested_ack(ty, !is_before_7(version), length);
-    let mut out = Vec::with_capacity(alloc, HEADER_LEN + length as usize)?;
-    out.extend_from_slice(&header.to_bytes())?;
+    let wants_ack = Feature::Acknowledgement.is_in(version.number());
+    let header = MessageHeader::new_with_requested_ack(ty, wants_ack, length);
+    let mut out = begin_frame(alloc, &header)?;
     one.spell(alloc, &mut out)?;
     match Bytes::from_vec(out) {
         Ok(frame) => Ok(frame),

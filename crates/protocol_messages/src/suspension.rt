@@ -2,11 +2,11 @@
 ghost use Rattle.std.specs.Prelude.{◌≡◌, ◌++◌, IfOk, OnOk};
 ghost use Rattle.protocol_messages.specs.Leaves.{with_leaves, three_lists};
 
-use crate::encode::{RestateEncodableMessage, encode_record, is_before_7};
+use crate::encode::{RestateEncodableMessage, encode_record};
 use crate::leaf_lengths::lists_len;
 use bytes::{ByteStr, Bytes};
 use protocol_records::{Future, SuspensionMessage, SuspensionMessageV6};
-use protocol_stream::{EncodingError, MessageType, Version};
+use protocol_stream::{EncodingError, Feature, MessageType, Version};
 use sequence::Sequence;
 use std::alloc::{AllocError, Global};
 
@@ -74,7 +74,7 @@ impl RestateEncodableMessage for SuspensionMessage {
     ghost message_at = { suspension_message };
 
     fn encode(&self, alloc: Global, version: Version) -> Result<Bytes, EncodingError> {
-        if is_before_7(version) {
+        if Feature::AwaitTree.is_later_than(version.number()) {
             if lists_len(self) >= 1 << 32 {
                 return Err(EncodingError::PayloadTooLong);
             }

@@ -1,7 +1,7 @@
 // What each command asks for, what completes it, and what is kept of it: one line a command.
 ghost use Rattle.std.specs.Prelude.{◌≡◌, Some};
 ghost use Rattle.journal_model.specs.Cause.{is_failure as is_a_failure, is_invocation_id as is_an_id, is_outcome as is_an_outcome, is_void as is_a_void};
-ghost use Rattle.protocol_stream.specs.CommandFacts.{accepts, asking_nothing, asking_one, asking_two, completion_at, completion_by, facts_of, is_answer};
+ghost use Rattle.protocol_stream.specs.CommandFacts.{accepts, asking_nothing, asking_one, asking_two, completion_at, completion_by, facts_of, is_answer, is_moment};
 
 use crate::MessageType;
 use journal_model::NotificationResult;
@@ -105,6 +105,13 @@ impl Kept {
         ensures { result ≡ is_answer self }
     {
         matches!(self, Kept::Answer)
+    }
+
+    /// Whether it is the moment at which the command completes.
+    pub fn is_moment(self) -> bool
+        ensures { result ≡ is_moment self }
+    {
+        matches!(self, Kept::Moment)
     }
 }
 

@@ -2,9 +2,10 @@
 ghost use Rattle.std.specs.Prelude.{◌≡◌, ◌≤◌, ◌^◌, ◌++◌, ◌↔◌, Err, drop, length, IfOk, OnOk, OnErr};
 ghost use Rattle.std.specs.Int.{w64, to_be_bytes};
 ghost use Rattle.journal_model.specs.Spelling.{frame_bytes, header_bytes};
+ghost use Rattle.protocol_stream.specs.Header.{word_of};
 ghost use Rattle.protocol_stream.specs.declared.frame.TheConstants.{HEADER_LEN as the_header_len};
 
-use crate::{EncodingError, MessageType};
+use crate::{EncodingError, MessageHeader, MessageType};
 use bytes::{Bytes, BytesMut};
 use std::alloc::{AllocError, Global};
 
@@ -49,6 +50,16 @@ pub fn frame_of(alloc: Global, ty: MessageType, payload: &[u8]) -> Result<Bytes,
         Ok(frame) => Ok(frame),
         Err(_) => Err(EncodingError::OutOfMemory),
     }
+}
+
+/// A frame's header, with room for the payload that is put behind it.
+pub fn begin_frame(alloc: Global, header: &MessageHeader) -> Result<Vec<u8>, AllocError>
+    ensures { IfOk result (λ frame. frame.items ≡ to_be_bytes w64 (word_of header.now)) }
+{
+    let length = header.message_length() as usize;
+    let mut frame = Vec::with_capacity(alloc, HEADER_LEN + length)?;
+    frame.extend_from_slice(&header.to_bytes())?;
+    Ok(frame)
 }
 
 /// The payload of a frame, which shares the frame's memory.

@@ -22,7 +22,7 @@ pub use conversion::{
 pub use decoder::{Decoder, DecodingError, NotificationField, RawMessage};
 pub use encoder::{EncodingError, write_message};
 pub use first::{FirstItem, first_item};
-pub use frame::{HEADER_LEN, frame_of, payload_of_frame, put_frame};
+pub use frame::{HEADER_LEN, begin_frame, frame_of, payload_of_frame, put_frame};
 pub use header::MessageHeader;
 pub use protocol_types::{ContentTypeError, Feature, MessageType, UnknownMessageType, Version};
 pub use request_headers::HeaderMap;

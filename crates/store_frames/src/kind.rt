@@ -34,7 +34,7 @@ pub(crate) fn kind_of(ty: MessageType) -> FrameKind
     }
 }
 
-/// The record that payloads of this type are, of a type that attempts may not write. The others have their own readers.
+/// The record that payloads of this type are, if any. Of frames that attempts may write, payloads have readers of their own.
 pub(crate) fn record_of(ty: MessageType) -> Option<RecordType>
     ensures { result ≡ the_record_of ty }
 {

@@ -32,7 +32,7 @@ use Rattle.store_steps.specs.Taken.{IsReply}
 use Rattle.protocol_types.specs.MessageType.{number_of}
 use Rattle.protocol_types.specs.declared.message_type.MessageType.{MessageType}
 use Rattle.protocol_stream.specs.CommandFacts.{facts_of}
-use Rattle.store_steps.specs.Told.{puts_out, value_put_out, command_row, is_sleep_type, sleep_if, sleep_told, closing_writes, tests_of_told, reply_to_told, after_recorded, number_of_behavior, does_fail, after_suspension, after_error, after_end, error_told, writes_of_told}
+use Rattle.store_steps.specs.Told.{puts_out, value_put_out, command_row, keeps_moment, sleep_if, sleep_told, closing_writes, tests_of_told, reply_to_told, after_recorded, number_of_behavior, does_fail, after_suspension, after_error, after_end, error_told, writes_of_told}
 use Rattle.store_steps.proofs.Stateless.{no_answer, none_at_once, no_writes, nothing_written}
 use Rattle.store_steps.proofs.Tests.{asked_same}
 use Rattle.store_steps.proofs.Lists.{payload_kept}
@@ -78,7 +78,7 @@ row_same id before place request command h = λ i. record {
 
 -- the sleep that a request asks for is told by the type, the moment and the completion of its command
 sleep_told_so : (id : Text) (request : Request)
-    → sleeps_opened id request ≡ sleep_if (is_sleep_type (request_type request) && nat_lt (moment_told request) (2 ^ 63)) id (moment_told request) (first_asked (completions_asked request))
+    → sleeps_opened id request ≡ sleep_if (keeps_moment (facts_of (request_type request)) && nat_lt (moment_told request) (2 ^ 63)) id (moment_told request) (first_asked (completions_asked request))
 sleep_told_so id (Request.Sleep moment n name) = by_test (nat_lt moment (2 ^ 63))
   where
     by_test : (b : Bool) → map (sleep_row id) (if b then (moment, n) ∷ [] else []) ≡ sleep_if b id moment (Some n)
@@ -89,7 +89,7 @@ sleep_told_so id _ = refl
 sleep_same : (id : Text) (request : Request) (command : RecordedCommand) → IsCommand request command → sleeps_opened id request ≡ sleep_told id command
 sleep_same id request command h =
     sleep_told_so id request
-    ∙ (λ i. sleep_if (is_sleep_type (sym h.kind i) && nat_lt (sym h.moment i) (2 ^ 63)) id (sym h.moment i) (sym h.completion i))
+    ∙ (λ i. sleep_if (keeps_moment (facts_of (sym h.kind i)) && nat_lt (sym h.moment i) (2 ^ 63)) id (sym h.moment i) (sym h.completion i))
 
 output_same : (request : Request) → output_payload request ≡ (if puts_out (facts_of (request_type request)) then Some (request_payload request) else None)
 output_same (Request.Output value name) = refl

@@ -3,12 +3,9 @@ use Rattle.std.specs.Prelude.{ℕ, ◌<◌, ◌-◌, ◌^◌, max, nat_lt, Bool,
 use Rattle.journal_model.specs.Notification.{Bytes, Text}
 use Rattle.journal_model.specs.Cause.{BrokenPayload, NestedTooDeep, FrameNotAccepted, BadCompletion, InputNotClosed, NumbersUsedUp, PayloadTooLong, Tests, do_ascend, greatest, is_too_long}
 use Rattle.protocol_stream.specs.declared.command_facts.CommandFacts.{CommandFacts}
-use Rattle.protocol_stream.specs.CommandFacts.{facts_of, is_answer}
+use Rattle.protocol_stream.specs.CommandFacts.{facts_of, is_answer, is_moment}
 use Rattle.protocol_types.specs.declared.feature.Feature.TheVariants as features
 use Rattle.protocol_types.specs.Feature.{has_feature}
-use Rattle.protocol_types.specs.MessageType.{number_of}
-use Rattle.protocol_types.specs.declared.message_type.MessageType.{MessageType}
-use Rattle.protocol_types.specs.declared.message_type.MessageType.TheVariants as types
 use Rattle.store_frames.specs.declared.frame.RecordedCommand.{RecordedCommand}
 use Rattle.store_frames.specs.declared.frame.ErrorBehavior.{ErrorBehavior}
 use Rattle.store_frames.specs.declared.frame.ErrorBehavior.TheVariants as behaviors
@@ -56,18 +53,19 @@ command_row id place command = record {
   moment = command.moment;
 }
 
--- the sleep that a command asks for, where it may be due some day
-abbrev pub is_sleep_type : MessageType → Bool
-is_sleep_type types.SleepCommand = true
-is_sleep_type _ = false
+-- whether the moment of a command of this line is kept, as one at which it is due
+abbrev pub keeps_moment : Option CommandFacts → Bool
+keeps_moment None = false
+keeps_moment (Some facts) = is_moment facts.kept
 
+-- the sleep that a command asks for, where it may be due some day
 abbrev pub sleep_if : Bool → Text → ℕ → Option ℕ → List SleepRow
 sleep_if true id moment (Some completion) = record { moment = moment; invocation = id; completion = completion } ∷ []
 sleep_if true id moment None = []
 sleep_if false id moment completion = []
 
 abbrev pub sleep_told : Text → RecordedCommand → List SleepRow
-sleep_told id command = sleep_if (is_sleep_type command.kind && nat_lt command.moment (2 ^ 63)) id command.moment command.completion
+sleep_told id command = sleep_if (keeps_moment (facts_of command.kind) && nat_lt command.moment (2 ^ 63)) id command.moment command.completion
 
 abbrev pub after_recorded : RecordedCommand → Progress → Progress
 after_recorded command p = record (grown 1 p) {

@@ -5,11 +5,11 @@ ghost use Rattle.store_tables.specs.declared.row.Write.TheVariants.{AddEntry, Op
 ghost use Rattle.store_model.specs.Steps.{payload_or};
 ghost use Rattle.protocol_types.specs.Version.{version_number};
 ghost use Rattle.protocol_stream.specs.CommandFacts.{facts_of};
-ghost use Rattle.store_steps.specs.Told.{HasRoom, after_end, after_error, after_recorded, after_suspension, asked, closing_writes, command_row, does_fail, number_of_behavior, puts_out as puts_value_out, reply_to_told, sleep_told, value_put_out, writes_of_told};
+ghost use Rattle.store_steps.specs.Told.{HasRoom, after_end, after_error, after_recorded, after_suspension, asked, closing_writes, command_row, does_fail, keeps_moment as keeps_a_moment, number_of_behavior, puts_out as puts_value_out, reply_to_told, sleep_told, value_put_out, writes_of_told};
 
 use crate::frame::FrameReply;
 use bytes::{ByteStr, Bytes};
-use protocol_stream::{CommandFacts, Feature, MessageType, Version};
+use protocol_stream::{CommandFacts, Feature, Version};
 use std::alloc::{AllocError, Global};
 use store_frames::{AttemptFrame, ErrorBehavior, RecordedCommand};
 use store_tables::{Closing, EntryRow, LastError, Progress, SleepRow, Write};
@@ -96,6 +96,16 @@ fn entry_of(id: ByteStr, place: u32, command: RecordedCommand) -> EntryRow
     }
 }
 
+/// Whether a command keeps a moment, at which it is due.
+fn keeps_moment(command: &RecordedCommand) -> bool
+    ensures { result ≡ keeps_a_moment (facts_of command.now.kind) }
+{
+    match CommandFacts::of(command.kind) {
+        Some(facts) => facts.kept.is_moment(),
+        None => false,
+    }
+}
+
 /// A sleep that ends at this moment or later is never due.
 const NEVER: u64 = 1 << 63;
 
@@ -104,7 +114,7 @@ fn sleep_of(id: &ByteStr, command: &RecordedCommand) -> Result<Option<SleepRow>,
     ensures { IfOk result (λ sleep. option_to_list sleep ≡ sleep_told id.now command.now) }
 {
     let moment = command.moment;
-    if !matches!(command.kind, MessageType::SleepCommand) || moment >= NEVER {
+    if !keeps_moment(command) || moment >= NEVER {
         return Ok(None);
     }
     match command.completion {

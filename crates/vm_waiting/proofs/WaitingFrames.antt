@@ -19,7 +19,7 @@ use Rattle.protocol_stream.specs.Frame.{spelled, message_of}
 use Rattle.protocol_stream.specs.Records.{future_record}
 use Rattle.protocol_stream.proofs.Spellings.{spelled-frame_bytes}
 use Rattle.protocol_stream.proofs.RecordSpellings.{awaiting_on_spelled}
-use Rattle.protocol_messages.specs.Encoded.{is_before_7, payload_message, suspension_message, plain_message}
+use Rattle.protocol_messages.specs.Encoded.{suspends_by_lists, payload_message, suspension_message, plain_message}
 use Rattle.vm_context.specs.Output.{Written, with_frame}
 use Rattle.vm_calls.specs.declared.active.Active.{Active}
 use Rattle.vm_waiting.specs.Suspending.{over_ids, suspension_payload_in, Writes, Suspends}
@@ -31,7 +31,7 @@ pub suspension_is : (version : Version) (told : Future) (tree : AwaitTree Notifi
     → suspension_message version (record { awaiting_on = Some told }) ≡ message_of messages.Suspension (suspension_payload_in version tree)
 suspension_is version told tree is =
     ap (λ (f : Future). suspension_message version (record { awaiting_on = Some f })) is
-    ∙ ap (λ (payload : List ℕ). payload_message messages.Suspension version payload) (suspension_spelled (is_before_7 version) tree)
+    ∙ ap (λ (payload : List ℕ). payload_message messages.Suspension version payload) (suspension_spelled (suspends_by_lists version) tree)
 
 pub awaiting_on_is : (version : Version) (told : Future) (tree : AwaitTree NotificationId) → told ≡ future_record tree
     → plain_message records.AwaitingOn version (awaiting_on_parts (record { awaiting_on = Some told; executing_side_effects = false })) ≡ message_of messages.AwaitingOn (awaiting_on_payload tree false)
