@@ -1,7 +1,7 @@
 -- A move: bytes of an attempt that were shown are accepted and let go; and what a crash leaves of it.
-use Rattle.std.proofs.Common.{◌≡◌, ◌∙◌, refl, sym, ap, subst, ℕ, List, [], ◌∷◌, ◌++◌, append-nil, length, min, take, drop, true, Option, Some, None, Ok, Err, inl, inr}
+use Rattle.std.proofs.Common.{◌≡◌, ◌∙◌, refl, sym, ap, subst, ℕ, List, ◌∷◌, length, min, take, Bool, true, false, Option, Some, None, Ok, Err, inl, inr}
 use Rattle.sqlite_trees.specs.declared.store.Store.{Ghosts}
-use Rattle.journal_model.specs.Notification.{Bytes}
+use Rattle.journal_model.specs.Notification.{Bytes, Text}
 use Rattle.journal_model.specs.Event.{Event}
 use Rattle.journal_model.specs.Attempt.{is_live}
 use Rattle.store_refusals.specs.declared.refusal.Refusal.{Refusal}
@@ -11,11 +11,11 @@ use Rattle.schedule_model.specs.declared.event.Reply.TheVariants as reply
 use Rattle.schedule_model.specs.declared.event.Refusal.TheVariants as refusal
 use Rattle.schedule_model.specs.declared.held.HeldAttempt.{HeldAttempt}
 use Rattle.store_steps.specs.declared.frame.FrameReply.{FrameReply}
-use Rattle.schedule_model.specs.Schedule.{Advances, MovesOne}
-use Rattle.schedule_model.proofs.Advancing.{advances, shown_count, shown_bytes}
-use Rattle.schedule_model.specs.Attempts.{Attempt, output_of, Gathers, LetsGo, ShowsFirst}
-use Rattle.store_calls.specs.Standing.{Standing}
-use Rattle.store_calls.specs.Calls.{PutsBehind}
+use Rattle.schedule_model.specs.Schedule.{MovesOne}
+use Rattle.schedule_model.specs.Attempts.{Attempt, output_of, Advances, Gathers, LetsGo, ShowsFirst}
+use Rattle.vm_attempt.proofs.Advancing.{advances, lets_first_go, shown_count, shown_bytes, without}
+use Rattle.store_calls.specs.Standing.{Standing, Stays}
+use Rattle.store_calls.specs.Calls.{PutsBehind, RefusesBytes}
 use Rattle.store_calls.specs.Frames.{Accepts, AcceptsFirst, Rests}
 use Rattle.store_calls.proofs.Taking.{live_or_over, same_stays}
 use Rattle.journal_store.specs.Stored.{Stored}
@@ -48,21 +48,15 @@ moves_shown {H} count bytes one between shows s t (reply.Refused (refusal.Store 
 )
 moves_shown {H} count bytes one between shows s t _ changed it = absurd it
 
+-- memory was refused, and nothing has changed
+pub memory_refuses : (id : Text) (n : ℕ) (s t : Standing) → Stays s t → RefusesBytes (is_live s.events id n) id n OutOfMemory s t
+memory_refuses id n s t stays = by_live (is_live s.events id n)
+  where
+    by_live : (b : Bool) → RefusesBytes b id n OutOfMemory s t
+    by_live true = (refl, stays)
+    by_live false = record { cause = inr refl; stays = stays }
+
 -- ---- a crash
-
--- the attempt without the first bytes that wait
-abbrev without : {H : Type 0} → ℕ → Attempt H → Attempt H
-without count a = record a {
-  front = drop count (output_of a);
-  behind = [];
-  vm = record a.vm { state = record a.vm.state { active = record a.vm.state.active { output = record a.vm.state.active.output { bytes = [] } } } };
-}
-
-lets_first_go : {H : Type 0} (count : ℕ) (a : Attempt H) → Advances count a (without count a)
-lets_first_go count a = record {
-  moves = record { machine = refl; others = refl };
-  rest = append-nil (drop count (output_of a) ++ []) ∙ append-nil (drop count (output_of a));
-}
 
 -- the first frames are taken, and then no further one
 rests_behind : {H : Type 0} (count : ℕ) (one : HeldAttempt H) (moved : Bytes) → moved ≡ take (min count (length (output_of one.attempt))) (output_of one.attempt)

@@ -3,11 +3,10 @@ use Rattle.std.specs.Prelude.{◌≡◌, ◌≢◌, ℕ, true, List, Option, Res
 use Rattle.sqlite_trees.specs.declared.store.Store.{Ghosts}
 use Rattle.sqlite.specs.Held.{state}
 use Rattle.sqlite.specs.State.{State, HasCleanDisk}
-use Rattle.journal_model.specs.Notification.{Bytes, Text}
+use Rattle.journal_model.specs.Notification.{Text}
 use Rattle.journal_model.specs.Event.{Event}
 use Rattle.journal_model.specs.Run.{Handler}
 use Rattle.vm_types.specs.declared.options.VMOptions.{VMOptions}
-use Rattle.protocol_types.specs.declared.version.Version.{Version}
 use Rattle.store_refusals.specs.declared.refusal.Refusal.{Refusal}
 use Rattle.store_refusals.specs.declared.refusal.Refusal.TheVariants.{OutOfMemory}
 use Rattle.store_invocations.specs.Rows.{Decides, known_tests}
@@ -15,7 +14,6 @@ use Rattle.journal_store.specs.Accepting.{OutlastsFrames}
 use Rattle.journal_store.specs.Stored.{Stored}
 use Rattle.journal_store.specs.Words.{attempt_of, has_number}
 use Rattle.journal_store.specs.Stands.{Endures, IsQuiet, IsStanding, Leads, Outlasts}
-use Rattle.schedule_model.specs.Attempts.attempts
 use Rattle.schedule_model.specs.Attempts.{Attempt}
 use Rattle.schedule_model.specs.declared.event.Event as scheduled
 use Rattle.schedule_model.specs.declared.event.Event.TheVariants as event
@@ -120,12 +118,6 @@ OutlastsEvent _ answer t database = Outlasts t.events database
 -- Whatever the store stood for, it stands for something in this relation to it then, and the frames that were taken last.
 abbrev pub LeadsMoved : {S : Type 0} → Ghosts S → Text → (attempt : ℕ) → Reply → (Standing → Standing → Type 0) → Stored S → Stored S → Type 0
 LeadsMoved g id attempt answer Relation old new = Leads g (λ s t. Relation s t × OutlastsMove id attempt answer t (state g new.connection)) old new
-
--- an attempt of this version was made, and fed its start frame
-pub record IsMadeAndFed {H : Type 0} (version : Version) (options : VMOptions) (handler : H) (start : Bytes) (attempt : Attempt H) : Type 0 where
-  pub made : Attempt H
-  pub begun : attempts.IsBegun version options handler (Ok made)
-  pub fed : attempts.Feeds start made attempt
 
 -- so many bytes at most were moved, with some answer
 abbrev pub MovesSome : {H : Type 0} → (count : ℕ) → HeldAttempt H → Standing → Standing → Type 0

@@ -1,9 +1,10 @@
 //! How an attempt that is held is made, and how its bytes go to the store.
 ghost use Rattle.std.specs.Prelude.{IfSome};
 ghost use Rattle.journal_store.specs.Stands.{Endures, Leads};
+ghost use Rattle.schedule_model.specs.Attempts.{IsMadeAndFed};
 ghost use Rattle.schedule_model.specs.Lends.{held_as};
 ghost use Rattle.schedule_model.specs.Schedule.{MovesOne};
-ghost use Rattle.durable_schedule.specs.Scheduled.{HasTakenFrames, IsLive, IsMadeAndFed, IsMovedIfHeld, IsOfHeld, LeadsMoved, MovesSome};
+ghost use Rattle.durable_schedule.specs.Scheduled.{HasTakenFrames, IsLive, IsMovedIfHeld, IsOfHeld, LeadsMoved, MovesSome};
 
 use bytes::{ByteStr, Bytes};
 use journal_model::Handler;

@@ -29,7 +29,7 @@ use Rattle.vm_start.specs.Failing.{out_of_memory}
 use Rattle.schedule_model.specs.declared.held.HeldAttempt.{HeldAttempt}
 use Rattle.schedule_model.specs.First.{with_first}
 use Rattle.schedule_model.specs.Held.{is_held, held_of}
-use Rattle.schedule_model.specs.Schedule.{Advances}
+use Rattle.schedule_model.specs.Attempts.{Advances}
 use Rattle.schedule_laws.specs.Following.{ReplaysInLine, given_of, IsServed, Flies, FollowsBegun}
 use Rattle.fitting_laws.proofs.Fits.{may_come}
 use Rattle.schedule_laws.proofs.Following.{IsFlown, flown, flown_still}

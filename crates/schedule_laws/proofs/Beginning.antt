@@ -188,9 +188,9 @@ module _ {H : Type 0} (function : H → Handler) (next : Handler) (options : VMO
 
         has_begun : (output_of h.attempt ≡ []) × (Serves function next answer.version options (attempt_started start) false h.attempt ⊎ LacksMemory h.attempt)
         has_begun =
-            laws.begins answer.version start starts.shows handler h.made h.attempt brings is_run starts.can
+            laws.begins answer.version start starts.shows handler h.fresh.made h.attempt brings is_run starts.can
             (record { input = fed_well.input; uncancelled = fed_well.uncancelled })
-            h.is_begun (subst (λ (bytes : Bytes). Feeds bytes h.made h.attempt) told h.fed)
+            h.fresh.begun (subst (λ (bytes : Bytes). Feeds bytes h.fresh.made h.attempt) told h.fresh.fed)
 
         begun_stands : Serves function next answer.version options (attempt_started start) false h.attempt ⊎ LacksMemory h.attempt
             → IsOver h.attempt ⊎ IsServed function next options id (beginning ∷ s.events) new answer.version [] h.attempt

@@ -33,7 +33,8 @@ use Rattle.schedule_laws.proofs.Serving.{ServingLaws}
 use Rattle.schedule_laws.proofs.Taking.{first_on_its_way}
 use Rattle.schedule_laws.specs.Attempts.{output_of, Attempt}
 use Rattle.sending_laws.proofs.Taking.{lies_as}
-use Rattle.schedule_laws.specs.Schedules.{HeldAttempt, with_first, is_held, held_of, with_attempt, Advances}
+use Rattle.schedule_laws.specs.Schedules.{HeldAttempt, with_first, is_held, held_of, with_attempt}
+use Rattle.schedule_model.specs.Attempts.{Advances}
 use Rattle.turning_laws.specs.Sending.{Sent, frame_meant, IsOfStore}
 
 never : (b : Bool) → (b && false) ≡ false

@@ -1,5 +1,5 @@
 -- What each event answers and leaves, and what a list of events does one after another.
-use Rattle.std.specs.Prelude.{◌≡◌, ◌⊎◌, ℕ, min, List, [], ◌∷◌, ◌++◌, length, take, drop, Option, Some, None, Result, Ok, Err}
+use Rattle.std.specs.Prelude.{◌≡◌, ◌⊎◌, ℕ, min, List, [], ◌∷◌, ◌++◌, length, take, Option, Some, None, Result, Ok, Err}
 use Rattle.journal_model.specs.Notification.{Bytes, Text}
 use Rattle.journal_model.specs.Run.{Handler}
 use Rattle.store_refusals.specs.declared.refusal.Refusal.{Refusal}
@@ -7,7 +7,7 @@ use Rattle.store_refusals.specs.declared.refusal.Refusal.TheVariants.{OutOfMemor
 use Rattle.vm_types.specs.declared.options.VMOptions.{VMOptions}
 use Rattle.vm_attempt.specs.declared.attempt.Attempt.{Attempt}
 use Rattle.vm_attempt.specs.Attempt as attempts
-use Rattle.vm_attempt.specs.Output.{output_of, OnlyMoves, Gathers}
+use Rattle.vm_attempt.specs.Output.{output_of, Gathers, Advances}
 use Rattle.vm_attempt.specs.Turning.{Turns}
 use Rattle.schedule_model.specs.declared.event.Event.{Event}
 use Rattle.schedule_model.specs.declared.event.Event.TheVariants as event
@@ -52,10 +52,8 @@ module _ {H : Type 0} where
 
   -- one that speaks the invocation's version was made, was fed its start frame, and is held
   pub record HoldsBegun (options : VMOptions) (id : Text) (handler : H) (begun : BegunAttempt) (old new : List (HeldAttempt H)) : Type 0 where
-    pub made : Attempt H
-    pub is_begun : attempts.IsBegun begun.version options handler (Ok made)
     pub attempt : Attempt H
-    pub fed : attempts.Feeds begun.start made attempt
+    pub fresh : attempts.IsMadeAndFed begun.version options handler begun.start attempt
     pub held : new ≡ old ++ record { invocation = id; number = begun.number; attempt = attempt } ∷ []
 
   -- where memory is refused to the scheduler, the attempt stays begun, and nobody holds it
@@ -85,11 +83,6 @@ module _ {H : Type 0} where
   abbrev pub TurnsOne : (H → Handler) → HeldAttempt H → Standing → Reply → Standing → Attempt H → Type 0
   TurnsOne function one old (reply.Turned turn) new changed = Turns function one.attempt turn changed × Stays old new
   TurnsOne function one old _ new changed = ⊥
-
-  -- so many bytes leave, and what waits then is what waited behind them
-  pub record Advances (count : ℕ) (before after : Attempt H) : Type 0 where
-    pub moves : OnlyMoves before after
-    pub rest : output_of after ≡ drop count (output_of before)
 
   -- the next bytes go from it to the store, so many at most, and whole frames are taken; bytes that the store refuses stay first in line
   abbrev pub MovesOne : ℕ → HeldAttempt H → Standing → Reply → Standing → Attempt H → Type 0

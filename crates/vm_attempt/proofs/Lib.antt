@@ -1,3 +1,4 @@
+pub mod Advancing
 pub mod Carried
 mod Lists
 pub mod Nested

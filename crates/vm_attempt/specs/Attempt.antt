@@ -46,6 +46,12 @@ module _ {H : Type 0} where
   abbrev pub Feeds : Bytes → (before after : Attempt H) → Type 0
   Feeds bytes before after = FeedsUnless before.over bytes before after
 
+  -- it was made, and fed these bytes
+  pub record IsMadeAndFed (version : Version) (options : VMOptions) (handler : H) (bytes : Bytes) (attempt : Attempt H) : Type 0 where
+    pub made : Attempt H
+    pub begun : IsBegun version options handler (Ok made)
+    pub fed : Feeds bytes made attempt
+
   abbrev pub ClosesUnless : Option Finish → (before after : Attempt H) → Type 0
   ClosesUnless (Some finish) before after = after ≡ before
   ClosesUnless None before after = closing.ClosesInput before.vm.state after.vm.state × (after ≡ record before { vm = after.vm })

@@ -52,6 +52,11 @@ module _ {H : Type 0} where
     pub taken : taken_of after ≡ drop count (taken_of before)
     pub others : after ≡ record before { front = after.front; behind = after.behind }
 
+  -- so many leave, and what waits then is what waited behind them
+  pub record Advances (count : ℕ) (before after : Attempt H) : Type 0 where
+    pub moves : OnlyMoves before after
+    pub rest : output_of after ≡ drop count (output_of before)
+
   pub record HandsOutFirst (max : ℕ) (bytes : Bytes) (before after : Attempt H) : Type 0 where
     pub moves : OnlyMoves before after
     pub front : bytes ≡ take max (output_of before)

@@ -12,10 +12,9 @@ use Rattle.journal_store.proofs.Enduring.{same_endures}
 use Rattle.schedule_model.specs.Lends.{held_as}
 use Rattle.schedule_model.specs.declared.event.Reply.TheVariants as reply
 use Rattle.schedule_model.specs.declared.event.Refusal.TheVariants as refusal
-use Rattle.schedule_model.proofs.Advancing.{memory_refuses}
 use Rattle.durable_schedule.specs.Scheduled.{MovesSome}
 use Rattle.durable_schedule.proofs.Lasting.{rest_lasts}
-use Rattle.durable_schedule.proofs.Moving.{moves_crashed, moves_shown}
+use Rattle.durable_schedule.proofs.Moving.{memory_refuses, moves_crashed, moves_shown}
 use Rattle.durable_schedule.proofs.held.take_in.Goals as goal
 
 -- no bytes were shown

@@ -19,21 +19,14 @@ returns-in_default-clause-crash g c = c.begin.ensures.crash
 
 pub returns-in-Ok-push-clause-settled : goal.returns-in-Ok-push-clause-settled
 returns-in-Ok-push-clause-settled g c written clean s is =
-    let it = c.in-Ok.ensures.settled clean s is in
-    let m = c.in-Some.ensures in (
+    let it = c.in-Ok.ensures.settled clean s is in (
       it.0,
       it.1,
       (
         c.in-Ok.begun,
         refl,
         it.2,
-        record {
-          made = m.made;
-          is_begun = m.begun;
-          attempt = c.in-Some.attempt;
-          fed = m.fed;
-          held = c.in-Ok-push.ensures.ok;
-        },
+        record { attempt = c.in-Some.attempt; fresh = c.in-Some.ensures; held = c.in-Ok-push.ensures.ok },
       ),
       it.3,
     )

@@ -1,15 +1,10 @@
--- Bytes of an attempt's output that were shown, and then let go, have left; and memory that is refused is a refusal of the move.
-use Rattle.std.proofs.Common.{◌≡◌, inr, ℕ, zero, suc, min, Bool, true, false, [], ◌∷◌, ◌++◌, length, length-take, take, drop, refl, sym, ap, ap₂, subst, ◌∙◌}
+-- Bytes of an attempt's output that were shown, and then let go, have left; and any number of the first bytes can leave.
+use Rattle.std.proofs.Common.{◌≡◌, ℕ, zero, suc, min, [], ◌∷◌, ◌++◌, append-nil, length, length-take, take, drop, refl, sym, ap, ap₂, subst, ◌∙◌}
 use Rattle.std.proofs.lemmas.List.{drop-append-le}
-use Rattle.journal_model.specs.Notification.{Bytes, Text}
-use Rattle.journal_model.specs.Attempt.{is_live}
-use Rattle.vm_attempt.specs.Machine.{CoreVM}
+use Rattle.journal_model.specs.Notification.{Bytes}
+use Rattle.vm_core.specs.declared.core_vm.CoreVM.{CoreVM}
 use Rattle.vm_attempt.specs.declared.attempt.Attempt.{Attempt}
-use Rattle.vm_attempt.specs.Output.{taken_of, output_of, OnlyTaken, ShowsFirst, LetsGo}
-use Rattle.store_refusals.specs.declared.refusal.Refusal.TheVariants.{OutOfMemory}
-use Rattle.store_calls.specs.Standing.{Standing, Stays}
-use Rattle.store_calls.specs.Calls.{RefusesBytes}
-use Rattle.schedule_model.specs.Schedule.{Advances}
+use Rattle.vm_attempt.specs.Output.{Advances, taken_of, output_of, OnlyTaken, ShowsFirst, LetsGo}
 
 -- as many as were asked for, and as are there
 pub shown_count : {H : Type 0} (count : ℕ) (bytes : Bytes) (before between : Attempt H) → ShowsFirst count bytes before between → length bytes ≡ min count (length (output_of before))
@@ -42,10 +37,16 @@ advances {H} count bytes before between after shows lets_go = record {
     same_machine_back : between.vm ≡ after.vm
     same_machine_back = sym same_machine
 
--- memory was refused, and nothing has changed
-pub memory_refuses : (id : Text) (n : ℕ) (s t : Standing) → Stays s t → RefusesBytes (is_live s.events id n) id n OutOfMemory s t
-memory_refuses id n s t stays = by_live (is_live s.events id n)
-  where
-    by_live : (b : Bool) → RefusesBytes b id n OutOfMemory s t
-    by_live true = (refl, stays)
-    by_live false = record { cause = inr refl; stays = stays }
+-- the attempt without the first bytes that wait
+abbrev pub without : {H : Type 0} → ℕ → Attempt H → Attempt H
+without count a = record a {
+  front = drop count (output_of a);
+  behind = [];
+  vm = record a.vm { state = record a.vm.state { active = record a.vm.state.active { output = record a.vm.state.active.output { bytes = [] } } } };
+}
+
+pub lets_first_go : {H : Type 0} (count : ℕ) (a : Attempt H) → Advances count a (without count a)
+lets_first_go count a = record {
+  moves = record { machine = refl; others = refl };
+  rest = append-nil (drop count (output_of a) ++ []) ∙ append-nil (drop count (output_of a));
+}
