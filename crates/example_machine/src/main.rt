@@ -3,7 +3,9 @@
 
 use anyhow::Result;
 use bytes::{ByteStr, Bytes};
-use invocation_vm::{CoreVM, Moment, PayloadOptions, Sequence, Target, VM, VMOptions, VMResult};
+use invocation_vm::{
+    CoreVM, Moment, PayloadOptions, Sequence, Target, VM, VMOptions, VMResult, Version,
+};
 use journal_protocol::Decoder;
 use std::alloc::Global;
 use std::{env, fs};
@@ -58,7 +60,7 @@ fn go_on<R: Print, V: VM>(rt: &R, alloc: Global, vm: &mut V, journal: &[u8]) -> 
 
 fn attempt<R: Print>(rt: &R, alloc: Global, journal: &[u8]) -> Result<()> {
     // A request says by its content type which version of the protocol it is in.
-    let version = ByteStr::from_static("application/vnd.restate.invocation.v7");
+    let version = ByteStr::from_static(Version::V7.content_type());
     let headers = vec![in alloc; (ByteStr::from_static("content-type"), version)]?;
     let mut vm = CoreVM::new(alloc, &headers, VMOptions::default())?;
     let gone_on = go_on(rt, alloc, &mut vm, journal);

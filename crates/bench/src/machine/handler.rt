@@ -4,7 +4,7 @@ use crate::protocol::PIECE;
 use bytes::{ByteStr, Bytes};
 use invocation_vm::{
     AwaitResponse, Moment, NotificationHandle, PayloadOptions, Sequence, Target, UnresolvedFuture,
-    VM, VMOptions,
+    VM, VMOptions, Version,
 };
 use std::alloc::Global;
 
@@ -13,7 +13,7 @@ pub fn begin<V: VM>(alloc: Global) -> Result<V, Fault> {
     let mut headers = Vec::new(alloc);
     headers.push((
         ByteStr::from_static("content-type"),
-        ByteStr::from_static("application/vnd.restate.invocation.v7"),
+        ByteStr::from_static(Version::V7.content_type()),
     ))?;
     let made = V::new(alloc, &headers, VMOptions::default());
     drop(headers);

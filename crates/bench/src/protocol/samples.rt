@@ -7,12 +7,12 @@ use std::alloc::Global;
 /// How many commands there are.
 pub const COMMANDS: u32 = 20;
 
-/// The number of the first command's type. Those of the others follow it without a gap.
-const FIRST_COMMAND: u16 = 0x0400;
+/// The first command's type. The numbers of the others follow its without a gap.
+const FIRST_COMMAND: MessageType = MessageType::InputCommand;
 
 /// Which of the twenty commands a message is. A message that is none has a place past them.
 pub fn place_of(message: &RawMessage) -> u32 {
-    u16::from(message.ty()).wrapping_sub(FIRST_COMMAND) as u32
+    u16::from(message.ty()).wrapping_sub(u16::from(FIRST_COMMAND)) as u32
 }
 
 // The payload of the command at this place.
@@ -51,7 +51,7 @@ fn payload_of(place: u32) -> &'static [u8] {
 /// The frame of a command, the twenty in turn.
 pub fn sample_frame(alloc: Global, at: u32) -> Result<Bytes, Fault> {
     let place = at % COMMANDS;
-    match MessageType::try_from(FIRST_COMMAND + place as u16) {
+    match MessageType::try_from(u16::from(FIRST_COMMAND) + place as u16) {
         Ok(ty) => Ok(frame_of(alloc, ty, payload_of(place))?),
         Err(_unknown) => Err(Fault::Message),
     }
