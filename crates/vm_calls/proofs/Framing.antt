@@ -8,6 +8,9 @@ use Rattle.journal_model.specs.Spelling.{request_type, request_payload, request_
 use Rattle.protocol_types.specs.declared.message_type.MessageType.{MessageType}
 use Rattle.protocol_types.specs.declared.version.Version.{Version}
 use Rattle.protocol_types.specs.MessageType.{number_of, allows_ack}
+use Rattle.protocol_types.specs.Feature.{has_feature}
+use Rattle.protocol_types.specs.Version.{version_number}
+use Rattle.protocol_types.specs.declared.feature.Feature.TheVariants.{Acknowledgement}
 use Rattle.std.specs.Prelude.{if◌then◌else◌}
 use Rattle.protocol_stream.specs.declared.decoder.RawMessage.{RawMessage}
 use Rattle.protocol_stream.specs.declared.encoder.EncodingError.{EncodingError}
@@ -15,7 +18,7 @@ use Rattle.protocol_stream.specs.declared.encoder.EncodingError.TheVariants.{Pay
 use Rattle.protocol_stream.specs.Header.{header_of}
 use Rattle.protocol_stream.specs.Frame.{spelled, message_of}
 use Rattle.protocol_stream.proofs.Spellings.{spelled-frame_bytes}
-use Rattle.vm_commands.specs.Passed.{type_of_record, is_before_7, payload_message, record_message, type_or_end, plain_message}
+use Rattle.vm_commands.specs.Passed.{type_of_record, payload_message, record_message, type_or_end, plain_message}
 use Rattle.vm_context.specs.Output.{Written, with_frame}
 
 -- no command requests an acknowledgement
@@ -38,7 +41,7 @@ pub command_message : (t : RecordType) (version : Version) (parts : List Part) (
 command_message t version parts request typed spells =
     ap (λ (o : Option MessageType). record_message (type_or_end o) version parts) typed
     ∙ ap (λ (payload : List ℕ). payload_message (request_type request) version payload) spells
-    ∙ asked_by (request_type request) (not (is_before_7 version)) (request_payload request) (never_acked request)
+    ∙ asked_by (request_type request) (has_feature (version_number version) Acknowledgement) (request_payload request) (never_acked request)
 
 behind_end : (one other : List ℕ) (old : Written) → old.is_closed ≡ true → with_frame one old ≡ with_frame other old
 behind_end one other old closed =
