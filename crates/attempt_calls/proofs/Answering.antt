@@ -21,7 +21,7 @@ use Rattle.attempt_model.specs.Children.{Child, new_child, child_with_value, may
 use Rattle.attempt_model.specs.Machine.{Machine, Reply, Answered, ToTake, ToLook, ToMake, work_of, next_slot, reply_to_make, reply_where_taken, reply_to_take, reply_to_end}
 use Rattle.attempt_model.specs.Requests.{answer_by, Commands, requests_by, PutState, put_all}
 use Rattle.attempt_model.specs.Results.{Ready, Slots, ready_after, first_of, slot_of, waiting_for, ready_without_first, slots_without, ready_after_all, are_keys_text}
-use Rattle.attempt_model.specs.Standing.{TablesStand, RequestsStand, Reached, here, ahead, cancelling, IsShown, children_of, is_id_if_known, Stands, Fits, next_call, AnswersNext, RepliesAsRun, IsReflexive}
+use Rattle.attempt_model.specs.Standing.{TablesStand, RequestsStand, Reached, here, ahead, cancelling, IsShown, children_of, is_id_if_known, Stands, AreOfKind, Fits, next_call, AnswersNext, RepliesAsRun, IsReflexive}
 use Rattle.attempt_model.proofs.Requests.{Agrees, Puts, put, agree, none_left}
 use Rattle.attempt_tables.proofs.Children.{children-made, children-taken}
 use Rattle.attempt_tables.proofs.Making.{Creates, makes, knows}
@@ -32,7 +32,7 @@ use Rattle.attempt_calls.proofs.Ids.{is_in, takes-ids, taken-ids, new-ids}
 use Rattle.attempt_calls.proofs.Reading.{requests-same, known-one}
 
 module _ (same_header : Request → Request → Bool) (reflexive : IsReflexive same_header) (handler : Handler) (given : Invocation) (journal : List Request) (arrivals : List Arrival)
-    (fits : Fits handler given journal arrivals) (calls : ℕ) (m : Machine) (now : Stands handler given journal arrivals calls m) (call : Call) (is : next_call handler given now.steps ≡ call) where
+    (fits : Fits handler given journal arrivals) (calls : ℕ) (kinds : AreOfKind handler given arrivals calls) (m : Machine) (now : Stands handler given journal arrivals calls m) (call : Call) (is : next_call handler given now.steps ≡ call) where
   abbrev Replies : Reply → Type 0
   Replies reply = RepliesAsRun handler given journal arrivals calls reply
 
@@ -129,10 +129,10 @@ module _ (same_header : Request → Request → Bool) (reflexive : IsReflexive s
       → is_id_if_known (option_map as_taken (front given.options steps arrivals q (CompletionId n))) ≡ true
   front_ids q high n e =
       subst (λ (some : List Step). is_id_if_known (option_map as_taken (front given.options some arrivals q (CompletionId n))) ≡ true) same_steps
-      (fits.kinds.ids calls q n high (ap (λ (some : List Step). is_in (tracked_children cancellation some) n) same_steps ∙ e))
+      (kinds.ids q n high (ap (λ (some : List Step). is_in (tracked_children cancellation some) n) same_steps ∙ e))
 
   keys_text : (id : NotificationId) (r : NotificationResult) → front given.options steps arrivals (place_of steps) id ≡ Some r → are_keys_text r ≡ true
-  keys_text id r e = fits.kinds.keys calls id r (ap (λ (some : List Step). front given.options some arrivals (place_of some) id) same_steps ∙ e)
+  keys_text id r e = kinds.keys id r (ap (λ (some : List Step). front given.options some arrivals (place_of some) id) same_steps ∙ e)
 
   -- looking
   pub looks : (handle : ℕ) → call ≡ Call.IsCompleted handle → refusal_of given.version call ≡ None

@@ -23,7 +23,7 @@ use Rattle.attempt_model.specs.Children.{Child, cancel_requests_for, ChildrenOut
 use Rattle.attempt_model.specs.Machine.{Machine, Reply, Answered, is_cancelled, reply_where_unknown, reply_where_asleep, reply_where_cancelled, reply_to_children, reply_where_awake, reply_to_await}
 use Rattle.attempt_model.specs.Requests.{Commands, PutState, put_all}
 use Rattle.attempt_model.specs.Results.{Ready, first_of, ready_without_first, Resolution, Awake, Asleep, resolution_of}
-use Rattle.attempt_model.specs.Standing.{TablesStand, RequestsStand, Reached, here, ahead, cancelling, IsShown, children_of, is_id_if_known, Stands, Fits, next_call, AnswersNext, RepliesAsRun, IsReflexive}
+use Rattle.attempt_model.specs.Standing.{TablesStand, RequestsStand, Reached, here, ahead, cancelling, IsShown, children_of, is_id_if_known, Stands, AreOfKind, Fits, next_call, AnswersNext, RepliesAsRun, IsReflexive}
 use Rattle.attempt_model.proofs.Requests.{Puts, put, agree}
 use Rattle.attempt_tables.proofs.Children.{cancels-same, TellsFrom, tells}
 use Rattle.attempt_tables.proofs.Making.{Creates}
@@ -42,7 +42,7 @@ either_side test place q early late = by_order (nat_lt q place) refl
     by_order false f = late (ltb-false q place f)
 
 module _ (same_header : Request → Request → Bool) (reflexive : IsReflexive same_header) (handler : Handler) (given : Invocation) (journal : List Request) (arrivals : List Arrival)
-    (fits : Fits handler given journal arrivals) (calls : ℕ) (m : Machine) (now : Stands handler given journal arrivals calls m) (call : Call) (is : next_call handler given now.steps ≡ call) where
+    (fits : Fits handler given journal arrivals) (calls : ℕ) (kinds : AreOfKind handler given arrivals calls) (m : Machine) (now : Stands handler given journal arrivals calls m) (call : Call) (is : next_call handler given now.steps ≡ call) where
   abbrev Replies : Reply → Type 0
   Replies reply = RepliesAsRun handler given journal arrivals calls reply
 
@@ -54,44 +54,44 @@ module _ (same_header : Request → Request → Bool) (reflexive : IsReflexive s
 
   -- what all calls share
   after : run handler given arrivals (suc calls) ≡ after_call given steps arrivals call
-  after = Answering.after same_header reflexive handler given journal arrivals fits calls m now call is
+  after = Answering.after same_header reflexive handler given journal arrivals fits calls kinds m now call is
 
   same_steps : (run handler given arrivals calls).steps ≡ steps
-  same_steps = Answering.same_steps same_header reflexive handler given journal arrivals fits calls m now call is
+  same_steps = Answering.same_steps same_header reflexive handler given journal arrivals fits calls kinds m now call is
 
   stepped : (step : Step) → run handler given arrivals (suc calls) ≡ record { steps = step ∷ steps; ending = GoesOn } → (new : Machine)
       → TablesStand given.options (step ∷ steps) arrivals step.place new.queue new.ready new.slots
       → new.completions ≡ next_completion (step ∷ steps) → new.signals ≡ next_signal (step ∷ steps) → RequestsStand journal (step ∷ steps) new.left new.written
       → IsShown given.start journal new.start → new.done ≡ requests_of (step ∷ steps) → new.children ≡ children_of cancellation (step ∷ steps) → list_all (λ child. is_id_if_known child.taken) new.children ≡ true
       → AnswersNext handler given journal arrivals calls step.answer new
-  stepped = Answering.stepped same_header reflexive handler given journal arrivals fits calls m now call is
+  stepped = Answering.stepped same_header reflexive handler given journal arrivals fits calls kinds m now call is
 
   quiet : (step : Step) → step.requests ≡ [] → RequestsStand journal (step ∷ steps) m.left m.written
-  quiet = Answering.quiet same_header reflexive handler given journal arrivals fits calls m now call is
+  quiet = Answering.quiet same_header reflexive handler given journal arrivals fits calls kinds m now call is
 
   quiet_done : (step : Step) → step.requests ≡ [] → m.done ≡ requests_of (step ∷ steps)
-  quiet_done = Answering.quiet_done same_header reflexive handler given journal arrivals fits calls m now call is
+  quiet_done = Answering.quiet_done same_header reflexive handler given journal arrivals fits calls kinds m now call is
 
   quiet_children : (step : Step) → Creates steps step [] → child_of cancellation (next_completion steps) step.call ≡ [] → ((xs : List ℕ) → children_after step.answer xs ≡ xs)
       → m.children ≡ children_of cancellation (step ∷ steps)
-  quiet_children = Answering.quiet_children same_header reflexive handler given journal arrivals fits calls m now call is
+  quiet_children = Answering.quiet_children same_header reflexive handler given journal arrivals fits calls kinds m now call is
 
   none_more : (n : ℕ) → n ≡ n + 0
-  none_more = Answering.none_more same_header reflexive handler given journal arrivals fits calls m now call is
+  none_more = Answering.none_more same_header reflexive handler given journal arrivals fits calls kinds m now call is
 
   quiet_tables : (step : Step) (q : ℕ) (line : List Arrival) (waiting : Ready) → step.place ≡ q → Creates steps step [] → known_result (next_completion steps) step.requests ≡ []
       → TablesStand given.options steps arrivals q line waiting m.slots → TablesStand given.options (step ∷ steps) arrivals step.place line waiting m.slots
-  quiet_tables = Answering.quiet_tables same_header reflexive handler given journal arrivals fits calls m now call is
+  quiet_tables = Answering.quiet_tables same_header reflexive handler given journal arrivals fits calls kinds m now call is
 
   accepted_is : (other : Call) → call ≡ other → refusal_of given.version call ≡ None → refusal_of given.version other ≡ None
-  accepted_is = Answering.accepted_is same_header reflexive handler given journal arrivals fits calls m now call is
+  accepted_is = Answering.accepted_is same_header reflexive handler given journal arrivals fits calls kinds m now call is
 
   nothing_left : (ending : Ending) → is_going ending ≡ false → run handler given arrivals (suc calls) ≡ record { steps = steps; ending = ending } → m.left ≡ []
-  nothing_left = Answering.nothing_left same_header reflexive handler given journal arrivals fits calls m now call is
+  nothing_left = Answering.nothing_left same_header reflexive handler given journal arrivals fits calls kinds m now call is
 
   all_there : (ending : Ending) → is_going ending ≡ false → run handler given arrivals (suc calls) ≡ record { steps = steps; ending = ending }
       → run_requests handler given arrivals (suc calls) ≡ journal ++ m.written
-  all_there = Answering.all_there same_header reflexive handler given journal arrivals fits calls m now call is
+  all_there = Answering.all_there same_header reflexive handler given journal arrivals fits calls kinds m now call is
 
   -- the machine stands as it did, with so much looked at
   looks_on : (p : ℕ) (line : List Arrival) (waiting : Ready) → TablesStand given.options steps arrivals p line waiting m.slots → Reached handler given arrivals steps p
@@ -158,7 +158,7 @@ module _ (same_header : Request → Request → Bool) (reflexive : IsReflexive s
         by_told (children_outcome given.options.signal_delivery m.children line waiting)
         (subst (λ (some : List Child). TellsFrom given.options steps arrivals m.slots tracked p (children_outcome given.options.signal_delivery some line waiting)) (sym now.children)
         (tells given.options steps arrivals m.slots tracked
-        (λ q high. results-ids given.options steps arrivals q tracked (ap (list_all (λ child. is_id_if_known child.taken)) (sym now.children) ∙ now.ids) (λ n f. Answering.front_ids same_header reflexive handler given journal arrivals fits calls m now call is q high n f))
+        (λ q high. results-ids given.options steps arrivals q tracked (ap (list_all (λ child. is_id_if_known child.taken)) (sym now.children) ∙ now.ids) (λ n f. Answering.front_ids same_header reflexive handler given journal arrivals fits calls kinds m now call is q high n f))
         p line waiting stands))
       where
         p_high : p ≤ length arrivals

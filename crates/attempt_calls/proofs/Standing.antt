@@ -9,7 +9,7 @@ use Rattle.journal_model.specs.Run.{Handler, Invocation, Progress, GoesOn, run, 
 use Rattle.journal_model.proofs.Extension as Extension
 use Rattle.journal_model.proofs.Extension.{run-more, requests-more, is_awake_at-more, is_cancelled_at-more, all_known_at-more}
 use Rattle.attempt_model.specs.Machine.{Machine, machine_at_start, with_arrival}
-use Rattle.attempt_model.specs.Standing.{Reached, here, ahead, cancelling, IsShown, Stands, ComesOnce, AreOfKind, Fits}
+use Rattle.attempt_model.specs.Standing.{Reached, here, ahead, cancelling, IsShown, Stands, ComesOnce, Fits}
 use Rattle.attempt_tables.proofs.Tables.{within-more, comes, starts}
 
 -- the machine stands at the beginning
@@ -78,8 +78,8 @@ module _ (handler : Handler) (given : Invocation) (journal : List Request) (arri
 
 -- more arrivals fit too
 pub fits_on : (handler : Handler) (given : Invocation) (journal : List Request) (arrivals later : List Arrival)
-    → Fits handler given journal arrivals → ComesOnce handler given (arrivals ++ later) → AreOfKind handler given (arrivals ++ later) → Fits handler given journal (arrivals ++ later)
-fits_on handler given journal arrivals later fits once kinds =
+    → Fits handler given journal arrivals → ComesOnce handler given (arrivals ++ later) → Fits handler given journal (arrivals ++ later)
+fits_on handler given journal arrivals later fits once =
     let (a, e) = fits.beginning in
     let (b, f) = requests-more handler given arrivals later fits.calls in
     record {
@@ -87,5 +87,4 @@ fits_on handler given journal arrivals later fits once kinds =
       beginning = (a ++ b, sym (append_assoc journal a b) ∙ ap (λ (xs : List Request). xs ++ b) e ∙ f);
       queued = fits.queued;
       once = once;
-      kinds = kinds;
     }

@@ -140,7 +140,7 @@ pub all-both : {A : Type 0} (test : A → Bool) (xs ys : List A) → list_all te
 all-both test [] ys e f = f
 all-both test (x ∷ xs) ys e f = both-true (test x) (list_all test (xs ++ ys)) (first-true (test x) (list_all test xs) e) (all-both test xs ys (second-true (test x) (list_all test xs) e) f)
 
-all-back : {A : Type 0} (test : A → Bool) (xs ys : List A) → list_all test (xs ++ ys) ≡ true → list_all test ys ≡ true
+pub all-back : {A : Type 0} (test : A → Bool) (xs ys : List A) → list_all test (xs ++ ys) ≡ true → list_all test ys ≡ true
 all-back test [] ys e = e
 all-back test (x ∷ xs) ys e = all-back test xs ys (second-true (test x) (list_all test (xs ++ ys)) e)
 
@@ -214,12 +214,12 @@ text-all (step ∷ earlier) e =
     (text-all earlier (all-front (λ request. list_all is_utf8 (keys_of request)) (requests_of earlier) step.requests e))
     (text-known (next_completion earlier) step.requests (all-back (λ request. list_all is_utf8 (keys_of request)) (requests_of earlier) step.requests e))
 
-pub kinds_by_asking : (handler : Handler) (given : Invocation) (arrivals : List Arrival) → ComeAsAsked handler given arrivals → AreOfKind handler given arrivals
-kinds_by_asking handler given arrivals asked = record { ids = ids; keys = keys }
+pub kinds_by_asking : (handler : Handler) (given : Invocation) (arrivals : List Arrival) (made : ℕ) → ComeAsAsked handler given arrivals made → AreOfKind handler given arrivals made
+kinds_by_asking handler given arrivals made asked = record { ids = ids; keys = keys }
   where
-    ids : (made place n : ℕ) → place ≤ length arrivals → is_in (tracked_children given.options.implicit_cancellation (run handler given arrivals made).steps) n ≡ true
+    ids : (place n : ℕ) → place ≤ length arrivals → is_in (tracked_children given.options.implicit_cancellation (run handler given arrivals made).steps) n ≡ true
         → is_id_if_known (option_map as_taken (front given.options (run handler given arrivals made).steps arrivals place (CompletionId n))) ≡ true
-    ids made place n within e = by_front (front given.options (run handler given arrivals made).steps arrivals place (CompletionId n)) refl
+    ids place n within e = by_front (front given.options (run handler given arrivals made).steps arrivals place (CompletionId n)) refl
       where
         gives_it : gives n (run_requests handler given arrivals made) ≡ true
         gives_it = tracked-given given.options.implicit_cancellation (run handler given arrivals made).steps (children-run given.options.implicit_cancellation handler given arrivals made) n e
@@ -233,7 +233,7 @@ kinds_by_asking handler given arrivals asked = record { ids = ids; keys = keys }
         come : list_all is_invocation_id (results_for (take place arrivals) (CompletionId n)) ≡ true
         come = all-front is_invocation_id (results_for (take place arrivals) (CompletionId n)) (results_for (drop place arrivals) (CompletionId n))
             (ap (list_all is_invocation_id) (sym (results-append (take place arrivals) (drop place arrivals) (CompletionId n)) ∙ ap (λ (some : List Arrival). results_for some (CompletionId n)) (take-append-drop place arrivals))
-            ∙ asked.ids made n gives_it)
+            ∙ asked.ids n gives_it)
 
         all : list_all is_invocation_id (deliveries (run handler given arrivals made).steps arrivals place (CompletionId n)) ≡ true
         all = ap (list_all is_invocation_id) (results-append (known_results (run handler given arrivals made).steps) (take place arrivals) (CompletionId n)
@@ -245,12 +245,12 @@ kinds_by_asking handler given arrivals asked = record { ids = ids; keys = keys }
         by_front (Some r) f = ap (λ (o : Option NotificationResult). is_id_if_known (option_map as_taken o)) f
             ∙ id-taken r (all-in-front given.options (run handler given arrivals made).steps arrivals place (CompletionId n) is_invocation_id r all f)
 
-    keys : (made : ℕ) (id : NotificationId) (result : NotificationResult)
+    keys : (id : NotificationId) (result : NotificationResult)
         → front given.options (run handler given arrivals made).steps arrivals (place_of (run handler given arrivals made).steps) id ≡ Some result → are_keys_text result ≡ true
-    keys made id result f =
+    keys id result f =
         all-in-front given.options (run handler given arrivals made).steps arrivals (place_of (run handler given arrivals made).steps) id are_keys_text result
         (text-results (known_results (run handler given arrivals made).steps ++ take (place_of (run handler given arrivals made).steps) arrivals) id
         (all-both (λ arrival. are_keys_text arrival.result) (known_results (run handler given arrivals made).steps) (take (place_of (run handler given arrivals made).steps) arrivals)
-        (text-all (run handler given arrivals made).steps (asked.known made))
+        (text-all (run handler given arrivals made).steps asked.known)
         (all-front (λ arrival. are_keys_text arrival.result) (take (place_of (run handler given arrivals made).steps) arrivals) (drop (place_of (run handler given arrivals made).steps) arrivals) (ap (list_all (λ arrival. are_keys_text arrival.result)) (take-append-drop (place_of (run handler given arrivals made).steps) arrivals) ∙ asked.keys))))
         f

@@ -67,19 +67,17 @@ once-before handler given arrivals later once made n =
 
 module _ (same_header : Call → Request → Request → Bool) (reflexive : AreReflexive same_header) (handler : Handler) (given : Invocation) (start : StartState) (journal : List Request) (first : List Arrival)
     (shows : IsShown given.start journal start) where
-  kinds_before : (earlier : List Happening) (arrival : Arrival) → ((some later : List Arrival) → some ++ later ≡ arrivals_after first earlier ++ arrival ∷ [] → AreOfKind handler given some)
-      → (some later : List Arrival) → some ++ later ≡ arrivals_after first earlier → AreOfKind handler given some
+  kinds_before : (earlier : List Happening) (arrival : Arrival) → ((some later : List Arrival) → some ++ later ≡ arrivals_after first earlier ++ arrival ∷ [] → (calls : ℕ) → AreOfKind handler given some calls)
+      → (some later : List Arrival) → some ++ later ≡ arrivals_after first earlier → (calls : ℕ) → AreOfKind handler given some calls
   kinds_before earlier arrival kinds some later e = kinds some (later ++ arrival ∷ []) (sym (append_assoc some later (arrival ∷ [])) ∙ ap (λ (xs : List Arrival). xs ++ arrival ∷ []) e)
 
   -- behind all that happened, what is fed fits
-  fits_after : (happened : List Happening) → Fits handler given journal first → ComesOnce handler given (arrivals_after first happened)
-      → ((some later : List Arrival) → some ++ later ≡ arrivals_after first happened → AreOfKind handler given some) → Fits handler given journal (arrivals_after first happened)
-  fits_after [] fits once kinds = fits
-  fits_after (Comes arrival ∷ earlier) fits once kinds =
+  fits_after : (happened : List Happening) → Fits handler given journal first → ComesOnce handler given (arrivals_after first happened) → Fits handler given journal (arrivals_after first happened)
+  fits_after [] fits once = fits
+  fits_after (Comes arrival ∷ earlier) fits once =
       fits_on handler given journal (arrivals_after first earlier) (arrival ∷ [])
-      (fits_after earlier fits (once-before handler given (arrivals_after first earlier) (arrival ∷ []) once) (kinds_before earlier arrival kinds)) once
-      (kinds (arrivals_after first earlier ++ arrival ∷ []) [] (append-nil (arrivals_after first earlier ++ arrival ∷ [])))
-  fits_after (Turns ∷ earlier) fits once kinds = fits_after earlier fits once kinds
+      (fits_after earlier fits (once-before handler given (arrivals_after first earlier) (arrival ∷ []) once)) once
+  fits_after (Turns ∷ earlier) fits once = fits_after earlier fits once
 
   answers_by : (arrivals : List Arrival) (calls : ℕ) (answers : List Answer) (m : Machine) → Stands handler given journal arrivals calls m
       → answers ≡ answers_of (run handler given arrivals calls).steps → AnswersFirst handler given journal arrivals answers m
@@ -115,12 +113,12 @@ module _ (same_header : Call → Request → Request → Bool) (reflexive : AreR
   one_more arrivals arrival (Over (AwaitsTree tree m)) f = absurd f
   one_more arrivals arrival (Over (AwaitsChild child m)) f = absurd f
 
-  one_turn : (arrivals : List Arrival) → Fits handler given journal arrivals → (a : AttemptState) → AgreesWithRun handler given journal arrivals a
+  one_turn : (arrivals : List Arrival) → Fits handler given journal arrivals → ((calls : ℕ) → AreOfKind handler given arrivals calls) → (a : AttemptState) → AgreesWithRun handler given journal arrivals a
       → AgreesWithRun handler given journal arrivals (attempt_after_turn same_header handler given a)
-  one_turn arrivals fits (Live answers m) f =
+  one_turn arrivals fits kinds (Live answers m) f =
       let same : answers ≡ answers_of f.stands.steps = f.answered ∙ ap (λ (p : Progress). answers_of p.steps) f.stands.going in
       subst (λ (some : List Answer). AgreesWithRun handler given journal arrivals (attempt_after_reply answers (reply_to same_header given m (handler given.input some)))) (sym same)
-      (by_reply (reply_to same_header given m (next_call handler given f.stands.steps)) (simulates same_header handler given journal arrivals f.calls m reflexive fits f.stands))
+      (by_reply (reply_to same_header given m (next_call handler given f.stands.steps)) (simulates same_header handler given journal arrivals f.calls m reflexive fits (kinds f.calls) f.stands))
     where
       by_reply : (reply : Reply) → RepliesAsRun handler given journal arrivals f.calls reply → AgreesWithRun handler given journal arrivals (attempt_after_reply answers reply)
       by_reply (Answered answer new) r =
@@ -134,25 +132,25 @@ module _ (same_header : Call → Request → Request → Bool) (reflexive : AreR
       by_reply (FailedBy KeysNotText) r = absurd r
       by_reply (FailedBy ChildNotId) r = absurd r
       by_reply (FailedBy (Refused refusal)) r = record { some = arrivals; later = []; read = sym (append-nil arrivals); calls = suc f.calls; refused = r }
-  one_turn arrivals fits (Over (Finished m)) f = f
-  one_turn arrivals fits (Over (FailedBy fault)) f = f
-  one_turn arrivals fits (Over (Answered answer m)) f = absurd f
-  one_turn arrivals fits (Over (AwaitsTree tree m)) f = absurd f
-  one_turn arrivals fits (Over (AwaitsChild child m)) f = absurd f
+  one_turn arrivals fits kinds (Over (Finished m)) f = f
+  one_turn arrivals fits kinds (Over (FailedBy fault)) f = f
+  one_turn arrivals fits kinds (Over (Answered answer m)) f = absurd f
+  one_turn arrivals fits kinds (Over (AwaitsTree tree m)) f = absurd f
+  one_turn arrivals fits kinds (Over (AwaitsChild child m)) f = absurd f
 
   follows : (happened : List Happening) → Fits handler given journal first → ComesOnce handler given (arrivals_after first happened)
-      → ((some later : List Arrival) → some ++ later ≡ arrivals_after first happened → AreOfKind handler given some)
+      → ((some later : List Arrival) → some ++ later ≡ arrivals_after first happened → (calls : ℕ) → AreOfKind handler given some calls)
       → AgreesWithRun handler given journal (arrivals_after first happened) (attempt_after same_header handler given (machine_at_start start (map Some journal) first) happened)
   follows [] fits once kinds = answers_by first 0 [] (machine_at_start start (map Some journal) first) (begins handler given start journal first shows) refl
   follows (Comes arrival ∷ earlier) fits once kinds =
       one_more (arrivals_after first earlier) arrival (attempt_after same_header handler given (machine_at_start start (map Some journal) first) earlier)
       (follows earlier fits (once-before handler given (arrivals_after first earlier) (arrival ∷ []) once) (kinds_before earlier arrival kinds))
   follows (Turns ∷ earlier) fits once kinds =
-      one_turn (arrivals_after first earlier) (fits_after earlier fits once kinds) (attempt_after same_header handler given (machine_at_start start (map Some journal) first) earlier) (follows earlier fits once kinds)
+      one_turn (arrivals_after first earlier) (fits_after earlier fits once) (kinds (arrivals_after first earlier) [] (append-nil (arrivals_after first earlier))) (attempt_after same_header handler given (machine_at_start start (map Some journal) first) earlier) (follows earlier fits once kinds)
 
 pub attempts_follow : (same_header : Call → Request → Request → Bool) (handler : Handler) (given : Invocation) (start : StartState) (journal : List Request) (first : List Arrival) (happened : List Happening)
     → AreReflexive same_header → IsShown given.start journal start → Fits handler given journal first → ComesOnce handler given (arrivals_after first happened)
-    → ((some later : List Arrival) → some ++ later ≡ arrivals_after first happened → AreOfKind handler given some)
+    → ((some later : List Arrival) → some ++ later ≡ arrivals_after first happened → (calls : ℕ) → AreOfKind handler given some calls)
     → AgreesWithRun handler given journal (arrivals_after first happened) (attempt_after same_header handler given (machine_at_start start (map Some journal) first) happened)
 attempts_follow same_header handler given start journal first happened reflexive shows fits once kinds =
     follows same_header reflexive handler given start journal first shows happened fits once kinds

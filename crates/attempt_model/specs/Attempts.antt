@@ -111,7 +111,7 @@ AgreesWithRun handler given journal arrivals (Over (AwaitsChild child m)) = ⊥
 abbrev pub AttemptsFollow : Type 0
 AttemptsFollow = (same_header : Call → Request → Request → Bool) (handler : Handler) (given : Invocation) (start : StartState) (journal : List Request) (first : List Arrival) (happened : List Happening)
     → AreReflexive same_header → IsShown given.start journal start → Fits handler given journal first → ComesOnce handler given (arrivals_after first happened)
-    → ((some later : List Arrival) → some ++ later ≡ arrivals_after first happened → AreOfKind handler given some)
+    → ((some later : List Arrival) → some ++ later ≡ arrivals_after first happened → (calls : ℕ) → AreOfKind handler given some calls)
     → AgreesWithRun handler given journal (arrivals_after first happened) (attempt_after same_header handler given (machine_at_start start (map Some journal) first) happened)
 
 -- where what has come came once, and was asked for by requests that are a beginning of the run's, each completion comes once, known reads included
@@ -126,12 +126,13 @@ gives_id n (Request.CallService call m result name) = m == n
 gives_id n (Request.OneWayCall call time m name) = m == n
 gives_id n _ = false
 
--- arrivals of the kinds that a store lets in: for a call's or a send's invocation id comes one, and state keys that come or are asked for are text
-pub record ComeAsAsked (handler : Handler) (given : Invocation) (arrivals : List Arrival) : Type 0 where
-  pub ids : (made n : ℕ) → list_any (gives_id n) (run_requests handler given arrivals made) ≡ true → list_all is_invocation_id (results_for arrivals (CompletionId n)) ≡ true
+-- arrivals of the kinds that a store lets in, by what so many calls have asked for: for a call's or a send's invocation id comes one, and state
+-- keys that come or were asked for are text
+pub record ComeAsAsked (handler : Handler) (given : Invocation) (arrivals : List Arrival) (calls : ℕ) : Type 0 where
+  pub ids : (n : ℕ) → list_any (gives_id n) (run_requests handler given arrivals calls) ≡ true → list_all is_invocation_id (results_for arrivals (CompletionId n)) ≡ true
   pub keys : list_all (λ arrival. are_keys_text arrival.result) arrivals ≡ true
-  pub known : (made : ℕ) → list_all (λ request. list_all is_utf8 (keys_of request)) (run_requests handler given arrivals made) ≡ true
+  pub known : list_all (λ request. list_all is_utf8 (keys_of request)) (run_requests handler given arrivals calls) ≡ true
 
 -- so what comes for a child is an invocation id, and keys that are taken are text
 abbrev pub KindsByAsking : Type 0
-KindsByAsking = (handler : Handler) (given : Invocation) (arrivals : List Arrival) → ComeAsAsked handler given arrivals → AreOfKind handler given arrivals
+KindsByAsking = (handler : Handler) (given : Invocation) (arrivals : List Arrival) (calls : ℕ) → ComeAsAsked handler given arrivals calls → AreOfKind handler given arrivals calls

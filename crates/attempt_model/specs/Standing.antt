@@ -117,12 +117,13 @@ abbrev pub ComesOnce : Handler → Invocation → List Arrival → Type 0
 ComesOnce handler given arrivals =
     (made n : ℕ) → length (results_for (known_results (run handler given arrivals made).steps ++ arrivals) (CompletionId n)) ≤ 1
 
--- what comes is of the kind that is asked for: for a child that a cancellation is passed on to an invocation id, and state keys are text
-pub record AreOfKind (handler : Handler) (given : Invocation) (arrivals : List Arrival) : Type 0 where
-  pub ids : (made place n : ℕ) → place ≤ length arrivals → let steps = (run handler given arrivals made).steps in
+-- what has come by so many calls is of the kind that was asked for: for a child that a cancellation is passed on to an invocation id, and
+-- state keys are text
+pub record AreOfKind (handler : Handler) (given : Invocation) (arrivals : List Arrival) (calls : ℕ) : Type 0 where
+  pub ids : (place n : ℕ) → place ≤ length arrivals → let steps = (run handler given arrivals calls).steps in
       list_any (λ m. m == n) (tracked_children given.options.implicit_cancellation steps) ≡ true
       → is_id_if_known (option_map as_taken (front given.options steps arrivals place (CompletionId n))) ≡ true
-  pub keys : (made : ℕ) (id : NotificationId) (result : NotificationResult) → let steps = (run handler given arrivals made).steps in
+  pub keys : (id : NotificationId) (result : NotificationResult) → let steps = (run handler given arrivals calls).steps in
       front given.options steps arrivals (place_of steps) id ≡ Some result → are_keys_text result ≡ true
 
 -- what is fed to an attempt: recorded requests that are a beginning of the run's over these arrivals; signals wait in line,
@@ -132,7 +133,6 @@ pub record Fits (handler : Handler) (given : Invocation) (journal : List Request
   pub beginning : IsBeginning journal (run_requests handler given arrivals calls)
   pub queued : given.options.signal_delivery ≡ Queued
   pub once : ComesOnce handler given arrivals
-  pub kinds : AreOfKind handler given arrivals
 
 -- the next call of a run that goes on
 abbrev pub next_call : Handler → Invocation → List Step → Call
@@ -195,22 +195,21 @@ abbrev pub ReadsStanding : Type 0
 ReadsStanding = (handler : Handler) (given : Invocation) (journal : List Request) (arrivals : List Arrival) (arrival : Arrival) (calls : ℕ) (m : Machine)
     → Stands handler given journal arrivals calls m → Stands handler given journal (arrivals ++ arrival ∷ []) calls (with_arrival m arrival)
 
--- what is fed fits with more arrivals too, where no completion comes again and all is of its kind
+-- what is fed fits with more arrivals too, where no completion comes again
 abbrev pub FitsOn : Type 0
 FitsOn = (handler : Handler) (given : Invocation) (journal : List Request) (arrivals later : List Arrival)
-    → Fits handler given journal arrivals → ComesOnce handler given (arrivals ++ later) → AreOfKind handler given (arrivals ++ later)
-    → Fits handler given journal (arrivals ++ later)
+    → Fits handler given journal arrivals → ComesOnce handler given (arrivals ++ later) → Fits handler given journal (arrivals ++ later)
 
--- each call is answered as the run answers it, and the machine stands behind it
+-- where what has come by now is of its kind, each call is answered as the run answers it, and the machine stands behind it
 abbrev pub Simulates : Type 0
 Simulates = (same_header : Call → Request → Request → Bool) (handler : Handler) (given : Invocation) (journal : List Request) (arrivals : List Arrival) (calls : ℕ) (m : Machine)
-    → AreReflexive same_header → Fits handler given journal arrivals → (stands : Stands handler given journal arrivals calls m)
+    → AreReflexive same_header → Fits handler given journal arrivals → AreOfKind handler given arrivals calls → (stands : Stands handler given journal arrivals calls m)
     → RepliesAsRun handler given journal arrivals calls (reply_to same_header given m (next_call handler given stands.steps))
 
 -- where a call is stopped midway, what was recorded and what was written are a beginning of the run's requests
 abbrev pub StopsWithRun : Type 0
 StopsWithRun = (same_header : Call → Request → Request → Bool) (handler : Handler) (given : Invocation) (journal : List Request) (arrivals : List Arrival) (calls : ℕ) (m : Machine)
-    → AreReflexive same_header → Fits handler given journal arrivals → (stands : Stands handler given journal arrivals calls m) → (stopped : PutState)
+    → AreReflexive same_header → Fits handler given journal arrivals → AreOfKind handler given arrivals calls → (stands : Stands handler given journal arrivals calls m) → (stopped : PutState)
     → StopsMidway same_header given m (next_call handler given stands.steps) stopped → BeginsRun handler given arrivals (journal ++ stopped.written)
 
 -- what an await comes to that is asked for the first time: it wakes at the least place, or what is left of it is what the run waits for

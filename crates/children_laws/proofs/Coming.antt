@@ -78,7 +78,7 @@ never_no_id : (next : Handler) (given : Invocation) (journal : List Request) (ar
 never_no_id next given journal arrivals calls reply as_run e = subst (RepliesAsRun next given journal arrivals calls) e as_run
 
 pub next_replies_are_same : NextRepliesAreSame
-next_replies_are_same same_header next given journal arrivals calls m reflexive fits stands none =
+next_replies_are_same same_header next given journal arrivals calls m reflexive fits kinds stands none =
     replies_are_same same_header given m (next_call next given stands.steps) (stands_without next given journal arrivals calls m stands none)
     (never_no_id next given journal arrivals calls (reply_to same_header given m (next_call next given stands.steps))
-    (simulates same_header next given journal arrivals calls m reflexive fits stands))
+    (simulates same_header next given journal arrivals calls m reflexive fits kinds stands))

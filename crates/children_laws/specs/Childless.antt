@@ -8,7 +8,7 @@ use Rattle.journal_model.specs.Notification.{same_id, cancel_id, Arrival}
 use Rattle.journal_model.specs.Request.{Request}
 use Rattle.journal_model.specs.Run.{Handler, Invocation}
 use Rattle.attempt_model.specs.Machine.{Machine, Reply, Answered, AwaitsTree, AwaitsChild, Finished, FailedBy, ChildNotId, reply_to}
-use Rattle.attempt_model.specs.Standing.{Stands, Fits, next_call, AreReflexive}
+use Rattle.attempt_model.specs.Standing.{Stands, AreOfKind, Fits, next_call, AreReflexive}
 
 -- a cancellation ends awaits as before, and is passed on to no child
 abbrev pub without_children : ImplicitCancellationOption → ImplicitCancellationOption
@@ -45,5 +45,5 @@ RepliesAreSame = (same_header : Call → Request → Request → Bool) (given : 
 -- so it is of a machine that stands in the run over arrivals of which none is a cancellation, with the run's next call
 abbrev pub NextRepliesAreSame : Type 0
 NextRepliesAreSame = (same_header : Call → Request → Request → Bool) (next : Handler) (given : Invocation) (journal : List Request) (arrivals : List Arrival) (calls : ℕ) (m : Machine)
-    → AreReflexive same_header → Fits next given journal arrivals → (stands : Stands next given journal arrivals calls m) → list_any is_cancellation arrivals ≡ false
+    → AreReflexive same_header → Fits next given journal arrivals → AreOfKind next given arrivals calls → (stands : Stands next given journal arrivals calls m) → list_any is_cancellation arrivals ≡ false
     → reply_to same_header (untracked given) (childless m) (next_call next given stands.steps) ≡ childless_reply (reply_to same_header given m (next_call next given stands.steps))

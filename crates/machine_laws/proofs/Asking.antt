@@ -173,10 +173,10 @@ asks_once n last (request ∷ requests) e =
         omega (arith, all, one, none)
 
 pub come_as_asked : ArrivalsComeAsAsked
-come_as_asked next given requests arrivals begins come give keys known = record { ids = ids; keys = keys; known = known }
+come_as_asked next given requests arrivals made begins come give keys known = record { ids = ids; keys = keys; known = known }
   where
-    ids : (made n : ℕ) → gives n (run_requests next given arrivals made) ≡ true → list_all is_invocation_id (results_for arrivals (CompletionId n)) ≡ true
-    ids made n e = by_results (results_for arrivals (CompletionId n)) refl
+    ids : (n : ℕ) → gives n (run_requests next given arrivals made) ≡ true → list_all is_invocation_id (results_for arrivals (CompletionId n)) ≡ true
+    ids n e = by_results (results_for arrivals (CompletionId n)) refl
       where
         recorded : list_any (asks_for n) requests ≡ true → gives n requests ≡ true
         recorded asks =

@@ -1,37 +1,39 @@
 -- Where a live attempt has read its journal, and how its turns go on.
 use Rattle.std.proofs.Common.{true, ◌≡◌, refl, sym, ap, ◌∙◌, subst, ℕ, ◌⊎◌, inl, inr, Bool, List, [], ◌∷◌, ◌++◌, append_assoc, append-nil, map}
-use Rattle.std.specs.List.{AllByRecursion}
+use Rattle.std.specs.List.{AllByRecursion, list_all}
+use Rattle.std.specs.Str.{is_utf8}
 use Rattle.std.proofs.lemmas.List.{append_cancel_left}
 use Rattle.journal_model.specs.declared.call.Call.{Call}
 use Rattle.journal_model.specs.declared.options.RunOptions.{RunOptions}
 use Rattle.journal_model.specs.declared.value.NonEmptyValue.{NonEmptyValue}
 use Rattle.journal_model.specs.Notification.{Text, Arrival}
 use Rattle.journal_model.specs.Request.{Request}
-use Rattle.journal_model.specs.Run.{Handler, Invocation, run_requests, BeginsRun}
+use Rattle.journal_model.specs.Run.{Handler, Invocation, Progress, run_requests, BeginsRun}
 use Rattle.journal_model.specs.Event.{Event, Frame}
+use Rattle.journal_model.specs.History.{requests_of}
 use Rattle.journal_model.specs.Journal.{Entry, entries_of, recorded_requests, recorded_arrivals}
 use Rattle.journal_model.specs.Attempt.{is_input_closed}
-use Rattle.journal_model.specs.Cause.{IsAccepted}
+use Rattle.journal_model.specs.Cause.{keys_of, IsAccepted}
 use Rattle.run_laws.proofs.Extending.{begins-less, begins-more}
 use Rattle.input_laws.specs.Message.{InputMessage, CarriesInput, CarriesRequest, CarriesArrival, CarriesOutcome, arrivals_carried, requests_carried}
 use Rattle.input_laws.proofs.News.{requests_carried-append}
-use Rattle.input_laws.proofs.Telling.{arrivals_carried-append}
+use Rattle.input_laws.proofs.Telling.{arrivals_carried-append, entries_requests}
 use Rattle.completion_laws.specs.Once.{ComeWhenAsked}
 use Rattle.completion_laws.proofs.Results.{recorded_when_asked}
 use Rattle.turn_laws.specs.Sending.{requests_sent, FollowsSo}
-use Rattle.turn_laws.specs.Begun.{IsLater}
+use Rattle.turn_laws.specs.Begun.{IsBegunAfter, begun_last, begun_earlier, IsLater}
 use Rattle.turn_laws.specs.Live.{TurnsOfRun}
 use Rattle.turn_laws.proofs.Begun.{input_sent}
 use Rattle.turn_laws.proofs.Living.{requests_sent-append, turn_follows}
 use Rattle.attempt_model.specs.Machine.{Machine}
-use Rattle.attempt_model.specs.Standing.{IsShown, Fits, AreReflexive}
+use Rattle.attempt_model.specs.Standing.{IsShown, AreOfKind, Fits, AreReflexive}
 use Rattle.attempt_model.specs.Results.{are_keys_text}
 use Rattle.attempt_laws.proofs.Apart.{comes_once}
-use Rattle.attempt_laws.proofs.Coming.{all-front}
+use Rattle.attempt_laws.proofs.Coming.{all-front, all-both}
 use Rattle.position_laws.specs.Reading.{IsInRun}
 use Rattle.position_laws.specs.Replies.{StandsBehind}
 use Rattle.position_laws.specs.Turning.{HasPosition, MakesTurns}
-use Rattle.machine_laws.specs.Asking.{GiveIds, keys_are_text}
+use Rattle.machine_laws.specs.Asking.{GiveIds, keys_are_text, are_by_text, AsksByText}
 use Rattle.machine_laws.specs.Living.{LiveAttempt, start_read, HasReadJournal, IsLiveMachine, after_turn}
 use Rattle.machine_laws.specs.Laws.{StandsWithJournal, JournalsStand, KeepsOn, MachinesKeepOn}
 use Rattle.position_laws.proofs.Reading.{none_before, none_behind}
@@ -39,7 +41,7 @@ use Rattle.position_laws.proofs.Turning.{machine_turns}
 use Rattle.position_laws.proofs.Beginning.{start_shows}
 use Rattle.machine_laws.proofs.Asking.{fewer_come, fewer_give, come_as_asked}
 use Rattle.machine_laws.proofs.Recording.{ids_recorded}
-use Rattle.machine_laws.proofs.Texts.{records_text}
+use Rattle.machine_laws.proofs.Texts.{requests_text, records_text}
 use Rattle.machine_laws.proofs.Living.{position, is_live}
 
 -- ---- the journal is read
@@ -51,6 +53,11 @@ later_none entries proposed (CarriesArrival type arrival ∷ messages) all = lat
 later_none entries proposed (CarriesOutcome number value ∷ messages) all = later_none entries proposed messages all.1
 later_none entries proposed (CarriesInput new ∷ messages) all = absurd all.0
 later_none entries proposed (CarriesRequest request ∷ messages) all = absurd all.0
+
+-- what was accepted before an attempt was begun
+accepted_before : (id : Text) (earlier : List Event) (now : ℕ) (events : List Event) → IsBegunAfter id earlier now events → IsAccepted events → IsAccepted earlier
+accepted_before id earlier now events begun_last accepted = accepted.1
+accepted_before id earlier now events (begun_earlier {events = before} event old going begun) accepted = accepted_before id earlier now before begun accepted.1
 
 module _ (next : Handler) (options : RunOptions) (fallback_seed : ℕ) (id : Text) (events : List Event) (live : LiveAttempt) (accepted : IsAccepted events)
     (l : IsLiveMachine next options fallback_seed id events live) (r : HasReadJournal live) where
@@ -138,17 +145,30 @@ module _ (next : Handler) (options : RunOptions) (fallback_seed : ℕ) (id : Tex
       all-front (λ arrival. are_keys_text arrival.result) (arrivals_carried live.read) (arrivals_carried live.unread)
       (ap keys_are_text (sym all_arrivals) ∙ records_text events id accepted)
 
+  -- what is recorded, and so its journal, is by keys that are text
+  journal_text : are_by_text (requests_carried live.read) ≡ true
+  journal_text =
+      ap are_by_text
+      (journal_requests ∙ ap requests_carried l.begun.begun.journal_is ∙ entries_requests (entries_of l.begun.begun.earlier id) (entries_of l.begun.begun.earlier id))
+      ∙ requests_text l.begun.begun.earlier id (accepted_before id l.begun.begun.earlier l.begun.begun.now events l.begun.begun.begun accepted)
+
+  by_text : are_by_text live.machine.written ≡ true → AsksByText next live.start.given (arrivals_carried live.read) live.calls
+  by_text written =
+      all-front (λ request. list_all is_utf8 (keys_of request)) (run_requests next live.start.given (arrivals_carried live.read) live.calls) in_run.stands.requests.left
+      (ap are_by_text (ap (λ (p : Progress). requests_of p.steps ++ in_run.stands.requests.left) in_run.stands.going ∙ in_run.stands.requests.requests)
+      ∙ all-both (λ request. list_all is_utf8 (keys_of request)) (requests_carried live.read) live.machine.written journal_text written)
+
   with_journal : StandsWithJournal next options live
   with_journal = record {
     at = in_run;
-    fits = λ queued kinds. record {
+    fits = λ queued. record {
       calls = begins_read.calls;
       beginning = begins_read.beginning;
       queued = ap (λ (given : Invocation). given.options.signal_delivery) l.begun.given_is ∙ queued;
       once = comes_once next live.start.given (recorded_requests events id) (arrivals_carried live.read) begins_recorded.calls begins_recorded.beginning come.once come.asked;
-      kinds = kinds;
     };
-    asked = λ known. come_as_asked next live.start.given (recorded_requests events id) (arrivals_carried live.read) begins_recorded come give keys known;
+    by_text = by_text;
+    asked = λ known. come_as_asked next live.start.given (recorded_requests events id) (arrivals_carried live.read) live.calls begins_recorded come give keys known;
   }
 
 pub journal_stands : JournalsStand
@@ -158,9 +178,10 @@ journal_stands next options fallback_seed id events live accepted l r = with_jou
 
 module _ (same_header : Call → Request → Request → Bool) (next : Handler) (options : RunOptions) (fallback_seed : ℕ) (id : Text) (events : List Event) (live : LiveAttempt)
     (reflexive : AreReflexive same_header) (f : FollowsSo next live.start.given id events live.coming) (l : IsLiveMachine next options fallback_seed id events live) (start : live.bytes ≡ live.held)
-    (fits : Fits next live.start.given (requests_carried live.read) (arrivals_carried live.read)) (at : IsInRun next live.start.given live.read live.unread live.calls live.machine) where
+    (fits : Fits next live.start.given (requests_carried live.read) (arrivals_carried live.read)) (kinds : AreOfKind next live.start.given (arrivals_carried live.read) live.calls)
+    (at : IsInRun next live.start.given live.read live.unread live.calls live.machine) where
   makes : MakesTurns same_header next live.start.given (is_input_closed events id) live.held live.read live.unread live.calls live.machine at
-  makes = machine_turns same_header next live.start.given (is_input_closed events id) live.held live.read live.unread live.calls live.machine reflexive fits at
+  makes = machine_turns same_header next live.start.given (is_input_closed events id) live.held live.read live.unread live.calls live.machine reflexive fits kinds at
 
   -- a turn that may be made keeps the invocation in its run
   turn_in_run : (sent : List Frame)
@@ -195,5 +216,5 @@ module _ (same_header : Call → Request → Request → Bool) (next : Handler) 
   }
 
 pub machine_keeps_on : MachinesKeepOn
-machine_keeps_on same_header next options fallback_seed id events live reflexive f l start fits at =
-    keeps_on same_header next options fallback_seed id events live reflexive f l start fits at
+machine_keeps_on same_header next options fallback_seed id events live reflexive f l start fits kinds at =
+    keeps_on same_header next options fallback_seed id events live reflexive f l start fits kinds at

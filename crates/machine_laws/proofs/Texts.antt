@@ -61,7 +61,7 @@ module _ (events : List Event) (id : Text) where
   requests_text_on (Event.Take other attempt frame) causes old all = requests_same (Event.Take other attempt frame) old (no_request events id (Event.Take other attempt frame) refl) all
   requests_text_on event causes old all = requests_same event old (no_request events id event refl) all
 
-requests_text : (events : List Event) (id : Text) → IsAccepted events → HaveText (recorded_requests events id)
+pub requests_text : (events : List Event) (id : Text) → IsAccepted events → HaveText (recorded_requests events id)
 requests_text [] id accepted = refl
 requests_text (event ∷ events) id accepted = by_begin (begins id event) refl (requests_text events id accepted.1)
   where

@@ -19,6 +19,10 @@ GiveIds requests arrivals = (n : ℕ) → list_any (gives_id n) requests ≡ tru
 abbrev pub keys_are_text : List Arrival → Bool
 keys_are_text arrivals = list_all (λ arrival. are_keys_text arrival.result) arrivals
 
--- the handler asks for state, and changes it, by keys that are text
-abbrev pub AsksByText : Handler → Invocation → List Arrival → Type 0
-AsksByText next given arrivals = (made : ℕ) → list_all (λ request. list_all is_utf8 (keys_of request)) (run_requests next given arrivals made) ≡ true
+-- requests ask for state, and change it, by keys that are text
+abbrev pub are_by_text : List Request → Bool
+are_by_text requests = list_all (λ request. list_all is_utf8 (keys_of request)) requests
+
+-- so do those of so many calls of the run
+abbrev pub AsksByText : Handler → Invocation → List Arrival → (calls : ℕ) → Type 0
+AsksByText next given arrivals calls = are_by_text (run_requests next given arrivals calls) ≡ true

@@ -26,7 +26,7 @@ use Rattle.position_laws.specs.Reading.{IsInRun}
 use Rattle.position_laws.specs.Replies.{SendsReply, goes_on}
 use Rattle.position_laws.specs.Turning.{turn_reply}
 use Rattle.position_laws.specs.Beginning.{start_after}
-use Rattle.machine_laws.specs.Asking.{GiveIds, keys_are_text, AsksByText}
+use Rattle.machine_laws.specs.Asking.{GiveIds, keys_are_text, are_by_text, AsksByText}
 use Rattle.machine_laws.specs.Living.{LiveAttempt, attempt_begun, HasReadJournal, IsLiveMachine, handed_bytes, after_reading, after_turn}
 
 -- ---- what has come
@@ -39,10 +39,10 @@ RecordsGiveIds = (events : List Event) (id : Text) → IsAccepted events → Giv
 abbrev pub RecordsHaveTextKeys : Type 0
 RecordsHaveTextKeys = (events : List Event) (id : Text) → IsAccepted events → keys_are_text (recorded_arrivals events id) ≡ true
 
--- so what has come is as it was asked for, where it came once to requests that begin the run, and state keys are text
+-- so what has come is as so many calls have asked for it, where it came once to requests that begin the run, and state keys are text
 abbrev pub ArrivalsComeAsAsked : Type 0
-ArrivalsComeAsAsked = (next : Handler) (given : Invocation) (requests : List Request) (arrivals : List Arrival) → BeginsRun next given arrivals requests → ComeWhenAsked requests arrivals
-    → GiveIds requests arrivals → keys_are_text arrivals ≡ true → AsksByText next given arrivals → ComeAsAsked next given arrivals
+ArrivalsComeAsAsked = (next : Handler) (given : Invocation) (requests : List Request) (arrivals : List Arrival) (calls : ℕ) → BeginsRun next given arrivals requests → ComeWhenAsked requests arrivals
+    → GiveIds requests arrivals → keys_are_text arrivals ≡ true → AsksByText next given arrivals calls → ComeAsAsked next given arrivals calls
 
 -- ---- the live attempt
 
@@ -67,13 +67,13 @@ abbrev pub MachinesStayLive : Type 0
 MachinesStayLive = (next : Handler) (options : RunOptions) (fallback_seed : ℕ) (id : Text) (events : List Event) (live : LiveAttempt) → IsAccepted events
     → IsLiveMachine next options fallback_seed id events live → StaysLive next options fallback_seed id events live
 
--- where it has read its journal, its machine stands in the run; what it was fed fits, if signals wait in line and what has come is of its kind;
--- and that is as it was asked for, if the handler asks by keys that are text
+-- where it has read its journal, its machine stands in the run; what it was fed fits, if signals wait in line; and if what it has written is by
+-- keys that are text, so is all that its run has asked for so far, and what has come is as it was asked for
 pub record StandsWithJournal (next : Handler) (options : RunOptions) (live : LiveAttempt) : Type 0 where
   pub at : IsInRun next live.start.given live.read live.unread live.calls live.machine
-  pub fits : options.signal_delivery ≡ Queued → AreOfKind next live.start.given (arrivals_carried live.read)
-      → Fits next live.start.given (requests_carried live.read) (arrivals_carried live.read)
-  pub asked : AsksByText next live.start.given (arrivals_carried live.read) → ComeAsAsked next live.start.given (arrivals_carried live.read)
+  pub fits : options.signal_delivery ≡ Queued → Fits next live.start.given (requests_carried live.read) (arrivals_carried live.read)
+  pub by_text : are_by_text live.machine.written ≡ true → AsksByText next live.start.given (arrivals_carried live.read) live.calls
+  pub asked : AsksByText next live.start.given (arrivals_carried live.read) live.calls → ComeAsAsked next live.start.given (arrivals_carried live.read) live.calls
 
 abbrev pub JournalsStand : Type 0
 JournalsStand = (next : Handler) (options : RunOptions) (fallback_seed : ℕ) (id : Text) (events : List Event) (live : LiveAttempt) → IsAccepted events
@@ -95,5 +95,6 @@ pub record KeepsOn (same_header : Call → Request → Request → Bool) (next :
 abbrev pub MachinesKeepOn : Type 0
 MachinesKeepOn = (same_header : Call → Request → Request → Bool) (next : Handler) (options : RunOptions) (fallback_seed : ℕ) (id : Text) (events : List Event) (live : LiveAttempt)
     → AreReflexive same_header → FollowsSo next live.start.given id events live.coming → IsLiveMachine next options fallback_seed id events live → live.bytes ≡ live.held
-    → Fits next live.start.given (requests_carried live.read) (arrivals_carried live.read) → (at : IsInRun next live.start.given live.read live.unread live.calls live.machine)
+    → Fits next live.start.given (requests_carried live.read) (arrivals_carried live.read) → AreOfKind next live.start.given (arrivals_carried live.read) live.calls
+    → (at : IsInRun next live.start.given live.read live.unread live.calls live.machine)
     → KeepsOn same_header next options fallback_seed id events live at

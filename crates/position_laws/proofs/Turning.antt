@@ -26,7 +26,7 @@ use Rattle.attempt_model.specs.Machine.{StopsMidway, Machine, Reply, Answered, A
 use Rattle.attempt_model.specs.Children.{cancel_requests_for, ChildrenOutcome, AllKnown, FirstUnknown, OneIsNoId, children_outcome}
 use Rattle.attempt_model.specs.Requests.{Commands, PutState, put_all, requests_by}
 use Rattle.attempt_model.specs.Results.{slot_of, waiting_for, are_keys_text, Resolution, Awake, Asleep, resolution_of}
-use Rattle.attempt_model.specs.Standing.{Stands, Fits, next_call, RepliesAsRun, AreReflexive}
+use Rattle.attempt_model.specs.Standing.{Stands, AreOfKind, Fits, next_call, RepliesAsRun, AreReflexive}
 use Rattle.attempt_calls.proofs.Simulating.{simulates, stops_with_run}
 use Rattle.position_laws.specs.Reading.{IsInRun}
 use Rattle.position_laws.specs.Replies.{SendsWaiting, SendsReply, goes_on, StandsBehind}
@@ -183,9 +183,10 @@ waiting_sends version false tree sent (inr e) = ap requests_sent e
 waiting_sends version true tree sent (suspension, e, tells) = ap requests_sent e
 
 module _ (same_header : Call → Request → Request → Bool) (next : Handler) (given : Invocation) (is_closed : Bool) (held : Bytes) (read unread : List InputMessage) (calls : ℕ) (m : Machine)
-    (reflexive : AreReflexive same_header) (fits : Fits next given (requests_carried read) (arrivals_carried read)) (at : IsInRun next given read unread calls m) where
+    (reflexive : AreReflexive same_header) (fits : Fits next given (requests_carried read) (arrivals_carried read)) (kinds : AreOfKind next given (arrivals_carried read) calls)
+    (at : IsInRun next given read unread calls m) where
   replies : RepliesAsRun next given (requests_carried read) (arrivals_carried read) calls (turn_reply same_header next given read unread calls m at)
-  replies = simulates same_header next given (requests_carried read) (arrivals_carried read) calls m reflexive fits at.stands
+  replies = simulates same_header next given (requests_carried read) (arrivals_carried read) calls m reflexive fits kinds at.stands
 
   quiet_turn : IsQuiet m (turn_reply same_header next given read unread calls m at)
   quiet_turn = quiet_reply (same_header (next_call next given at.stands.steps)) given m (next_call next given at.stands.steps) (refusal_of given.version (next_call next given at.stands.steps))
@@ -231,7 +232,7 @@ module _ (same_header : Call → Request → Request → Bool) (next : Handler) 
   stopped_begins : (stopped : PutState) (written : List Request) → StopsMidway same_header given m (next_call next given at.stands.steps) stopped → stopped.written ≡ m.written ++ written
       → BeginsRun next given (arrivals_carried read) ((requests_carried read ++ m.written) ++ written)
   stopped_begins stopped written stops e =
-      let b = stops_with_run same_header next given (requests_carried read) (arrivals_carried read) calls m reflexive fits at.stands stopped stops in
+      let b = stops_with_run same_header next given (requests_carried read) (arrivals_carried read) calls m reflexive fits kinds at.stands stopped stops in
       record {
         calls = b.calls;
         beginning = subst (λ (requests : List Request). IsBeginning requests (run_requests next given (arrivals_carried read) b.calls))
@@ -250,4 +251,5 @@ module _ (same_header : Call → Request → Request → Bool) (next : Handler) 
   }
 
 pub machine_turns : MachinesTurn
-machine_turns same_header next given is_closed held read unread calls m reflexive fits at = makes_turns same_header next given is_closed held read unread calls m reflexive fits at
+machine_turns same_header next given is_closed held read unread calls m reflexive fits kinds at =
+    makes_turns same_header next given is_closed held read unread calls m reflexive fits kinds at

@@ -27,7 +27,7 @@ use Rattle.turning_laws.specs.Attempts.{Feeds, output_of}
 use Rattle.turning_laws.specs.Reading.{IsRunOf}
 use Rattle.turning_laws.specs.Sending.{frame_meant}
 use Rattle.turning_laws.specs.Keeping.{LacksMemory, attempt_started}
-use Rattle.turning_laws.specs.Serving.{asking_by_text, Serves, IsOver, machine_failed}
+use Rattle.turning_laws.specs.Serving.{Serves, IsOver, machine_failed}
 use Rattle.store_calls.specs.declared.begun.BegunAttempt.{BegunAttempt}
 use Rattle.store_calls.specs.Standing.{Standing, Adds}
 use Rattle.store_calls.specs.Calls.{Begins}
@@ -37,11 +37,10 @@ use Rattle.schedule_model.specs.Schedule.{HoldsBegun}
 use Rattle.schedule_model.proofs.Firsts.{first_push_none, first_push_other}
 use Rattle.schedule_model.proofs.Holding.{some_is, some_none, is_held_by, not_held_number, not_held_invocation}
 use Rattle.schedule_model.specs.Fitting.{InvocationFits}
-use Rattle.schedule_laws.specs.Following.{ReplaysInLine, HoldsOf, given_of, IsServed, Flies, FollowsBegun, FollowsWhere, Follows, FollowsByText}
+use Rattle.schedule_laws.specs.Following.{ReplaysInLine, HoldsOf, given_of, IsServed, Flies, FollowsBegun, FollowsWhere, Follows}
 use Rattle.fitting_laws.proofs.Fits.{apart, unborn_fits}
 use Rattle.fitting_laws.specs.Laws.{CanStart, IsFedWell}
 use Rattle.fitting_laws.proofs.Beginnings.{can_start, fed_begun}
-use Rattle.schedule_laws.proofs.ByText.{holds_by_text, holds_own}
 use Rattle.schedule_laws.proofs.Following.{same_held}
 use Rattle.schedule_laws.proofs.Others.{into, other_on}
 use Rattle.schedule_laws.proofs.Serving.{ServingLaws}
@@ -54,10 +53,10 @@ begun_some None is = absurd (true≢false (sym is))
 module _ {H : Type 0} (function : H → Handler) (next : Handler) (options : VMOptions) (id : Text) where
   -- ---- where nothing is held
 
-  pub holds_follows : (s : Standing) → HoldsOf next options id s.events → FollowsByText function next options id s []
+  pub holds_follows : (s : Standing) → HoldsOf next options id s.events → Follows function next options id s []
   holds_follows s holds = by_begun (invocation_begun s.events id) refl
     where
-      by_begun : (o : Option NewInvocation) → invocation_begun s.events id ≡ o → FollowsWhere function (asking_by_text next) options id s.events (s.outputs id) [] o
+      by_begun : (o : Option NewInvocation) → invocation_begun s.events id ≡ o → FollowsWhere function next options id s.events (s.outputs id) [] o
       by_begun None is = λ number. refl
       by_begun (Some new) is =
           let h = holds new is in record {
@@ -66,16 +65,16 @@ module _ {H : Type 0} (function : H → Handler) (next : Handler) (options : VMO
             typed = h.fit;
             fit = tt;
             of_store = tt;
-            follows = record { accepted = s.accepted; holds = holds_by_text next (given_of options id s.events new) id s.events s.accepted h.fit h.holds; flies = λ attempt live. tt };
+            follows = record { accepted = s.accepted; holds = h.holds; flies = λ attempt live. tt };
             numbered = λ number above. refl;
             flies = λ number waits one live is_out found. some_none (sym found);
           }
 
-  pub follows_holds : (s : Standing) (held : List (HeldAttempt H)) → FollowsByText function next options id s held → HoldsOf next options id s.events
+  pub follows_holds : (s : Standing) (held : List (HeldAttempt H)) → Follows function next options id s held → HoldsOf next options id s.events
   follows_holds s held f new is =
-      let g : FollowsBegun function (asking_by_text next) options id s.events (s.outputs id) held new =
-      subst (λ (o : Option NewInvocation). FollowsWhere function (asking_by_text next) options id s.events (s.outputs id) held o) is f in
-      record { fit = g.typed; holds = holds_own next (given_of options id s.events new) id s.events s.accepted g.typed g.follows.holds }
+      let g : FollowsBegun function next options id s.events (s.outputs id) held new =
+      subst (λ (o : Option NewInvocation). FollowsWhere function next options id s.events (s.outputs id) held o) is f in
+      record { fit = g.typed; holds = g.follows.holds }
 
   -- ---- an invocation is made
 
@@ -168,7 +167,7 @@ module _ {H : Type 0} (function : H → Handler) (next : Handler) (options : VMO
           let same : attempts_begun (beginning ∷ s.events) id ≡ m = some_is (attempts_begun (beginning ∷ s.events) id) m (sym live_now ∙ live) in
           some_none (sym found ∙ f.numbered m (omega (arith, one_more, same))))
 
-      module _ (handler : H) (answer : BegunAttempt) (held more : List (HeldAttempt H)) (in_line : ReplaysInLine options) (brings : asking_by_text (function handler) ≡ next)
+      module _ (handler : H) (answer : BegunAttempt) (held more : List (HeldAttempt H)) (in_line : ReplaysInLine options) (brings : function handler ≡ next)
           (number_is : answer.number ≡ 1 + attempts_begun s.events id) (speaks : version_number answer.version ≡ version_of s.events id) (told : answer.start ≡ start.frame)
           (h : HoldsBegun options id handler answer held more) (f : FollowsBegun function next options id s.events (s.outputs id) held new) where
         speaks_version : new.version ≡ version_number answer.version
@@ -249,7 +248,7 @@ module _ {H : Type 0} (function : H → Handler) (next : Handler) (options : VMO
           let (new, is) = own_begun b in
           into_own held new is b (begun_alone now moment s new is (own_accepted b) (Some []) held (follows_own new is))
 
-      pub held_own : (handler : H) (more : List (HeldAttempt H)) → ReplaysInLine options → asking_by_text (function handler) ≡ next → Begins id now answer s t → HoldsBegun options id handler answer held more
+      pub held_own : (handler : H) (more : List (HeldAttempt H)) → ReplaysInLine options → function handler ≡ next → Begins id now answer s t → HoldsBegun options id handler answer held more
           → Follows function next options id t more
       held_own handler more in_line brings b h =
           let (new, is) = own_begun b in
@@ -264,7 +263,7 @@ module _ {H : Type 0} (function : H → Handler) (next : Handler) (options : VMO
         by_id false e = other_on function next options id laws (Event.Begin other now) s t held e b.leaves.events (b.leaves.others id e) f
 
     pub begun : (other : Text) (handler : H) (now : ℕ) (answer : BegunAttempt) (s t : Standing) (held more : List (HeldAttempt H)) → now < 2 ^ 64 → ReplaysInLine options
-        → (other ≡ id → asking_by_text (function handler) ≡ next) → Begins other now answer s t → HoldsBegun options other handler answer held more
+        → (other ≡ id → function handler ≡ next) → Begins other now answer s t → HoldsBegun options other handler answer held more
         → Follows function next options id s held → Follows function next options id t more
     begun other handler now answer s t held more moment in_line brings b h f = by_id (bytes_eq other id) refl
       where

@@ -17,7 +17,7 @@ use Rattle.store_calls.specs.Calls.{Invokes, Completes, Ticks, Stops}
 use Rattle.store_calls.proofs.Live.{live_when}
 use Rattle.store_calls.proofs.Taking.{bytes_stay}
 use Rattle.schedule_model.specs.Fitting.{ResultFits}
-use Rattle.schedule_laws.specs.Following.{asking_by_text, ReplaysInLine, FollowsBegun, FollowsWhere, Follows}
+use Rattle.schedule_laws.specs.Following.{ReplaysInLine, FollowsBegun, FollowsWhere, Follows}
 use Rattle.schedule_laws.proofs.Acting.{fed, closed, turned, advanced}
 use Rattle.schedule_laws.proofs.Beginning.{made, unheld, begun}
 use Rattle.schedule_laws.proofs.Events.{IsPlain, where_on}
@@ -215,7 +215,7 @@ module _ {H : Type 0} (function : H → Handler) (next : Handler) (options : VMO
   kept_stop other n (reply.Refused (refusal.Store why)) s t held d f = stands_still function next options id s t held d.stays f
   kept_stop other n _ s t held d f = absurd d
 
-  kept_begin : (other : Text) (handler : H) (now : ℕ) (answer : Reply) (s t : Standing) (held more : List (HeldAttempt H)) → ReplaysInLine options → now < 2 ^ 64 → (other ≡ id → asking_by_text (function handler) ≡ next)
+  kept_begin : (other : Text) (handler : H) (now : ℕ) (answer : Reply) (s t : Standing) (held more : List (HeldAttempt H)) → ReplaysInLine options → now < 2 ^ 64 → (other ≡ id → function handler ≡ next)
       → BeginDoes options other handler now s held answer t more → In s held → In t more
   kept_begin other handler now (reply.Begun n) s t held more in_line moment brings d f = begun function next options id laws other handler now d.0 s t held more moment in_line brings d.2 d.3 f
   kept_begin other handler now (reply.Refused (refusal.Store why)) s t held more in_line moment brings d f =
@@ -280,7 +280,7 @@ module _ {H : Type 0} (function : H → Handler) (next : Handler) (options : VMO
           (own one d.0 (ap (λ (i : Text). held_of held i one.number) is.0 ∙ ap (λ (m : ℕ). held_of held other m) is.1 ∙ there) is.0 is.1 d.2 d.1 f)
 
   -- what an event does keeps the invocation in its run
-  pub keeps : (one : Event H) (answer : Reply) (s t : Standing) (held more : List (HeldAttempt H)) → ReplaysInLine options → FitsEvent one → Brings (λ handler. asking_by_text (function handler)) id next one
+  pub keeps : (one : Event H) (answer : Reply) (s t : Standing) (held more : List (HeldAttempt H)) → ReplaysInLine options → FitsEvent one → Brings function id next one
       → Does function options one s held answer t more → In s held → In t more
   keeps (event.Invoke one) answer s t held more in_line fits brings d f = subst (λ (hs : List (HeldAttempt H)). In t hs) (sym d.1) (kept_invoke one answer s t held fits d.0 f)
   keeps (event.Result other n value) answer s t held more in_line fits brings d f = subst (λ (hs : List (HeldAttempt H)). In t hs) (sym d.1) (kept_result other n value answer s t held fits d.0 f)
@@ -296,9 +296,3 @@ module _ {H : Type 0} (function : H → Handler) (next : Handler) (options : VMO
   keeps (event.Move other n count) answer s t held more in_line fits brings d f =
       kept_held (MovesOne count) other n answer s t held more (λ one changed there i m is c g. kept_move count one answer s t held changed there c g) d f
   keeps (event.Stop other n) answer s t held more in_line fits brings d f = subst (λ (hs : List (HeldAttempt H)). In t hs) (sym d.1) (kept_stop other n answer s t held d.0 f)
-
--- a begin that brings a function brings it as it asks by text
-pub brings_by_text : {H : Type 0} (function : H → Handler) (id : Text) (next : Handler) (one : Event H) → Brings function id next one
-    → Brings (λ handler. asking_by_text (function handler)) id (asking_by_text next) one
-brings_by_text function id next (event.Begin other handler now) brings = λ same. ap asking_by_text (brings same)
-brings_by_text function id next one brings = tt

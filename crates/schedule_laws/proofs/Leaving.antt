@@ -11,7 +11,7 @@ use Rattle.store_refusals.specs.declared.refusal.Refusal.{Refusal}
 use Rattle.store_refusals.specs.declared.refusal.Refusal.TheVariants.{OutOfMemory}
 use Rattle.store_steps.specs.Taken.{lies_in_frame}
 use Rattle.store_calls.specs.Frames.{Rests}
-use Rattle.schedule_laws.specs.Following.{ReplaysInLine, HoldsOf, given_of, Follows, FollowsByText}
+use Rattle.schedule_laws.specs.Following.{ReplaysInLine, HoldsOf, given_of, Follows}
 use Rattle.schedule_laws.specs.Laws.{KeptByEach, NoneRefused, RefusesNoFrame, RefuseNoFrame, HoldsHeadline, HoldsNeverLate, HoldsWakesExactly}
 use Rattle.schedule_laws.proofs.Beginning.{holds_follows, follows_holds}
 use Rattle.schedule_laws.proofs.Schedules.{found_is, held_is, held_with}
@@ -26,8 +26,8 @@ use Rattle.schedule_laws.specs.Schedules.{Event, Reply, HeldAttempt, held_of, wi
 module _ {H : Type 0} (function : H → Handler) (next : Handler) (options : VMOptions) (id : Text) (each : KeptByEach function) (in_line : ReplaysInLine options) where
   -- a list of events keeps an invocation in its run
   pub keeps_all : (events : List (Event H)) (replies : List Reply) (old new : Scheduled H) → AppliesAll function options events replies old new → AllByRecursion FitsEvent events
-      → AllByRecursion (Brings function id next) events → FollowsByText function next options id old.standing old.held → FollowsByText function next options id new.standing new.held
-  keeps_all [] [] old new same fit brings f = subst (λ (s : Scheduled H). FollowsByText function next options id s.standing s.held) (sym same) f
+      → AllByRecursion (Brings function id next) events → Follows function next options id old.standing old.held → Follows function next options id new.standing new.held
+  keeps_all [] [] old new same fit brings f = subst (λ (s : Scheduled H). Follows function next options id s.standing s.held) (sym same) f
   keeps_all (one ∷ events) (answer ∷ replies) old new applies fit brings f =
       keeps_all events replies applies.0 new applies.2 fit.1 brings.1
       (each next options id one answer old.standing applies.0.standing old.held applies.0.held in_line fit.0 brings.0 applies.1 f)
@@ -39,14 +39,14 @@ module _ {H : Type 0} (function : H → Handler) (next : Handler) (options : VMO
   leaves events replies old new none applies fit brings holds =
       follows_holds function next options id new.standing new.held
       (keeps_all events replies old new applies fit brings
-      (subst (λ (held : List (HeldAttempt H)). FollowsByText function next options id old.standing held) (sym none) (holds_follows function next options id old.standing holds)))
+      (subst (λ (held : List (HeldAttempt H)). Follows function next options id old.standing held) (sym none) (holds_follows function next options id old.standing holds)))
 
   -- ---- and what they answer of frames
 
   module _ (none_refused_of : NoneRefused function) where
     -- the bytes are those of an attempt that is held
     move_refuses : (other : Text) (n count bytes frames : ℕ) (why : Refusal) (s t : Standing) (held more : List (HeldAttempt H))
-        → IfHeld (MovesOne count) (held_of held other n) s held (reply.Moved bytes frames (Some why)) t more → FollowsByText function next options id s held → other ≡ id → lies_in_frame why ≡ false
+        → IfHeld (MovesOne count) (held_of held other n) s held (reply.Moved bytes frames (Some why)) t more → Follows function next options id s held → other ≡ id → lies_in_frame why ≡ false
     move_refuses other n count bytes frames why s t held more does f same = by_held (held_of held other n) refl does
       where
         by_held : (o : Option (HeldAttempt H)) → held_of held other n ≡ o → IfHeld (MovesOne count) o s held (reply.Moved bytes frames (Some why)) t more → lies_in_frame why ≡ false
@@ -55,17 +55,17 @@ module _ {H : Type 0} (function : H → Handler) (next : Handler) (options : VMO
             let is = held_is other n one (found_is other n held one there) in
             none_refused_of next options s t held count bytes frames why one d.0 in_line
             (ap (λ (i : Text). held_of held i one.number) is.0 ∙ ap (λ (m : ℕ). held_of held other m) is.1 ∙ there) d.1
-            (subst (λ (i : Text). FollowsByText function next options i s held) (sym (is.0 ∙ same)) f)
+            (subst (λ (i : Text). Follows function next options i s held) (sym (is.0 ∙ same)) f)
 
     refuses_none : (one : Event H) (answer : Reply) (s t : Standing) (held more : List (HeldAttempt H)) → Does function options one s held answer t more
-        → FollowsByText function next options id s held → RefusesNoFrame id one answer
+        → Follows function next options id s held → RefusesNoFrame id one answer
     refuses_none (event.Move other n count) (reply.Moved bytes frames (Some why)) s t held more does f = move_refuses other n count bytes frames why s t held more does f
     refuses_none (event.Move other n count) (reply.Moved bytes frames None) s t held more does f = tt
     refuses_none (event.Move other n count) _ s t held more does f = tt
     refuses_none _ answer s t held more does f = tt
 
     refuse_none : (events : List (Event H)) (replies : List Reply) (old new : Scheduled H) → AppliesAll function options events replies old new → AllByRecursion FitsEvent events
-        → AllByRecursion (Brings function id next) events → FollowsByText function next options id old.standing old.held → RefuseNoFrame id events replies
+        → AllByRecursion (Brings function id next) events → Follows function next options id old.standing old.held → RefuseNoFrame id events replies
     refuse_none [] [] old new same fit brings f = tt
     refuse_none (one ∷ events) (answer ∷ replies) old new applies fit brings f = (
       refuses_none one answer old.standing applies.0.standing old.held applies.0.held applies.1 f,
@@ -79,7 +79,7 @@ module _ {H : Type 0} (function : H → Handler) (next : Handler) (options : VMO
         → AllByRecursion (Brings function id next) events → HoldsOf next options id old.standing.events → RefuseNoFrame id events replies
     take_frames events replies old new none applies fit brings holds =
         refuse_none events replies old new applies fit brings
-        (subst (λ (held : List (HeldAttempt H)). FollowsByText function next options id old.standing held) (sym none) (holds_follows function next options id old.standing holds))
+        (subst (λ (held : List (HeldAttempt H)). Follows function next options id old.standing held) (sym none) (holds_follows function next options id old.standing holds))
 
 -- no frame is refused for what it is
 no_room : (why : Refusal) → why ≡ OutOfMemory → lies_in_frame why ≡ false

@@ -4,7 +4,6 @@ pub mod Events
 pub mod Others
 pub mod Acting
 pub mod Taking
-pub mod ByText
 pub mod Beginning
 pub mod Moving
 pub mod Keeping

@@ -5,7 +5,6 @@ use Rattle.vm_types.specs.declared.options.VMOptions.{VMOptions}
 use Rattle.machine_laws.specs.Laws.{MachinesBegin, MachinesStayLive}
 use Rattle.turning_laws.specs.Keeping.{NotesFollow, BeginsServing, StaysServing, FeedsServing, ClosesServing, TakesServing, OversStay}
 use Rattle.turning_laws.specs.Laws.{OfEach}
-use Rattle.turning_laws.specs.Serving.{asking_by_text}
 use Rattle.turning_laws.specs.Turning.{TurnServes}
 
 pub record ServingLaws {H : Type 0} (function : H → Handler) (next : Handler) (options : VMOptions) : Type 0 where
@@ -20,17 +19,16 @@ pub record ServingLaws {H : Type 0} (function : H → Handler) (next : Handler) 
   pub live_begins : MachinesBegin
   pub stays : MachinesStayLive
 
--- those of a handler as it asks by text
-pub laws_by_text : {H : Type 0} (function : H → Handler) (next : Handler) (options : VMOptions) → OfEach (BeginsServing function) → OfEach (StaysServing function) → OfEach (FeedsServing function)
+pub serving_laws : {H : Type 0} (function : H → Handler) (next : Handler) (options : VMOptions) → OfEach (BeginsServing function) → OfEach (StaysServing function) → OfEach (FeedsServing function)
     → OfEach (ClosesServing function) → OfEach (TakesServing function) → OfEach (TurnServes function) → OversStay function → NotesFollow → MachinesBegin → MachinesStayLive
-    → ServingLaws function (asking_by_text next) options
-laws_by_text function next options begins events feeds closes takes turns over notes live_begins stays = record {
-  begins = λ version. begins (asking_by_text next) version options;
-  events = λ version. events (asking_by_text next) version options;
-  feeds = λ version. feeds (asking_by_text next) version options;
-  closes = λ version. closes (asking_by_text next) version options;
-  takes = λ version. takes (asking_by_text next) version options;
-  turns = λ version. turns (asking_by_text next) version options;
+    → ServingLaws function next options
+serving_laws function next options begins events feeds closes takes turns over notes live_begins stays = record {
+  begins = λ version. begins next version options;
+  events = λ version. events next version options;
+  feeds = λ version. feeds next version options;
+  closes = λ version. closes next version options;
+  takes = λ version. takes next version options;
+  turns = λ version. turns next version options;
   over = over;
   notes = notes;
   live_begins = live_begins;

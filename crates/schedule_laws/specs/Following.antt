@@ -20,7 +20,6 @@ use Rattle.vm_types.specs.declared.options.JournalReplay.TheVariants.{Enabled}
 use Rattle.turning_laws.specs.Attempts.{output_of, Attempt}
 use Rattle.turning_laws.specs.Sending.sent
 use Rattle.turning_laws.specs.Sending.{Sent, sent_stream, frame_meant, IsOfStore}
-pub use Rattle.turning_laws.specs.Serving.{asking_by_text}
 use Rattle.turning_laws.specs.Keeping.{IsLiveAt}
 use Rattle.turning_laws.specs.Serving.{IsOver, Serves}
 use Rattle.store_calls.specs.Standing.{Standing}
@@ -89,7 +88,3 @@ module _ {H : Type 0} (function : H → Handler) (next : Handler) (options : VMO
 
   abbrev pub Follows : Standing → List (HeldAttempt H) → Type 0
   Follows s held = FollowsIn s.events (s.outputs id) held
-
--- All of that is kept of a handler as it asks by text. What is recorded is then of its own run too.
-abbrev pub FollowsByText : {H : Type 0} → (H → Handler) → Handler → VMOptions → Text → Standing → List (HeldAttempt H) → Type 0
-FollowsByText function next options id s held = Follows function (asking_by_text next) options id s held

@@ -14,7 +14,7 @@ use Rattle.store_calls.specs.Standing.{Standing}
 use Rattle.store_refusals.specs.declared.refusal.Refusal.{Refusal}
 use Rattle.store_steps.specs.Taken.{lies_in_frame}
 use Rattle.schedule_laws.specs.Attempts.{Attempt}
-use Rattle.schedule_laws.specs.Following.{ReplaysInLine, HoldsOf, given_of, FollowsByText}
+use Rattle.schedule_laws.specs.Following.{ReplaysInLine, HoldsOf, given_of, Follows}
 use Rattle.schedule_laws.specs.Schedules.event
 use Rattle.schedule_laws.specs.Schedules.reply
 use Rattle.schedule_laws.specs.Schedules.{Event, Reply, HeldAttempt, held_of, MovesOne, Does, Scheduled, AppliesAll, Brings, FitsEvent}
@@ -36,23 +36,23 @@ module _ {H : Type 0} (function : H → Handler) where
 
   -- where nothing is held, an invocation is in its run whose records are, and so is one that was not begun
   abbrev pub HoldsFollows : Type 0
-  HoldsFollows = (next : Handler) (options : VMOptions) (id : Text) (s : Standing) → HoldsOf next options id s.events → FollowsByText function next options id s []
+  HoldsFollows = (next : Handler) (options : VMOptions) (id : Text) (s : Standing) → HoldsOf next options id s.events → Follows function next options id s []
 
   -- what an event does keeps an invocation in its run, if begins of it bring the run's function
   abbrev pub KeptByEach : Type 0
   KeptByEach = (next : Handler) (options : VMOptions) (id : Text) (one : Event H) (answer : Reply) (old new : Standing) (held more : List (HeldAttempt H)) → ReplaysInLine options
-      → FitsEvent one → Brings function id next one → Does function options one old held answer new more → FollowsByText function next options id old held
-      → FollowsByText function next options id new more
+      → FitsEvent one → Brings function id next one → Does function options one old held answer new more → Follows function next options id old held
+      → Follows function next options id new more
 
   -- the records of an invocation in its run are
   abbrev pub FollowsHolds : Type 0
-  FollowsHolds = (next : Handler) (options : VMOptions) (id : Text) (s : Standing) (held : List (HeldAttempt H)) → FollowsByText function next options id s held → HoldsOf next options id s.events
+  FollowsHolds = (next : Handler) (options : VMOptions) (id : Text) (s : Standing) (held : List (HeldAttempt H)) → Follows function next options id s held → HoldsOf next options id s.events
 
   -- no frame of an invocation in its run is refused for a cause that lies in it
   abbrev pub NoneRefused : Type 0
   NoneRefused = (next : Handler) (options : VMOptions) (old new : Standing) (held : List (HeldAttempt H)) (count bytes frames : ℕ) (why : Refusal) (one : HeldAttempt H) (changed : Attempt H)
       → ReplaysInLine options → held_of held one.invocation one.number ≡ Some one → MovesOne count one old (reply.Moved bytes frames (Some why)) new changed
-      → FollowsByText function next options one.invocation old held → lies_in_frame why ≡ false
+      → Follows function next options one.invocation old held → lies_in_frame why ≡ false
 
   -- ---- what a schedule leaves
 

@@ -15,7 +15,7 @@ use Rattle.vm_start.specs.declared.negotiation.NegotiationError.{NegotiationErro
 use Rattle.beginning_laws.proofs.Messages.{all_in_front}
 use Rattle.beginning_laws.proofs.Passed.{front, nothing_at, some_is_none, starts_read_back}
 use Rattle.turning_laws.specs.Attempts.{IsUnasked, FeedsUnless, output_of, Attempt, Finish}
-use Rattle.turning_laws.specs.Serving.{asking_by_text, kind_where, IsFedBy, Serves}
+use Rattle.turning_laws.specs.Serving.{kind_where, IsFedBy, Serves}
 use Rattle.turning_laws.specs.Keeping.{attempt_started, LacksMemory, BeginsServing}
 use Rattle.turning_laws.specs.Machine.{Written, MachineState, IsFed, IsNew, BeginsAs}
 use Rattle.turning_laws.specs.Reading.{FailsForMemory, raw_of, MessageFits, bytes_of, start_told, CanBegin, IsRunOf, kind_of, HasStarted, HoldsStart, ReadsOn, StartsAreRead}
@@ -55,7 +55,7 @@ no_bytes (one ∷ some) fit none =
     absurd (some_is_none (message (raw_of one), input_bytes (map piece_of some)) (sym (front one fit.0 (input_bytes (map piece_of some))) ∙ ap item_at none ∙ nothing_at))
 
 module _ {H : Type 0} (function : H → Handler) (next : Handler) (version : Version) (options : VMOptions) (starts : StartsAreRead) (start : AttemptStart) (shows : ShowsStart start) (handler : H) (new fed : Attempt H)
-    (is_next : asking_by_text (function handler) ≡ next) (of_run : IsRunOf start version options) (can : CanBegin start shows) (by : IsFedBy (attempt_begun start)) (unasked : IsUnasked options handler new)
+    (is_next : function handler ≡ next) (of_run : IsRunOf start version options) (can : CanBegin start shows) (by : IsFedBy (attempt_begun start)) (unasked : IsUnasked options handler new)
     (is_new : IsNew version options new.vm.state) (does : IsFed start.frame new.vm.state fed.vm.state × (fed ≡ record new { vm = fed.vm })) where
   abbrev messages : List InputMessage
   messages = CarriesInput start.new ∷ start.journal
@@ -99,7 +99,7 @@ module _ {H : Type 0} (function : H → Handler) (next : Handler) (version : Ver
   serves on = (
     output_is written,
     inl (record {
-      handler = ap (λ (a : Attempt H). asking_by_text (function a.handler)) does.1 ∙ ap (λ (h : H). asking_by_text (function h)) unasked.handler_is ∙ is_next;
+      handler = ap (λ (a : Attempt H). function a.handler) does.1 ∙ ap function unasked.handler_is ∙ is_next;
       going = ap (λ (a : Attempt H). a.over) does.1 ∙ unasked.over;
       cancellation = ap (λ (a : Attempt H). a.cancellation) does.1 ∙ unasked.cancellation;
       kind = on.started.kind_is;

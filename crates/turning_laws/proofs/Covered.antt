@@ -1,4 +1,4 @@
--- A call that is carried out asks for what a store records, and what it awaits can be told. It is by no key.
+-- A call that is carried out asks for what a store records, and what it awaits can be told.
 use Rattle.std.proofs.Common.{◌≡◌, ◌-◌, ℕ, zero, suc, Bool, true, false, true≢false, ◌&&◌, [], ◌∷◌, None, refl, sym}
 use Rattle.protocol_wire.specs.declared.record.TheConstants.{LEVELS}
 use Rattle.journal_model.specs.declared.call.Call.{Call}
@@ -7,7 +7,7 @@ use Rattle.journal_model.specs.Await.{awaited_tree}
 use Rattle.journal_model.specs.AwaitTree.{AwaitTree, Single, Combined, AwaitTrees, no_trees, and_trees}
 use Rattle.journal_model.specs.State.{StartState}
 use Rattle.vm_attempt.specs.Covered.{asks_of_store, is_nested_within, are_nested_within, is_covered}
-use Rattle.turning_laws.specs.Serving.{IsOfStore, AwaitsWithin, with_text_key}
+use Rattle.turning_laws.specs.Serving.{IsOfStore, AwaitsWithin}
 use Rattle.turning_laws.specs.Words.{ImplicitCancellationOption, IsWithin, AreWithin}
 
 -- ---- what it asks for
@@ -46,22 +46,6 @@ asks_stored _ h = absurd (true≢false (sym (h no_state [] [] 0).0))
 pub covered_stored : (cancellation : ImplicitCancellationOption) (call : Call) → is_covered cancellation call ≡ true → IsOfStore call
 covered_stored cancellation (Call.Await tree) e = λ start done left completion. tt
 covered_stored cancellation call e = stored call e
-
--- ---- the keys that it is by
-
--- whether it is carried out is no matter of its key
-pub covered_by_text : (cancellation : ImplicitCancellationOption) (call : Call) → is_covered cancellation (with_text_key call) ≡ is_covered cancellation call
-covered_by_text cancellation (Call.StateGet key name options) = refl
-covered_by_text cancellation (Call.StateSet key value name options) = refl
-covered_by_text cancellation (Call.StateClear key name) = refl
-covered_by_text cancellation call = refl
-
--- and if it is, it is by none
-pub covered_same : (cancellation : ImplicitCancellationOption) (call : Call) → is_covered cancellation call ≡ true → with_text_key call ≡ call
-covered_same cancellation (Call.StateGet key name options) e = cc
-covered_same cancellation (Call.StateSet key value name options) e = cc
-covered_same cancellation (Call.StateClear key name) e = cc
-covered_same cancellation call e = refl
 
 -- ---- what it awaits
 

@@ -40,9 +40,9 @@ module _ (start : AttemptStart) (shows : ShowsStart start) (version : Version) (
 entries_number : (m : Machine) (entries : List Entry) → HasNumbers m → HasNumbers (with_entries m entries)
 entries_number m [] h = h
 entries_number m (Recorded request ∷ entries) h =
-    entries_number (with_entry m (Recorded request)) entries (record { completions = h.completions; signals = h.signals; slots = h.slots })
+    entries_number (with_entry m (Recorded request)) entries (record { completions = h.completions; signals = h.signals; slots = h.slots; texts = h.texts })
 entries_number m (Arrived arrival ∷ entries) h =
-    entries_number (with_arrival m arrival) entries (record { completions = h.completions; signals = h.signals; slots = h.slots })
+    entries_number (with_arrival m arrival) entries (record { completions = h.completions; signals = h.signals; slots = h.slots; texts = h.texts })
 
 -- messages that are read take none
 pub messages_number : (m : Machine) (messages : List InputMessage) → HasNumbers m → HasNumbers (with_messages m messages)
@@ -50,4 +50,4 @@ messages_number m messages h = entries_number m (entries_carried messages) h
 
 pub numbers_begin : (shown : StartState) (messages : List InputMessage) → HasNumbers (with_messages (machine_at_start shown [] []) messages)
 numbers_begin shown messages =
-    messages_number (machine_at_start shown [] []) messages (record { completions = omega arith; signals = omega arith; slots = tt })
+    messages_number (machine_at_start shown [] []) messages (record { completions = omega arith; signals = omega arith; slots = tt; texts = refl })

@@ -1,5 +1,5 @@
 -- What is known of a machine of whose attempt the input was read, at a turn.
-use Rattle.std.proofs.Common.{◌≡◌, ◌∙◌, Bool, true, false, ◌||◌, List, [], ◌∷◌, ◌++◌, map, length, refl, sym, ap, subst}
+use Rattle.std.proofs.Common.{◌≡◌, ◌∙◌, suc, Bool, true, false, ◌||◌, List, [], ◌∷◌, ◌++◌, map, length, refl, sym, ap, subst}
 use Rattle.std.specs.List.{list_any}
 use Rattle.state_laws.proofs.States.{starts_text}
 use Rattle.input_laws.proofs.Telling.{arrivals_carried-append}
@@ -10,14 +10,14 @@ use Rattle.vm_commands.specs.HeaderEquality.{same_header}
 use Rattle.vm_commands.proofs.Comparing.{compares_reflexively}
 use Rattle.turning_laws.specs.Serving.{IsOfStore, AwaitsWithin, HasNumbers, kind_where, HasRead, Serves}
 use Rattle.turning_laws.specs.Keeping.{IsLiveAt}
-use Rattle.turning_laws.proofs.Covered.{covered_stored, covered_within, covered_same}
+use Rattle.turning_laws.proofs.Covered.{covered_stored, covered_within}
 use Rattle.turning_laws.proofs.Messages.{unread_fit}
 use Rattle.turning_laws.proofs.Reading.{no_arrival_is_held}
 use Rattle.turning_laws.specs.Attempts.{Attempt, is_covered}
 use Rattle.turning_laws.specs.Machine.{checks_off, MachineState, IsDriven, TracksNone}
 use Rattle.turning_laws.specs.Reading.{kind_of}
-use Rattle.turning_laws.specs.Words.{version_number, Version, Answer, Call, item_at, arrivals_within, input_left, is_input_closed, child_of, Event, answers_of, Text, Arrival, Request, Handler, Invocation, Progress, piece_of, arrivals_carried, requests_carried, FollowsSo, Machine, Reply, reply_to, IsInRun, LiveAttempt, without_children, untracked, childless, childless_reply, is_cancellation, run_options, VMOptions, ImplicitCancellationOption, Disabled, Enabled, starting_state, Queued, Fits, next_call, RepliesAsRun, StandsWithJournal, JournalsStand, KeepsOn, MachinesKeepOn, HasTextKeys, IsTypedCall}
-use Rattle.turning_laws.proofs.Texts.{shown_text, asks_by_keys, asks_by_text}
+use Rattle.turning_laws.specs.Words.{version_number, Version, Answer, Call, item_at, arrivals_within, input_left, is_input_closed, child_of, Event, answers_of, Text, Arrival, Request, Handler, Invocation, Progress, piece_of, arrivals_carried, requests_carried, FollowsSo, Machine, Reply, reply_to, IsInRun, LiveAttempt, without_children, untracked, childless, childless_reply, is_cancellation, run_options, VMOptions, ImplicitCancellationOption, Disabled, Enabled, starting_state, Queued, AreOfKind, Fits, next_call, RepliesAsRun, AsksByText, StandsWithJournal, JournalsStand, KeepsOn, MachinesKeepOn, HasTextKeys, IsTypedCall}
+use Rattle.turning_laws.proofs.Texts.{shown_text, HasTextKey, typed_key, asks_on}
 
 -- what its requests are compared by
 abbrev pub compares : MachineState → Call → Request → Request → Bool
@@ -39,6 +39,8 @@ pub record Now (next : Handler) (version : Version) (options : VMOptions) (id : 
   pub driven : IsDriven (untracked live.start.given) (childless live.machine) vm
   pub numbers : HasNumbers live.machine
   pub typed : IsTypedCall (call_of next live at)
+  -- what its run has asked for with that call too is by keys that are text
+  pub by_text : AsksByText next live.start.given (arrivals_carried live.read) (suc live.calls)
   pub recorded : IsOfStore (call_of next live at)
   pub within : AwaitsWithin (run_options options) (call_of next live at)
   pub of_options : live.start.given.options ≡ run_options options
@@ -76,7 +78,13 @@ module _ {H : Type 0} (function : H → Handler) (next : Handler) (version : Ver
       (shown_text live.start.new.state (starting_state events id) (starts_text events id f.accepted))
 
   fits : Fits next live.start.given (requests_carried live.read) (arrivals_carried live.read)
-  fits = stands.fits queued (kinds_by_asking next live.start.given (arrivals_carried live.read) (stands.asked (asks_by_text next (asks_by_keys (function before.handler) next s.handler) live.start.given starts (arrivals_carried live.read))))
+  fits = stands.fits queued
+
+  by_text : AsksByText next live.start.given (arrivals_carried live.read) live.calls
+  by_text = stands.by_text r.numbers.texts
+
+  kinds : AreOfKind next live.start.given (arrivals_carried live.read) live.calls
+  kinds = kinds_by_asking next live.start.given (arrivals_carried live.read) live.calls (stands.asked by_text)
 
   no_cancellation : list_any is_cancellation (arrivals_carried live.read) ≡ false
   no_cancellation =
@@ -86,36 +94,38 @@ module _ {H : Type 0} (function : H → Handler) (next : Handler) (version : Ver
   abbrev asked : Call
   asked = function before.handler live.start.given.input before.answers
 
-  -- a call that is carried out is the next one of the run
-  pub called : is_covered before.cancellation asked ≡ true → (at : IsInRun next live.start.given live.read live.unread live.calls live.machine) → asked ≡ call_of next live at
-  called covered at =
-      sym (covered_same before.cancellation asked covered)
-      ∙ ap (λ (handler : Handler). handler live.start.given.input before.answers) s.handler
+  -- its call is the next one of the run
+  pub called : (at : IsInRun next live.start.given live.read live.unread live.calls live.machine) → asked ≡ call_of next live at
+  called at =
+      ap (λ (handler : Handler). handler live.start.given.input before.answers) s.handler
       ∙ ap (λ (answers : List Answer). next live.start.given.input answers) (r.answers ∙ ap (λ (p : Progress). answers_of p.steps) at.stands.going)
 
   covered_call : is_covered before.cancellation asked ≡ true → is_covered options.implicit_cancellation (call_of next live stands.at) ≡ true
   covered_call covered =
       sym (ap (λ (cancellation : ImplicitCancellationOption). is_covered cancellation asked) s.cancellation
-      ∙ ap (λ (call : Call). is_covered options.implicit_cancellation call) (called covered stands.at)) ∙ covered
+      ∙ ap (λ (call : Call). is_covered options.implicit_cancellation call) (called stands.at)) ∙ covered
 
   pub now : IsTypedCall asked → is_covered before.cancellation asked ≡ true → Now next version options id events live before.vm.state
   now typed covered = record {
     at = stands.at;
     keeps = keep_on (compares before.vm.state) next (run_options options) options.fallback_random_seed id events live
-        (compares_reflexively (checks_off before.vm.state.options.non_determinism_checks)) f l s.started fits stands.at;
+        (compares_reflexively (checks_off before.vm.state.options.non_determinism_checks)) f l s.started fits kinds stands.at;
     whole = no_arrival_is_held live.unread live.held (input_left events id) (unread_fit live r.journal s.fed.input) l.reads.bytes
         (ap item_at (sym s.bytes) ∙ s.whole);
     follows = f;
     kind = s.kind;
     driven = r.driven;
     numbers = r.numbers;
-    typed = subst IsTypedCall (called covered stands.at) typed;
+    typed = subst IsTypedCall (called stands.at) typed;
+    by_text = asks_on next live.start.given starts (arrivals_carried live.read) live.calls
+        (subst (λ (p : Progress). HasTextKey (next live.start.given.input (answers_of p.steps))) (sym stands.at.stands.going)
+        (typed_key (call_of next live stands.at) (subst IsTypedCall (called stands.at) typed))) by_text;
     recorded = covered_stored options.implicit_cancellation (call_of next live stands.at) (covered_call covered);
     within = covered_within (run_options options) (call_of next live stands.at) (covered_call covered);
     of_options = ap (λ (given : Invocation). given.options) s.of_run.given_is;
     of_version = ap (λ (given : Invocation). given.version) s.of_run.given_is ∙ s.of_run.version_is;
     same = next_replies_are_same (compares before.vm.state) next live.start.given (requests_carried live.read) (arrivals_carried live.read) live.calls live.machine
-        (compares_reflexively (checks_off before.vm.state.options.non_determinism_checks)) fits stands.at.stands no_cancellation;
+        (compares_reflexively (checks_off before.vm.state.options.non_determinism_checks)) fits kinds stands.at.stands no_cancellation;
     as_run = simulates (compares before.vm.state) next live.start.given (requests_carried live.read) (arrivals_carried live.read) live.calls live.machine
-        (compares_reflexively (checks_off before.vm.state.options.non_determinism_checks)) fits stands.at.stands;
+        (compares_reflexively (checks_off before.vm.state.options.non_determinism_checks)) fits kinds stands.at.stands;
   }

@@ -2,7 +2,6 @@
 use Rattle.std.proofs.Common.{◌≡◌, ◌∙◌, inr, false, List, ◌++◌, map, refl, sym, ap, subst}
 use Rattle.std.specs.List.{AllByRecursion}
 use Rattle.turning_laws.specs.Serving.{HasRead, Serves, machine_failed}
-use Rattle.turning_laws.proofs.Covered.{covered_by_text}
 use Rattle.turning_laws.proofs.Notes.{fails_now, TellsNotes, cause_tells, notes_follow, waits_more}
 use Rattle.turning_laws.specs.Attempts.{is_covered, RefusesCall, Attempt, Turn}
 use Rattle.turning_laws.specs.Machine.{MachineState, Written, FailsNow}
@@ -41,7 +40,6 @@ module _ {H : Type 0} (function : H → Handler) (next : Handler) (version : Ver
     behind = (
       inr (
         sym (ap (λ (cancellation : ImplicitCancellationOption). is_covered cancellation (function before.handler live.start.given.input before.answers)) s.cancellation
-            ∙ sym (covered_by_text options.implicit_cancellation (function before.handler live.start.given.input before.answers))
             ∙ ap (λ (handler : Handler). is_covered options.implicit_cancellation (handler live.start.given.input before.answers)) s.handler) ∙ uncovered,
         refl,
       ),

@@ -18,8 +18,9 @@ use Rattle.turning_laws.specs.Machine.{MachineState, Fits, Active, Written, with
 use Rattle.turning_laws.specs.Reading.{Kind}
 use Rattle.turning_laws.specs.Sending.{Sent, Asks, sent_stream, AllFit, is_recorded, frame_meant, TurnSends}
 use Rattle.turning_laws.specs.Serving.{AwaitsWithin, HasNumbers}
-use Rattle.turning_laws.specs.Words.{LEVELS, version_number, Version, Answer, Call, is_input_closed, awaited_tree, AwaitTree, Event, Frame, completions_of, signals_of, Text, Request, Handler, Invocation, RunOptions, Machine, Reply, Answered, AwaitsTree, Finished, reply_to, LiveAttempt, untracked, childless, run_options, VMOptions, IsWithin, SlotsFit, TreeFits, refusal_of, Slots, slot_of, requests_by, SendsReply}
+use Rattle.turning_laws.specs.Words.{LEVELS, version_number, Version, Answer, Call, is_input_closed, awaited_tree, AwaitTree, Event, Frame, completions_of, signals_of, Text, Request, Handler, Invocation, RunOptions, Machine, Reply, Answered, AwaitsTree, Finished, reply_to, LiveAttempt, untracked, childless, run_options, VMOptions, IsWithin, SlotsFit, TreeFits, refusal_of, Slots, slot_of, requests_by, SendsReply, AnswersNext, RepliesAsRun, requests_carried, arrivals_carried, are_by_text, requests_of, Progress}
 use Rattle.turning_laws.proofs.Now.{Now, compares, call_of, reply_at}
+use Rattle.turning_laws.proofs.Texts.{written_text}
 use Rattle.turning_laws.proofs.Replies.{Grown, Stayed, Grows, reply_grows, awaits_of, answered_of, awaiting_of, finished_of}
 
 -- ---- requests
@@ -47,12 +48,6 @@ sent_meant version (request ∷ requests) may =
 left_in_all : (n k : ℕ) → n ≤ 2 ^ 32 → (k ≡ 0) ⊎ (n + k ≤ 2 ^ 32) → n + k ≤ 2 ^ 32
 left_in_all n k few (inl none) = omega (arith, few, none)
 left_in_all n k few (inr left) = left
-
-childless_number : (m : Machine) → HasNumbers m → HasNumbers (childless m)
-childless_number m h = record { completions = h.completions; signals = h.signals; slots = h.slots }
-
-whole_number : (m : Machine) → HasNumbers (childless m) → HasNumbers m
-whole_number m h = record { completions = h.completions; signals = h.signals; slots = h.slots }
 
 tells_results : (told : Bool) (tree : AwaitTree ℕ) (old new : Active) → TellsIf told tree old (Ok tt) new → new.results ≡ old.results
 tells_results true tree old new tells = ap (λ (active : Active). active.results) tells.1
@@ -130,22 +125,27 @@ module _ (next : Handler) (version : Version) (options : VMOptions) (id : Text) 
         subst (Leaves (λ after. SlotsFit after.slots)) a.replies
         (machines_fit.calls (compares vm) (untracked given) (childless live.machine) call (record { typed = n.typed; completions = completions_left; signals = signals_left }) n.numbers.slots)
 
-    numbers_left : HasNumbers a.machine
-    numbers_left = record {
-      completions = subst (λ (n : ℕ). n ≤ 2 ^ 32) (sym grown.completions) completions_left;
-      signals = subst (λ (n : ℕ). n ≤ 2 ^ 32) (sym grown.signals) signals_left;
-      slots = slots_left;
-    }
-
     behind : (whole : Machine) × (reply_at next live vm n.at ≡ Answered answer whole) × (childless whole ≡ a.machine)
     behind = answered_of (reply_at next live vm n.at) answer a.machine (sym n.same ∙ a.replies)
+
+    next_one : AnswersNext next given (requests_carried live.read) (arrivals_carried live.read) live.calls answer behind.0
+    next_one = subst (RepliesAsRun next given (requests_carried live.read) (arrivals_carried live.read) live.calls) behind.1 n.as_run
+
+    numbers_left : HasNumbers behind.0
+    numbers_left = record {
+      completions = subst (λ (n : ℕ). n ≤ 2 ^ 32) (sym (ap (λ (m : Machine). m.completions) behind.2 ∙ grown.completions)) completions_left;
+      signals = subst (λ (n : ℕ). n ≤ 2 ^ 32) (sym (ap (λ (m : Machine). m.signals) behind.2 ∙ grown.signals)) signals_left;
+      slots = subst (λ (m : Machine). SlotsFit m.slots) (sym behind.2) slots_left;
+      texts = written_text (requests_carried live.read) next_one.stands.steps behind.0.left behind.0.written next_one.stands.requests
+          (ap (λ (p : Progress). are_by_text (requests_of p.steps)) (sym next_one.stands.going) ∙ n.by_text);
+    }
 
     pub answers_so : AnswersSo answer new
     answers_so = record {
       whole = behind.0;
       replies = behind.1;
       driven = subst (λ (m : Machine). IsDriven (untracked live.start.given) m new) (sym behind.2) a.driven;
-      numbers = whole_number behind.0 (subst HasNumbers (sym behind.2) numbers_left);
+      numbers = numbers_left;
       sends = record {
         coming = map Asks a.more;
         fit = sent_fit version a.more may a.fit;
@@ -206,6 +206,7 @@ module _ (next : Handler) (version : Version) (options : VMOptions) (id : Text) 
       completions = subst (λ (n : ℕ). n ≤ 2 ^ 32) (sym (ap (λ (m : Machine). m.completions) waits_behind.2 ∙ stayed.completions)) n.numbers.completions;
       signals = subst (λ (n : ℕ). n ≤ 2 ^ 32) (sym (ap (λ (m : Machine). m.signals) waits_behind.2 ∙ stayed.signals)) n.numbers.signals;
       slots = subst SlotsFit (sym slots_are) n.numbers.slots;
+      texts = ap are_by_text waits_written ∙ n.numbers.texts;
     }
 
   pub waits_send : (new : MachineState) → (w : Waits (untracked live.start.given) (childless live.machine) (call_of next live n.at) vm new) → SendsFor (is_input_closed events id) (reply_at next live vm n.at) new.active.output

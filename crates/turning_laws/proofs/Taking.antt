@@ -3,7 +3,7 @@ use Rattle.std.proofs.Common.{◌≡◌, ◌⊎◌, inl, inr, ◌∙◌, ℕ, ze
 use Rattle.std.specs.declared.alloc.AllocError.{AllocError}
 use Rattle.protocol_records.specs.declared.start.StartMessage.{StartMessage}
 use Rattle.vm_machine.specs.Gathering.{Gathers as GathersAll}
-use Rattle.turning_laws.specs.Serving.{asking_by_text, kind_where, HasNotRead, HasRead, Serves}
+use Rattle.turning_laws.specs.Serving.{kind_where, HasNotRead, HasRead, Serves}
 use Rattle.turning_laws.specs.Keeping.{TakesServing}
 use Rattle.turning_laws.proofs.Beginning.{nothing_held, nothing_more}
 use Rattle.turning_laws.proofs.Over.{moves_of, shown_moves, let_go_moves}
@@ -70,7 +70,7 @@ module _ {H : Type 0} (function : H → Handler) (next : Handler) (version : Ver
   moved : (live : LiveAttempt) (is_closed : Bool) (before after : Attempt H) → OnlyMoves before after → (output_of before ≡ [] → output_of after ≡ []) → Serves function next version options live is_closed before
       → Serves function next version options live is_closed after
   moved live is_closed before after moves none s = record {
-    handler = ap (λ (a : Attempt H). asking_by_text (function a.handler)) moves.others ∙ s.handler;
+    handler = ap (λ (a : Attempt H). function a.handler) moves.others ∙ s.handler;
     going = ap (λ (a : Attempt H). a.over) moves.others ∙ s.going;
     cancellation = ap (λ (a : Attempt H). a.cancellation) moves.others ∙ s.cancellation;
     kind = ap (λ (vm : CoreVM). kind_of vm.state) moves.machine ∙ s.kind;

@@ -1,7 +1,7 @@
--- A handler that asks by text asks for state, and changes it, by keys that are text.
-use Rattle.std.proofs.Common.{◌≡◌, ℕ, zero, suc, Bool, true, false, ◌&&◌, if◌then◌else◌, List, [], ◌∷◌, ◌++◌, Option, Some, None, refl, ap, subst}
+-- A call by a key that is text asks for state, and changes it, by keys that are text; so does what a machine has written.
+use Rattle.std.proofs.Common.{◌≡◌, ◌⊎◌, inl, inr, ◌∙◌, ℕ, suc, Bool, true, false, ◌&&◌, if◌then◌else◌, List, [], ◌∷◌, ◌++◌, append-nil, Option, Some, None, refl, sym, ap}
 use Rattle.std.specs.List.{list_all}
-use Rattle.std.proofs.lemmas.Str.{is_utf8-from_IsUtf8, IsUtf8-nil}
+use Rattle.std.proofs.lemmas.Str.{is_utf8-from_IsUtf8}
 use Rattle.std.specs.Str.{is_utf8}
 use Rattle.journal_model.specs.declared.invocation.StateMode.{StateMode}
 use Rattle.journal_model.specs.declared.value.Value.{Value}
@@ -9,20 +9,26 @@ use Rattle.journal_model.specs.Await.{AwaitOutcome, WaitsFor, WokenAt, Cancelled
 use Rattle.journal_model.specs.Headline.{shown_state}
 use Rattle.journal_model.specs.Refusal.{Refusal, refusal_of}
 use Rattle.journal_model.specs.Run.{Kind, Awaits, Ends, Answers, kind_of, name_or_empty, requests_to, after_await, carried_out, unless_refused, continued_by}
-use Rattle.attempt_laws.proofs.Coming.{all-both}
-use Rattle.machine_laws.specs.Asking.{AsksByText}
+use Rattle.attempt_laws.proofs.Coming.{all-both, all-back}
 use Rattle.machine_laws.proofs.Texts.{text_after, keys_text}
-use Rattle.turning_laws.specs.Serving.{text_or_empty, with_text_key, asking_by_text}
-use Rattle.turning_laws.specs.Words.{Bytes, Answer, Call, Input, NotificationId, RunOptions, AwaitTree, keys_of, Step, answers_of, requests_of, Arrival, Request, Handler, Invocation, Progress, Ending, GoesOn, run, next_completion, StateMap, knows_key, knows_all_keys, known_value, known_keys, state_after, HasTextKeys}
-
-abbrev has_text : Request → Bool
-has_text request = list_all is_utf8 (keys_of request)
+use Rattle.turning_laws.specs.Words.{Bytes, Call, Commands, IsTypedCall, RequestsStand, are_by_text, AsksByText, NotificationId, RunOptions, AwaitTree, keys_of, Step, answers_of, requests_of, Arrival, Request, Handler, Invocation, Progress, Ending, GoesOn, run, next_completion, StateMap, knows_key, knows_all_keys, known_value, known_keys, state_after, HasTextKeys}
 
 abbrev HaveText : List Request → Type 0
-HaveText requests = list_all (λ request. list_all is_utf8 (keys_of request)) requests ≡ true
+HaveText requests = are_by_text requests ≡ true
 
 both_text : (xs ys : List Request) → HaveText xs → HaveText ys → HaveText (xs ++ ys)
 both_text xs ys one other = all-both (λ request. list_all is_utf8 (keys_of request)) xs ys one other
+
+-- what a machine has written that has matched and written the requests of these steps
+pub written_text : (journal : List Request) (steps : List Step) (commands : Commands) (written : List Request) → RequestsStand journal steps commands written → HaveText (requests_of steps)
+    → HaveText written
+written_text journal steps commands written stand all = by_replays stand.replays
+  where
+    by_replays : (stand.left ≡ []) ⊎ (written ≡ []) → HaveText written
+    by_replays (inl none) =
+        all-back (λ request. list_all is_utf8 (keys_of request)) journal written
+        (ap are_by_text (sym stand.requests ∙ ap (λ (left : List Request). requests_of steps ++ left) none ∙ append-nil (requests_of steps)) ∙ all)
+    by_replays (inr none) = ap are_by_text none
 
 -- ---- a call
 
@@ -33,24 +39,12 @@ HasTextKey (Call.StateSet key value name options) = is_utf8 key ≡ true
 HasTextKey (Call.StateClear key name) = is_utf8 key ≡ true
 HasTextKey _ = Unit {0}
 
-abbrev pub IsTextKeyed : Handler → Type 0
-IsTextKeyed next = (input : Input) (answers : List Answer) → HasTextKey (next input answers)
-
-is_text : (key : Bytes) → is_utf8 (text_or_empty key) ≡ true
-is_text key = by_test (is_utf8 key) refl
-  where
-    by_test : (b : Bool) → is_utf8 key ≡ b → is_utf8 (if b then key else []) ≡ true
-    by_test true e = e
-    by_test false e = is_utf8-from_IsUtf8 [] IsUtf8-nil
-
-text_keyed : (call : Call) → HasTextKey (with_text_key call)
-text_keyed (Call.StateGet key name options) = is_text key
-text_keyed (Call.StateSet key value name options) = is_text key
-text_keyed (Call.StateClear key name) = is_text key
-text_keyed _ = tt
-
-pub asks_by_keys : (asked next : Handler) → asking_by_text asked ≡ next → IsTextKeyed next
-asks_by_keys asked next same = subst IsTextKeyed same (λ input answers. text_keyed (asked input answers))
+-- its type says so
+pub typed_key : (call : Call) → IsTypedCall call → HasTextKey call
+typed_key (Call.StateGet key name options) typed = is_utf8-from_IsUtf8 key typed.0
+typed_key (Call.StateSet key value name options) typed = is_utf8-from_IsUtf8 key typed.0
+typed_key (Call.StateClear key name) typed = is_utf8-from_IsUtf8 key typed.0
+typed_key _ typed = tt
 
 key_text : (key : Bytes) → is_utf8 key ≡ true → ((is_utf8 key && true) && true) ≡ true
 key_text key typed = ap (λ (b : Bool). (b && true) && true) typed
@@ -116,7 +110,7 @@ pub shown_text : (mode : StateMode) (entries : StateMap) → HasTextKeys entries
 shown_text StateMode.Whole entries all = all
 shown_text StateMode.None entries all = tt
 
-module _ (next : Handler) (keyed : IsTextKeyed next) (given : Invocation) (starts : HasTextKeys given.start.entries) (arrivals : List Arrival) where
+module _ (next : Handler) (given : Invocation) (starts : HasTextKeys given.start.entries) (arrivals : List Arrival) where
   carried_text : (steps : List Step) (call : Call) (kind : Kind) → HasTextKey call → HaveText (requests_of steps) → HaveText (requests_of (carried_out given steps arrivals call kind).steps)
   carried_text steps call (Awaits tree) h all =
       after_text steps call (await_outcome given.options steps arrivals tree)
@@ -128,12 +122,11 @@ module _ (next : Handler) (keyed : IsTextKeyed next) (given : Invocation) (start
   refused_text steps call (Some refusal) h all = all
   refused_text steps call None h all = carried_text steps call (kind_of call) h all
 
-  continued_text : (progress : Progress) (ending : Ending) → HaveText (requests_of progress.steps) → HaveText (requests_of (continued_by next given arrivals progress ending).steps)
-  continued_text progress GoesOn all =
-      refused_text progress.steps (next given.input (answers_of progress.steps)) (refusal_of given.version (next given.input (answers_of progress.steps)))
-      (keyed given.input (answers_of progress.steps)) all
-  continued_text progress _ all = all
+  continued_text : (progress : Progress) (ending : Ending) → HasTextKey (next given.input (answers_of progress.steps)) → HaveText (requests_of progress.steps) → HaveText (requests_of (continued_by next given arrivals progress ending).steps)
+  continued_text progress GoesOn h all =
+      refused_text progress.steps (next given.input (answers_of progress.steps)) (refusal_of given.version (next given.input (answers_of progress.steps))) h all
+  continued_text progress _ h all = all
 
-  pub asks_by_text : AsksByText next given arrivals
-  asks_by_text zero = refl
-  asks_by_text (suc made) = continued_text (run next given arrivals made) (run next given arrivals made).ending (asks_by_text made)
+  -- with one call more the run asks by text too, if that call is by a key that is text
+  pub asks_on : (calls : ℕ) → HasTextKey (next given.input (answers_of (run next given arrivals calls).steps)) → AsksByText next given arrivals calls → AsksByText next given arrivals (suc calls)
+  asks_on calls h all = continued_text (run next given arrivals calls) (run next given arrivals calls).ending h all

@@ -4,7 +4,7 @@ use Rattle.std.proofs.Math.Path.{fun_ext}
 use Rattle.journal_model.specs.AwaitTree.{map_leaves}
 use Rattle.journal_model.specs.History.{stands_for}
 use Rattle.waking_laws.proofs.Awaits.{awaits_tell}
-use Rattle.turning_laws.specs.Serving.{asking_by_text, HasNumbers, HasRead, Serves, finished, machine_failed}
+use Rattle.turning_laws.specs.Serving.{HasNumbers, HasRead, Serves, finished, machine_failed}
 use Rattle.turning_laws.specs.Keeping.{IsLiveAt}
 use Rattle.turning_laws.proofs.Notes.{notes_follow, waits_more}
 use Rattle.turning_laws.specs.Attempts.finishes
@@ -57,7 +57,7 @@ module _ {H : Type 0} (function : H → Handler) (next : Handler) (version : Ver
       goes_on_with = record {
         lives = n.keeps.lives (map (frame_meant version) sends.coming) calls whole sends.sends goes;
         serves = record {
-          handler = ap (λ (h : H). asking_by_text (function h)) handler ∙ s.handler;
+          handler = ap function handler ∙ s.handler;
           going = over ∙ s.going;
           cancellation = cancellation ∙ s.cancellation;
           kind = ap kind_of (state_is ∙ others) ∙ s.kind;

@@ -1,6 +1,6 @@
 -- A turn of an attempt, wherever it stands.
 use Rattle.std.proofs.Common.{◌≡◌, ◌⊎◌, inl, inr, ◌∙◌, ℕ, suc, Bool, true, false, List, [], ◌++◌, append-nil, Option, Some, None, Result, Ok, refl, sym, ap, subst}
-use Rattle.turning_laws.specs.Serving.{asking_by_text, HasNumbers, kind_where, HasNotRead, HasRead, Serves, finished, machine_failed}
+use Rattle.turning_laws.specs.Serving.{HasNumbers, kind_where, HasNotRead, HasRead, Serves, finished, machine_failed}
 use Rattle.turning_laws.specs.Keeping.{IsLiveAt}
 use Rattle.turning_laws.proofs.Driven.{begins_driven, numbers_begin}
 use Rattle.turning_laws.proofs.Messages.{read_input}
@@ -96,7 +96,7 @@ module _ {H : Type 0} (function : H → Handler) (next : Handler) (version : Ver
 
         serves : Serves function next version options live (is_input_closed events id) after
         serves = record {
-          handler = ap (λ (some : Attempt H). asking_by_text (function some.handler)) gives.1 ∙ s.handler;
+          handler = ap (λ (some : Attempt H). function some.handler) gives.1 ∙ s.handler;
           going = ap (λ (some : Attempt H). some.over) gives.1 ∙ s.going;
           cancellation = ap (λ (some : Attempt H). some.cancellation) gives.1 ∙ s.cancellation;
           kind = a.asked.kind_is;
@@ -159,15 +159,15 @@ module _ {H : Type 0} (function : H → Handler) (next : Handler) (version : Ver
     by_outcome here outcomes.Ended comes to = has_ended function next version options id events live before l s r here after.vm turn after comes to
     by_outcome here (outcomes.Failed error) comes to = failed function next version options id events live before l s r here after.vm turn after error comes to.0 to.1
 
-    carried : is_covered before.cancellation asked ≡ true → (here : Now next version options id events live before.vm.state) → CarriesCall asked before turn after → Keeps turn
-    carried covered here c =
+    carried : (here : Now next version options id events live before.vm.state) → CarriesCall asked before turn after → Keeps turn
+    carried here c =
         by_outcome here c.outcome
         (subst (λ (call : Call). Comes (untracked live.start.given) (childless live.machine) call before.vm.state c.outcome after.vm.state)
-        (called function next version options stand keep_on id events live before queued f l s r covered here.at)
+        (called function next version options stand keep_on id events live before queued f l s r here.at)
         (c.carries (untracked live.start.given) (childless live.machine) (tracks_none live.start.given (childless live.machine) asked) r.driven)) c.comes
 
     by_covered : (covered : Bool) → is_covered before.cancellation asked ≡ covered → CarriesWhere covered asked before turn after → Keeps turn
-    by_covered true is c = carried is (now function next version options stand keep_on id events live before queued f l s r c.typed is) c
+    by_covered true is c = carried (now function next version options stand keep_on id events live before queued f l s r c.typed is) c
     by_covered false is c = refused function next version options id events live before f s r turn after c is
 
     carries : AnswersCall asked before turn after ⊎ FinishesBy finishes.OutOfMemory before turn after → Keeps turn

@@ -10,7 +10,7 @@ use Rattle.turning_laws.specs.Machine.phases
 use Rattle.turning_laws.specs.Machine.{Written, IsTooLong, out_of_memory, told_error}
 use Rattle.turning_laws.specs.Reading.{CanBegin, IsRunOf}
 use Rattle.turning_laws.specs.Sending.{Sent, Fails, sent_stream, AllFit, frame_meant}
-use Rattle.turning_laws.specs.Serving.{asking_by_text, IsFedBy, Serves, IsOver}
+use Rattle.turning_laws.specs.Serving.{IsFedBy, Serves, IsOver}
 use Rattle.turning_laws.specs.Words.{plain_error, internal, Error, Version, Bytes, Text, Handler, Invocation, Event, Frame, IsAccepted, InputMessage, FollowsSo, IsNote, AttemptStart, ShowsStart, LiveAttempt, IsLiveMachine, HasReadJournal, attempt_begun, handed_bytes, after_reading, run_options, VMOptions}
 pub use Rattle.beginning_laws.specs.Reading.{MayCome}
 
@@ -59,7 +59,7 @@ module _ {H : Type 0} (function : H → Handler) (next : Handler) (version : Ver
 
   -- a new attempt that is fed its start frame serves the live attempt that has read that frame, or has failed for want of memory
   abbrev pub BeginsServing : Type 0
-  BeginsServing = (start : AttemptStart) (shows : ShowsStart start) (handler : H) (new fed : Attempt H) → asking_by_text (function handler) ≡ next → IsRunOf start version options → CanBegin start shows
+  BeginsServing = (start : AttemptStart) (shows : ShowsStart start) (handler : H) (new fed : Attempt H) → function handler ≡ next → IsRunOf start version options → CanBegin start shows
       → IsFedBy (attempt_begun start) → IsBegun version options handler (Ok new) → Feeds start.frame new fed
       → (output_of fed ≡ []) × (Serves function next version options (attempt_started start) false fed ⊎ LacksMemory fed)
 

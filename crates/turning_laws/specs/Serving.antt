@@ -1,7 +1,6 @@
 -- How an attempt over a machine stands to the live attempt of which the definitions speak.
-use Rattle.std.specs.Prelude.{◌≡◌, ◌⊎◌, ◌≤◌, ◌-◌, ◌^◌, ℕ, Bool, true, false, if◌then◌else◌, List, [], ◌++◌, Some, None}
+use Rattle.std.specs.Prelude.{◌≡◌, ◌⊎◌, ◌≤◌, ◌-◌, ◌^◌, ℕ, Bool, true, false, List, [], ◌++◌, Some, None}
 use Rattle.std.specs.List.{AllByRecursion, list_any}
-use Rattle.std.specs.Str.{is_utf8}
 use Rattle.attempt_model.specs.Requests.{Commands, requests_by}
 use Rattle.vm_ephemeral.specs.Reads.{no_reads}
 use Rattle.turning_laws.specs.Attempts.{output_of, Attempt, Finish}
@@ -9,7 +8,7 @@ use Rattle.turning_laws.specs.Machine.phases
 use Rattle.turning_laws.specs.Machine.{IsDriven}
 use Rattle.turning_laws.specs.Reading.{IsInputOf, IsRunOf, Kind, kind_of, start_told, HasStarted}
 use Rattle.turning_laws.specs.Sending.{is_recorded}
-use Rattle.turning_laws.specs.Words.{LEVELS, item_at, Version, Error, Bytes, Call, RunOptions, awaited_tree, answers_of, Request, StartState, Handler, run, arrivals_carried, Machine, machine_at_start, ShowsStart, with_messages, LiveAttempt, HasReadJournal, untracked, childless, is_cancellation, VMOptions, IsWithin, SlotsFit}
+use Rattle.turning_laws.specs.Words.{LEVELS, item_at, Version, Error, Call, RunOptions, awaited_tree, answers_of, Request, StartState, Handler, run, arrivals_carried, are_by_text, Machine, machine_at_start, ShowsStart, with_messages, LiveAttempt, HasReadJournal, untracked, childless, is_cancellation, VMOptions, IsWithin, SlotsFit}
 
 -- ---- its handler
 
@@ -22,21 +21,6 @@ IsOfStore call = (start : StartState) (done : List Request) (left : Commands) (c
 abbrev pub AwaitsWithin : RunOptions → Call → Type 0
 AwaitsWithin options (Call.Await tree) = IsWithin (LEVELS - 1) (awaited_tree options.implicit_cancellation tree)
 AwaitsWithin options call = Unit {0}
-
--- a key, if it is text, and else the empty one
-abbrev pub text_or_empty : Bytes → Bytes
-text_or_empty key = if is_utf8 key then key else []
-
--- A call for state, or for a change of it, by a key that is no text is by the empty key in its place. None of these is carried out.
-abbrev pub with_text_key : Call → Call
-with_text_key (Call.StateGet key name options) = Call.StateGet (text_or_empty key) name options
-with_text_key (Call.StateSet key value name options) = Call.StateSet (text_or_empty key) value name options
-with_text_key (Call.StateClear key name) = Call.StateClear (text_or_empty key) name
-with_text_key call = call
-
--- the handler that makes these calls: the same, where all keys are text
-abbrev pub asking_by_text : Handler → Handler
-asking_by_text next = λ input answers. with_text_key (next input answers)
 
 -- ---- its input
 
@@ -51,11 +35,12 @@ pub record IsFedBy (live : LiveAttempt) : Type 0 where
 abbrev pub kind_where : Version → VMOptions → (is_closed : Bool) → Kind
 kind_where version options is_closed = record { version = version; options = options; is_input_closed = is_closed; reads = no_reads }
 
--- the numbers that were taken, and those that handles stand for, can be told
+-- the numbers that were taken, and those that handles stand for, can be told, and so can the keys that it has written: they are text
 pub record HasNumbers (m : Machine) : Type 0 where
   pub completions : m.completions ≤ 2 ^ 32
   pub signals : m.signals ≤ 2 ^ 32
   pub slots : SlotsFit m.slots
+  pub texts : are_by_text m.written ≡ true
 
 module _ {H : Type 0} (function : H → Handler) (next : Handler) (version : Version) (options : VMOptions) where
   -- its input was not read, so its handler was asked nothing: its machine keeps the messages that have come
@@ -77,10 +62,9 @@ module _ {H : Type 0} (function : H → Handler) (next : Handler) (version : Ver
     pub driven : IsDriven (untracked live.start.given) (childless live.machine) a.vm.state
     pub numbers : HasNumbers live.machine
 
-  -- the attempt is the live one, and not over: the run is that of its handler, asking by text, it holds these bytes, and no whole message
-  -- among them
+  -- the attempt is the live one, and not over: the run is that of its handler, it holds these bytes, and no whole message among them
   pub record Serves (live : LiveAttempt) (is_closed : Bool) (a : Attempt H) : Type 0 where
-    pub handler : asking_by_text (function a.handler) ≡ next
+    pub handler : function a.handler ≡ next
     pub going : a.over ≡ None
     pub cancellation : a.cancellation ≡ options.implicit_cancellation
     pub kind : kind_of a.vm.state ≡ kind_where version options is_closed

@@ -3,7 +3,7 @@ pub use Rattle.attempt_model.specs.Attempts.{with_entry, with_entries}
 pub use Rattle.attempt_model.specs.Machine.{Machine, machine_at_start, with_arrival, Reply, reply_to, Answered, AwaitsTree, Finished, AwaitsChild, FailedBy, Refused}
 pub use Rattle.attempt_model.specs.Requests.{Commands, PutState, put_one, put_all, requests_by}
 pub use Rattle.attempt_model.specs.Results.{Slots, slot_of}
-pub use Rattle.attempt_model.specs.Standing.{RepliesAsRun, Fits, next_call, AnswersNext}
+pub use Rattle.attempt_model.specs.Standing.{RequestsStand, RepliesAsRun, AreOfKind, Fits, next_call, AnswersNext}
 pub use Rattle.children_laws.specs.Childless.{untracked, childless, without_children, is_cancellation, childless_reply}
 pub use Rattle.handle_laws.specs.Trees.{IsWithin, AreWithin, SlotsFit, TreeFits}
 pub use Rattle.input_laws.specs.Message.{InputMessage, CarriesInput, piece_of, arrivals_carried, CarriesRequest, CarriesArrival, CarriesOutcome, requests_carried}
@@ -27,6 +27,7 @@ pub use Rattle.journal_model.specs.declared.options.ImplicitCancellationOption.{
 pub use Rattle.journal_model.specs.declared.options.ImplicitCancellationOption.TheVariants.{Disabled, Enabled}
 pub use Rattle.journal_model.specs.declared.options.RunOptions.{RunOptions}
 pub use Rattle.journal_model.specs.declared.options.SignalDelivery.TheVariants.{Queued}
+pub use Rattle.machine_laws.specs.Asking.{are_by_text, AsksByText}
 pub use Rattle.machine_laws.specs.Laws.{StandsWithJournal, JournalsStand, KeepsOn, MachinesKeepOn}
 pub use Rattle.machine_laws.specs.Living.{attempt_begun, LiveAttempt, HasReadJournal, handed_bytes, after_reading, IsLiveMachine, after_turn}
 pub use Rattle.position_laws.specs.Beginning.{AttemptStart, ShowsStart}

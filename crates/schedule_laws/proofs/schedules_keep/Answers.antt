@@ -1,8 +1,7 @@
 -- The laws are proved in `Beginning`, `Keeping` and `Leaving`, from those of attempts that serve.
-use Rattle.schedule_laws.specs.Following.{asking_by_text}
 use Rattle.schedule_laws.proofs.Beginning.{holds_follows, follows_holds}
-use Rattle.schedule_laws.proofs.Serving.{laws_by_text}
-use Rattle.schedule_laws.proofs.Keeping.{keeps, brings_by_text}
+use Rattle.schedule_laws.proofs.Serving.{serving_laws}
+use Rattle.schedule_laws.proofs.Keeping.{keeps}
 use Rattle.schedule_laws.proofs.Leaving.{frames_taken}
 use Rattle.schedule_laws.proofs.schedules_keep.Goals as goal
 
@@ -11,15 +10,15 @@ returns-clause-begins g c = λ next options id s holds. holds_follows g.H.Handle
 
 pub returns-clause-each : goal.returns-clause-each
 returns-clause-each g c = λ next options id one answer old new held more covered fits brings does follows.
-    keeps g.H.Handler.next_call (asking_by_text next) options id
-    (laws_by_text g.H.Handler.next_call next options c.attempts_begin.ensures c.events_keep.ensures c.feeds_keep.ensures c.closes_keep.ensures c.takes_keep.ensures c.turns_keep.ensures c.overs_stay.ensures c.notes_follow.ensures c.machines_begin.ensures c.machines_stay_live.ensures)
-    one answer old new held more covered fits (brings_by_text g.H.Handler.next_call id next one brings) does follows
+    keeps g.H.Handler.next_call next options id
+    (serving_laws g.H.Handler.next_call next options c.attempts_begin.ensures c.events_keep.ensures c.feeds_keep.ensures c.closes_keep.ensures c.takes_keep.ensures c.turns_keep.ensures c.overs_stay.ensures c.notes_follow.ensures c.machines_begin.ensures c.machines_stay_live.ensures)
+    one answer old new held more covered fits brings does follows
 
 pub returns-clause-holds : goal.returns-clause-holds
 returns-clause-holds g c = λ next options id s held follows. follows_holds g.H.Handler.next_call next options id s held follows
 
 pub returns-clause-frames : goal.returns-clause-frames
 returns-clause-frames g c = λ next options old new held count bytes frames why one changed covered there moves follows.
-    frames_taken g.H.Handler.next_call (asking_by_text next) options
-    (laws_by_text g.H.Handler.next_call next options c.attempts_begin.ensures c.events_keep.ensures c.feeds_keep.ensures c.closes_keep.ensures c.takes_keep.ensures c.turns_keep.ensures c.overs_stay.ensures c.notes_follow.ensures c.machines_begin.ensures c.machines_stay_live.ensures)
+    frames_taken g.H.Handler.next_call next options
+    (serving_laws g.H.Handler.next_call next options c.attempts_begin.ensures c.events_keep.ensures c.feeds_keep.ensures c.closes_keep.ensures c.takes_keep.ensures c.turns_keep.ensures c.overs_stay.ensures c.notes_follow.ensures c.machines_begin.ensures c.machines_stay_live.ensures)
     old new held count bytes frames why one changed there moves follows
