@@ -153,7 +153,7 @@ asks_above n last (request ∷ requests) e low =
     let sum = count-append n (completions_asked request) (numbers_asked requests) in
     omega (arith, own, later, sum)
 
-asks_once : (n last : ℕ) (requests : List Request) → ascends last requests ≡ true → count_of n (numbers_asked requests) ≤ 1
+pub asks_once : (n last : ℕ) (requests : List Request) → ascends last requests ≡ true → count_of n (numbers_asked requests) ≤ 1
 asks_once n last [] e = omega arith
 asks_once n last (request ∷ requests) e =
     let (here, rest) = and-true (do_ascend last (completions_asked request)) (ascends (max last (greatest (completions_asked request))) requests) e in

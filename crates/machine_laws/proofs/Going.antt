@@ -47,7 +47,7 @@ use Rattle.machine_laws.proofs.Living.{position, is_live}
 -- ---- the journal is read
 
 -- messages behind the journal carry no request
-later_none : (entries : List Entry) (proposed : List (ℕ × NonEmptyValue)) (messages : List InputMessage) → AllByRecursion (IsLater entries proposed) messages → requests_carried messages ≡ []
+pub later_none : (entries : List Entry) (proposed : List (ℕ × NonEmptyValue)) (messages : List InputMessage) → AllByRecursion (IsLater entries proposed) messages → requests_carried messages ≡ []
 later_none entries proposed [] all = refl
 later_none entries proposed (CarriesArrival type arrival ∷ messages) all = later_none entries proposed messages all.1
 later_none entries proposed (CarriesOutcome number value ∷ messages) all = later_none entries proposed messages all.1
@@ -76,7 +76,7 @@ module _ (next : Handler) (options : RunOptions) (fallback_seed : ℕ) (id : Tex
       (sym (append_assoc (requests_carried live.start.journal) (requests_carried r.later) (requests_carried live.unread))
       ∙ ap (λ (some : List Request). some ++ requests_carried live.unread) (sym read_requests) ∙ all_requests ∙ sym (append-nil (requests_carried live.start.journal)))
 
-  none_unread : requests_carried live.unread ≡ []
+  pub none_unread : requests_carried live.unread ≡ []
   none_unread = none_behind (requests_carried r.later) (requests_carried live.unread) none_more
 
   journal_requests : requests_carried live.read ≡ requests_carried live.start.journal
@@ -84,7 +84,7 @@ module _ (next : Handler) (options : RunOptions) (fallback_seed : ℕ) (id : Tex
       read_requests ∙ ap (λ (some : List Request). requests_carried live.start.journal ++ some) (none_before (requests_carried r.later) (requests_carried live.unread) none_more)
       ∙ append-nil (requests_carried live.start.journal)
 
-  in_run : IsInRun next live.start.given live.read live.unread live.calls live.machine
+  pub in_run : IsInRun next live.start.given live.read live.unread live.calls live.machine
   in_run =
       (position next options fallback_seed id events live l).stands none_unread
       (subst (λ (requests : List Request). IsShown live.start.given.start requests live.start.shown) (sym journal_requests) (start_shows next options fallback_seed events id live.start l.begun).known)
@@ -97,7 +97,7 @@ module _ (next : Handler) (options : RunOptions) (fallback_seed : ℕ) (id : Tex
       (begins-more next live.start.given (arrivals_carried live.start.journal) (arrivals_carried r.later) (requests_carried live.start.journal) l.begun.of_run))
 
   -- what it was asked and has written begins the run
-  begins_at : HasPosition next live.start.given live.start.shown live.read live.unread live.calls live.machine
+  pub begins_at : HasPosition next live.start.given live.start.shown live.read live.unread live.calls live.machine
       → BeginsRun next live.start.given (arrivals_carried live.read) (requests_carried live.read ++ live.machine.written)
   begins_at p = by_replay p.position.replays
     where
@@ -127,7 +127,7 @@ module _ (next : Handler) (options : RunOptions) (fallback_seed : ℕ) (id : Tex
           ∙ ap (λ (some : List Request). some ++ live.machine.written)
           (requests_carried-append live.read live.unread ∙ ap (λ (some : List Request). requests_carried live.read ++ some) none_unread ∙ append-nil (requests_carried live.read))
 
-  all_arrivals : recorded_arrivals events id ≡ arrivals_carried live.read ++ arrivals_carried live.unread
+  pub all_arrivals : recorded_arrivals events id ≡ arrivals_carried live.read ++ arrivals_carried live.unread
   all_arrivals = sym l.reads.all.arrivals ∙ arrivals_carried-append live.read live.unread
 
   come : ComeWhenAsked (recorded_requests events id) (arrivals_carried live.read)
@@ -184,7 +184,7 @@ module _ (same_header : Call → Request → Request → Bool) (next : Handler) 
   makes = machine_turns same_header next live.start.given (is_input_closed events id) live.held live.read live.unread live.calls live.machine reflexive fits kinds at
 
   -- a turn that may be made keeps the invocation in its run
-  turn_in_run : (sent : List Frame)
+  pub turn_in_run : (sent : List Frame)
       → TurnsOfRun next live.start.given (is_input_closed events id) live.held live.read live.unread (requests_carried (live.read ++ live.unread) ++ live.machine.written) live.held sent
       → FollowsSo next live.start.given id events (live.coming ++ sent)
   turn_in_run sent turn =
@@ -192,7 +192,7 @@ module _ (same_header : Call → Request → Request → Bool) (next : Handler) 
       (position next options fallback_seed id events live l).left live.machine.written sent (is_live next options fallback_seed id events live l)
       (subst (λ (requests : List Request). TurnsOfRun next live.start.given (is_input_closed events id) live.held live.read live.unread requests live.held sent) (sym l.asked) turn) f
 
-  lives_behind : (sent : List Frame) (calls : ℕ) (after : Machine) → StandsBehind next live.start.given live.read live.unread calls live.machine after sent
+  pub lives_behind : (sent : List Frame) (calls : ℕ) (after : Machine) → StandsBehind next live.start.given live.read live.unread calls live.machine after sent
       → IsLiveMachine next options fallback_seed id events (after_turn live sent calls after)
   lives_behind sent calls after b = record {
     begun = l.begun;

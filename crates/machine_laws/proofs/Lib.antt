@@ -1,6 +1,6 @@
-mod Asking
-mod Recording
+pub mod Asking
+pub mod Recording
 pub mod Texts
-mod Living
-mod Going
-mod LivingRows
+pub mod Living
+pub mod Going
+pub mod LivingRows

@@ -1,0 +1,10 @@
+pub mod Lists
+pub mod Progress
+pub mod Fresh
+pub mod Steps
+pub mod Tracked
+pub mod Standing
+pub mod Calling
+pub mod Following
+pub mod BodyRows
+pub mod RetryRows

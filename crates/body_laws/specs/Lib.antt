@@ -1,0 +1,5 @@
+pub mod Bodies
+pub mod Executing
+pub mod Standing
+pub mod Laws
+pub mod Retrying

@@ -1,0 +1,5 @@
+pub mod Outcomes
+pub mod Flying
+pub mod Living
+pub mod Turning
+pub mod Childless

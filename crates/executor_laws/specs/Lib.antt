@@ -1,0 +1,4 @@
+pub mod Outcomes
+pub mod Flying
+pub mod Living
+pub mod Childless

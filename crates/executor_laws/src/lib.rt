@@ -1,0 +1,34 @@
+//! The live attempt with the bodies of its runs: laws that join them to the store. The functions do nothing: their contracts are the laws.
+#![tactic(auto)]
+
+ghost use Rattle.executor_laws.specs.Childless.{NextExecutorRepliesAreSame};
+ghost use Rattle.executor_laws.specs.Flying.{OthersFollow, OutcomesAreNew, OutcomesAreOpen, OutcomesBegin, OutcomesStay};
+ghost use Rattle.executor_laws.specs.Living.{ExecutorsBegin, ExecutorsStayLive, ExecutorsTurn};
+ghost use Rattle.executor_laws.specs.Outcomes.{OutcomesAreTaken};
+
+/// For a run nothing comes but what its attempt has proposed.
+pub fn outcomes_are_taken()
+    ensures { OutcomesAreTaken }
+{}
+
+/// What an attempt has proposed of its runs is recorded once, behind their requests, and is never refused since a run is not open.
+pub fn outcomes_stand()
+    ensures begins { OutcomesBegin }
+    ensures stays { OutcomesStay }
+    ensures sends { OutcomesAreNew }
+    ensures others { OthersFollow }
+    ensures opened { OutcomesAreOpen }
+{}
+
+/// The live attempt with the bodies of its runs: it is so as it begins, whatever events bring, and as it reads, when each outcome that is
+/// acknowledged is cached as it was recorded; and a turn leaves it so, also one that executes a body and proposes its outcome.
+pub fn executors_live()
+    ensures begins { ExecutorsBegin }
+    ensures stays { ExecutorsStayLive }
+    ensures turns { ExecutorsTurn }
+{}
+
+/// As long as no cancellation has come, it does not matter which children the machine tracks.
+pub fn children_change_nothing()
+    ensures { NextExecutorRepliesAreSame }
+{}
