@@ -1,10 +1,8 @@
 pub mod Seen
 pub mod Futures
-pub mod Children
-pub mod Hearing
-pub mod Looking
 pub mod Gathering
 pub mod ResolutionRows
 pub mod RecordRows
-pub mod Fates
-pub mod Passed
+pub mod Leaves
+pub mod Going
+pub mod Keeping

@@ -1,10 +1,7 @@
 pub mod Views
 pub mod Calls
 pub mod Trees
-pub mod Ahead
-pub mod Heard
-pub mod Pruning
-pub mod Fates
-pub mod Passing
 pub mod Resolving
 pub mod Records
+pub mod Ids
+pub mod Awaits

@@ -6,8 +6,6 @@ use Rattle.vm_awaits.specs.declared.tree.Combinator.{Combinator}
 use Rattle.vm_awaits.specs.declared.tree.Combinator.TheVariants as combinators
 use Rattle.vm_awaits.specs.declared.tree.Opened.{Opened}
 use Rattle.vm_awaits.specs.declared.tree.Opened.TheVariants.{Leaf, Node}
-use Rattle.vm_awaits.specs.declared.tree.Taken.{Taken}
-use Rattle.vm_awaits.specs.declared.tree.Taken.TheVariants as takes
 
 abbrev pub combinator_meant : Combinator → Trees.Combinator
 combinator_meant combinators.Unknown = Trees.Unknown
@@ -21,8 +19,3 @@ combinator_meant combinators.AllSucceededOrFirstFailed = Trees.AllSucceededOrFir
 abbrev pub opened_tree : Opened → Trees.AwaitTree ℕ
 opened_tree (Leaf handle) = Trees.Single handle
 opened_tree (Node combinator children) = node (combinator_meant combinator) (map tree_of children.now)
-
--- the tree of a future that was taken apart
-abbrev pub taken_tree : Taken → Trees.AwaitTree ℕ
-taken_tree (takes.Leaf handle) = Trees.Single handle
-taken_tree (takes.Node combinator children) = node (combinator_meant combinator) (map tree_of children)

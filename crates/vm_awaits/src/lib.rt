@@ -5,11 +5,9 @@
 //! the definitions of an attempt over these.
 #![tactic(auto)]
 
-mod ahead;
-mod fate;
-mod heard;
-mod passing;
-mod pruning;
+pub mod flat;
+mod growing;
+mod ids;
 mod records;
 mod resolving;
 mod state;

@@ -1,21 +1,22 @@
 // How an awaited future is resolved from the line.
-ghost use Rattle.std.specs.Prelude.{◌≡◌, ◌∷◌, ◌<◌, OnOk, OnErr, IfOk};
+ghost use Rattle.std.specs.Prelude.{◌≡◌, ◌∷◌, ◌<◌, true, Some, OnOk, OnErr, IfOk};
 ghost use Rattle.std.specs.VecDeque.{deque_len, deque_capacity};
+ghost use Rattle.journal_model.specs.AwaitTree.{is_completed};
+ghost use Rattle.journal_model.specs.Delivery.{state_of_result};
 ghost use Rattle.journal_model.specs.Future.{tree_of};
 ghost use Rattle.attempt_model.specs.Results.{ready_after, resolution_of};
+ghost use Rattle.vm_flat_trees.specs.Counts.{state_meant};
 ghost use Rattle.vm_awaits.specs.Resolving.{resolution_as, line_left, StopsMidway};
 ghost use Rattle.vm_results.specs.Views.{ready_in};
 
-use crate::heard::Heard;
-use crate::passing::pass;
-use crate::pruning::left_of;
-use journal_model::{Notification, NotificationId, SignalDelivery, UnresolvedFuture};
+use crate::flat::FlatTree;
+use journal_model::{
+    Notification, NotificationId, NotificationResult, SignalDelivery, UnresolvedFuture,
+};
 use std::alloc::AllocError;
 use std::collections::VecDeque;
+use vm_flat_trees::node::State;
 use vm_results::ReadyNotifications;
-
-// So many times further is looked ahead each time, while the future sleeps.
-const FURTHER: usize = 64;
 
 /// What looking for an awaited future came to.
 #[derive(Debug, Drop)]
@@ -26,8 +27,21 @@ pub enum ResolveFutureResult {
     WaitExternalInput(UnresolvedFuture),
 }
 
+fn result_state(brought: &NotificationResult) -> State
+    ensures state { state_meant result ≡ state_of_result (Some brought.now) }
+    ensures completed { is_completed (state_meant result) ≡ true }
+{
+    match brought {
+        NotificationResult::Failure(_) => State::Failed,
+        NotificationResult::Void => State::Succeeded,
+        NotificationResult::Value(_) => State::Succeeded,
+        NotificationResult::InvocationId(_) => State::Succeeded,
+        NotificationResult::StateKeys(_) => State::Succeeded,
+    }
+}
+
 // A notification that stood first in line is looked at. Where there is no memory for it, it stands there again.
-pub(crate) fn look_at(
+fn look_at(
     line: &mut VecDeque<Notification>,
     ready: &mut ReadyNotifications,
     delivery: SignalDelivery,
@@ -46,10 +60,7 @@ pub(crate) fn look_at(
     }
 }
 
-/// Looks at one notification a step, until the future is awake; what is completed of it is left out at each step.
-///
-/// First the future is looked at by all that waits. From then on nothing waits for what is left of it, so that one notification
-/// tells what its leaves have come to. Between two steps those are passed together that leave it asleep.
+/// Looks at one notification a step, until the future is awake.
 pub(crate) fn resolve(
     delivery: SignalDelivery,
     slots: &[Option<NotificationId>],
@@ -62,26 +73,19 @@ pub(crate) fn resolve(
     ensures left { IfOk result (λ answer. line.new.items ≡ line_left line.new.items answer) }
     ensures err { OnErr result (StopsMidway delivery slots.now (tree_of future) line.old.items (ready_in ready.old) line.new.items (ready_in ready.new)) }
 {
-    let Some(mut left) = left_of(future, slots, Heard::Waiting(ready)) else {
-        return Ok(ResolveFutureResult::AnyCompleted);
-    };
-    let mut ahead = 1usize;
+    let alloc = *line.allocator();
+    let made = FlatTree::new(alloc, slots, ready, &future);
+    drop(future);
+    let mut flat = made?;
     'steps: loop {
+        if flat.is_awake() {
+            return Ok(ResolveFutureResult::AnyCompleted);
+        }
         let Some(notification) = line.pop_front() else {
+            let left = flat.left(alloc)?;
             return Ok(ResolveFutureResult::WaitExternalInput(left));
         };
-        let next = left_of(left, slots, Heard::One(&notification));
-        match look_at(line, ready, delivery, notification) {
-            Ok(()) => {}
-            Err(error) => {
-                drop(next);
-                return Err(error);
-            }
-        }
-        let Some(next) = next else {
-            return Ok(ResolveFutureResult::AnyCompleted);
-        };
-        ahead = ahead.saturating_mul(FURTHER);
-        left = pass(delivery, slots, line, ready, next, ahead)?;
+        flat.deliver(&notification.id, result_state(&notification.result));
+        look_at(line, ready, delivery, notification)?;
     }
 }

@@ -140,8 +140,8 @@ impl AsyncResultsState {
     /// Looks at what stands in line, one notification a step, until the future is awake. Where it stays asleep, this is what it
     /// still waits for: what was completed of it is left out, also where a later notification replaced what completed it.
     ///
-    /// It costs the future and what is looked at, not one times the other. The future is pruned in place: memory is taken for what
-    /// waits, and for a table of notifications ahead where both are many. Where it runs out, what was looked at stays looked at.
+    /// It costs the future and what is looked at, not one times the other. Memory is taken for the nodes of the future, for where
+    /// the leaves of each id stand, and for what waits. Where it runs out, what was looked at stays looked at.
     pub fn try_resolve_future(
         &mut self,
         future: UnresolvedFuture,

@@ -1,0 +1,15 @@
+pub mod Reckoning
+pub mod Reading
+pub mod Settling
+pub mod Visiting
+pub mod Upward
+pub mod Standing
+pub mod Placing
+pub mod Telling
+pub mod Sending
+pub mod Front
+pub mod Growing
+pub mod Finding
+pub mod Keeping
+pub mod Lines
+pub mod Requiring

@@ -1,0 +1,61 @@
+-- Counts of children, and what a node has come to by them.
+use Rattle.std.specs.Prelude.{◌+◌, ◌==◌, Bool, false, not, ◌||◌, if◌then◌else◌, List, [], ◌∷◌}
+use Rattle.journal_model.specs.AwaitTree as Trees
+use Rattle.journal_model.specs.AwaitTree.{AwaitState, Pending, Succeeded, Failed}
+use Rattle.vm_flat_trees.specs.declared.node.State.{State}
+use Rattle.vm_flat_trees.specs.declared.node.State.TheVariants as states
+use Rattle.vm_flat_trees.specs.declared.node.Kind.{Kind}
+use Rattle.vm_flat_trees.specs.declared.node.Kind.TheVariants as kinds
+use Rattle.vm_flat_trees.specs.declared.node.Counts.{Counts}
+
+abbrev pub state_meant : State → AwaitState
+state_meant states.Pending = Pending
+state_meant states.Succeeded = Succeeded
+state_meant states.Failed = Failed
+
+abbrev pub no_counts : Counts
+no_counts = record { pending = 0; succeeded = 0; failed = 0 }
+
+-- one child more, of this state
+abbrev pub counted : AwaitState → Counts → Counts
+counted Pending counts = record { pending = counts.pending + 1; succeeded = counts.succeeded; failed = counts.failed }
+counted Succeeded counts = record { pending = counts.pending; succeeded = counts.succeeded + 1; failed = counts.failed }
+counted Failed counts = record { pending = counts.pending; succeeded = counts.succeeded; failed = counts.failed + 1 }
+
+-- children of these states, beside others
+abbrev pub counted_all : List AwaitState → Counts → Counts
+counted_all [] counts = counts
+counted_all (state ∷ states) counts = counted state (counted_all states counts)
+
+abbrev pub counts_of : List AwaitState → Counts
+counts_of states = counted_all states no_counts
+
+-- by whether none has succeeded, and none has failed
+abbrev pub first_by : (is_none_succeeded is_none_failed : Bool) → AwaitState
+first_by succeeded failed = if succeeded then (if failed then Pending else Failed) else Succeeded
+
+-- what a node has come to. Of one that is completed with its first child it is said which of both only where its completed
+-- children have all succeeded, or all failed: else it is taken for a success.
+abbrev pub state_by : Kind → Counts → AwaitState
+state_by (kinds.Leaf handle) counts = first_by (counts.succeeded == 0) (counts.failed == 0)
+state_by kinds.Unknown counts = first_by (counts.succeeded == 0) (counts.failed == 0)
+state_by kinds.FirstCompleted counts = first_by (counts.succeeded == 0) (counts.failed == 0)
+state_by kinds.AllCompleted counts = if counts.pending == 0 then Succeeded else Pending
+state_by kinds.FirstSucceededOrAllFailed counts = if counts.succeeded == 0 then (if counts.pending == 0 then Failed else Pending) else Succeeded
+state_by kinds.AllSucceededOrFirstFailed counts = if counts.failed == 0 then (if counts.pending == 0 then Succeeded else Pending) else Failed
+
+-- whether a child has ended the node at once
+abbrev pub is_ended : Kind → Counts → Bool
+is_ended (kinds.Leaf handle) counts = false
+is_ended kinds.Unknown counts = not (counts.succeeded == 0) || not (counts.failed == 0)
+is_ended kinds.FirstCompleted counts = not (counts.succeeded == 0) || not (counts.failed == 0)
+is_ended kinds.AllCompleted counts = false
+is_ended kinds.FirstSucceededOrAllFailed counts = not (counts.succeeded == 0)
+is_ended kinds.AllSucceededOrFirstFailed counts = not (counts.failed == 0)
+
+abbrev pub kind_of : Trees.Combinator → Kind
+kind_of Trees.Unknown = kinds.Unknown
+kind_of Trees.FirstCompleted = kinds.FirstCompleted
+kind_of Trees.AllCompleted = kinds.AllCompleted
+kind_of Trees.FirstSucceededOrAllFailed = kinds.FirstSucceededOrAllFailed
+kind_of Trees.AllSucceededOrFirstFailed = kinds.AllSucceededOrFirstFailed

@@ -1,0 +1,10 @@
+pub mod AtLeast
+pub mod Counts
+pub mod Climbing
+pub mod Delivering
+pub mod Flat
+pub mod Laws
+pub mod Opening
+pub mod Resolves
+pub mod Settling
+pub mod Stands
