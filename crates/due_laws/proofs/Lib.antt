@@ -1,0 +1,11 @@
+pub mod Growing
+pub mod Heard
+pub mod Opened
+pub mod Noting
+pub mod Listing
+pub mod Rows
+pub mod Handing
+pub mod Leaves
+pub mod Told
+pub mod DueRows
+pub mod Outcomes

@@ -1,0 +1,9 @@
+-- Both are proved in `Listing`.
+use Rattle.due_laws.proofs.Listing.{due_listed, awake_found}
+use Rattle.due_laws.proofs.due_listed.Goals as goal
+
+pub returns-clause-listed : goal.returns-clause-listed
+returns-clause-listed c = due_listed
+
+pub returns-clause-found : goal.returns-clause-found
+returns-clause-found c = awake_found

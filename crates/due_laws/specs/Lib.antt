@@ -1,0 +1,6 @@
+pub mod Awake
+pub mod Listing
+pub mod Rows
+pub mod Handing
+pub mod Leaves
+pub mod Told

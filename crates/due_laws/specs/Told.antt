@@ -1,0 +1,44 @@
+-- What an attempt was handed, with its start frame, where it is handed bytes a part at a time. The first three are as they stand in
+-- `schedule_runs` (`while_last`, `start_frame`) and in `fitting_laws` (`handed_out`).
+use Rattle.std.specs.Prelude.{◌≡◌, ℕ, ◌≤◌, ◌==◌, if◌then◌else◌, List, [], ◌∷◌, ◌++◌, take, bytes_eq}
+use Rattle.std.specs.List.{concat}
+use Rattle.protocol_types.specs.declared.message_type.MessageType.TheVariants.{Start}
+use Rattle.journal_model.specs.Notification.{Bytes, Text}
+use Rattle.journal_model.specs.Event.{Event}
+use Rattle.journal_model.specs.Attempt.{attempts_begun, begins_attempt, input_left}
+use Rattle.journal_model.specs.Cause.{IsAccepted}
+use Rattle.journal_model.specs.Spelling.{frame_bytes}
+use Rattle.journal_model.specs.Start.{start_payload}
+use Rattle.due_laws.specs.Handing.{HandsChain}
+
+abbrev pub while_last : Text → (number : ℕ) → List Event → List Event
+while_last id number [] = []
+while_last id number (event ∷ earlier) = if attempts_begun (event ∷ earlier) id == number then event ∷ earlier else while_last id number earlier
+
+abbrev pub start_frame : List Event → Text → Bytes
+start_frame [] id = []
+start_frame (Event.Begin other now ∷ earlier) id = if bytes_eq other id then frame_bytes Start (start_payload earlier id now) else start_frame earlier id
+start_frame (event ∷ earlier) id = start_frame earlier id
+
+abbrev pub handed_out : List Event → Text → Bytes
+handed_out [] id = []
+handed_out (Event.HandOut other attempt most ∷ earlier) id = handed_out earlier id ++ (if bytes_eq other id then take most (input_left earlier id) else [])
+handed_out (event ∷ earlier) id = if begins_attempt id event then [] else handed_out earlier id
+
+-- parts one behind the other are handed out
+abbrev pub ChainIsHandedOut : Type 0
+ChainIsHandedOut = (id : Text) (attempt count : ℕ) (parts : List Bytes) (old new : List Event) → HandsChain id attempt count parts old new
+    → handed_out new id ≡ handed_out old id ++ concat parts
+
+-- the attempt was begun, and handed these bytes
+abbrev pub told : List Event → Text → Bytes
+told events id = start_frame events id ++ handed_out events id
+
+pub record WasHanded (id : Text) (number : ℕ) (bytes : Bytes) (events : List Event) : Type 0 where
+  pub begun : number ≤ attempts_begun events id
+  pub handed : bytes ≡ told (while_last id number events) id
+
+-- so a chain of calls hands it what stands behind that
+abbrev pub ChainGoesOn : Type 0
+ChainGoesOn = (id : Text) (number count : ℕ) (parts : List Bytes) (old new : List Event) (before : Bytes) → IsAccepted new → HandsChain id number count parts old new
+    → WasHanded id number before old → WasHanded id number (before ++ concat parts) new

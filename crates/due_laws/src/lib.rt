@@ -1,0 +1,62 @@
+//! What is kept of an invocation so that it is known whether it is due, and of an attempt's input so that it is read by the row. The
+//! functions do nothing: their contracts are the laws.
+#![tactic(auto)]
+
+ghost use Rattle.due_laws.specs.Awake.{AwakeGrows, AwakeIsDue, HeardIsWithin, LiveIsAwake, NotedElsewhere, NotedFollows, NotedInvoked, NotedOpened, NotedRefused, NotedStill, NotedTicks, NotedUnticked};
+ghost use Rattle.due_laws.specs.Leaves.{OnlyAwaitedWake};
+ghost use Rattle.due_laws.specs.Told.{ChainGoesOn, ChainIsHandedOut};
+ghost use Rattle.due_laws.specs.Listing.{AwakeFound, DueListed};
+ghost use Rattle.due_laws.specs.Rows.{AllKnownStays, OutcomesAreRead, PiecesAreRows};
+ghost use Rattle.due_laws.specs.Handing.{ChainsAreOne, CountIsUnseen, GivenIsAsked, PartIsHanded, PartIsTaken, RowsAreRead, RowsTell, TakenIsPart};
+
+/// An invocation is due where it has the flag that is kept and no attempt of it is live.
+pub fn awake_is_due()
+    ensures is_due { AwakeIsDue }
+    ensures grows { AwakeGrows }
+    ensures within { HeardIsWithin }
+    ensures awaited { OnlyAwaitedWake }
+{}
+
+/// How each kind of event changes what is kept.
+pub fn noted_follows()
+    ensures invoked { NotedInvoked }
+    ensures follows { NotedFollows }
+    ensures ticks { NotedTicks }
+    ensures unticked { NotedUnticked }
+    ensures elsewhere { NotedElsewhere }
+    ensures still { NotedStill }
+    ensures refused { NotedRefused }
+    ensures opened { NotedOpened }
+    ensures live { LiveIsAwake }
+{}
+
+/// The invocations that are due are those that have the flag, by id, without those that have a live attempt.
+pub fn due_listed()
+    ensures listed { DueListed }
+    ensures found { AwakeFound }
+{}
+
+/// A frame of an attempt's input is that of an entry known at its begin, or of a later arrival.
+pub fn pieces_are_rows()
+    ensures rows { PiecesAreRows }
+    ensures known { AllKnownStays }
+    ensures outcomes { OutcomesAreRead }
+{}
+
+/// Bytes that are handed out a part at a time are what would be handed out at once.
+pub fn parts_are_handed()
+    ensures taken { PartIsTaken }
+    ensures part { TakenIsPart }
+    ensures given { GivenIsAsked }
+    ensures unseen { CountIsUnseen }
+    ensures handed { PartIsHanded }
+    ensures chain { ChainsAreOne }
+    ensures out { ChainIsHandedOut }
+    ensures goes_on { ChainGoesOn }
+{}
+
+/// How an input is read by the row, and what that tells.
+pub fn rows_are_read()
+    ensures steps { RowsAreRead }
+    ensures tells { RowsTell }
+{}
