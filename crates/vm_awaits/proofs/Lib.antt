@@ -4,5 +4,7 @@ pub mod Gathering
 pub mod ResolutionRows
 pub mod RecordRows
 pub mod Leaves
+pub mod Passing
 pub mod Going
+pub mod Alone
 pub mod Keeping

@@ -1,21 +1,25 @@
--- What a flat tree over slots stands for.
-use Rattle.std.specs.Prelude.{◌≡◌, ℕ, false}
+-- Which tree over handles a flat vector is of.
+use Rattle.std.specs.Prelude.{◌≡◌, ℕ, Bool, false, List, Option}
+use Rattle.std.specs.Option.{ForSome}
 use Rattle.journal_model.specs.declared.notification.NotificationId.{NotificationId}
 use Rattle.journal_model.specs.AwaitTree.{AwaitState, AwaitTree, is_awake}
 use Rattle.attempt_model.specs.Results.{Slots}
-use Rattle.vm_flat_trees.specs.Flat.{flat_of}
+use Rattle.vm_flat_trees.specs.declared.node.FlatNode.{FlatNode}
+use Rattle.vm_flat_trees.specs.Bringing.{waits_for}
 use Rattle.vm_flat_trees.specs.Delivering.{places_of}
-use Rattle.vm_flat_trees.specs.Resolves.{waits_for}
+use Rattle.vm_flat_trees.specs.Flat.{flat_of}
+use Rattle.vm_awaits.specs.declared.ids.IdLeaves.{IdLeaves}
 use Rattle.vm_awaits.specs.Ids.{leaves_in}
-use Rattle.vm_awaits.specs.declared.flat.FlatTree.{FlatTree}
 
-pub record Awaits (slots : Slots) (flat : FlatTree) (tree : AwaitTree ℕ) (leaves : ℕ → AwaitState) : Type 0 where
-  pub awake : flat.is_awake ≡ is_awake tree leaves
-  pub nodes_are : flat.is_awake ≡ false → flat.nodes.items ≡ flat_of tree leaves
-  pub places_are : (id : NotificationId) → leaves_in flat.leaves id ≡ places_of (waits_for slots id) tree
+-- of this tree, whose leaves have come to these states; the nodes of one that is awake may be told in part
+pub record Awaits (slots : Slots) (nodes : List FlatNode) (index : Option IdLeaves) (awake : Bool) (tree : AwaitTree ℕ) (leaves : ℕ → AwaitState) : Type 0 where
+  pub awake_is : awake ≡ is_awake tree leaves
+  pub nodes_are : awake ≡ false → nodes ≡ flat_of tree leaves
+  -- where the leaves of each id stand, once that is looked up
+  pub places_are : ForSome index (λ found. (id : NotificationId) → leaves_in found id ≡ places_of (waits_for slots id) tree)
 
-pub record AwaitsSome (flat : FlatTree) : Type 0 where
-  pub slots : Slots
+-- of some tree
+pub record AwaitsSome (slots : Slots) (nodes : List FlatNode) (index : Option IdLeaves) (awake : Bool) : Type 0 where
   pub tree : AwaitTree ℕ
   pub leaves : ℕ → AwaitState
-  pub awaits : Awaits slots flat tree leaves
+  pub awaits : Awaits slots nodes index awake tree leaves

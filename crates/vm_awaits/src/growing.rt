@@ -1,40 +1,18 @@
 // The flat vector of a future, with what waits for its leaves.
 ghost use Rattle.std.specs.Prelude.{◌≡◌, ◌++◌, length, IfOk, OnOk};
 ghost use Rattle.journal_model.specs.Future.{tree_of};
-ghost use Rattle.protocol_trees.specs.Shape as shapes;
 ghost use Rattle.vm_flat_trees.specs.Counts.{state_meant};
 ghost use Rattle.vm_flat_trees.specs.Flat.{flat_at, flat_of, reckoned};
 ghost use Rattle.attempt_model.specs.Results.{handle_state};
 ghost use Rattle.vm_results.specs.Views.{ready_in};
 
-use journal_model::{NotificationHandle, NotificationId, UnresolvedFuture};
+use journal_model::{NotificationId, UnresolvedFuture};
 use protocol_trees::AwaitState;
 use std::alloc::{AllocError, Global};
-use vm_flat_trees::building::{Opened, counted, no_counts, open};
 use vm_flat_trees::climbing::leaf_counts;
-use vm_flat_trees::node::{FlatNode, Kind, State, state_by};
+use vm_flat_trees::node::{FlatNode, Kind, counted, no_counts, state_by};
+use vm_flat_trees::opening::{Opened, open};
 use vm_results::{ReadyNotifications, state_for};
-
-fn as_state(state: AwaitState) -> State
-    ensures { state_meant result ≡ shapes.state_meant state }
-{
-    match state {
-        AwaitState::Pending => State::Pending,
-        AwaitState::Succeeded => State::Succeeded,
-        AwaitState::Failed => State::Failed,
-    }
-}
-
-// What waits for a handle.
-fn leaf_state(
-    slots: &[Option<NotificationId>],
-    ready: &ReadyNotifications,
-    handle: NotificationHandle,
-) -> State
-    ensures { state_meant result ≡ handle_state slots.now (ready_in ready.now) handle }
-{
-    as_state(state_for(slots, ready, handle))
-}
 
 // Puts the nodes of a future behind others, and answers what it has come to.
 fn build(
@@ -43,13 +21,13 @@ fn build(
     ready: &ReadyNotifications,
     future: &UnresolvedFuture,
     parent: Option<usize>,
-) -> Result<State, AllocError>
+) -> Result<AwaitState, AllocError>
     ensures nodes { OnOk result (nodes.new.items ≡ nodes.old.items ++ flat_at (λ handle. handle) (handle_state slots.now (ready_in ready.now)) (length nodes.old.items) parent (tree_of future.now)) }
     ensures state { IfOk result (λ state. state_meant state ≡ reckoned (tree_of future.now) (handle_state slots.now (ready_in ready.now))) }
 {
     match open(future) {
         Opened::Leaf(handle) => {
-            let state = leaf_state(slots, ready, handle);
+            let state = state_for(slots, ready, handle);
             nodes.push(FlatNode {
                 kind: Kind::Leaf(handle.number()),
                 parent,
@@ -79,6 +57,14 @@ fn build(
     }
 }
 
+// How many nodes a future has at least: all, where it is a leaf or a node over leaves.
+fn fewest_nodes(future: &UnresolvedFuture) -> usize {
+    match open(future) {
+        Opened::Leaf(_) => 1,
+        Opened::Node(_, children) => 1 + children.len(),
+    }
+}
+
 /// The nodes of a future, with what waits for its leaves.
 pub(crate) fn nodes_of(
     alloc: Global,
@@ -88,7 +74,7 @@ pub(crate) fn nodes_of(
 ) -> Result<Vec<FlatNode>, AllocError>
     ensures { IfOk result (λ nodes. nodes.items ≡ flat_of (tree_of future.now) (handle_state slots.now (ready_in ready.now))) }
 {
-    let mut nodes = Vec::new(alloc);
+    let mut nodes = Vec::with_capacity(alloc, fewest_nodes(future))?;
     build(&mut nodes, slots, ready, future, None)?;
     Ok(nodes)
 }

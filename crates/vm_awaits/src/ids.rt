@@ -3,7 +3,7 @@ ghost use Rattle.std.specs.Prelude.{◌≡◌, ◌++◌, ◌∷◌, [], if◌the
 ghost use Rattle.std.specs.HashMap.{get};
 ghost use Rattle.protocol_trees.specs.Future.{id_meant};
 ghost use Rattle.journal_model.specs.declared.notification.NotificationId.{NotificationId};
-ghost use Rattle.vm_flat_trees.specs.Stands.{places_in};
+ghost use Rattle.vm_flat_trees.specs.Places.{places_in};
 ghost use Rattle.vm_awaits.specs.Ids.{no_places, leaves_in, with_leaf};
 
 use bytes::ByteStr;

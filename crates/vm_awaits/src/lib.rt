@@ -5,13 +5,16 @@
 //! the definitions of an attempt over these.
 #![tactic(auto)]
 
-pub mod flat;
+mod flat;
 mod growing;
 mod ids;
 mod records;
 mod resolving;
 mod state;
+mod telling;
 pub mod tree;
 
+pub use flat::FlatTree;
+pub use protocol_trees::AwaitState;
 pub use resolving::ResolveFutureResult;
 pub use state::{AsyncResultsState, CreateHandleError};

@@ -1,7 +1,7 @@
 // How an awaited future is resolved from the line.
-ghost use Rattle.std.specs.Prelude.{◌≡◌, ◌∷◌, ◌<◌, true, Some, OnOk, OnErr, IfOk};
+ghost use Rattle.std.specs.Prelude.{◌≡◌, ◌∷◌, ◌<◌, Some, OnOk, OnErr, IfOk};
 ghost use Rattle.std.specs.VecDeque.{deque_len, deque_capacity};
-ghost use Rattle.journal_model.specs.AwaitTree.{is_completed};
+ghost use Rattle.journal_model.specs.AwaitTree.{Single};
 ghost use Rattle.journal_model.specs.Delivery.{state_of_result};
 ghost use Rattle.journal_model.specs.Future.{tree_of};
 ghost use Rattle.attempt_model.specs.Results.{ready_after, resolution_of};
@@ -11,12 +11,15 @@ ghost use Rattle.vm_results.specs.Views.{ready_in};
 
 use crate::flat::FlatTree;
 use journal_model::{
-    Notification, NotificationId, NotificationResult, SignalDelivery, UnresolvedFuture,
+    Notification, NotificationHandle, NotificationId, NotificationResult, SignalDelivery,
+    UnresolvedFuture,
 };
+use protocol_trees::AwaitState;
 use std::alloc::AllocError;
 use std::collections::VecDeque;
-use vm_flat_trees::node::State;
-use vm_results::ReadyNotifications;
+use vm_flat_trees::climbing::is_completed;
+use vm_flat_trees::opening::{Opened, open};
+use vm_results::{ReadyNotifications, state_for};
 
 /// What looking for an awaited future came to.
 #[derive(Debug, Drop)]
@@ -27,16 +30,15 @@ pub enum ResolveFutureResult {
     WaitExternalInput(UnresolvedFuture),
 }
 
-fn result_state(brought: &NotificationResult) -> State
-    ensures state { state_meant result ≡ state_of_result (Some brought.now) }
-    ensures completed { is_completed (state_meant result) ≡ true }
+fn result_state(brought: &NotificationResult) -> AwaitState
+    ensures { state_meant result ≡ state_of_result (Some brought.now) }
 {
     match brought {
-        NotificationResult::Failure(_) => State::Failed,
-        NotificationResult::Void => State::Succeeded,
-        NotificationResult::Value(_) => State::Succeeded,
-        NotificationResult::InvocationId(_) => State::Succeeded,
-        NotificationResult::StateKeys(_) => State::Succeeded,
+        NotificationResult::Failure(_) => AwaitState::Failed,
+        NotificationResult::Void => AwaitState::Succeeded,
+        NotificationResult::Value(_) => AwaitState::Succeeded,
+        NotificationResult::InvocationId(_) => AwaitState::Succeeded,
+        NotificationResult::StateKeys(_) => AwaitState::Succeeded,
     }
 }
 
@@ -60,8 +62,32 @@ fn look_at(
     }
 }
 
-/// Looks at one notification a step, until the future is awake.
-pub(crate) fn resolve(
+// Of a future that is one leaf: nothing is made of it.
+fn resolve_leaf(
+    delivery: SignalDelivery,
+    slots: &[Option<NotificationId>],
+    line: &mut VecDeque<Notification>,
+    ready: &mut ReadyNotifications,
+    handle: NotificationHandle,
+) -> Result<ResolveFutureResult, AllocError>
+    ensures resolved { IfOk result (λ answer. resolution_of delivery slots.now (Single handle) line.old.items (ready_in ready.old)
+        ≡ resolution_as line.new.items (ready_in ready.new) answer) }
+    ensures left { IfOk result (λ answer. line.new.items ≡ line_left line.new.items answer) }
+    ensures err { OnErr result (StopsMidway delivery slots.now (Single handle) line.old.items (ready_in ready.old) line.new.items (ready_in ready.new)) }
+{
+    'steps: loop {
+        if is_completed(state_for(slots, ready, handle)) {
+            return Ok(ResolveFutureResult::AnyCompleted);
+        }
+        let Some(notification) = line.pop_front() else {
+            return Ok(ResolveFutureResult::WaitExternalInput(UnresolvedFuture::Single(handle)));
+        };
+        look_at(line, ready, delivery, notification)?;
+    }
+}
+
+// Of any other.
+fn resolve_tree(
     delivery: SignalDelivery,
     slots: &[Option<NotificationId>],
     line: &mut VecDeque<Notification>,
@@ -87,5 +113,27 @@ pub(crate) fn resolve(
         };
         flat.deliver(&notification.id, result_state(&notification.result));
         look_at(line, ready, delivery, notification)?;
+    }
+}
+
+/// Looks at one notification a step, until the future is awake.
+pub(crate) fn resolve(
+    delivery: SignalDelivery,
+    slots: &[Option<NotificationId>],
+    line: &mut VecDeque<Notification>,
+    ready: &mut ReadyNotifications,
+    future: UnresolvedFuture,
+) -> Result<ResolveFutureResult, AllocError>
+    ensures resolved { IfOk result (λ answer. resolution_of delivery slots.now (tree_of future) line.old.items (ready_in ready.old)
+        ≡ resolution_as line.new.items (ready_in ready.new) answer) }
+    ensures left { IfOk result (λ answer. line.new.items ≡ line_left line.new.items answer) }
+    ensures err { OnErr result (StopsMidway delivery slots.now (tree_of future) line.old.items (ready_in ready.old) line.new.items (ready_in ready.new)) }
+{
+    match open(&future) {
+        Opened::Leaf(handle) => {
+            drop(future);
+            resolve_leaf(delivery, slots, line, ready, handle)
+        }
+        Opened::Node(..) => resolve_tree(delivery, slots, line, ready, future),
     }
 }

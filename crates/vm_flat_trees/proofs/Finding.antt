@@ -1,18 +1,16 @@
 -- Where the leaves of an id are found, and what a loop over nodes tells.
-use Rattle.std.proofs.Common.{◌≡◌, refl, sym, ap, ap₂, ◌∙◌, ℕ, zero, suc, ◌+◌, ◌<◌, ◌≤◌, arith, Bool, true, false, ◌||◌, if◌then◌else◌, List, [], ◌∷◌, ◌++◌, length, map, take, Option, Some, None, get_or}
-use Rattle.std.proofs.lemmas.List.{append-nil, map-append, take_more, take_all}
-use Rattle.std.specs.List.{list_any}
+use Rattle.std.proofs.Common.{◌≡◌, refl, sym, ap, ap₂, ◌∙◌, ℕ, zero, suc, ◌+◌, ◌<◌, ◌≤◌, arith, Bool, true, false, if◌then◌else◌, List, [], ◌∷◌, ◌++◌, length, map, take, Option, Some, None, get_or}
+use Rattle.std.proofs.lemmas.List.{map-append, take_more, take_all}
 use Rattle.journal_model.specs.AwaitTree as Trees
 use Rattle.journal_model.specs.AwaitTree.{AwaitState, AwaitTree, AwaitTrees, Single, Combined, Combinator, no_trees, and_trees, is_completed}
 use Rattle.vm_flat_trees.specs.declared.node.Kind.{Kind}
 use Rattle.vm_flat_trees.specs.declared.node.Kind.TheVariants as kinds
 use Rattle.vm_flat_trees.specs.declared.node.FlatNode.{FlatNode}
 use Rattle.vm_flat_trees.specs.Counts.{kind_of}
-use Rattle.vm_flat_trees.specs.Flat.{size_of, flat_at, flats_at, flat_of, has_ended, root_state, is_awake_flat}
+use Rattle.vm_flat_trees.specs.Flat.{size_of, flat_at, flats_at, flat_of}
 use Rattle.vm_flat_trees.specs.Delivering.{sites, all_sites, place_at, places_of}
-use Rattle.vm_flat_trees.specs.Stands.{is_id, places_before, places_where}
+use Rattle.vm_flat_trees.specs.Places.{places_before, places_where}
 use Rattle.vm_flat_trees.proofs.Standing.{flat-length}
-use Rattle.vm_flat_trees.proofs.Reckoning.{any-append}
 
 before-append : (test : ℕ → Bool) (place : ℕ) (kind : Kind) (xs ys : List ℕ) → places_before test place kind (xs ++ ys) ≡ places_before test place kind xs ++ ys
 before-append test place (kinds.Leaf handle) xs ys = by_test (test handle)
@@ -26,7 +24,7 @@ before-append test place kinds.AllCompleted xs ys = refl
 before-append test place kinds.FirstSucceededOrAllFailed xs ys = refl
 before-append test place kinds.AllSucceededOrFirstFailed xs ys = refl
 
-where-append : (test : ℕ → Bool) (place : ℕ) (xs ys : List FlatNode) (at : ℕ) → at ≡ place + length xs → places_where test place (xs ++ ys) ≡ places_where test place xs ++ places_where test at ys
+pub where-append : (test : ℕ → Bool) (place : ℕ) (xs ys : List FlatNode) (at : ℕ) → at ≡ place + length xs → places_where test place (xs ++ ys) ≡ places_where test place xs ++ places_where test at ys
 where-append test place [] ys at is = ap (λ (p : ℕ). places_where test p ys) (omega (arith, is))
 where-append test place (x ∷ xs) ys at is =
     ap (places_before test place x.kind) (where-append test (place + 1) xs ys at (omega (arith, is)))
@@ -61,7 +59,7 @@ module _ (test : ℕ → Bool) (leaves : ℕ → AwaitState) where
   pub where-flat : (tree : AwaitTree ℕ) → places_where test 0 (flat_of tree leaves) ≡ places_of test tree
   where-flat tree = where-tree 0 1 None tree
 
-take-length : (nodes : List FlatNode) (i : ℕ) → i ≤ length nodes → length (take i nodes) ≡ i
+pub take-length : (nodes : List FlatNode) (i : ℕ) → i ≤ length nodes → length (take i nodes) ≡ i
 take-length nodes zero le = refl
 take-length [] (suc i) le = absurd (omega (arith, le))
 take-length (x ∷ xs) (suc i) le = ap suc (take-length xs i (omega (arith, le)))
@@ -76,42 +74,3 @@ where-next test nodes i node other below is =
 
 pub where-all : (test : ℕ → Bool) (nodes : List FlatNode) (i : ℕ) → length nodes ≤ i → places_where test 0 (take i nodes) ≡ places_where test 0 nodes
 where-all test nodes i end = ap (places_where test 0) (take_all i nodes end)
-
-pub leaf-next : (id : ℕ) (nodes : List FlatNode) (i : ℕ) (node other : FlatNode) (handle : ℕ) (old new : List ℕ) → i < length nodes → node ≡ get_or nodes i other → node.kind ≡ kinds.Leaf handle
-    → old ≡ places_where (is_id id) 0 (take i nodes) → new ≡ (if is_id id handle then old ++ i ∷ [] else old) → new ≡ places_where (is_id id) 0 (take (i + 1) nodes)
-leaf-next id nodes i node other handle old new below is kind so now =
-    now ∙ by_test (is_id id handle) ∙ ap (λ (xs : List ℕ). xs ++ (if is_id id handle then i ∷ [] else [])) so
-    ∙ sym (where-next (is_id id) nodes i node other below is ∙ ap (λ (k : Kind). places_where (is_id id) 0 (take i nodes) ++ places_before (is_id id) i k []) kind)
-  where
-    by_test : (b : Bool) → (if b then old ++ i ∷ [] else old) ≡ old ++ (if b then i ∷ [] else [])
-    by_test true = refl
-    by_test false = sym (append-nil old)
-
--- a node that has not ended
-pub any-next : (nodes : List FlatNode) (i : ℕ) (node other : FlatNode) → i < length nodes → node ≡ get_or nodes i other → list_any has_ended (take i nodes) ≡ false → has_ended node ≡ false
-    → list_any has_ended (take (i + 1) nodes) ≡ false
-any-next nodes i node other below is so quiet =
-    ap (list_any has_ended) (take_more nodes i other below) ∙ any-append has_ended (take i nodes) (get_or nodes i other ∷ [])
-    ∙ ap₂ (λ (a b : Bool). a || (b || false)) so (ap has_ended (sym is) ∙ quiet)
-
-pub any-all : (nodes : List FlatNode) (i : ℕ) → length nodes ≤ i → list_any has_ended (take i nodes) ≡ list_any has_ended nodes
-any-all nodes i end = ap (list_any has_ended) (take_all i nodes end)
-
-pub any-here : (nodes : List FlatNode) (i : ℕ) (node other : FlatNode) → i < length nodes → node ≡ get_or nodes i other → has_ended node ≡ true → list_any has_ended nodes ≡ true
-any-here [] i node other below is ended = absurd (omega (arith, below))
-any-here (x ∷ xs) zero node other below is ended = let so : has_ended x ≡ true = ap has_ended (sym is) ∙ ended in rw so refl
-any-here (x ∷ xs) (suc i) node other below is ended = by_cases (has_ended x) (any-here xs i node other (omega (arith, below)) is ended)
-  where
-    by_cases : (b : Bool) → list_any has_ended xs ≡ true → (b || list_any has_ended xs) ≡ true
-    by_cases true e = refl
-    by_cases false e = e
-
-pub awake-here : (nodes : List FlatNode) (i : ℕ) (node other : FlatNode) → i < length nodes → node ≡ get_or nodes i other → has_ended node ≡ true → true ≡ is_awake_flat nodes
-awake-here nodes i node other below is ended = sym (ap (λ (b : Bool). is_completed (root_state nodes) || b) (any-here nodes i node other below is ended) ∙ or_true (is_completed (root_state nodes)))
-  where
-    or_true : (b : Bool) → (b || true) ≡ true
-    or_true true = refl
-    or_true false = refl
-
-pub asleep-all : (nodes : List FlatNode) (i : ℕ) → length nodes ≤ i → list_any has_ended (take i nodes) ≡ false → is_completed (root_state nodes) ≡ false → false ≡ is_awake_flat nodes
-asleep-all nodes i end quiet waits = sym (ap₂ (λ (a b : Bool). a || b) waits (sym (any-all nodes i end) ∙ quiet))

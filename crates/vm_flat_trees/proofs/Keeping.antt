@@ -1,10 +1,8 @@
--- What a flat tree stands for, call by call.
-use Rattle.std.proofs.Common.{◌≡◌, refl, sym, ◌∙◌, ℕ, Bool, true, false, if◌then◌else◌, ◌⊎◌, inl, inr}
+-- A tree that is awake stays so.
+use Rattle.std.proofs.Common.{◌≡◌, refl, ℕ, Bool, true, false, if◌then◌else◌, ◌⊎◌, inl, inr}
 use Rattle.journal_model.specs.AwaitTree.{AwaitState, Pending, Succeeded, Failed, AwaitTree, is_awake, is_completed}
 use Rattle.journal_model.specs.Waiting.{earlier_or_later}
 use Rattle.journal_laws.proofs.Leaving.{awake-more}
-use Rattle.vm_flat_trees.specs.declared.flat.FlatTree.{FlatTree}
-use Rattle.vm_flat_trees.specs.Stands.{Stands}
 
 pub awake-later : (tree : AwaitTree ℕ) (leaves later : ℕ → AwaitState) → is_awake tree leaves ≡ true → is_awake tree (earlier_or_later leaves later) ≡ true
 awake-later tree leaves later awake = awake-more leaves (earlier_or_later leaves later) (λ leaf. stays leaf) tree awake
@@ -20,14 +18,3 @@ awake-later tree leaves later awake = awake-more leaves (earlier_or_later leaves
         by_cases : (b : Bool) → is_completed (leaves leaf) ≡ b → (leaves leaf ≡ Pending) ⊎ ((if b then leaves leaf else later leaf) ≡ leaves leaf)
         by_cases true e = inr refl
         by_cases false e = inl (is-pending (leaves leaf) e)
-
--- one that is awake stays so
-pub stays-awake : (flat : FlatTree) (tree : AwaitTree ℕ) (leaves later : ℕ → AwaitState) → flat.is_awake ≡ true → Stands flat tree leaves → Stands flat tree (earlier_or_later leaves later)
-stays-awake flat tree leaves later awake stands = record {
-  awake = awake ∙ sym (awake-later tree leaves later (sym stands.awake ∙ awake));
-  nodes_are = λ asleep. absurd (apart (sym awake ∙ asleep));
-  places_are = stands.places_are;
-}
-  where
-    apart : true ≡ false → ⊥
-    apart e = cc

@@ -13,3 +13,4 @@ pub mod Finding
 pub mod Keeping
 pub mod Lines
 pub mod Requiring
+pub mod Awaiting

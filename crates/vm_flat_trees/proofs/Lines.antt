@@ -1,4 +1,4 @@
--- A tree that is pruned at each step is resolved as the whole one is, whose leaves keep what they came to first.
+-- What is left of a tree that is pruned at each step stands to the whole one, whose leaves keep what they came to first.
 use Rattle.std.proofs.Common.{◌≡◌, refl, ap, ◌∙◌, ℕ, Bool, true, false, if◌then◌else◌, List, [], ◌∷◌, ◌++◌, Option, Some, None}
 use Rattle.std.proofs.Math.Path.{fun_ext}
 use Rattle.std.specs.Prelude.{option_and_then}
@@ -13,8 +13,8 @@ use Rattle.journal_model.specs.AwaitTree.{AwaitTree, AwaitState, Pending, Succee
 use Rattle.journal_model.specs.Waiting.{pruned, earlier_or_later}
 use Rattle.journal_laws.proofs.Leaving.{or-false}
 use Rattle.journal_laws.proofs.Pruning.{pruned-awake, pruned-again}
-use Rattle.attempt_model.specs.Results.{Ready, Slots, first_of, slot_of, handle_state, ready_after, Awake, Asleep, resolution_of}
-use Rattle.vm_flat_trees.specs.Resolves.{is_for, brought_by, flat_resolution}
+use Rattle.attempt_model.specs.Results.{Ready, Slots, first_of, slot_of, handle_state, ready_after}
+use Rattle.vm_flat_trees.specs.Bringing.{is_for, brought_by}
 
 none_waits : (waiting : List NotificationResult) → state_of_result (first_of waiting) ≡ Pending → waiting ≡ []
 none_waits [] e = refl
@@ -77,27 +77,3 @@ module _ (delivery : SignalDelivery) (slots : Slots) where
           → handle_state slots (ready_after delivery ready arrival) handle ≡ Pending
       still handle true e f = absurd (not-pending (leaves handle) e f)
       still handle false e f = brings ready arrival handle (waits handle (is-pending (leaves handle) e)) ∙ f
-
-  same-resolution : (tree left : AwaitTree ℕ) (leaves : ℕ → AwaitState) (queue : List Arrival) (ready : Ready) → Follows tree left leaves ready
-      → resolution_of delivery slots left queue ready ≡ flat_resolution delivery slots tree leaves queue ready
-  same-resolution tree left leaves [] ready follows =
-      ap (λ (b : Bool). if b then Awake [] ready else Asleep (pruned left (handle_state slots ready)) ready) follows.awake ∙ by_cases (is_awake tree leaves) follows.less
-    where
-      by_cases : (b : Bool) → (b ≡ false → pruned left (handle_state slots ready) ≡ pruned tree leaves)
-          → (if b then Awake [] ready else Asleep (pruned left (handle_state slots ready)) ready) ≡ (if b then Awake [] ready else Asleep (pruned tree leaves) ready)
-      by_cases true less = refl
-      by_cases false less = ap (λ (t : AwaitTree ℕ). Asleep t ready) (less refl)
-  same-resolution tree left leaves (arrival ∷ queue) ready follows =
-      ap (λ (b : Bool). if b then Awake (arrival ∷ queue) ready else resolution_of delivery slots (pruned left (handle_state slots ready)) queue (ready_after delivery ready arrival)) follows.awake
-      ∙ by_cases (is_awake tree leaves) refl (λ asleep. ap (λ (t : AwaitTree ℕ). resolution_of delivery slots t queue (ready_after delivery ready arrival)) (follows.less asleep)
-      ∙ same-resolution tree (pruned tree leaves) (earlier_or_later leaves (brought_by slots arrival)) queue (ready_after delivery ready arrival) (follows-on tree leaves ready arrival asleep follows.waits))
-    where
-      by_cases : (b : Bool) → is_awake tree leaves ≡ b → (is_awake tree leaves ≡ false → resolution_of delivery slots (pruned left (handle_state slots ready)) queue (ready_after delivery ready arrival)
-          ≡ flat_resolution delivery slots tree (earlier_or_later leaves (brought_by slots arrival)) queue (ready_after delivery ready arrival))
-          → (if b then Awake (arrival ∷ queue) ready else resolution_of delivery slots (pruned left (handle_state slots ready)) queue (ready_after delivery ready arrival))
-          ≡ (if b then Awake (arrival ∷ queue) ready else flat_resolution delivery slots tree (earlier_or_later leaves (brought_by slots arrival)) queue (ready_after delivery ready arrival))
-      by_cases true e on = refl
-      by_cases false e on = on e
-
-  pub flat-resolves : (tree : AwaitTree ℕ) (queue : List Arrival) (ready : Ready) → resolution_of delivery slots tree queue ready ≡ flat_resolution delivery slots tree (handle_state slots ready) queue ready
-  flat-resolves tree queue ready = same-resolution tree tree (handle_state slots ready) queue ready (record { awake = refl; less = λ e. refl; waits = λ handle e. e })

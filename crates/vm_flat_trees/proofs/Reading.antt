@@ -9,9 +9,10 @@ use Rattle.journal_model.specs.Future.{trees_from}
 use Rattle.journal_model.specs.Waiting.{pruned, pruned_children}
 use Rattle.journal_laws.proofs.Leaving.{or-false, and-true}
 use Rattle.journal_laws.proofs.Pruning.{completed-all}
+use Rattle.vm_flat_trees.specs.declared.node.Counts.{Counts}
 use Rattle.vm_flat_trees.specs.declared.node.FlatNode.{FlatNode}
 use Rattle.vm_flat_trees.specs.Counts.{counts_of, kind_of}
-use Rattle.vm_flat_trees.specs.Flat.{size_of, all_reckoned, flat_at, flats_at, flat_of, all_counted, read_node, read_back, read_pending}
+use Rattle.vm_flat_trees.specs.Flat.{size_of, all_reckoned, flat_at, flats_at, flat_of, all_counted, trees_in, node_over, node_before, read_node, read_back, read_pending}
 use Rattle.vm_flat_trees.proofs.Reckoning.{leaf-state, tree-reckoned, trees-reckoned}
 
 abbrev list_of : {Leaf : Type 0} → AwaitTrees Leaf → List (AwaitTree Leaf)
@@ -46,7 +47,7 @@ node-read combinator many trees rest e = at combinator
     at Trees.AllSucceededOrFirstFailed = ap₂ (λ (ts : AwaitTrees ℕ) (xs : List (AwaitTree ℕ)). Combined Trees.AllSucceededOrFirstFailed ts ∷ xs) taken left
 
 mutual
-  same-leaves : (tree : AwaitTree ℕ) → map_leaves (λ handle. handle) tree ≡ tree
+  pub same-leaves : (tree : AwaitTree ℕ) → map_leaves (λ handle. handle) tree ≡ tree
   same-leaves (Single leaf) = refl
   same-leaves (Combined combinator trees) = ap (Combined combinator) (same-leaves_of trees)
 
@@ -54,28 +55,50 @@ mutual
   same-leaves_of no_trees = refl
   same-leaves_of (and_trees tree trees) = ap₂ and_trees (same-leaves tree) (same-leaves_of trees)
 
-module _ {Leaf : Type 0} (handle : Leaf → ℕ) (leaves : Leaf → AwaitState) where
-  many-reckoned : (trees : AwaitTrees Leaf) → length (all_reckoned trees leaves) ≡ length (list_of (map_leaves_of_trees handle trees))
-  many-reckoned no_trees = refl
-  many-reckoned (and_trees tree trees) = ap suc (many-reckoned trees)
+trees_in-list_of : {Leaf : Type 0} → (trees : AwaitTrees Leaf) → trees_in (list_of trees) ≡ trees
+trees_in-list_of no_trees = refl
+trees_in-list_of (and_trees tree trees) = ap (and_trees tree) (trees_in-list_of trees)
+
+node-back : {Leaf : Type 0} → (leaf : ℕ → AwaitState → Leaf) (combinator : Combinator) (counts : Counts) (trees : AwaitTrees Leaf) (rest : List (AwaitTree Leaf)) → all_counted counts ≡ length (list_of trees)
+    → node_before leaf (kind_of combinator) counts (list_of trees ++ rest) ≡ Combined combinator trees ∷ rest
+node-back {Leaf} leaf combinator counts trees rest e = at combinator
+  where
+    over : (c : Combinator) → node_over c (all_counted counts) (list_of trees ++ rest) ≡ Combined c trees ∷ rest
+    over c =
+        ap₂ (λ (ts : AwaitTrees Leaf) (xs : List (AwaitTree Leaf)). Combined c ts ∷ xs)
+        (ap trees_in (take_at (list_of trees) rest (all_counted counts) (sym e)) ∙ trees_in-list_of trees) (drop_at (list_of trees) rest (all_counted counts) (sym e))
+
+    at : (c : Combinator) → node_before leaf (kind_of c) counts (list_of trees ++ rest) ≡ Combined c trees ∷ rest
+    at Trees.Unknown = over Trees.Unknown
+    at Trees.FirstCompleted = over Trees.FirstCompleted
+    at Trees.AllCompleted = over Trees.AllCompleted
+    at Trees.FirstSucceededOrAllFailed = over Trees.FirstSucceededOrAllFailed
+    at Trees.AllSucceededOrFirstFailed = over Trees.AllSucceededOrFirstFailed
+
+module _ {Leaf Made : Type 0} (made : ℕ → AwaitState → Made) (handle : Leaf → ℕ) (leaves : Leaf → AwaitState) where
+  many-made : (trees : AwaitTrees Leaf) → length (all_reckoned trees leaves) ≡ length (list_of (map_leaves_of_trees (λ leaf. made (handle leaf) (leaves leaf)) trees))
+  many-made no_trees = refl
+  many-made (and_trees tree trees) = ap suc (many-made trees)
 
   mutual
     pub tree-read : (place : ℕ) (parent : Option ℕ) (tree : AwaitTree Leaf) (rest : List FlatNode)
-        → read_back (flat_at handle leaves place parent tree ++ rest) ≡ map_leaves handle tree ∷ read_back rest
-    tree-read place parent (Single leaf) rest = refl
+        → read_back made (flat_at handle leaves place parent tree ++ rest) ≡ map_leaves (λ leaf. made (handle leaf) (leaves leaf)) tree ∷ read_back made rest
+    tree-read place parent (Single leaf) rest =
+        ap (λ (state : AwaitState). Single (made (handle leaf) state) ∷ read_back made rest) (leaf-state (leaves leaf) (handle leaf))
     tree-read place parent (Combined combinator trees) rest =
-        ap (read_node (kind_of combinator) (all_counted (counts_of (all_reckoned trees leaves)))) (trees-read (place + 1) place trees rest)
-        ∙ node-read combinator (all_counted (counts_of (all_reckoned trees leaves))) (map_leaves_of_trees handle trees) (read_back rest)
-        (many-counted (all_reckoned trees leaves) ∙ many-reckoned trees)
+        ap (node_before made (kind_of combinator) (counts_of (all_reckoned trees leaves))) (trees-read (place + 1) place trees rest)
+        ∙ node-back made combinator (counts_of (all_reckoned trees leaves)) (map_leaves_of_trees (λ leaf. made (handle leaf) (leaves leaf)) trees) (read_back made rest)
+        (many-counted (all_reckoned trees leaves) ∙ many-made trees)
 
     pub trees-read : (place parent : ℕ) (trees : AwaitTrees Leaf) (rest : List FlatNode)
-        → read_back (flats_at handle leaves place parent trees ++ rest) ≡ list_of (map_leaves_of_trees handle trees) ++ read_back rest
+        → read_back made (flats_at handle leaves place parent trees ++ rest) ≡ list_of (map_leaves_of_trees (λ leaf. made (handle leaf) (leaves leaf)) trees) ++ read_back made rest
     trees-read place parent no_trees rest = refl
     trees-read place parent (and_trees tree trees) rest =
-        ap read_back (append_assoc (flat_at handle leaves place (Some parent) tree) (flats_at handle leaves (place + size_of tree) parent trees) rest)
+        ap (read_back made) (append_assoc (flat_at handle leaves place (Some parent) tree) (flats_at handle leaves (place + size_of tree) parent trees) rest)
         ∙ tree-read place (Some parent) tree (flats_at handle leaves (place + size_of tree) parent trees ++ rest)
-        ∙ ap (λ (xs : List (AwaitTree ℕ)). map_leaves handle tree ∷ xs) (trees-read (place + size_of tree) parent trees rest)
+        ∙ ap (λ (xs : List (AwaitTree Made)). map_leaves (λ leaf. made (handle leaf) (leaves leaf)) tree ∷ xs) (trees-read (place + size_of tree) parent trees rest)
 
+module _ {Leaf : Type 0} (handle : Leaf → ℕ) (leaves : Leaf → AwaitState) where
   none-left : (trees : AwaitTrees Leaf) → list_all is_completed (child_states trees leaves) ≡ true → pruned_children trees leaves ≡ no_trees
   none-left no_trees all = refl
   none-left (and_trees tree trees) all =
@@ -135,10 +158,10 @@ module _ {Leaf : Type 0} (handle : Leaf → ℕ) (leaves : Leaf → AwaitState) 
         by_cases true = refl
         by_cases false = refl
 
--- a flat tree read back is the tree
-pub read-flat : (tree : AwaitTree ℕ) (leaves : ℕ → AwaitState) → read_back (flat_of tree leaves) ≡ tree ∷ []
-read-flat tree leaves =
-    ap read_back (sym (append-nil (flat_of tree leaves))) ∙ tree-read (λ handle. handle) leaves 0 None tree [] ∙ ap (λ (t : AwaitTree ℕ). t ∷ []) (same-leaves tree)
+-- a flat tree read back is the tree, with what its leaves have come to
+pub read-flat : {Made : Type 0} → (made : ℕ → AwaitState → Made) (tree : AwaitTree ℕ) (leaves : ℕ → AwaitState) → read_back made (flat_of tree leaves) ≡ map_leaves (λ handle. made handle (leaves handle)) tree ∷ []
+read-flat made tree leaves =
+    ap (read_back made) (sym (append-nil (flat_of tree leaves))) ∙ tree-read made (λ handle. handle) leaves 0 None tree []
 
 -- what is left of a tree that sleeps
 pub pending-flat : (tree : AwaitTree ℕ) (leaves : ℕ → AwaitState) → is_awake tree leaves ≡ false → read_pending (flat_of tree leaves) ≡ pruned tree leaves ∷ []

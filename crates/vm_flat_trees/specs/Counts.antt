@@ -2,16 +2,10 @@
 use Rattle.std.specs.Prelude.{◌+◌, ◌==◌, Bool, false, not, ◌||◌, if◌then◌else◌, List, [], ◌∷◌}
 use Rattle.journal_model.specs.AwaitTree as Trees
 use Rattle.journal_model.specs.AwaitTree.{AwaitState, Pending, Succeeded, Failed}
-use Rattle.vm_flat_trees.specs.declared.node.State.{State}
-use Rattle.vm_flat_trees.specs.declared.node.State.TheVariants as states
+pub use Rattle.protocol_trees.specs.Shape.{state_meant}
 use Rattle.vm_flat_trees.specs.declared.node.Kind.{Kind}
 use Rattle.vm_flat_trees.specs.declared.node.Kind.TheVariants as kinds
 use Rattle.vm_flat_trees.specs.declared.node.Counts.{Counts}
-
-abbrev pub state_meant : State → AwaitState
-state_meant states.Pending = Pending
-state_meant states.Succeeded = Succeeded
-state_meant states.Failed = Failed
 
 abbrev pub no_counts : Counts
 no_counts = record { pending = 0; succeeded = 0; failed = 0 }

@@ -32,7 +32,7 @@ abbrev pub places_of : (test : ℕ → Bool) → AwaitTree ℕ → List ℕ
 places_of test tree = map place_at (sites test 0 1 tree)
 
 -- the summed lengths of their ways to the root
-abbrev pub ways_of : (test : ℕ → Bool) → AwaitTree ℕ → ℕ
+abbrev pub ways_of : {Leaf : Type 0} → (test : Leaf → Bool) → AwaitTree Leaf → ℕ
 ways_of test tree = total (map depth_at (sites test 0 1 tree))
 
 -- what is brought to handles that pass a test

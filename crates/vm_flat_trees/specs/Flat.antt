@@ -79,17 +79,39 @@ abbrev pub children_in : Kind → (many : ℕ) → ℕ
 children_in (kinds.Leaf handle) many = 0
 children_in _ many = many
 
--- a node before the trees that were read behind it: so many of these are its children
+-- a node over handles before the trees that were read behind it: so many of these are its children
 abbrev pub read_node : Kind → (many : ℕ) → List (AwaitTree ℕ) → List (AwaitTree ℕ)
 read_node kind many trees = combined kind (trees_from (take (children_in kind many) trees)) ∷ drop (children_in kind many) trees
 
--- the trees that a list of nodes holds, read from its end
-abbrev pub read_back : List FlatNode → List (AwaitTree ℕ)
-read_back [] = []
-read_back (node ∷ nodes) = read_node node.kind (all_counted node.counts) (read_back nodes)
+-- trees under one parent
+abbrev pub trees_in : {Leaf : Type 0} → List (AwaitTree Leaf) → AwaitTrees Leaf
+trees_in [] = no_trees
+trees_in (tree ∷ trees) = and_trees tree (trees_in trees)
 
--- the trees without completed nodes: a node that waits has as many children there as it has pending ones
+-- a node before the trees that were read behind it: so many of these are its children
+abbrev pub node_over : {Leaf : Type 0} → Trees.Combinator → (many : ℕ) → List (AwaitTree Leaf) → List (AwaitTree Leaf)
+node_over combinator many trees = Combined combinator (trees_in (take many trees)) ∷ drop many trees
+
+-- a node before these trees, where a leaf is made of its handle and of what it has come to
+abbrev pub node_before : {Leaf : Type 0} → (leaf : ℕ → AwaitState → Leaf) → Kind → Counts → List (AwaitTree Leaf) → List (AwaitTree Leaf)
+node_before leaf (kinds.Leaf handle) counts trees = Single (leaf handle (state_by (kinds.Leaf handle) counts)) ∷ trees
+node_before leaf kinds.Unknown counts trees = node_over Trees.Unknown (all_counted counts) trees
+node_before leaf kinds.FirstCompleted counts trees = node_over Trees.FirstCompleted (all_counted counts) trees
+node_before leaf kinds.AllCompleted counts trees = node_over Trees.AllCompleted (all_counted counts) trees
+node_before leaf kinds.FirstSucceededOrAllFailed counts trees = node_over Trees.FirstSucceededOrAllFailed (all_counted counts) trees
+node_before leaf kinds.AllSucceededOrFirstFailed counts trees = node_over Trees.AllSucceededOrFirstFailed (all_counted counts) trees
+
+-- the trees that a list of nodes holds, read from its end
+abbrev pub read_back : {Leaf : Type 0} → (leaf : ℕ → AwaitState → Leaf) → List FlatNode → List (AwaitTree Leaf)
+read_back leaf [] = []
+read_back leaf (node ∷ nodes) = node_before leaf node.kind node.counts (read_back leaf nodes)
+
+-- a node before the trees that were read behind it, but where it is completed: one that waits has as many children there as it has
+-- pending ones
+abbrev pub pending_before : FlatNode → List (AwaitTree ℕ) → List (AwaitTree ℕ)
+pending_before node trees = if is_completed (node_state node) then trees else read_node node.kind node.counts.pending trees
+
+-- the trees without completed nodes
 abbrev pub read_pending : List FlatNode → List (AwaitTree ℕ)
 read_pending [] = []
-read_pending (node ∷ nodes) =
-    if is_completed (node_state node) then read_pending nodes else read_node node.kind node.counts.pending (read_pending nodes)
+read_pending (node ∷ nodes) = pending_before node (read_pending nodes)

@@ -1,10 +1,11 @@
 pub mod AtLeast
-pub mod Counts
+pub mod Awaited
+pub mod AwaitedCode
+pub mod Bringing
 pub mod Climbing
+pub mod Counts
 pub mod Delivering
 pub mod Flat
-pub mod Laws
 pub mod Opening
-pub mod Resolves
+pub mod Places
 pub mod Settling
-pub mod Stands

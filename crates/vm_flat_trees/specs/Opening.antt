@@ -1,12 +1,11 @@
 -- Futures by their roots.
 use Rattle.std.specs.Prelude.{◌≡◌, ℕ, map}
 use Rattle.journal_model.specs.AwaitTree as Trees
-use Rattle.journal_model.specs.AwaitTree.{AwaitState, Pending}
 use Rattle.journal_model.specs.Future.{tree_of, node}
 use Rattle.vm_flat_trees.specs.declared.node.Kind.{Kind}
 use Rattle.vm_flat_trees.specs.declared.node.Kind.TheVariants as kinds
-use Rattle.vm_flat_trees.specs.declared.building.Opened.{Opened}
-use Rattle.vm_flat_trees.specs.declared.building.Opened.TheVariants.{Leaf, Node}
+use Rattle.vm_flat_trees.specs.declared.opening.Opened.{Opened}
+use Rattle.vm_flat_trees.specs.declared.opening.Opened.TheVariants.{Leaf, Node}
 use Rattle.vm_flat_trees.specs.Counts.{kind_of}
 
 abbrev pub combinator_of : Kind → Trees.Combinator
@@ -25,7 +24,3 @@ opened_tree (Node kind children) = node (combinator_of kind) (map tree_of childr
 abbrev pub IsInner : Opened → Type 0
 IsInner (Leaf handle) = Unit {0}
 IsInner (Node kind children) = kind_of (combinator_of kind) ≡ kind
-
--- nothing has come
-abbrev pub none_come : ℕ → AwaitState
-none_come handle = Pending

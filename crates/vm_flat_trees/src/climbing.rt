@@ -5,7 +5,8 @@ ghost use Rattle.vm_flat_trees.specs.Counts.{state_meant, counts_of};
 ghost use Rattle.vm_flat_trees.specs.Settling.{moved, visited, come_to, IsWay};
 ghost use Rattle.vm_flat_trees.specs.Climbing.{IsPendingLeaf, Sleeps, Climbs, Changes, HasRoom};
 
-use crate::node::{Counts, FlatNode, State, is_ended, state_by};
+use crate::node::{Counts, FlatNode, is_ended, state_by};
+use protocol_trees::AwaitState;
 
 /// What a delivery to one leaf came to.
 #[derive(Clone, Copy)]
@@ -14,20 +15,20 @@ pub struct Climbed {
     pub is_awake: bool,
 }
 
-fn moved(counts: Counts, came: State) -> Counts
+fn moved(counts: Counts, came: AwaitState) -> Counts
     requires pending { 0 < counts.pending }
     requires succeeded { counts.succeeded < 2 ^ 63 }
     requires failed { counts.failed < 2 ^ 63 }
     ensures { result ≡ moved (state_meant came) counts }
 {
     match came {
-        State::Pending => counts,
-        State::Succeeded => Counts {
+        AwaitState::Pending => counts,
+        AwaitState::Succeeded => Counts {
             pending: counts.pending - 1,
             succeeded: counts.succeeded + 1,
             failed: counts.failed,
         },
-        State::Failed => Counts {
+        AwaitState::Failed => Counts {
             pending: counts.pending - 1,
             succeeded: counts.succeeded,
             failed: counts.failed + 1,
@@ -35,21 +36,21 @@ fn moved(counts: Counts, came: State) -> Counts
     }
 }
 
-pub fn leaf_counts(state: State) -> Counts
+pub fn leaf_counts(state: AwaitState) -> Counts
     ensures { result ≡ counts_of (state_meant state ∷ []) }
 {
     match state {
-        State::Pending => Counts {
+        AwaitState::Pending => Counts {
             pending: 1,
             succeeded: 0,
             failed: 0,
         },
-        State::Succeeded => Counts {
+        AwaitState::Succeeded => Counts {
             pending: 0,
             succeeded: 1,
             failed: 0,
         },
-        State::Failed => Counts {
+        AwaitState::Failed => Counts {
             pending: 0,
             succeeded: 0,
             failed: 1,
@@ -58,7 +59,7 @@ pub fn leaf_counts(state: State) -> Counts
 }
 
 // The leaf at this place has come to this.
-fn complete(nodes: &mut [FlatNode], place: usize, state: State) -> FlatNode
+fn complete(nodes: &mut [FlatNode], place: usize, state: AwaitState) -> FlatNode
     requires { place < length nodes.old }
     ensures { Changes (come_to (state_meant state)) nodes.old place nodes.new result }
 {
@@ -73,7 +74,7 @@ fn complete(nodes: &mut [FlatNode], place: usize, state: State) -> FlatNode
 }
 
 // The node at this place hears what a child has come to.
-fn visit(nodes: &mut [FlatNode], place: usize, came: State) -> FlatNode
+fn visit(nodes: &mut [FlatNode], place: usize, came: AwaitState) -> FlatNode
     requires within { place < length nodes.old }
     requires room { HasRoom nodes.old place }
     ensures { Changes (visited (state_meant came)) nodes.old place nodes.new result }
@@ -88,10 +89,10 @@ fn visit(nodes: &mut [FlatNode], place: usize, came: State) -> FlatNode
     node
 }
 
-pub fn is_completed(state: State) -> bool
+pub fn is_completed(state: AwaitState) -> bool
     ensures { result ≡ is_completed (state_meant state) }
 {
-    !matches!(state, State::Pending)
+    !matches!(state, AwaitState::Pending)
 }
 
 fn either(one: bool, other: bool) -> bool
@@ -101,7 +102,7 @@ fn either(one: bool, other: bool) -> bool
 }
 
 /// Tells a leaf that waits what it has come to, and then each node on the way to the root, as far as what is below it is completed.
-pub fn climb(nodes: &mut [FlatNode], leaf: usize, state: State) -> Climbed
+pub fn climb(nodes: &mut [FlatNode], leaf: usize, state: AwaitState) -> Climbed
     requires sleeps { Sleeps nodes.old }
     requires leaf { IsPendingLeaf nodes.old leaf }
     requires state { is_completed (state_meant state) ≡ true }

@@ -6,10 +6,11 @@ ghost use Rattle.vm_flat_trees.specs.Climbing.{Sleeps};
 ghost use Rattle.vm_flat_trees.specs.Delivering.{CanHearOf, Delivers, IsLeafAt, TellsOne};
 
 use crate::climbing::{Climbed, climb, is_completed};
-use crate::node::{FlatNode, State, state_by};
+use crate::node::{FlatNode, state_by};
+use protocol_trees::AwaitState;
 
-// Tells one leaf. One that was completed before stays as it is.
-fn tell(nodes: &mut [FlatNode], place: usize, state: State) -> Climbed
+/// Tells one leaf. One that was completed before stays as it is.
+pub fn tell(nodes: &mut [FlatNode], place: usize, state: AwaitState) -> Climbed
     requires sleeps { Sleeps nodes.old }
     requires leaf { IsLeafAt nodes.old place }
     requires state { is_completed (state_meant state) ≡ true }
@@ -27,7 +28,7 @@ fn tell(nodes: &mut [FlatNode], place: usize, state: State) -> Climbed
 
 /// Tells all leaves of an id, which stand at these places, what has come, as far as the tree sleeps. It answers how many nodes were
 /// visited, and whether the tree is awake.
-pub fn deliver_to(nodes: &mut [FlatNode], places: &[usize], state: State) -> Climbed
+pub fn deliver_to(nodes: &mut [FlatNode], places: &[usize], state: AwaitState) -> Climbed
     requires hears { CanHearOf nodes.old places.now }
     requires state { is_completed (state_meant state) ≡ true }
     ensures { Delivers nodes.old places.now (state_meant state) nodes.new result.is_awake result.visits }

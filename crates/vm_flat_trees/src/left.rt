@@ -3,7 +3,7 @@ ghost use Rattle.std.specs.Prelude.{◌≡◌, ℕ, false, take, drop, map, IfOk
 ghost use Rattle.journal_model.specs.AwaitTree.{AwaitTree, AwaitState, is_awake};
 ghost use Rattle.journal_model.specs.Future.{tree_of, trees_from};
 ghost use Rattle.journal_model.specs.Waiting.{pruned};
-ghost use Rattle.vm_flat_trees.specs.Flat.{combined, read_pending, children_in, flat_of};
+ghost use Rattle.vm_flat_trees.specs.Flat.{combined, pending_before, read_pending, children_in, flat_of};
 
 use crate::climbing::is_completed;
 use crate::node::{FlatNode, Kind, state_by};
@@ -55,6 +55,18 @@ fn take_first(
     Ok(taken)
 }
 
+// One node more, before those behind it: one that is completed is left out.
+fn put_before(futures: &mut VecDeque<UnresolvedFuture>, node: FlatNode) -> Result<(), AllocError>
+    ensures { OnOk result (map tree_of futures.new.items ≡ pending_before node (map tree_of futures.old.items)) }
+{
+    if is_completed(state_by(node.kind, node.counts)) {
+        return Ok(());
+    }
+    let children = take_first(futures, children_in(node.kind, node.counts.pending))?;
+    futures.push_front(combined(node.kind, children))?;
+    Ok(())
+}
+
 // The futures of the nodes that aren't completed, read from the end.
 fn read_pending(alloc: Global, nodes: &[FlatNode]) -> Result<VecDeque<UnresolvedFuture>, AllocError>
     ensures { IfOk result (λ futures. map tree_of futures.items ≡ read_pending nodes.now) }
@@ -63,11 +75,7 @@ fn read_pending(alloc: Global, nodes: &[FlatNode]) -> Result<VecDeque<Unresolved
     let mut place = nodes.len();
     while place > 0 {
         place -= 1;
-        let node = nodes[place];
-        if !is_completed(state_by(node.kind, node.counts)) {
-            let children = take_first(&mut futures, children_in(node.kind, node.counts.pending))?;
-            futures.push_front(combined(node.kind, children))?;
-        }
+        put_before(&mut futures, nodes[place])?;
     }
     Ok(futures)
 }

@@ -1,10 +1,10 @@
 //! What is awaited, as a vector of nodes in preorder with counts of their children.
 #![tactic(auto)]
 
-pub mod building;
+pub mod awake;
 pub mod climbing;
 pub mod delivering;
-pub mod flat;
 pub mod laws;
 pub mod left;
 pub mod node;
+pub mod opening;

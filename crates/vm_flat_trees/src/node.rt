@@ -1,15 +1,8 @@
 // A node of a flat tree.
-ghost use Rattle.std.specs.Prelude.{◌≡◌};
-ghost use Rattle.journal_model.specs.AwaitTree as Trees;
-ghost use Rattle.vm_flat_trees.specs.Counts.{state_meant, state_by, is_ended};
+ghost use Rattle.std.specs.Prelude.{◌≡◌, ◌<◌, ◌^◌};
+ghost use Rattle.vm_flat_trees.specs.Counts.{state_meant, no_counts, counted, state_by, is_ended};
 
-/// What a leaf or a tree has come to.
-#[derive(Clone, Copy, Debug, PartialEq, Eq)]
-pub enum State {
-    Pending,
-    Succeeded,
-    Failed,
-}
+use protocol_trees::AwaitState;
 
 /// A leaf over a handle, or how a node combines its children.
 #[derive(Clone, Copy, Debug, PartialEq, Eq)]
@@ -38,20 +31,57 @@ pub struct FlatNode {
     pub counts: Counts,
 }
 
-fn by_first(counts: Counts) -> State
+/// Of a node without children.
+pub fn no_counts() -> Counts
+    ensures { result ≡ no_counts }
+{
+    Counts {
+        pending: 0,
+        succeeded: 0,
+        failed: 0,
+    }
+}
+
+/// Counts one child more, which has come to this.
+pub fn counted(state: AwaitState, counts: Counts) -> Counts
+    requires pending { counts.pending < 2 ^ 63 }
+    requires succeeded { counts.succeeded < 2 ^ 63 }
+    requires failed { counts.failed < 2 ^ 63 }
+    ensures { result ≡ counted (state_meant state) counts }
+{
+    match state {
+        AwaitState::Pending => Counts {
+            pending: counts.pending + 1,
+            succeeded: counts.succeeded,
+            failed: counts.failed,
+        },
+        AwaitState::Succeeded => Counts {
+            pending: counts.pending,
+            succeeded: counts.succeeded + 1,
+            failed: counts.failed,
+        },
+        AwaitState::Failed => Counts {
+            pending: counts.pending,
+            succeeded: counts.succeeded,
+            failed: counts.failed + 1,
+        },
+    }
+}
+
+fn by_first(counts: Counts) -> AwaitState
     ensures { state_meant result ≡ state_by Kind.Unknown counts }
 {
     if counts.succeeded != 0 {
-        State::Succeeded
+        AwaitState::Succeeded
     } else if counts.failed != 0 {
-        State::Failed
+        AwaitState::Failed
     } else {
-        State::Pending
+        AwaitState::Pending
     }
 }
 
 /// What a node has come to, by its counts.
-pub fn state_by(kind: Kind, counts: Counts) -> State
+pub fn state_by(kind: Kind, counts: Counts) -> AwaitState
     ensures { state_meant result ≡ state_by kind counts }
 {
     match kind {
@@ -60,27 +90,27 @@ pub fn state_by(kind: Kind, counts: Counts) -> State
         Kind::FirstCompleted => by_first(counts),
         Kind::AllCompleted => {
             if counts.pending == 0 {
-                State::Succeeded
+                AwaitState::Succeeded
             } else {
-                State::Pending
+                AwaitState::Pending
             }
         }
         Kind::FirstSucceededOrAllFailed => {
             if counts.succeeded != 0 {
-                State::Succeeded
+                AwaitState::Succeeded
             } else if counts.pending == 0 {
-                State::Failed
+                AwaitState::Failed
             } else {
-                State::Pending
+                AwaitState::Pending
             }
         }
         Kind::AllSucceededOrFirstFailed => {
             if counts.failed != 0 {
-                State::Failed
+                AwaitState::Failed
             } else if counts.pending == 0 {
-                State::Succeeded
+                AwaitState::Succeeded
             } else {
-                State::Pending
+                AwaitState::Pending
             }
         }
     }
