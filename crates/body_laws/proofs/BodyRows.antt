@@ -11,7 +11,7 @@ use Rattle.built_in_handlers.specs.Handlers.{output_taken}
 use Rattle.journal_laws.proofs.Rows.{whole, completed, ok_output}
 use Rattle.attempt_model.specs.Machine.{machine_at_start}
 use Rattle.body_laws.specs.Bodies.{Executor, executor_over, AwaitsTreeOf, Finishes}
-use Rattle.body_laws.specs.Executing.{Proposes, FailsAttempt, Happening, Comes, Acknowledges, Closes, Turns, Turn, RanBody, Waiting, Suspended, AttemptState, Live, Over, Misled, turn_of, turn_reply, attempt_after, proposed_by}
+use Rattle.body_laws.specs.Executing.{Retried, Proposes, FailsAttempt, Happening, Comes, Acknowledges, Closes, Turns, Turn, RanBody, Waiting, Suspended, AttemptState, Live, Over, Misled, turn_of, turn_reply, attempt_after, proposed_by}
 
 abbrev any_header : Call → Request → Request → Bool
 any_header call recorded request = true
@@ -109,10 +109,10 @@ replayed-runs : proposed_by (plays effect (whole []) (asked ∷ []) [] (turn ∷
 replayed-runs = refl
 
 -- a body that is to be retried ends the attempt, and proposes nothing
-effect-retries : next_turn effect (whole []) (plays effect (whole []) [] [] (Turns FailsAttempt ∷ turn ∷ [])) ≡ None
+effect-retries : next_turn effect (whole []) (plays effect (whole []) [] [] (Turns (FailsAttempt (Retried None)) ∷ turn ∷ [])) ≡ None
 effect-retries = refl
 
-effect-retries_unproposed : proposed_by (plays effect (whole []) [] [] (Turns FailsAttempt ∷ turn ∷ [])) ≡ []
+effect-retries_unproposed : proposed_by (plays effect (whole []) [] [] (Turns (FailsAttempt (Retried None)) ∷ turn ∷ [])) ≡ []
 effect-retries_unproposed = refl
 
 -- two runs: of those that are awaited the one with the least handle is executed first, whatever their order in the tree, and no other

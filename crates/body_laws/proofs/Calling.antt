@@ -79,6 +79,7 @@ module _ (version : ℕ) (steps : List Step) (arrivals : List Arrival) (proposed
     proposed_called = λ n value a. (let (body, b, same) = stand.proposed_called n value a in (body, among-left body (bodies_of steps) own b, same));
     kept = λ body a. elim (among-split body (bodies_of steps) own a) [ inl b ↦ old_kept body (stand.kept body b) | inr b ↦ new_kept body b (own-brought come body b) ];
     cached = stand.cached;
+    cached_alone = stand.cached_alone;
   }
     where
       below : (x y : Body) → Among x e.left → Among y (brought come) → x.handle < y.handle
@@ -136,6 +137,7 @@ module _ (version : ℕ) (steps : List Step) (arrivals : List Arrival) (proposed
     proposed_called = stand.proposed_called;
     kept = λ x b. by_kept x (stand.kept x b);
     cached = stand.cached;
+    cached_alone = stand.cached_alone;
   }
     where
       by_executing : (x : Body) → Among x e.executing ⊎ Among x (body ∷ []) → Among x (bodies_of steps)

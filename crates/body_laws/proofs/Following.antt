@@ -174,7 +174,7 @@ module _ (same_header : Call → Request → Request → Bool) (reflexive : AreR
             goes_by arrivals f.first.calls (record { answers = a.answers; proposed = a.proposed ++ (body.completion, value) ∷ []; executor = proposing given.version e body value; is_closed = a.is_closed })
             (proposes handler given journal arrivals f.first.calls a.proposed e body value (inr r.executing) stands) f.first.answered
             (ap (λ (some : List Body). without_body body some) idle ∙ none-left body [] refl)
-        by_end FailsAttempt = (once, now r)
+        by_end (FailsAttempt failure) = (once, now r)
     by_reply (AwaitsTreeOf tree e) r l = by_suspends (suspends a.is_closed (AwaitsTreeOf tree e)) refl
       where
         by_suspends : (b : Bool) → suspends a.is_closed (AwaitsTreeOf tree e) ≡ b → AgreesWithBodies handler given journal arrivals (waits_on a (AwaitsTreeOf tree e) e b)
@@ -252,7 +252,7 @@ module _ (same_header : Call → Request → Request → Bool) (reflexive : AreR
     where
       by_end : (some : BodyEnd) → TurnTells handler given journal arrivals f.first.calls a.proposed a.is_closed (turn_of_body some) (Executes body e)
       by_end (Proposes value) = r
-      by_end FailsAttempt = r
+      by_end (FailsAttempt failure) = r
   tells (AwaitsTreeOf tree e) r l = by_closed a.is_closed refl (is_executing tree e) idle
     where
       idle : is_executing tree e ≡ false

@@ -7,4 +7,3 @@ pub mod Standing
 pub mod Calling
 pub mod Following
 pub mod BodyRows
-pub mod RetryRows

@@ -40,7 +40,7 @@ module _ (version : ℕ) (end : BodyEnd) (a : Attempting) (now : IsClosed a) (ca
         record { closed = now.closed; idle = none-left body a.executor.executing now.idle },
         (let e : length (a.proposed ++ (body.completion, value) ∷ []) ≡ length a.proposed + 1 = length-append a.proposed ((body.completion, value) ∷ []) in omega (arith, e)),
       )
-      by_end FailsAttempt body = tt
+      by_end (FailsAttempt failure) body = tt
 
       suspended : suspends a.is_closed (AwaitsTreeOf tree (record a.executor { machine = m })) ≡ true
       suspended = ap (λ (some : List Body). a.is_closed && not (list_any (λ body. has_handle body.handle tree) some)) now.idle ∙ ap (λ (b : Bool). b && true) now.closed

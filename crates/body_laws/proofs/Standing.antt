@@ -1,5 +1,5 @@
 -- The bodies stand before the first call, and where an arrival is read, an outcome is acknowledged or proposed.
-use Rattle.std.proofs.Common.{map, ◌≡◌, refl, sym, ap, ap₂, ◌∙◌, subst, ℕ, ◌+◌, ◌≤◌, ◌==◌, arith, Bool, true, false, ◌&&◌, ◌||◌, if◌then◌else◌, List, [], ◌∷◌, ◌++◌, length, length-append, Some, None, option_map, ◌⊎◌, inl, inr, eqb-true, eq-eqb}
+use Rattle.std.proofs.Common.{map, ◌≡◌, refl, sym, ap, ap₂, ◌∙◌, subst, ℕ, ◌+◌, ◌≤◌, ◌==◌, arith, Bool, true, false, ◌&&◌, ◌||◌, if◌then◌else◌, List, [], ◌∷◌, ◌++◌, length, length-append, Option, Some, None, option_map, ◌⊎◌, inl, inr, eqb-true, eq-eqb}
 use Rattle.std.specs.List.{list_any}
 use Rattle.std.proofs.lemmas.List.Folds.{list_any-append}
 use Rattle.journal_model.specs.declared.notification.NotificationId.TheVariants.{CompletionId}
@@ -17,10 +17,10 @@ use Rattle.attempt_model.specs.Machine.{Machine, machine_at_start, with_arrival}
 use Rattle.attempt_model.specs.Standing.{IsShown, Stands, ComesOnce}
 use Rattle.attempt_tables.proofs.Tables.{results-append}
 use Rattle.attempt_calls.proofs.Standing.{begins, goes_same, reads_on}
-use Rattle.body_laws.specs.Bodies.{Body, Executor, executor_over, without_body, reads_arrival, reads_outcome, acknowledges, proposing, bodies_of}
+use Rattle.body_laws.specs.Bodies.{Body, Executor, executor_over, without_body, reads_arrival, reads_outcome, after_acknowledgement, acknowledges, proposing, bodies_of}
 use Rattle.body_laws.specs.Standing.{Among, has_arrived, count_bodies, count_proposed, Ascends, WasExecuted, BodiesStand, StandsWithBodies}
 use Rattle.body_laws.specs.Laws.{is_early, ComesAsCached}
-use Rattle.body_laws.proofs.Lists.{outcome, among-split, any-false, among-kept, among-without, one_if, count-without, count-removed, count-among, proposed-append, proposed-among, one-same, ascends-without}
+use Rattle.body_laws.proofs.Lists.{outcome, among-split, among-left, among-right, any-false, among-kept, among-without, one_if, count-without, count-removed, count-among, proposed-append, proposed-among, one-same, ascends-without}
 use Rattle.body_laws.proofs.Steps.{requested-run}
 
 -- of one run that goes on the steps are known
@@ -44,6 +44,7 @@ with_machine version steps arrivals proposed e m stand = record {
   proposed_called = stand.proposed_called;
   kept = stand.kept;
   cached = stand.cached;
+  cached_alone = stand.cached_alone;
 }
 
 pub begins_with : (handler : Handler) (given : Invocation) (start : StartState) (journal : List Request) (arrivals : List Arrival)
@@ -64,6 +65,7 @@ begins_with handler given start journal arrivals shows = by_stands (begins handl
         proposed_called = λ n value a. absurd a;
         kept = λ body a. absurd a;
         cached = λ is n value a. absurd a;
+        cached_alone = λ n value g. cc;
       });
     }
 
@@ -101,9 +103,9 @@ arrived-once (x ∷ xs) n come = by_test (same_id x.id (CompletionId n)) refl co
 arrives : (version : ℕ) (steps : List Step) (arrivals : List Arrival) (arrival : Arrival) (proposed : List (ℕ × NonEmptyValue)) (e new : Executor)
     → new.left ≡ e.left → new.executing ≡ e.executing → ((body : Body) → Among body e.left → completes body.completion arrival ≡ false)
     → (acknowledges version ≡ true → (n : ℕ) (value : NonEmptyValue) → Among (n, value) proposed → (e.cached n ≡ Some value) ⊎ (has_arrived arrivals n ≡ true)
-    → (new.cached n ≡ Some value) ⊎ (has_arrived (arrivals ++ arrival ∷ []) n ≡ true))
+    → (new.cached n ≡ Some value) ⊎ (has_arrived (arrivals ++ arrival ∷ []) n ≡ true)) → ((n : ℕ) (value : NonEmptyValue) → new.cached n ≡ Some value → e.cached n ≡ Some value)
     → BodiesStand version steps arrivals proposed e → BodiesStand version steps (arrivals ++ arrival ∷ []) proposed new
-arrives version steps arrivals arrival proposed e new same_left same_executing late caches stand = record {
+arrives version steps arrivals arrival proposed e new same_left same_executing late caches no_more stand = record {
   once = λ n. subst (λ (some : List Body). count_bodies n some + count_bodies n new.executing + count_proposed n proposed ≤ 1) (sym same_left)
       (subst (λ (some : List Body). count_bodies n e.left + count_bodies n some + count_proposed n proposed ≤ 1) (sym same_executing) (stand.once n));
   none_above = λ n high. ap₂ (λ (some others : List Body). count_bodies n some + count_bodies n others + count_proposed n proposed) same_left same_executing ∙ stand.none_above n high;
@@ -114,6 +116,7 @@ arrives version steps arrivals arrival proposed e new same_left same_executing l
   proposed_called = stand.proposed_called;
   kept = λ body a. by_kept body (stand.kept body a);
   cached = λ is n value a. caches is n value a (stand.cached is n value a);
+  cached_alone = λ n value c. stand.cached_alone n value (no_more n value c);
 }
   where
     old : (body : Body) → Among body new.left → Among body e.left
@@ -131,7 +134,7 @@ module _ (version : ℕ) (steps : List Step) (arrivals : List Arrival) (proposed
   body_reads arrival late =
       arrives version steps arrivals arrival proposed e (reads_arrival e arrival) refl refl
       (λ body a. any-false (λ (one : Body). completes one.completion arrival) e.left late body a)
-      (λ is n value a c. by_cached n value c) stand
+      (λ is n value a c. by_cached n value c) (λ n value c. c) stand
     where
       by_cached : (n : ℕ) (value : NonEmptyValue) → (e.cached n ≡ Some value) ⊎ (has_arrived arrivals n ≡ true)
           → (e.cached n ≡ Some value) ⊎ (has_arrived (arrivals ++ arrival ∷ []) n ≡ true)
@@ -156,7 +159,7 @@ module _ (version : ℕ) (steps : List Step) (arrivals : List Arrival) (proposed
   body_comes n value is a unknown = (
     by_cached (stand.cached is n value a),
     arrives version steps arrivals (completion n (result_of_value value)) proposed e (reads_outcome e n value) refl refl (outcome-late n value a)
-        (λ ack k other b d. caches k other d) stand,
+        (λ ack k other b d. caches k other d) no_more stand,
   )
     where
       by_cached : (e.cached n ≡ Some value) ⊎ (has_arrived arrivals n ≡ true) → e.cached n ≡ Some value
@@ -171,6 +174,13 @@ module _ (version : ℕ) (steps : List Step) (arrivals : List Arrival) (proposed
           by_test : (t : Bool) → (k == n) ≡ t → ((if t then None else e.cached k) ≡ Some other) ⊎ (has_arrived (arrivals ++ completion n (result_of_value value) ∷ []) k ≡ true)
           by_test true f = inr (arrived-now arrivals (completion n (result_of_value value)) k (eq-eqb n k (sym (eqb-true k n f))))
           by_test false f = inl c
+
+      no_more : (k : ℕ) (other : NonEmptyValue) → (if k == n then None else e.cached k) ≡ Some other → e.cached k ≡ Some other
+      no_more k other c = by_test (k == n) c
+        where
+          by_test : (t : Bool) → (if t then None else e.cached k) ≡ Some other → e.cached k ≡ Some other
+          by_test true c = cc
+          by_test false c = c
 
   -- a body that is kept is counted, and fewer are where it is let go of
   kept-count : (body : Body) → Among body e.left ⊎ Among body e.executing → 1 ≤ count_bodies body.completion e.left + count_bodies body.completion e.executing
@@ -203,6 +213,7 @@ module _ (version : ℕ) (steps : List Step) (arrivals : List Arrival) (proposed
     proposed_called = λ n other b. by_proposed n other (among-split (n, other) proposed ((body.completion, value) ∷ []) b);
     kept = λ x b. by_kept x (stand.kept x b);
     cached = λ is n other b. by_cached is n other (among-split (n, other) proposed ((body.completion, value) ∷ []) b);
+    cached_alone = λ n other c. by_alone n other (acknowledges version) refl (n == body.completion) refl c;
   }
     where
       more : List (ℕ × NonEmptyValue)
@@ -256,6 +267,18 @@ module _ (version : ℕ) (steps : List Step) (arrivals : List Arrival) (proposed
           inl (ap₂ (λ (s t : Bool). if s && t then Some value else e.cached n) is (eq-eqb n body.completion number) ∙ ap Some (sym result))
       by_cached is n other (inr (inr b)) = absurd b
 
+      -- what was cached before was proposed before
+      before : (n : ℕ) (other : NonEmptyValue) → e.cached n ≡ Some other → (acknowledges version ≡ true) × Among (outcome n other) (proposed ++ outcome body.completion value ∷ [])
+      before n other c = let (ack, b) = stand.cached_alone n other c in (ack, among-left (outcome n other) proposed (outcome body.completion value ∷ []) b)
+
+      by_alone : (n : ℕ) (other : NonEmptyValue) (s : Bool) → acknowledges version ≡ s → (t : Bool) → (n == body.completion) ≡ t → (if s && t then Some value else e.cached n) ≡ Some other
+          → (acknowledges version ≡ true) × Among (outcome n other) (proposed ++ outcome body.completion value ∷ [])
+      by_alone n other true is true f c =
+          let same : value ≡ other = cc in
+          (is, among-right (outcome n other) proposed (outcome body.completion value ∷ []) (inl (ap₂ outcome (eqb-true n body.completion f) (sym same))))
+      by_alone n other true is false f c = before n other c
+      by_alone n other false is t f c = before n other c
+
 module _ (handler : Handler) (given : Invocation) (journal : List Request) (arrivals : List Arrival) (calls : ℕ) (proposed : List (ℕ × NonEmptyValue)) (e : Executor) where
   -- the machine reads it, and the bodies stand
   reads_with : (arrival : Arrival) (new : Executor) → new.machine ≡ with_arrival e.machine arrival → (at : StandsWithBodies handler given journal arrivals calls proposed e)
@@ -301,6 +324,15 @@ module _ (handler : Handler) (given : Invocation) (journal : List Request) (arri
       by_come : (b : Bool) → has_arrived arrivals n ≡ b → b ≡ false
       by_come true come = absurd (only-once n (result_of_value value) once come)
       by_come false come = refl
+
+  -- what was not proposed is not cached
+  pub others_refused : (n : ℕ) → ((value : NonEmptyValue) → acknowledges given.version ≡ true → Among (n, value) proposed → ⊥) → StandsWithBodies handler given journal arrivals calls proposed e
+      → after_acknowledgement e n ≡ None
+  others_refused n none at = by_cached (e.cached n) refl
+    where
+      by_cached : (found : Option NonEmptyValue) → e.cached n ≡ found → option_map (reads_outcome e n) found ≡ None
+      by_cached None is = refl
+      by_cached (Some value) is = let (ack, among) = at.bodies.cached_alone n value is in absurd (none value ack among)
 
   -- ---- an outcome is proposed
 

@@ -10,10 +10,17 @@ use Rattle.journal_model.specs.Journal.{completion}
 use Rattle.journal_model.specs.Run.{Handler, Invocation}
 use Rattle.body_laws.specs.Bodies.{Body, Executor, reads_arrival, after_acknowledgement, ExecutorReply, Answers, Executes, AwaitsTreeOf, AwaitsChildOf, Finishes, Fails, executor_reply, suspends, proposing}
 
+-- why a body fails its attempt: it is to be executed again, after an interval if there is one; its invocation is to be paused; or what it
+-- came to is refused by the version
+pub data BodyFailure : Type 0 where
+  Retried : (interval : Option ℕ) → BodyFailure
+  Paused : BodyFailure
+  RefusedByVersion : BodyFailure
+
 -- what a body came to: an outcome that is proposed, or the attempt fails by it
 pub data BodyEnd : Type 0 where
   Proposes : NonEmptyValue → BodyEnd
-  FailsAttempt : BodyEnd
+  FailsAttempt : BodyFailure → BodyEnd
 
 -- what happens to an attempt whose journal was read; a turn is given what a body comes to, which matters only where it executes one
 pub data Happening : Type 0 where
@@ -74,7 +81,7 @@ waits_on a reply e false = Live (with_executor a e)
 
 abbrev pub after_body : ℕ → Attempting → Body → Executor → BodyEnd → AttemptState
 after_body version a body e (Proposes value) = Live (with_outcome version a body value e)
-after_body version a body e FailsAttempt = Over a (Executes body e)
+after_body version a body e (FailsAttempt failure) = Over a (Executes body e)
 
 abbrev pub attempt_after_reply : ℕ → BodyEnd → Attempting → ExecutorReply → AttemptState
 attempt_after_reply version end a (Answers answer e) = Live (record { answers = a.answers ++ answer ∷ []; proposed = a.proposed; executor = e; is_closed = a.is_closed })
@@ -95,7 +102,7 @@ pub data Turn : Type 0 where
 
 abbrev pub turn_of_body : BodyEnd → Turn
 turn_of_body (Proposes value) = RanBody
-turn_of_body FailsAttempt = Failed
+turn_of_body (FailsAttempt failure) = Failed
 
 abbrev pub turn_of : BodyEnd → (is_closed : Bool) → ExecutorReply → Turn
 turn_of end is_closed (Answers answer e) = Answered

@@ -1,5 +1,5 @@
 -- The laws of this crate.
-use Rattle.std.specs.Prelude.{◌≡◌, ◌≤◌, ◌⊎◌, ℕ, ◌+◌, Bool, true, false, List, [], ◌∷◌, ◌++◌, length, map, Some}
+use Rattle.std.specs.Prelude.{◌≡◌, ◌≤◌, ◌⊎◌, ℕ, ◌+◌, Bool, true, false, List, [], ◌∷◌, ◌++◌, length, map, Some, None}
 use Rattle.std.specs.List.{list_any}
 use Rattle.journal_model.specs.declared.value.NonEmptyValue.{NonEmptyValue}
 use Rattle.journal_model.specs.Notification.{Arrival}
@@ -43,6 +43,11 @@ abbrev pub OutcomesCome : Type 0
 OutcomesCome = (handler : Handler) (given : Invocation) (journal : List Request) (arrivals : List Arrival) (calls : ℕ) (proposed : List (ℕ × NonEmptyValue)) (e : Executor) (n : ℕ) (value : NonEmptyValue)
     → acknowledges given.version ≡ true → Among (n, value) proposed → ComesOnce handler given (arrivals ++ completion n (result_of_value value) ∷ [])
     → StandsWithBodies handler given journal arrivals calls proposed e → ComesAsCached handler given journal arrivals calls proposed e n value
+
+-- an acknowledgement of what was not proposed, or before outcomes are acknowledged, is refused
+abbrev pub OthersAreRefused : Type 0
+OthersAreRefused = (handler : Handler) (given : Invocation) (journal : List Request) (arrivals : List Arrival) (calls : ℕ) (proposed : List (ℕ × NonEmptyValue)) (e : Executor) (n : ℕ)
+    → ((value : NonEmptyValue) → acknowledges given.version ≡ true → Among (n, value) proposed → ⊥) → StandsWithBodies handler given journal arrivals calls proposed e → after_acknowledgement e n ≡ None
 
 -- where what has come by now is of its kind, a call is answered as the run answers it, or executes a body that the run waits for
 abbrev pub CallsSimulate : Type 0

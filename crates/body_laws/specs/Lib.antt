@@ -2,4 +2,3 @@ pub mod Bodies
 pub mod Executing
 pub mod Standing
 pub mod Laws
-pub mod Retrying

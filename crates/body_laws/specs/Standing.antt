@@ -56,6 +56,8 @@ pub record BodiesStand (version : ℕ) (steps : List Step) (arrivals : List Arri
   pub kept : (body : Body) → Among body (bodies_of steps) → (has_arrived arrivals body.completion ≡ true) ⊎ (Among body e.left ⊎ WasExecuted proposed e body)
   -- an outcome that was proposed, and is to be acknowledged, is cached until it comes
   pub cached : acknowledges version ≡ true → (n : ℕ) (value : NonEmptyValue) → Among (n, value) proposed → (e.cached n ≡ Some value) ⊎ (has_arrived arrivals n ≡ true)
+  -- and no other is
+  pub cached_alone : (n : ℕ) (value : NonEmptyValue) → e.cached n ≡ Some value → (acknowledges version ≡ true) × Among (n, value) proposed
 
 -- the machine stands in the run, with its bodies
 pub record StandsWithBodies (handler : Handler) (given : Invocation) (journal : List Request) (arrivals : List Arrival) (calls : ℕ) (proposed : List (ℕ × NonEmptyValue)) (e : Executor) : Type 0 where

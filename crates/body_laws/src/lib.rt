@@ -1,15 +1,19 @@
-//! An attempt that executes the bodies of runs: laws over the machine without bytes, beside which it keeps its bodies. Each function does
-//! nothing, and its contract is the law. Worked rows are computed in `proofs/BodyRows.antt`.
+//! The body of a run is the host's own code: a handler's call `Run` leaves it to be executed once, and what it comes to is recorded as the
+//! run's outcome. An executor is the machine of an attempt with such bodies beside it: those that are left to execute, those that are being
+//! executed, and the outcomes that are to be acknowledged. These laws say that it answers as the run of its handler does, executes no body
+//! twice, and waits for none that it could execute; what a body comes to by its retries is defined here too. Each function does nothing,
+//! and its contract is the law. Worked rows are computed in `proofs/BodyRows.antt` and `proofs/RetryRows.antt`.
 #![tactic(auto)]
 
-ghost use Rattle.body_laws.specs.Laws.{AttemptsFollowWithBodies, BodiesAreRequested, BodiesBegin, BodiesRead, CallsSimulate, ClosedTurnsProgress, OutcomesAreProposed, OutcomesCome, ProposesOnce, SuspensionsLeaveNone, TurnsTell};
+ghost use Rattle.body_laws.specs.Laws.{AttemptsFollowWithBodies, BodiesAreRequested, BodiesBegin, BodiesRead, CallsSimulate, ClosedTurnsProgress, OthersAreRefused, OutcomesAreProposed, OutcomesCome, ProposesOnce, SuspensionsLeaveNone, TurnsTell};
 
 /// The bodies stand before the first call, and where one more arrival is read; an outcome that was proposed comes as it was cached, once it
-/// is acknowledged; and a body that is being executed may propose one.
+/// is acknowledged, and no other acknowledgement is taken; and a body that is being executed may propose one.
 pub fn bodies_stand()
     ensures begins { BodiesBegin }
     ensures reads { BodiesRead }
     ensures comes { OutcomesCome }
+    ensures refuses { OthersAreRefused }
     ensures proposes { OutcomesAreProposed }
 {}
 

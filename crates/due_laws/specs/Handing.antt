@@ -1,4 +1,4 @@
--- What is handed out of an attempt's input, a piece at a time, and how it is read by the row.
+-- What is handed out of an attempt's input, a part at a time, and how it is read by the row.
 use Rattle.std.specs.Prelude.{◌≡◌, ◌⊎◌, true, false, ℕ, ◌+◌, ◌-◌, ◌≤◌, List, [], ◌∷◌, ◌++◌, length, take, drop, slice_get, Some, None}
 use Rattle.std.specs.List.{concat}
 use Rattle.journal_model.specs.Notification.{Bytes, Text}
@@ -9,7 +9,7 @@ use Rattle.journal_model.specs.Cause.{causes_of}
 use Rattle.input_laws.specs.Reading.{arrivals_among}
 use Rattle.due_laws.specs.Awake.{arrivals_heard}
 
--- ---- in general words
+-- ---- one part
 
 -- what a call that asks for so many bytes hands out of what is left: a beginning of that, not more than was asked for, and nothing only
 -- where nothing was asked for or nothing is left
@@ -19,7 +19,7 @@ pub record HandsPart (left : Bytes) (most : ℕ) (bytes : Bytes) : Type 0 where
   pub few : length bytes ≤ most
   pub none : bytes ≡ [] → (most ≡ 0) ⊎ (left ≡ [])
 
--- so it is what a call that asks for just so many hands out in the narrow words, and that is handed out in the general ones
+-- so it is all that is handed out where just so many bytes are asked for; and to hand out all that is asked for is one way to do it
 abbrev pub PartIsTaken : Type 0
 PartIsTaken = (left bytes : Bytes) (most : ℕ) → HandsPart left most bytes → bytes ≡ take (length bytes) left
 
@@ -56,7 +56,7 @@ HandsChain id attempt count [] old new = ((count ≡ 0) ⊎ (input_left old id �
 HandsChain id attempt count (bytes ∷ parts) old new =
     HandsPart (input_left old id) count bytes × HandsChain id attempt (count - length bytes) parts (Event.HandOut id attempt (length bytes) ∷ old) new
 
--- all of them together hand out what one call in the narrow words would
+-- all of them together hand out what one call would that hands out all that is asked for
 pub record ChainIsOne (id : Text) (attempt count : ℕ) (parts : List Bytes) (old new : List Event) : Type 0 where
   pub taken : concat parts ≡ take count (input_left old id)
   pub alike : HandsAlike new (Event.HandOut id attempt count ∷ old) id

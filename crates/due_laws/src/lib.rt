@@ -1,5 +1,6 @@
-//! What is kept of an invocation so that it is known whether it is due, and of an attempt's input so that it is read by the row. The
-//! functions do nothing: their contracts are the laws.
+//! Two questions that a store answers without reading a journal. Which invocations are due? Those with a flag, which is kept with each and
+//! changed by its events, and without a live attempt. And what is handed out of an attempt's input? Its frames one by one, each from the row
+//! of one entry, in parts of any size. These are laws over the accepted events; the functions do nothing, and their contracts are the laws.
 #![tactic(auto)]
 
 ghost use Rattle.due_laws.specs.Awake.{AwakeGrows, AwakeIsDue, HeardIsWithin, LiveIsAwake, NotedElsewhere, NotedFollows, NotedInvoked, NotedOpened, NotedRefused, NotedStill, NotedTicks, NotedUnticked};
@@ -17,7 +18,7 @@ pub fn awake_is_due()
     ensures awaited { OnlyAwaitedWake }
 {}
 
-/// How each kind of event changes what is kept.
+/// How each kind of event changes what is noted, and that no other does.
 pub fn noted_follows()
     ensures invoked { NotedInvoked }
     ensures follows { NotedFollows }
@@ -36,7 +37,7 @@ pub fn due_listed()
     ensures found { AwakeFound }
 {}
 
-/// A frame of an attempt's input is that of an entry known at its begin, or of a later arrival.
+/// A frame of an attempt's input is that of an entry known at its begin, or of a later arrival; and which of these are acknowledgements.
 pub fn pieces_are_rows()
     ensures rows { PiecesAreRows }
     ensures known { AllKnownStays }
@@ -55,7 +56,7 @@ pub fn parts_are_handed()
     ensures goes_on { ChainGoesOn }
 {}
 
-/// How an input is read by the row, and what that tells.
+/// How an input is read by the row, and what that tells: what is left, what may be handed out, and how many arrivals were handed whole.
 pub fn rows_are_read()
     ensures steps { RowsAreRead }
     ensures tells { RowsTell }

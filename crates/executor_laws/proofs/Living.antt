@@ -28,6 +28,8 @@ use Rattle.attempt_model.specs.Attempts.{with_entry}
 use Rattle.attempt_tables.proofs.Tables.{results-append}
 use Rattle.position_laws.specs.Reading.{with_messages}
 use Rattle.position_laws.specs.Turning.{HasPosition}
+use Rattle.position_laws.proofs.Reading.{messages-written}
+use Rattle.machine_laws.specs.Asking.{are_by_text}
 use Rattle.machine_laws.specs.Living.{LiveAttempt, HasReadJournal, handed_bytes, after_reading}
 use Rattle.machine_laws.proofs.Living.{machine_begins, machine_stays, position}
 use Rattle.machine_laws.proofs.Going.{later_none, none_unread}
@@ -69,8 +71,10 @@ executor_begins next options fallback_seed id now events new accepted begun hold
     proposed_called = λ n value a. absurd a;
     kept = λ body a. absurd a;
     cached = λ is n value a. absurd a;
+    cached_alone = λ n value g. cc;
   };
   asked = inl refl;
+  texts = refl;
   outcomes = subst (λ (arrivals : List Arrival). OutcomesStand (Event.Begin id now ∷ events) id arrivals [] []) (sym (journal_arrivals events id)) (outcomes_begin events id now accepted);
   told = λ n value p. absurd (none_proposed (n, value) p);
 }
@@ -152,6 +156,7 @@ module _ (next : Handler) (options : RunOptions) (fallback_seed : ℕ) (id : Tex
           idle = x.idle;
           bodies = x.bodies;
           asked = elim x.asked [ inl zero ↦ inl zero | inr r ↦ inr (record { later = r.later; parts = r.parts }) ];
+          texts = x.texts;
           outcomes = brings_on event coming accepted' old going passes;
           told = x.told;
         },
@@ -165,6 +170,7 @@ module _ (next : Handler) (options : RunOptions) (fallback_seed : ℕ) (id : Tex
     idle = x.idle;
     bodies = x.bodies;
     asked = elim x.asked [ inl zero ↦ inl zero | inr r ↦ inr (record { later = r.later; parts = r.parts }) ];
+    texts = x.texts;
     outcomes = brings_on (Event.HandOut id attempt most) live.coming accepted' refl refl refl;
     told = x.told;
   }
@@ -176,6 +182,7 @@ module _ (next : Handler) (options : RunOptions) (fallback_seed : ℕ) (id : Tex
     idle = x.idle;
     bodies = x.bodies;
     asked = elim x.asked [ inl zero ↦ inl zero | inr r ↦ inr (record { later = r.later; parts = r.parts }) ];
+    texts = x.texts;
     outcomes = x.outcomes;
     told = x.told;
   }
@@ -419,6 +426,7 @@ module _ (next : Handler) (options : RunOptions) (fallback_seed : ℕ) (id : Tex
             parts = ap (λ (all : List InputMessage). all ++ some) r.parts ∙ ap (λ (rest : List InputMessage). CarriesInput live.start.new ∷ rest) (append_assoc live.start.journal r.later some);
           })
         ];
+        texts = ap are_by_text (messages-written live.machine some) ∙ x.texts;
         outcomes = x.outcomes;
         told = x.told;
       },

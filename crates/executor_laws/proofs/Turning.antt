@@ -1,5 +1,7 @@
 -- A turn of the live attempt with the bodies of its runs leaves it live.
 use Rattle.std.proofs.Common.{◌≡◌, refl, sym, ap, ◌∙◌, subst, ℕ, suc, arith, ◌⊎◌, inl, inr, Bool, true, false, List, [], ◌∷◌, ◌++◌, append-nil, map, Option, Some, None}
+use Rattle.std.specs.List.{list_all}
+use Rattle.std.specs.Str.{is_utf8}
 use Rattle.journal_model.specs.declared.notification.NotificationId.{NotificationId}
 use Rattle.journal_model.specs.declared.call.Call.{Call}
 use Rattle.journal_model.specs.declared.options.RunOptions.{RunOptions}
@@ -11,7 +13,7 @@ use Rattle.journal_model.specs.History.{Step}
 use Rattle.journal_model.specs.Run.{Handler, Progress, run}
 use Rattle.journal_model.specs.Event.{Suspension, Event, Frame}
 use Rattle.journal_model.specs.Attempt.{is_input_closed}
-use Rattle.journal_model.specs.Cause.{IsAccepted}
+use Rattle.journal_model.specs.Cause.{IsAccepted, keys_of}
 use Rattle.input_laws.specs.Message.{arrivals_carried, requests_carried}
 use Rattle.turn_laws.specs.Sending.{FollowsSo}
 use Rattle.turn_laws.specs.Turning.{notes}
@@ -23,7 +25,9 @@ use Rattle.position_laws.specs.Replies.{SendsWaiting, SendsReply, goes_on, Stand
 use Rattle.position_laws.specs.Turning.{MakesTurns}
 use Rattle.position_laws.proofs.Turning.{machine_turns}
 use Rattle.machine_laws.specs.Living.{LiveAttempt, HasReadJournal, IsLiveMachine, after_turn}
-use Rattle.machine_laws.proofs.Going.{lives_behind, turn_in_run}
+use Rattle.attempt_laws.proofs.Coming.{all-both, kinds_by_asking}
+use Rattle.machine_laws.specs.Asking.{are_by_text}
+use Rattle.machine_laws.proofs.Going.{journal_stands, lives_behind, turn_in_run}
 use Rattle.body_laws.specs.Bodies.{Body, Executor, without_body, bodies_of, body_awaited, handing_out, executes_or_awaits, reply_after, executor_reply, bodies_left, acknowledges, proposing}
 use Rattle.body_laws.specs.Standing.{Among, has_arrived, BodiesStand, StandsWithBodies, ExecutesBody, RepliesWithBodies}
 use Rattle.body_laws.proofs.Lists.{outcome, among-left, among-right}
@@ -101,6 +105,7 @@ module _ (same_header : Call → Request → Request → Bool) (next : Handler) 
           proposed_called = x.bodies.proposed_called;
           kept = x.bodies.kept;
           cached = x.bodies.cached;
+          cached_alone = x.bodies.cached_alone;
         });
   }
 
@@ -115,16 +120,21 @@ module _ (same_header : Call → Request → Request → Bool) (next : Handler) 
       → IsLiveMachine next options fallback_seed id events (after_turn live sent calls after)
   lives sent calls after b = lives_behind same_header next options fallback_seed id events live reflexive f x.is_live start fits kinds at sent calls after b
 
+  -- where a turn has written nothing
+  nothing_more : (after : Machine) → StandsBehind next live.start.given live.read live.unread live.calls live.machine after [] → are_by_text after.written ≡ true
+  nothing_more after behind = ap are_by_text (behind.written ∙ append-nil live.machine.written) ∙ x.texts
+
   -- where a turn proposes nothing
   quiet : (sent : List Frame) (calls : ℕ) (new : Executor) → outcomes_in sent ≡ [] → IsLiveMachine next options fallback_seed id events (after_turn live sent calls new.machine) → new.executing ≡ []
-      → BodiesStand live.start.given.version (run next live.start.given (arrivals_carried live.read) calls).steps (arrivals_carried live.read) proposed new
+      → BodiesStand live.start.given.version (run next live.start.given (arrivals_carried live.read) calls).steps (arrivals_carried live.read) proposed new → are_by_text new.machine.written ≡ true
       → IsLiveExecutor next options fallback_seed id events (after_turn live sent calls new.machine) proposed new
-  quiet sent calls new none is_live idle bodies = record {
+  quiet sent calls new none is_live idle bodies texts = record {
     is_live = is_live;
     machine = refl;
     idle = idle;
     bodies = bodies;
     asked = inr (record { later = r.later; parts = r.parts });
+    texts = texts;
     outcomes = others_follow events id (arrivals_carried live.start.journal) proposed live.coming sent none x.outcomes;
     told = λ n value p. x.told n value (subst (λ (all : List (ℕ × NonEmptyValue)). IsProposed all (n, value))
         (ap (λ (more : List (ℕ × NonEmptyValue)). live.proposed ++ more) (proposals-none sent none) ∙ append-nil live.proposed) p);
@@ -143,6 +153,7 @@ module _ (same_header : Call → Request → Request → Bool) (next : Handler) 
         (with_steps live.start.given.version b.waits.stands.steps (run next live.start.given (arrivals_carried live.read) live.calls).steps (arrivals_carried live.read) proposed new
         (ap (λ (p : Progress). p.steps) (sym b.waits.stands.going)) b.bodies) body value (inr b.executing);
     asked = inr (record { later = r.later; parts = r.parts });
+    texts = nothing_more new.machine behind;
     outcomes =
         let (arrivals, begins) = begins_coming next options fallback_seed id events live proposed e accepted x in
         outcomes_are_new next live.start.given arrivals events id (arrivals_carried live.start.journal) proposed live.coming body.completion value (acknowledges live.start.given.version) accepted begins
@@ -185,7 +196,7 @@ module _ (same_header : Call → Request → Request → Bool) (next : Handler) 
   by_reply : (reply : Reply) → reply_to same_header live.start.given live.machine (next_call next live.start.given at.stands.steps) ≡ reply
       → RepliesWithBodies next live.start.given (requests_carried live.read) (arrivals_carried live.read) live.calls proposed (reply_after (record e { machine = live.machine }) (next_call next live.start.given at.stands.steps) reply)
       → TurnsLive next options fallback_seed id events live proposed (reply_after (record e { machine = live.machine }) (next_call next live.start.given at.stands.steps) reply)
-  by_reply (Answered answer m) is b = λ written grows.
+  by_reply (Answered answer m) is b = λ written grows by_text.
       quiet (map Frame.Command written) (suc live.calls) (record { machine = m; left = e.left ++ bodies_left live.machine (next_call next live.start.given at.stands.steps); executing = e.executing; cached = e.cached })
       (commands-none written)
       (lives (map Frame.Command written) (suc live.calls) m
@@ -194,6 +205,7 @@ module _ (same_header : Call → Request → Request → Bool) (next : Handler) 
       x.idle
       (with_steps live.start.given.version b.answers.stands.steps (run next live.start.given (arrivals_carried live.read) (suc live.calls)).steps (arrivals_carried live.read) proposed _
       (ap (λ (p : Progress). p.steps) (sym b.answers.stands.going)) b.bodies)
+      (ap are_by_text grows ∙ all-both (λ request. list_all is_utf8 (keys_of request)) live.machine.written written x.texts by_text)
   by_reply (AwaitsTree tree m) is b = by_body (body_awaited tree e.left) b
     where
       behind : StandsBehind next live.start.given live.read live.unread live.calls live.machine m []
@@ -208,6 +220,7 @@ module _ (same_header : Call → Request → Request → Bool) (next : Handler) 
           x.idle
           (with_steps live.start.given.version b.waits.stands.steps (run next live.start.given (arrivals_carried live.read) live.calls).steps (arrivals_carried live.read) proposed (record e { machine = m })
           (ap (λ (p : Progress). p.steps) (sym b.waits.stands.going)) b.bodies)
+          (nothing_more m behind)
       by_body (Some body) b = λ value. (
         notes_follow body value,
         proposes body value (handing_out (record e { machine = m }) body) b (ap (λ (some : List Body). some ++ body ∷ []) x.idle) behind,
@@ -219,6 +232,7 @@ module _ (same_header : Call → Request → Request → Bool) (next : Handler) 
       x.idle
       (with_steps live.start.given.version b.waits.stands.steps (run next live.start.given (arrivals_carried live.read) live.calls).steps (arrivals_carried live.read) proposed (record e { machine = m })
       (ap (λ (p : Progress). p.steps) (sym b.waits.stands.going)) b.bodies)
+      (nothing_more m ((makes false).behind [] live.calls m (subst (λ (reply : Reply). SendsReply live.start.given.version false live.machine reply []) (sym is) (inl refl)) (ap (goes_on live.calls) is)))
   by_reply (Finished m) is b = tt
   by_reply (FailedBy fault) is b = tt
 
@@ -240,5 +254,7 @@ module _ (same_header : Call → Request → Request → Bool) (next : Handler) 
           (calls_simulate same_header next live.start.given (requests_carried live.read) (arrivals_carried live.read) live.calls proposed (record e { machine = live.machine }) reflexive fits kinds s)))
 
 pub executor_turns : ExecutorsTurn
-executor_turns same_header next options fallback_seed id events live proposed e reflexive accepted f x start r fits kinds at =
-    turns same_header next options fallback_seed id events live proposed e reflexive accepted f x start r fits kinds at x.machine
+executor_turns same_header next options fallback_seed id events live proposed e reflexive queued accepted f x start r at =
+    let stands = journal_stands next options fallback_seed id events live accepted x.is_live r in
+    turns same_header next options fallback_seed id events live proposed e reflexive accepted f x start r (stands.fits queued)
+    (kinds_by_asking next live.start.given (arrivals_carried live.read) live.calls (stands.asked (stands.by_text x.texts))) at x.machine

@@ -4,6 +4,7 @@ use Rattle.std.specs.List.{AllByRecursion}
 use Rattle.journal_model.specs.declared.call.Call.{Call}
 use Rattle.journal_model.specs.declared.invocation.NewInvocation.{NewInvocation}
 use Rattle.journal_model.specs.declared.options.RunOptions.{RunOptions}
+use Rattle.journal_model.specs.declared.options.SignalDelivery.TheVariants.{Queued}
 use Rattle.journal_model.specs.declared.value.NonEmptyValue.{NonEmptyValue}
 use Rattle.journal_model.specs.Notification.{Bytes, Text}
 use Rattle.journal_model.specs.AwaitTree.{Single, map_leaves}
@@ -15,17 +16,18 @@ use Rattle.journal_model.specs.Journal.{Recorded, begins, starting_state, invoca
 use Rattle.journal_model.specs.Attempt.{begins_attempt, bytes_asked, input_bytes, input_left, is_input_closed}
 use Rattle.journal_model.specs.Cause.{IsAccepted}
 use Rattle.journal_model.specs.Headline.{run_of}
-use Rattle.input_laws.specs.Message.{InputMessage, CarriesInput, CarriesRequest, CarriesArrival, CarriesOutcome, piece_of, arrivals_carried, requests_carried, IsBroughtBy}
+use Rattle.input_laws.specs.Message.{InputMessage, CarriesInput, CarriesRequest, CarriesArrival, CarriesOutcome, piece_of, arrivals_carried, IsBroughtBy}
 use Rattle.headline_laws.specs.Held.{Holds}
 use Rattle.turn_laws.specs.Begun.{IsProposed}
 use Rattle.turn_laws.specs.Sending.{FollowsSo, PassesOn}
 use Rattle.attempt_model.specs.Machine.{machine_at_start}
 use Rattle.attempt_model.specs.Results.{slot_of}
 use Rattle.attempt_model.specs.Attempts.{with_entry}
-use Rattle.attempt_model.specs.Standing.{AreOfKind, Fits, next_call, AreReflexive}
+use Rattle.attempt_model.specs.Standing.{next_call, AreReflexive}
 use Rattle.position_laws.specs.Reading.{IsInRun}
 use Rattle.position_laws.specs.Replies.{SendsWaiting}
 use Rattle.position_laws.specs.Beginning.{start_after}
+use Rattle.machine_laws.specs.Asking.{are_by_text}
 use Rattle.machine_laws.specs.Living.{LiveAttempt, attempt_begun, HasReadJournal, IsLiveMachine, handed_bytes, after_reading, after_turn}
 use Rattle.body_laws.specs.Bodies.{Executor, executor_over, reads_arrival, reads_outcome, ExecutorReply, Answers, Executes, AwaitsTreeOf, AwaitsChildOf, Finishes, Fails, executor_reply, acknowledges, proposing}
 use Rattle.body_laws.specs.Standing.{Among, BodiesStand}
@@ -58,6 +60,8 @@ pub record IsLiveExecutor (next : Handler) (options : RunOptions) (fallback_seed
   pub idle : e.executing ≡ []
   pub bodies : BodiesStand live.start.given.version (run next live.start.given (arrivals_carried live.read) live.calls).steps (arrivals_carried live.read) proposed e
   pub asked : (live.calls ≡ 0) ⊎ HasReadJournal live
+  -- what it has written asks for state, and changes it, by keys that are text
+  pub texts : are_by_text live.machine.written ≡ true
   pub outcomes : OutcomesStand events id (arrivals_carried live.start.journal) proposed live.coming
   pub told : (n : ℕ) (value : NonEmptyValue) → IsProposed live.proposed (n, value) → (acknowledges live.start.given.version ≡ true) × Among (n, value) proposed
 
@@ -88,11 +92,11 @@ ExecutorsStayLive = (next : Handler) (options : RunOptions) (fallback_seed : ℕ
 abbrev pub outcome_frame : ℕ → ℕ → NonEmptyValue → Frame
 outcome_frame version n value = Frame.RunOutcome n value (acknowledges version)
 
--- a turn that goes on leaves it live: one that answers sends the requests that it has written; one that executes a body proposes its outcome,
--- which keeps the invocation in its run
+-- a turn that goes on leaves it live: one that answers sends the requests that it has written, if they are by keys that are text; one that
+-- executes a body proposes its outcome, which keeps the invocation in its run
 abbrev pub TurnsLive : Handler → RunOptions → ℕ → Text → List Event → LiveAttempt → List (ℕ × NonEmptyValue) → ExecutorReply → Type 0
 TurnsLive next options fallback_seed id events live proposed (Answers answer e) =
-    (written : List Request) → e.machine.written ≡ live.machine.written ++ written
+    (written : List Request) → e.machine.written ≡ live.machine.written ++ written → are_by_text written ≡ true
     → IsLiveExecutor next options fallback_seed id events (after_turn live (map Frame.Command written) (suc live.calls) e.machine) proposed e
 TurnsLive next options fallback_seed id events live proposed (Executes body e) = (value : NonEmptyValue)
     → FollowsSo next live.start.given id events (live.coming ++ outcome_frame live.start.given.version body.completion value ∷ [])
@@ -105,9 +109,10 @@ TurnsLive next options fallback_seed id events live proposed (AwaitsChildOf chil
 TurnsLive next options fallback_seed id events live proposed (Finishes e) = Unit {0}
 TurnsLive next options fallback_seed id events live proposed (Fails fault) = Unit {0}
 
+-- where signals wait in line; that what was handed to it is as it was asked for follows from the accepted events
 abbrev pub ExecutorsTurn : Type 0
 ExecutorsTurn = (same_header : Call → Request → Request → Bool) (next : Handler) (options : RunOptions) (fallback_seed : ℕ) (id : Text) (events : List Event) (live : LiveAttempt) (proposed : List (ℕ × NonEmptyValue)) (e : Executor)
-    → AreReflexive same_header → IsAccepted events → FollowsSo next live.start.given id events live.coming → IsLiveExecutor next options fallback_seed id events live proposed e → live.bytes ≡ live.held → HasReadJournal live
-    → Fits next live.start.given (requests_carried live.read) (arrivals_carried live.read) → AreOfKind next live.start.given (arrivals_carried live.read) live.calls
+    → AreReflexive same_header → options.signal_delivery ≡ Queued → IsAccepted events → FollowsSo next live.start.given id events live.coming → IsLiveExecutor next options fallback_seed id events live proposed e
+    → live.bytes ≡ live.held → HasReadJournal live
     → (at : IsInRun next live.start.given live.read live.unread live.calls live.machine)
     → TurnsLive next options fallback_seed id events live proposed (executor_reply same_header live.start.given e (next_call next live.start.given at.stands.steps))

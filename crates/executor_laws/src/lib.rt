@@ -1,4 +1,7 @@
-//! The live attempt with the bodies of its runs: laws that join them to the store. The functions do nothing: their contracts are the laws.
+//! An executor is the machine of an attempt with the bodies of its runs (`body_laws`); here it is that of an invocation's live attempt, and
+//! its outcomes go to a store. These laws say that for a run nothing is recorded but what its attempt has proposed, that no outcome on its
+//! way is refused since its run is not open, and that the attempt stays what it is from its begin on, as it reads and as it turns. The
+//! functions do nothing: their contracts are the laws.
 #![tactic(auto)]
 
 ghost use Rattle.executor_laws.specs.Childless.{NextExecutorRepliesAreSame};

@@ -1,5 +1,5 @@
 -- The laws are proved in `Standing`.
-use Rattle.body_laws.proofs.Standing.{begins_with, reads, comes, proposes}
+use Rattle.body_laws.proofs.Standing.{begins_with, reads, comes, others_refused, proposes}
 use Rattle.body_laws.proofs.bodies_stand.Goals as goal
 
 pub returns-clause-begins : goal.returns-clause-begins
@@ -10,6 +10,9 @@ returns-clause-reads c = λ handler given journal arrivals calls proposed e arri
 
 pub returns-clause-comes : goal.returns-clause-comes
 returns-clause-comes c = λ handler given journal arrivals calls proposed e n value is a once at. comes handler given journal arrivals calls proposed e n value is a once at
+
+pub returns-clause-refuses : goal.returns-clause-refuses
+returns-clause-refuses c = λ handler given journal arrivals calls proposed e n none at. others_refused handler given journal arrivals calls proposed e n none at
 
 pub returns-clause-proposes : goal.returns-clause-proposes
 returns-clause-proposes c = λ handler given journal arrivals calls proposed e body value a at. proposes handler given journal arrivals calls proposed e body value a at
