@@ -1,0 +1,2 @@
+pub mod Retrying
+pub mod Ending

@@ -1,0 +1,5 @@
+pub mod Ordered
+pub mod Tables
+pub mod Awaited
+pub mod Keeping
+pub mod Rows
