@@ -26,25 +26,27 @@ static const char *const TEXTS[STATEMENTS] = {
     "SELECT * FROM entry WHERE invocation = ?1 ORDER BY place",
     "SELECT * FROM state WHERE object = ?1 ORDER BY key",
     "SELECT * FROM sleep WHERE moment <= ?1 ORDER BY invocation, moment, completion",
-    "INSERT INTO invocation VALUES (?1, ?2, ?3, ?4, ?5, ?6, ?7, ?8, ?9, ?10, ?11, ?12, ?13, ?14, ?15, ?16, ?17, ?18, ?19)",
-    "UPDATE invocation SET open_object = ?2, suspension = ?3, handed = ?4, closing = ?5, answer = ?6, error_code = ?7, error_behavior = ?8, error_delay = ?9, error_message = ?10, attempts = ?11, attempts_since_entry = ?12, first_moment = ?13, last_completion = ?14, entries = ?15 WHERE id = ?1",
-    "INSERT INTO entry VALUES (?1, ?2, ?3, ?4, ?5, ?6, ?7, ?8)",
+    "INSERT INTO invocation VALUES (?1, ?2, ?3, ?4, ?5, ?6, ?7, ?8, ?9, ?10, ?11, ?12, ?13, ?14, ?15, ?16, ?17, ?18, ?19, ?20, ?21, ?22)",
+    "UPDATE invocation SET open_object = ?2, suspension = ?3, handed = ?4, closing = ?5, answer = ?6, error_code = ?7, error_behavior = ?8, error_delay = ?9, error_message = ?10, attempts = ?11, attempts_since_entry = ?12, first_moment = ?13, last_completion = ?14, entries = ?15, heard = ?16, arrivals = ?17, awake = ?18 WHERE id = ?1",
+    "INSERT INTO entry VALUES (?1, ?2, ?3, ?4, ?5, ?6, ?7, ?8, ?9)",
     "INSERT INTO sleep VALUES (?1, ?2, ?3)",
     "DELETE FROM sleep WHERE invocation = ?1",
     "DELETE FROM sleep WHERE moment <= ?1",
 };
 
 static const char *const SCHEMA[] = {
+    "CREATE TABLE entry (invocation TEXT NOT NULL, place INTEGER NOT NULL, kind INTEGER NOT NULL, payload BLOB NOT NULL, completion INTEGER, second_completion INTEGER, answered INTEGER, arrival INTEGER, moment INTEGER NOT NULL) STRICT",
+    "CREATE TABLE invocation (id TEXT NOT NULL UNIQUE, object TEXT NOT NULL, version INTEGER NOT NULL, seed INTEGER NOT NULL, mode INTEGER NOT NULL, open_object TEXT, suspension BLOB, handed INTEGER, closing INTEGER, answer BLOB, error_code INTEGER, error_behavior INTEGER, error_delay INTEGER, error_message TEXT, attempts INTEGER NOT NULL, attempts_since_entry INTEGER NOT NULL, first_moment INTEGER NOT NULL, last_completion INTEGER NOT NULL, entries INTEGER NOT NULL, heard INTEGER, arrivals INTEGER NOT NULL, awake INTEGER NOT NULL) STRICT",
     "CREATE TABLE meta (name TEXT NOT NULL, version INTEGER NOT NULL) STRICT",
-    "CREATE TABLE invocation (id TEXT NOT NULL UNIQUE, object TEXT NOT NULL, version INTEGER NOT NULL, seed INTEGER NOT NULL, mode INTEGER NOT NULL, open_object TEXT, suspension BLOB, handed INTEGER, closing INTEGER, answer BLOB, error_code INTEGER, error_behavior INTEGER, error_delay INTEGER, error_message TEXT, attempts INTEGER NOT NULL, attempts_since_entry INTEGER NOT NULL, first_moment INTEGER NOT NULL, last_completion INTEGER NOT NULL, entries INTEGER NOT NULL) STRICT",
+    "CREATE TABLE sleep (moment INTEGER NOT NULL, invocation TEXT NOT NULL, completion INTEGER NOT NULL) STRICT",
+    "CREATE TABLE state (object TEXT NOT NULL, key BLOB NOT NULL, value BLOB NOT NULL, UNIQUE (object, key)) STRICT",
     "CREATE INDEX invocation_by_open_object ON invocation (open_object)",
-    "CREATE TABLE entry (invocation TEXT NOT NULL, place INTEGER NOT NULL, kind INTEGER NOT NULL, payload BLOB NOT NULL, completion INTEGER, second_completion INTEGER, answered INTEGER, moment INTEGER NOT NULL) STRICT",
+    "CREATE INDEX invocation_by_awake ON invocation (awake)",
     "CREATE INDEX entry_by_place ON entry (invocation, place)",
     "CREATE INDEX entry_by_completion ON entry (invocation, completion)",
     "CREATE INDEX entry_by_second_completion ON entry (invocation, second_completion)",
     "CREATE INDEX entry_by_answered ON entry (invocation, answered)",
-    "CREATE TABLE state (object TEXT NOT NULL, key BLOB NOT NULL, value BLOB NOT NULL, UNIQUE (object, key)) STRICT",
-    "CREATE TABLE sleep (moment INTEGER NOT NULL, invocation TEXT NOT NULL, completion INTEGER NOT NULL) STRICT",
+    "CREATE INDEX entry_by_arrival ON entry (invocation, arrival)",
     "CREATE INDEX sleep_by_invocation ON sleep (invocation, completion)",
     "CREATE INDEX sleep_by_moment ON sleep (moment)",
     "INSERT INTO meta VALUES ('journal_store', 1)",
@@ -78,7 +80,7 @@ struct progress {
     char id[24];
     char object[24];
     int is_ended, has_answer;
-    uint32_t handed, attempts, since_entry, last_completion, entries;
+    uint32_t handed, attempts, since_entry, last_completion, entries, arrivals;
     uint64_t first_moment;
 };
 
@@ -182,6 +184,9 @@ static void bind_progress(enum statement which, int at, const struct progress *p
     number(which, at + 11, p->first_moment);
     number(which, at + 12, p->last_completion);
     number(which, at + 13, p->entries);
+    sqlite3_bind_null(statements[which], at + 14);
+    number(which, at + 15, p->arrivals);
+    number(which, at + 16, !p->is_ended);
 }
 
 static void set_progress(const struct progress *p) {
@@ -190,17 +195,17 @@ static void set_progress(const struct progress *p) {
     run(SET_PROGRESS);
 }
 
-static void add_entry(const struct progress *p, uint32_t place, uint32_t kind, const unsigned char *payload, int len, uint32_t completion, uint32_t second, uint32_t answered) {
+static void add_entry(const struct progress *p, uint32_t place, uint32_t kind, const unsigned char *payload, int len, uint32_t completion, uint32_t second, uint32_t answered, uint32_t arrival) {
     text(ADD_ENTRY, 1, p->id);
     number(ADD_ENTRY, 2, place);
     number(ADD_ENTRY, 3, kind);
     sqlite3_bind_blob(statements[ADD_ENTRY], 4, payload, len, SQLITE_STATIC);
-    uint32_t ids[3] = {completion, second, answered};
-    for (int i = 0; i < 3; i++) {
+    uint32_t ids[4] = {completion, second, answered, arrival};
+    for (int i = 0; i < 4; i++) {
         if (ids[i] != 0) number(ADD_ENTRY, 5 + i, ids[i]);
         else sqlite3_bind_null(statements[ADD_ENTRY], 5 + i);
     }
-    number(ADD_ENTRY, 8, kind == 0x040c ? MOMENT : 0);
+    number(ADD_ENTRY, 9, kind == 0x040c ? MOMENT : 0);
     run(ADD_ENTRY);
 }
 
@@ -219,7 +224,7 @@ static void invoke(struct progress *p, uint64_t which) {
     number(ADD_INVOCATION, 5, 1);
     bind_progress(ADD_INVOCATION, 6, p);
     run(ADD_INVOCATION);
-    add_entry(p, 0, 0x0400, INPUT, sizeof INPUT - 1, 0, 0, 0);
+    add_entry(p, 0, 0x0400, INPUT, sizeof INPUT - 1, 0, 0, 0, 0);
     run(COMMIT);
 }
 
@@ -246,7 +251,8 @@ static void open_sleep(struct progress *p) {
 /* One more entry behind the others, and of a sleep that it is open. */
 static void record(struct progress *p, uint32_t kind, const unsigned char *payload, int len, uint32_t completion, uint32_t second, uint32_t answered) {
     run(BEGIN);
-    add_entry(p, p->entries, kind, payload, len, completion, second, answered);
+    if (answered != 0) p->arrivals++;
+    add_entry(p, p->entries, kind, payload, len, completion, second, answered, answered != 0 ? p->arrivals : 0);
     p->entries++;
     p->since_entry = 0;
     p->first_moment = 0;
@@ -303,8 +309,9 @@ static void tick(struct progress *p) {
     by_id(INVOCATION_BY_ID, p->id);
     run(BEGIN);
     for (uint32_t i = 0; i < ended; i++)
-        add_entry(p, p->entries + i, 0x800c, SLEEP_END, sizeof SLEEP_END - 1, 0, 0, i + 1);
+        add_entry(p, p->entries + i, 0x800c, SLEEP_END, sizeof SLEEP_END - 1, 0, 0, i + 1, p->arrivals + i + 1);
     p->entries += ended;
+    p->arrivals += ended;
     p->since_entry = 0;
     p->first_moment = 0;
     set_progress(p);

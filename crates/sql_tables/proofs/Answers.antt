@@ -1,5 +1,5 @@
 -- What a query over one table answers.
-use Rattle.std.proofs.Common.{◌≡◌, ℕ, Bool, true, false, cond, List, [], ◌∷◌, ◌++◌, map, filter, flat_map, drop, ◌^◌, nat_le, Option, None, refl, sym, ap, subst, ◌∙◌}
+use Rattle.std.proofs.Common.{◌≡◌, ℕ, Bool, true, false, cond, List, [], ◌∷◌, ◌++◌, map, filter, flat_map, drop, take, ◌^◌, nat_le, Option, None, refl, sym, ap, subst, ◌∙◌}
 use Rattle.std.specs.List.{list_all}
 use Rattle.std.specs.List.Sorted.{IsPermutation, IsSorted}
 use Rattle.std.proofs.lemmas.List.Sorted.{IsPermutation-map, IsPermutation-sym, IsPermutation-trans}
@@ -13,7 +13,7 @@ use Rattle.sqlite_keyed.proofs.ListLemmas.{map-map, map_same, filter-map, filter
 use Rattle.sqlite_sql.specs.Program.{overlay, IsProgramAnswer}
 use Rattle.std.specs.Option.{unwrap_or}
 use Rattle.sql_tables.specs.Content.{HasRows}
-use Rattle.sql_tables.specs.Statements.{rows_of}
+use Rattle.sql_tables.specs.Statements.{first_of, rows_of}
 
 pub no_let : (db : Trees) (tree : ℕ) → overlay db [] tree ≡ db tree
 no_let db tree = elim (nat_le (2 ^ 31) tree) as (λ b. unwrap_or (cond {A = Option (List Row)} b None None) (db tree) ≡ db tree) [ true ↦ refl | false ↦ refl ]
@@ -45,6 +45,19 @@ module _ (tree : ℕ) (tests project : List Term) (order : List (Term × Key)) (
     sorted = a.sorted;
     shown = a.shown;
   }
+
+  -- of which only the first is asked for
+  pub first_answered : IsAnswer (first_of q) db params rows → (all : List Row) × IsListOf q params (filter (passes params tests) (db tree)) all × (rows ≡ take 1 all)
+  first_answered a = (
+    map (λ (o : Output). o.1) a.ordered,
+    record {
+      outs = a.ordered;
+      same = subst (λ k. IsPermutation k a.ordered) (a.distinct ∙ ap (map (output q)) a.grouped ∙ shown_matches (passes params tests) (λ r. params ∷ r ∷ []) (output q) (db tree)) a.same;
+      sorted = a.sorted;
+      shown = refl;
+    },
+    a.shown,
+  )
 
   pub shows : (matches : List Row) → IsListOf q params matches rows → IsPermutation (map (λ r. eval_all project (params ∷ r ∷ [])) matches) rows
   shows matches a = subst (λ l. IsPermutation l rows) (map-map (λ o. o.1) (λ r. output q (params ∷ r ∷ [])) matches) (subst (IsPermutation _) (sym a.shown) (IsPermutation-map (λ (o : Output). o.1) _ _ a.same))

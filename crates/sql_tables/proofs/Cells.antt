@@ -1,8 +1,8 @@
 -- What tests and casts make of cells.
-use Rattle.std.proofs.Common.{◌≡◌, ◌==◌, ◌&&◌, ℕ, ℤ, pos, Bool, true, false, List, Option, None, Some, refl, sym, ap, ◌∙◌, bytes_eq}
+use Rattle.std.proofs.Common.{◌≡◌, ◌==◌, ◌&&◌, nat_lt, arith, cond, Ordering, Less, Equal, Greater, ℕ, ℤ, pos, Bool, true, false, List, Option, None, Some, refl, sym, ap, ◌∙◌, bytes_eq}
 use Rattle.std.specs.Prelude.{nat_abs}
-use Rattle.std.specs.Ordering.{int_cmp, int_eq, is_eq, is_le}
-use Rattle.std.proofs.lemmas.Bool.{eq-eqb, eqb-true}
+use Rattle.std.specs.Ordering.{int_cmp, int_eq, is_eq, is_ge, is_gt, is_le}
+use Rattle.std.proofs.lemmas.Bool.{eq-eqb, eqb-true, le-ltb, ltb-true}
 use Rattle.std.proofs.lemmas.Bool.Decides.{Decides-int_eq}
 use Rattle.sqlite_keyed.proofs.KeyedLemmas.{same_int}
 use Rattle.std.proofs.lemmas.Map.Text.{is_eq-slice_cmp}
@@ -13,11 +13,11 @@ use Rattle.sqlite.specs.Cast.{cast}
 use Rattle.sqlite.specs.Kind.{Kind}
 use Rattle.sqlite_sql.specs.Ops.{binary, is_true, from_truth}
 use Rattle.sqlite_sql.specs.declared.ops.BinaryOp.TheVariants.{Compare}
-use Rattle.sqlite_sql.specs.declared.ops.CompareOp.TheVariants.{Eq, Le}
+use Rattle.sqlite_sql.specs.declared.ops.CompareOp.TheVariants.{Eq, Ge, Gt, Le}
 use Rattle.sqlite_value.specs.declared.keys.Collation.TheVariants.{Binary}
 use Rattle.sqlite_value.specs.Order.{value_cmp}
 use Rattle.sqlite_value.proofs.OrderLemmas.{value_cmp-Text, value_cmp-Blob, value_cmp-Int}
-use Rattle.sql_tables.specs.Cells.{short_cell}
+use Rattle.sql_tables.specs.Cells.{flag_cell, short_cell}
 
 abbrev pub are_same : Value → Value → Bool
 are_same a b = is_true (binary (Compare Eq Binary) a b)
@@ -60,6 +60,38 @@ is_at_most a b = is_true (binary (Compare Le Binary) a b)
 pub at_most_int : (m n : ℤ) → is_at_most (Int m) (Int n) ≡ is_le (int_cmp m n)
 unfolding binary
 at_most_int m n = truth_of (is_le (value_cmp (Int m) (Int n))) ∙ ap is_le (value_cmp-Int m n)
+
+abbrev pub is_at_least : Value → Value → Bool
+is_at_least a b = is_true (binary (Compare Ge Binary) a b)
+
+pub at_least_int : (m n : ℤ) → is_at_least (Int m) (Int n) ≡ is_ge (int_cmp m n)
+unfolding binary
+at_least_int m n = truth_of (is_ge (value_cmp (Int m) (Int n))) ∙ ap is_ge (value_cmp-Int m n)
+
+abbrev pub is_above : Value → Value → Bool
+is_above a b = is_true (binary (Compare Gt Binary) a b)
+
+greater_is : (x y : Bool) → (x ≡ true → y ≡ false) → is_gt (cond x Less (cond y Greater Equal)) ≡ y
+greater_is true y f = sym (f refl)
+greater_is false true f = refl
+greater_is false false f = refl
+
+pub above_short : (a b : ℕ) → is_above (short_cell a) (short_cell b) ≡ nat_lt b a
+unfolding binary
+above_short a b =
+    truth_of (is_gt (value_cmp (short_cell a) (short_cell b))) ∙ ap is_gt (value_cmp-Int (pos a) (pos b))
+    ∙ greater_is (nat_lt a b) (nat_lt b a) (λ e. le-ltb b a (let less = ltb-true a b e in omega (arith, less)))
+
+-- null is above nothing
+pub above_null : (n : ℤ) → is_above Null (Int n) ≡ false
+unfolding binary
+above_null n = refl
+
+-- a flag is the same as one that is set where it is set
+pub same_flag : (b : Bool) → are_same (flag_cell b) (flag_cell true) ≡ b
+unfolding binary
+same_flag true = truth_of (is_eq (value_cmp (Int (pos 1)) (Int (pos 1)))) ∙ ap is_eq (value_cmp-Int (pos 1) (pos 1))
+same_flag false = truth_of (is_eq (value_cmp (Int (pos 0)) (Int (pos 1)))) ∙ ap is_eq (value_cmp-Int (pos 0) (pos 1))
 
 -- nothing is the same as null
 pub same_null-Int : (n : ℤ) → are_same Null (Int n) ≡ false

@@ -7,7 +7,7 @@ use Rattle.journal_model.specs.Notification.{Text, Arrival}
 use Rattle.journal_model.specs.declared.notification.NotificationId.TheVariants.{CompletionId}
 use Rattle.journal_model.specs.Request.{Request}
 use Rattle.journal_model.specs.Event.{Event}
-use Rattle.journal_model.specs.Journal.{Entry, Recorded, Arrived, asks_for as is_asking, is_open, requests_in, request_asking, sleeps_in, sorted_by_moment, is_over, slept, entries_of}
+use Rattle.journal_model.specs.Journal.{Entry, Recorded, Arrived, asks_for as is_asking, is_open, requests_in, request_asking, sleeps_in, sorted_by_moment, is_over, slept, entries_of, arrivals_in, recorded_arrivals}
 use Rattle.journal_model.specs.Attempt.{notification_type, type_of_completion}
 use Rattle.journal_model.specs.Cause.{IsAccepted, is_empty}
 use Rattle.journal_laws.proofs.ObjectState.{requests_in-append}
@@ -19,6 +19,7 @@ use Rattle.store_tables.specs.declared.row.EntryRow.{EntryRow}
 use Rattle.store_tables.specs.declared.row.SleepRow.{SleepRow}
 use Rattle.store_model.specs.Sleeps.{sleep_row}
 use Rattle.store_model.specs.Kept.{entry_row, rows_from, IsKept}
+use Rattle.store_model.proofs.Following.{arrived_more}
 use Rattle.store_model.specs.Writes.{AreEnding, ends_sleep, rows_added}
 use Rattle.store_lookups.specs.Lookups.{due_sleeps, ended_sleeps}
 use Rattle.store_lookups.proofs.Asking.{ascends}
@@ -76,15 +77,21 @@ type_of_end entries more n nothing e =
 one_arrived : (more : List Entry) (arrival : Arrival) → requests_in more ≡ [] → requests_in (more ++ Arrived arrival ∷ []) ≡ []
 one_arrived more arrival e = requests_in-append more (Arrived arrival ∷ []) ∙ append-nil (requests_in more) ∙ e
 
-rows_ended : (id : Text) (before more : List Entry) (place : ℕ) (sleeps : List (ℕ × ℕ)) → requests_in more ≡ []
+one_counted : (before : List Entry) (arrival : Arrival) (known : ℕ) → length (arrivals_in before) ≡ known → length (arrivals_in (before ++ Arrived arrival ∷ [])) ≡ known + 1
+one_counted before arrival known e = arrived_more before (Arrived arrival ∷ []) ∙ ap (λ (n : ℕ). n + 1) e
+
+rows_ended : (id : Text) (before more : List Entry) (place known : ℕ) (sleeps : List (ℕ × ℕ)) → requests_in more ≡ [] → length (arrivals_in (before ++ more)) ≡ known
     → AllByRecursion (λ (sleep : ℕ × ℕ). is_sleep (request_asking before sleep.1) ≡ true) sleeps
-    → rows_from id (before ++ more) place (map Arrived (map answer_of_sleep sleeps)) ≡ end_rows id place (map (λ (sleep : ℕ × ℕ). sleep.1) sleeps)
-rows_ended id before more place [] nothing asleep = refl
-rows_ended id before more place (sleep ∷ sleeps) nothing asleep =
-    ap₂ (λ (kind : MessageType) (rows : List EntryRow). record (end_row id place sleep.1) { kind = kind } ∷ rows)
+    → rows_from id (before ++ more) place (map Arrived (map answer_of_sleep sleeps)) ≡ end_rows id place known (map (λ (sleep : ℕ × ℕ). sleep.1) sleeps)
+rows_ended id before more place known [] nothing count asleep = refl
+rows_ended id before more place known (sleep ∷ sleeps) nothing count asleep =
+    ap₂ (λ (kind : MessageType) (rows : List EntryRow). record (end_row id place (length (arrivals_in (before ++ more))) sleep.1) { kind = kind } ∷ rows)
     (type_of_end before more sleep.1 nothing asleep.0)
     (ap (λ (all : List Entry). rows_from id all (place + 1) (map Arrived (map answer_of_sleep sleeps))) (append_assoc before more (Arrived (answer_of_sleep sleep) ∷ []))
-    ∙ rows_ended id before (more ++ Arrived (answer_of_sleep sleep) ∷ []) (place + 1) sleeps (one_arrived more (answer_of_sleep sleep) nothing) asleep.1)
+    ∙ rows_ended id before (more ++ Arrived (answer_of_sleep sleep) ∷ []) (place + 1) (known + 1) sleeps (one_arrived more (answer_of_sleep sleep) nothing)
+    (ap (λ (all : List Entry). length (arrivals_in all)) (sym (append_assoc before more (Arrived (answer_of_sleep sleep) ∷ []))) ∙ one_counted (before ++ more) (answer_of_sleep sleep) known count)
+    asleep.1)
+    ∙ ap (λ (n : ℕ). end_row id place n sleep.1 ∷ end_rows id (place + 1) (known + 1) (map (λ (one : ℕ × ℕ). one.1) sleeps)) count
 
 -- each sleep is asked for by a sleep
 all_asleep : (events : List Event) (id : Text) → IsAccepted events
@@ -99,7 +106,8 @@ pub rows_of_tick : AllRowsEnded
 rows_of_tick events now id accepted opened =
     let ended = filter (is_over (entries_of events id) now) (sorted_by_moment (sleeps_in (requests_in (entries_of events id)))) in
     ap (λ (all : List Entry). rows_from id all (1 + length (entries_of events id)) (map Arrived (slept (entries_of events id) now))) (sym (append-nil (entries_of events id)))
-    ∙ rows_ended id (entries_of events id) [] (1 + length (entries_of events id)) ended refl
+    ∙ rows_ended id (entries_of events id) [] (1 + length (entries_of events id)) (length (recorded_arrivals events id)) ended refl
+    (ap (λ (all : List Entry). length (arrivals_in all)) (append-nil (entries_of events id)))
     (all-filter (λ (sleep : ℕ × ℕ). is_sleep (request_asking (entries_of events id) sleep.1) ≡ true) (is_over (entries_of events id) now) (sorted_by_moment (sleeps_in (requests_in (entries_of events id))))
     (all_sorted (λ (sleep : ℕ × ℕ). is_sleep (request_asking (entries_of events id) sleep.1) ≡ true) (sleeps_in (requests_in (entries_of events id))) (all_asleep events id accepted)))
-    ∙ ap (λ (b : Bool). end_rows id (1 + length (entries_of events id)) (map (λ (sleep : ℕ × ℕ). sleep.1) (if b then ended else []))) (sym opened)
+    ∙ ap (λ (b : Bool). end_rows id (1 + length (entries_of events id)) (length (recorded_arrivals events id)) (map (λ (sleep : ℕ × ℕ). sleep.1) (if b then ended else []))) (sym opened)

@@ -14,15 +14,16 @@ use Rattle.store_model.specs.Steps.{grown}
 use Rattle.store_refusals.specs.declared.refusal.Refusal.{Refusal}
 use Rattle.store_invocations.specs.Rows.{Decides}
 use Rattle.store_invocations.proofs.Refusing.{none_of_one}
+use Rattle.store_arrivals.specs.Arrivals.{HasFewArrivals}
 use Rattle.store_arrivals.specs.Ended.{end_frame, end_row, end_rows}
 use Rattle.store_live.specs.declared.added.AddedFrames.{AddedFrames}
 use Rattle.store_arrivals.specs.declared.ended.SleepEnd.{SleepEnd}
 use Rattle.store_arrivals.specs.Made.{AreEndsOf, IsEnd, end_row_of, progress_writes, room_tests}
 
-pub end_made : (id : Text) (place n : ℕ) (entry : EntryRow) (frame : Bytes) → frame ≡ end_frame n → entry ≡ end_row_of id place n frame
-    → IsEnd id place n (record { entry = entry; frame = frame })
-end_made id place n entry frame framed is = record {
-  entry = is ∙ ap (λ (f : Bytes). record (end_row id place n) { payload = drop HEADER_LEN f }) framed;
+pub end_made : (id : Text) (place before n : ℕ) (entry : EntryRow) (frame : Bytes) → frame ≡ end_frame n → entry ≡ end_row_of id place before n frame
+    → IsEnd id place before n (record { entry = entry; frame = frame })
+end_made id place before n entry frame framed is = record {
+  entry = is ∙ ap (λ (f : Bytes). record (end_row id place before n) { payload = drop HEADER_LEN f }) framed;
   frame = framed;
 }
 
@@ -46,18 +47,18 @@ has_no_places entries more many = lt-ltb (2 ^ 32 - 1) (entries + more) (omega (a
 -- ---- all of them
 
 -- how far the invocation is then is written last
-pub written_last : (id : Text) (progress : Progress) (ns : List ℕ) (before mid after : List Write) → mid ≡ before ++ map AddEntry (end_rows id progress.entries ns)
-    → after ≡ mid ++ SetProgress id (grown (length ns) progress) ∷ [] → after ≡ before ++ progress_writes id progress ns
+pub written_last : (id : Text) (progress : Progress) (ns : List ℕ) (before mid after : List Write) → mid ≡ before ++ map AddEntry (end_rows id progress.entries progress.arrivals ns)
+    → after ≡ mid ++ SetProgress id (grown (length ns) (length ns) progress) ∷ [] → after ≡ before ++ progress_writes id progress ns
 written_last id progress ns before mid after is last =
-    last ∙ ap (λ (writes : List Write). writes ++ SetProgress id (grown (length ns) progress) ∷ []) is
-    ∙ append_assoc before (map AddEntry (end_rows id progress.entries ns)) (SetProgress id (grown (length ns) progress) ∷ [])
+    last ∙ ap (λ (writes : List Write). writes ++ SetProgress id (grown (length ns) (length ns) progress) ∷ []) is
+    ∙ append_assoc before (map AddEntry (end_rows id progress.entries progress.arrivals ns)) (SetProgress id (grown (length ns) (length ns) progress) ∷ [])
 
 -- what was made
 abbrev pub was_ended : AddedFrames → Result AddedFrames Refusal
 was_ended ended = Ok ended
 
 pub ends_decided : (row : InvocationRow) (id : Text) (ns : List ℕ) (before after : List Write) (ended : AddedFrames) → row.progress.entries + length ns < 2 ^ 32
-    → ended.id ≡ id → ended.place ≡ row.progress.entries → ended.frames.items ≡ map end_frame ns → after ≡ before ++ progress_writes row.id row.progress ns
+    → ended.id ≡ id → ended.place ≡ row.progress.entries → ended.frames.items ≡ map end_frame ns → (HasFewArrivals row.progress → after ≡ before ++ progress_writes row.id row.progress ns)
     → Decides (room_tests row.progress.entries (length ns)) (AreEndsOf row id ns before after) (was_ended ended)
 ends_decided row id ns before after ended few named placed framed written = (
   has_places row.progress.entries (length ns) few,

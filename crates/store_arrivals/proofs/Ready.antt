@@ -24,7 +24,7 @@ use Rattle.store_lookups.proofs.Sleeping.{answer_of_sleep}
 use Rattle.store_arrivals.specs.Groups.{Group, group_of, those_ended}
 use Rattle.store_arrivals.specs.Ended.{end_frame, end_rows}
 use Rattle.store_live.specs.declared.added.AddedFrames.{AddedFrames}
-use Rattle.store_arrivals.specs.Made.{AreEnds, AreFrames, AreOpen, AreToldOf, group_writes, ids_ended, next_place, ready_writes, until_writes}
+use Rattle.store_arrivals.specs.Made.{AreEnds, AreFrames, AreOpen, AreToldOf, arrivals_before, group_writes, ids_ended, next_place, ready_writes, until_writes}
 use Rattle.store_arrivals.proofs.Ending.{found, id_of, rows_of_tick}
 
 abbrev pub named : Text → Group → Bool
@@ -84,13 +84,13 @@ module _ (events : List Event) (now : ℕ) where
   -- ---- writes
 
   rows_are : (accepted : IsAccepted events) (group : Group) → IsGroupOf events now group
-      → end_rows group.0 (next_place events group.0) group.1 ≡ rows_added events (Event.Tick now) group.0
-  rows_are accepted group it = ap (end_rows group.0 (next_place events group.0)) it.completions ∙ sym (rows_of_tick events now group.0 accepted it.opened)
+      → end_rows group.0 (next_place events group.0) (arrivals_before events group.0) group.1 ≡ rows_added events (Event.Tick now) group.0
+  rows_are accepted group it = ap (end_rows group.0 (next_place events group.0) (arrivals_before events group.0)) it.completions ∙ sym (rows_of_tick events now group.0 accepted it.opened)
 
   group_written : IsAccepted events → (group : Group) → IsGroupOf events now group → group_writes events group ≡ invocation_writes events (Event.Tick now) group.0
   group_written accepted group it =
       ap₂ (λ (rows : List EntryRow) (far : Progress). map AddEntry rows ++ SetProgress group.0 far ∷ []) (rows_are accepted group it)
-      (ap (λ (n : ℕ). grown n (progress_of events group.0)) it.many ∙ sym (ticks events now group.0 it.ends))
+      (ap (λ (n : ℕ). grown n n (progress_of events group.0)) it.many ∙ sym (ticks events now group.0 it.ends))
 
   groups_written : IsAccepted events → (groups : List Group) → AllByRecursion (IsGroupOf events now) groups
       → flat_map (group_writes events) groups ≡ flat_map (invocation_writes events (Event.Tick now)) (map id_of groups)
@@ -105,15 +105,15 @@ module _ (events : List Event) (now : ℕ) where
 
   -- ---- frames
 
-  frames_of : (id : Text) (place : ℕ) (ns : List ℕ) → map end_frame ns ≡ map row_frame (end_rows id place ns)
-  frames_of id place [] = refl
-  frames_of id place (n ∷ ns) = ap (λ (frames : List Bytes). end_frame n ∷ frames) (frames_of id (place + 1) ns)
+  frames_of : (id : Text) (place before : ℕ) (ns : List ℕ) → map end_frame ns ≡ map row_frame (end_rows id place before ns)
+  frames_of id place before [] = refl
+  frames_of id place before (n ∷ ns) = ap (λ (frames : List Bytes). end_frame n ∷ frames) (frames_of id (place + 1) (before + 1) ns)
 
   one_framed : IsAccepted events → (group : Group) (one : AddedFrames) → IsGroupOf events now group → AreEnds group.0 (next_place events group.0) group.1 one
       → AreFrames events now one
   one_framed accepted group one it ends = record {
     place_is = ends.place_is ∙ ap (next_place events) (sym ends.named);
-    frames = ends.frames ∙ frames_of group.0 (next_place events group.0) group.1 ∙ ap (map row_frame) (rows_are accepted group it)
+    frames = ends.frames ∙ frames_of group.0 (next_place events group.0) (arrivals_before events group.0) group.1 ∙ ap (map row_frame) (rows_are accepted group it)
         ∙ ap (λ (id : Text). map row_frame (rows_added events (Event.Tick now) id)) (sym ends.named);
   }
 

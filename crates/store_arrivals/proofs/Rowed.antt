@@ -19,7 +19,9 @@ use Rattle.store_refusals.specs.declared.refusal.Refusal.{Refusal}
 use Rattle.store_refusals.specs.Refused.{IsRefused, first_of}
 use Rattle.store_invocations.specs.Rows.{Decides, IsRowOf}
 use Rattle.store_invocations.proofs.Refusing.{none_of_both, refused_later, refused_more}
+use Rattle.store_arrivals.specs.Arrivals.{HasFewArrivals}
 use Rattle.store_arrivals.specs.Ended.{end_rows}
+use Rattle.store_arrivals.proofs.Written.{few_arrivals}
 use Rattle.store_arrivals.specs.Groups.{Group}
 use Rattle.store_live.specs.declared.added.AddedFrames.{AddedFrames}
 use Rattle.store_arrivals.proofs.Ends.{was_ended}
@@ -43,7 +45,8 @@ group_ended events group row before after (Ok ended) of_it decided =
       ap (λ (p : Progress). those_that_hold (room_tests p.entries (length group.1))) (sym far) ∙ decided.0,
       record {
         ends = subst (λ (p : Progress). AreEnds id p.entries group.1 ended) far decided.1.ends;
-        written = decided.1.written ∙ (λ i. before ++ (map AddEntry (end_rows (named i) (far i).entries group.1) ++ SetProgress (named i) (grown (length group.1) (far i)) ∷ []));
+        written = decided.1.written (subst HasFewArrivals (sym far) (few_arrivals events id))
+            ∙ (λ i. before ++ (map AddEntry (end_rows (named i) (far i).entries (far i).arrivals group.1) ++ SetProgress (named i) (grown (length group.1) (length group.1) (far i)) ∷ []));
       },
     )
 group_ended events group row before after (Err why) of_it refused =

@@ -1,11 +1,11 @@
 -- What is made ready of an arrival is what its event writes.
-use Rattle.std.proofs.Common.{ℕ, ◌+◌, ◌-◌, ◌^◌, nat_lt, arith, ◌≡◌, refl, sym, ap, subst, ◌∙◌, List, [], ◌∷◌, ◌++◌, length, Option, Some, None, drop, Result, Ok, Err}
+use Rattle.std.proofs.Common.{ℕ, ◌+◌, ◌-◌, ◌^◌, ◌≤◌, nat_lt, arith, ◌≡◌, refl, sym, ap, subst, ◌∙◌, List, [], ◌∷◌, ◌++◌, length, Option, Some, None, drop, Result, Ok, Err}
 use Rattle.journal_model.specs.Notification.{Bytes, Text, Arrival}
 use Rattle.journal_model.specs.declared.notification.NotificationResult.{NotificationResult}
 use Rattle.journal_model.specs.declared.notification.NotificationId.TheVariants.{CompletionId}
 use Rattle.journal_model.specs.Event.{Event}
 use Rattle.journal_model.specs.Spelling.{frame_bytes, notification_payload}
-use Rattle.journal_model.specs.Journal.{Arrived, completion, entries_of, object_of}
+use Rattle.journal_model.specs.Journal.{Entry, Arrived, Recorded, arrivals_in, completion, entries_of, object_of}
 use Rattle.journal_model.specs.Attempt.{notification_type}
 use Rattle.journal_model.specs.Cause.{Cause, Tests, adding_tests, own_tests, those_that_hold, is_too_long}
 use Rattle.protocol_stream.specs.declared.frame.TheConstants.{HEADER_LEN}
@@ -25,7 +25,7 @@ use Rattle.store_invocations.specs.Rows.{Decides, IsRowOf}
 use Rattle.store_invocations.proofs.Refusing.{none_of_both, refused_later}
 use Rattle.store_arrivals.specs.Asked.{completion_tests}
 use Rattle.store_arrivals.specs.declared.arrival.PreparedArrival.{PreparedArrival}
-use Rattle.store_arrivals.specs.Arrivals.{IsWritten, IsArrival, IsMadeReady, arrival_tests, entry_of_arrival}
+use Rattle.store_arrivals.specs.Arrivals.{HasFewArrivals, IsWritten, IsArrival, IsMadeReady, arrival_tests, entry_of_arrival}
 use Rattle.protocol_types.specs.declared.message_type.MessageType.{MessageType}
 
 -- ---- a payload cut off its frame
@@ -36,7 +36,7 @@ payload_cut kind payload = refl
 pub arrival_made : (row : InvocationRow) (kind : MessageType) (arrival : Arrival) (frame : Bytes) (made : PreparedArrival)
     → frame ≡ frame_bytes kind (notification_payload arrival) → IsWritten row kind (answered_by arrival.id) frame made → IsArrival row kind arrival made
 arrival_made row kind arrival frame made is w = record {
-  writes = w.writes ∙ ap (λ (f : Bytes). AddEntry (entry_of_arrival row kind (answered_by arrival.id) (drop HEADER_LEN f)) ∷ SetProgress row.id (grown 1 row.progress) ∷ []) is;
+  writes = λ few. w.writes few ∙ ap (λ (f : Bytes). AddEntry (entry_of_arrival row kind (answered_by arrival.id) (drop HEADER_LEN f)) ∷ SetProgress row.id (grown 1 1 row.progress) ∷ []) is;
   place = w.place;
   frame = w.frame ∙ is;
 }
@@ -48,6 +48,14 @@ row_named events id row of = ap (λ (r : InvocationRow). r.id) of.is ∙ of.name
 
 row_progress : (events : List Event) (id : Text) (row : InvocationRow) → IsRowOf events id row → row.progress ≡ progress_of events id
 row_progress events id row of = ap (λ (r : InvocationRow). r.progress) of.is ∙ ap (progress_of events) of.named
+
+arrivals_are_few : (entries : List Entry) → length (arrivals_in entries) ≤ length entries
+arrivals_are_few [] = omega arith
+arrivals_are_few (Recorded request ∷ entries) = let later = arrivals_are_few entries in omega (arith, later)
+arrivals_are_few (Arrived arrival ∷ entries) = let later = arrivals_are_few entries in omega (arith, later)
+
+pub few_arrivals : (events : List Event) (id : Text) → HasFewArrivals (progress_of events id)
+few_arrivals events id = let few = arrivals_are_few (entries_of events id) in omega (arith, few)
 
 -- ---- the tests of one more entry
 
@@ -70,7 +78,7 @@ no_state (Some object) = refl
 pub writes_are : (events : List Event) (id : Text) (n : ℕ) (brought : NotificationResult)
     → writes_of events (Event.Complete id n brought)
     ≡ AddEntry (entry_row id (entries_of events id) (1 + length (entries_of events id)) (Arrived (completion n brought)))
-    ∷ SetProgress id (grown 1 (progress_of events id)) ∷ []
+    ∷ SetProgress id (grown 1 1 (progress_of events id)) ∷ []
 writes_are events id n brought =
     let event = Event.Complete id n brought in
     let entry = AddEntry (entry_row id (entries_of events id) (1 + length (entries_of events id)) (Arrived (completion n brought))) in
@@ -84,9 +92,9 @@ made_ready events id n brought row kind made of typed is =
     let named = row_named events id row of in
     let far = row_progress events id row of in
     record {
-      writes = is.writes
-          ∙ (λ i. AddEntry (record (plain_row (named i) (far i).entries (typed i) (notification_payload (completion n brought))) { answered = Some n })
-          ∷ SetProgress (named i) (grown 1 (far i)) ∷ [])
+      writes = is.writes (subst HasFewArrivals (sym far) (few_arrivals events id))
+          ∙ (λ i. AddEntry (record (plain_row (named i) (far i).entries (typed i) (notification_payload (completion n brought))) { answered = Some n; arrival = Some (1 + (far i).arrivals) })
+          ∷ SetProgress (named i) (grown 1 1 (far i)) ∷ [])
           ∙ sym (writes_are events id n brought);
       place = is.place ∙ ap (λ (p : Progress). p.entries) far;
       frame = is.frame ∙ ap (λ (k : MessageType). frame_bytes k (notification_payload (completion n brought))) typed;

@@ -1,5 +1,5 @@
 -- What an arrival makes ready.
-use Rattle.std.specs.Prelude.{◌≡◌, ℕ, ◌+◌, ◌-◌, ◌^◌, nat_lt, List, [], ◌∷◌, drop, length, Option}
+use Rattle.std.specs.Prelude.{◌≡◌, ◌≤◌, ℕ, ◌+◌, ◌-◌, ◌^◌, nat_lt, List, [], ◌∷◌, drop, length, Option, Some}
 use Rattle.journal_model.specs.Notification.{Bytes, Text, Arrival}
 use Rattle.journal_model.specs.Event.{Event}
 use Rattle.journal_model.specs.Spelling.{frame_bytes, notification_payload}
@@ -10,6 +10,7 @@ use Rattle.protocol_types.specs.declared.message_type.MessageType.{MessageType}
 use Rattle.protocol_stream.specs.declared.frame.TheConstants.{HEADER_LEN}
 use Rattle.store_tables.specs.declared.row.InvocationRow.{InvocationRow}
 use Rattle.store_tables.specs.declared.row.EntryRow.{EntryRow}
+use Rattle.store_tables.specs.declared.row.Progress.{Progress}
 use Rattle.store_tables.specs.declared.row.Write.TheVariants.{SetProgress, AddEntry}
 use Rattle.store_model.specs.Kept.{plain_row, answered_by}
 use Rattle.store_model.specs.Writes.{writes_of}
@@ -19,21 +20,25 @@ use Rattle.store_arrivals.specs.declared.arrival.PreparedArrival.{PreparedArriva
 
 -- its entry, behind those of the invocation that has this row
 abbrev pub entry_of_arrival : InvocationRow → MessageType → Option ℕ → Bytes → EntryRow
-entry_of_arrival row kind answered payload = record (plain_row row.id row.progress.entries kind payload) { answered = answered }
+entry_of_arrival row kind answered payload = record (plain_row row.id row.progress.entries kind payload) { answered = answered; arrival = Some (1 + row.progress.arrivals) }
 
 -- the tests of one more entry
 abbrev pub arrival_tests : InvocationRow → Arrival → Tests
 arrival_tests row arrival = (nat_lt (2 ^ 32 - 2) row.progress.entries, Cause.NumbersUsedUp) ∷ payload_tests (notification_payload arrival)
 
+-- an invocation has no more arrivals than entries
+abbrev pub HasFewArrivals : Progress → Type 0
+HasFewArrivals p = p.arrivals ≤ p.entries
+
 -- made ready by its frame, whose payload stands behind the header
 pub record IsWritten (row : InvocationRow) (kind : MessageType) (answered : Option ℕ) (bytes : Bytes) (made : PreparedArrival) : Type 0 where
-  pub writes : made.writes.items ≡ AddEntry (entry_of_arrival row kind answered (drop HEADER_LEN bytes)) ∷ SetProgress row.id (grown 1 row.progress) ∷ []
+  pub writes : HasFewArrivals row.progress → made.writes.items ≡ AddEntry (entry_of_arrival row kind answered (drop HEADER_LEN bytes)) ∷ SetProgress row.id (grown 1 1 row.progress) ∷ []
   pub place : made.place ≡ row.progress.entries
   pub frame : made.frame ≡ bytes
 
 -- made ready of the invocation that has this row
 pub record IsArrival (row : InvocationRow) (kind : MessageType) (arrival : Arrival) (made : PreparedArrival) : Type 0 where
-  pub writes : made.writes.items ≡ AddEntry (entry_of_arrival row kind (answered_by arrival.id) (notification_payload arrival)) ∷ SetProgress row.id (grown 1 row.progress) ∷ []
+  pub writes : HasFewArrivals row.progress → made.writes.items ≡ AddEntry (entry_of_arrival row kind (answered_by arrival.id) (notification_payload arrival)) ∷ SetProgress row.id (grown 1 1 row.progress) ∷ []
   pub place : made.place ≡ row.progress.entries
   pub frame : made.frame ≡ frame_bytes kind (notification_payload arrival)
 

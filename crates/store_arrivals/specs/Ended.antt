@@ -12,13 +12,14 @@ use Rattle.store_model.specs.Kept.{plain_row}
 abbrev pub end_payload : ℕ → Bytes
 end_payload n = notification_payload (completion n NotificationResult.Void)
 
-abbrev pub end_row : Text → ℕ → ℕ → EntryRow
-end_row id place n = record (plain_row id place SleepCompletionNotification (end_payload n)) { answered = Some n }
+-- its row, behind so many arrivals
+abbrev pub end_row : Text → ℕ → ℕ → ℕ → EntryRow
+end_row id place before n = record (plain_row id place SleepCompletionNotification (end_payload n)) { answered = Some n; arrival = Some (1 + before) }
 
 -- from a place on
-abbrev pub end_rows : Text → ℕ → List ℕ → List EntryRow
-end_rows id place [] = []
-end_rows id place (n ∷ ns) = end_row id place n ∷ end_rows id (place + 1) ns
+abbrev pub end_rows : Text → ℕ → ℕ → List ℕ → List EntryRow
+end_rows id place before [] = []
+end_rows id place before (n ∷ ns) = end_row id place before n ∷ end_rows id (place + 1) (before + 1) ns
 
 abbrev pub end_frame : ℕ → Bytes
 end_frame n = frame_bytes SleepCompletionNotification (end_payload n)

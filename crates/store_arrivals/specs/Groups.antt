@@ -3,7 +3,7 @@ use Rattle.std.specs.Prelude.{◌≡◌, ℕ, ◌+◌, true, if◌then◌else◌
 use Rattle.sqlite_keyed.specs.Lists.{sort_by}
 use Rattle.journal_model.specs.Notification.{Text}
 use Rattle.journal_model.specs.Event.{Event}
-use Rattle.journal_model.specs.Journal.{is_open, entries_of}
+use Rattle.journal_model.specs.Journal.{is_open, entries_of, recorded_arrivals}
 use Rattle.journal_model.specs.Attempt.{completions_of_tick}
 use Rattle.journal_model.specs.Cause.{IsAccepted}
 use Rattle.store_tables.specs.Records.{Records, is_sleep_of}
@@ -50,7 +50,7 @@ AllEndingGrouped = (events : List Event) (now : ℕ) (r : Records) → IsAccepte
 -- what a tick adds to an open invocation
 abbrev pub AllRowsEnded : Type 0
 AllRowsEnded = (events : List Event) (now : ℕ) (id : Text) → IsAccepted events → is_open events id ≡ true
-    → rows_added events (Event.Tick now) id ≡ end_rows id (1 + length (entries_of events id)) (map (λ (sleep : ℕ × ℕ). sleep.1) (ended_sleeps events now id))
+    → rows_added events (Event.Tick now) id ≡ end_rows id (1 + length (entries_of events id)) (length (recorded_arrivals events id)) (map (λ (sleep : ℕ × ℕ). sleep.1) (ended_sleeps events now id))
 
 -- a tick ends as many sleeps as rows are due
 abbrev pub AllEndedCounted : Type 0

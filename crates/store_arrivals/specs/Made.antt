@@ -3,7 +3,7 @@ use Rattle.std.specs.Prelude.{◌≡◌, ℕ, ◌+◌, ◌-◌, ◌^◌, ◌<◌
 use Rattle.std.specs.List.{AllByRecursion}
 use Rattle.journal_model.specs.Notification.{Bytes, Text}
 use Rattle.journal_model.specs.Event.{Event}
-use Rattle.journal_model.specs.Journal.{is_open, entries_of}
+use Rattle.journal_model.specs.Journal.{is_open, entries_of, recorded_arrivals}
 use Rattle.journal_model.specs.Attempt.{completions_of_tick}
 use Rattle.journal_model.specs.Cause.{Cause, Tests, IsAccepted, causes_of}
 use Rattle.protocol_stream.specs.declared.frame.TheConstants.{HEADER_LEN}
@@ -18,6 +18,7 @@ use Rattle.store_model.specs.Progress.{progress_of}
 use Rattle.store_model.specs.Steps.{grown}
 use Rattle.store_model.specs.Writes.{AreEnding, rows_added, tick_writes}
 use Rattle.store_lookups.specs.Lookups.{row_frame}
+use Rattle.store_arrivals.specs.Arrivals.{HasFewArrivals}
 use Rattle.store_arrivals.specs.Ended.{end_frame, end_row, end_rows}
 use Rattle.store_arrivals.specs.Groups.{Group}
 use Rattle.store_arrivals.specs.declared.ended.SleepEnd.{SleepEnd}
@@ -27,11 +28,11 @@ use Rattle.store_arrivals.specs.declared.tick.PreparedTick.{PreparedTick}
 -- ---- one invocation
 
 -- its payload is cut off its frame
-abbrev pub end_row_of : Text → ℕ → ℕ → Bytes → EntryRow
-end_row_of id place n frame = record (end_row id place n) { payload = drop HEADER_LEN frame }
+abbrev pub end_row_of : Text → ℕ → ℕ → ℕ → Bytes → EntryRow
+end_row_of id place before n frame = record (end_row id place before n) { payload = drop HEADER_LEN frame }
 
-pub record IsEnd (id : Text) (place n : ℕ) (end : SleepEnd) : Type 0 where
-  pub entry : end.entry ≡ end_row id place n
+pub record IsEnd (id : Text) (place before n : ℕ) (end : SleepEnd) : Type 0 where
+  pub entry : end.entry ≡ end_row id place before n
   pub frame : end.frame ≡ end_frame n
 
 -- so many more entries have places behind those that there are
@@ -40,7 +41,7 @@ room_tests entries more = (nat_lt (2 ^ 32 - 1) (entries + more), Cause.NumbersUs
 
 -- the ends of these sleeps behind the entries of an invocation that is so far, and how far it is then
 abbrev pub progress_writes : Text → Progress → List ℕ → List Write
-progress_writes id progress ns = map AddEntry (end_rows id progress.entries ns) ++ SetProgress id (grown (length ns) progress) ∷ []
+progress_writes id progress ns = map AddEntry (end_rows id progress.entries progress.arrivals ns) ++ SetProgress id (grown (length ns) (length ns) progress) ∷ []
 
 -- of the invocation that has this row
 abbrev pub row_writes : InvocationRow → List ℕ → List Write
@@ -55,16 +56,20 @@ pub record AreEnds (id : Text) (place : ℕ) (ns : List ℕ) (ended : AddedFrame
 -- told so, and written behind other writes
 pub record AreEndsOf (row : InvocationRow) (id : Text) (ns : List ℕ) (before after : List Write) (ended : AddedFrames) : Type 0 where
   pub ends : AreEnds id row.progress.entries ns ended
-  pub written : after ≡ before ++ row_writes row ns
+  pub written : HasFewArrivals row.progress → after ≡ before ++ row_writes row ns
 
 -- ---- by the accepted events
 
 abbrev pub next_place : List Event → Text → ℕ
 next_place events id = 1 + length (entries_of events id)
 
+-- how many arrivals there are
+abbrev pub arrivals_before : List Event → Text → ℕ
+arrivals_before events id = length (recorded_arrivals events id)
+
 abbrev pub group_writes : List Event → Group → List Write
 group_writes events group =
-    map AddEntry (end_rows group.0 (next_place events group.0) group.1) ++ SetProgress group.0 (grown (length group.1) (progress_of events group.0)) ∷ []
+    map AddEntry (end_rows group.0 (next_place events group.0) (arrivals_before events group.0) group.1) ++ SetProgress group.0 (grown (length group.1) (length group.1) (progress_of events group.0)) ∷ []
 
 abbrev pub group_tests : List Event → Group → Tests
 group_tests events group = room_tests (next_place events group.0) (length group.1)

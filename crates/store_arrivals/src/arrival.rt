@@ -8,7 +8,7 @@ ghost use Rattle.store_tables.specs.declared.row.Write.{Write as RowWrite};
 ghost use Rattle.store_model.specs.Kept.{answered_by};
 ghost use Rattle.store_model.specs.Steps.{grown};
 ghost use Rattle.store_invocations.specs.Rows.{Decides, payload_tests};
-ghost use Rattle.store_arrivals.specs.Arrivals.{IsArrival, IsWritten, arrival_tests, entry_of_arrival};
+ghost use Rattle.store_arrivals.specs.Arrivals.{HasFewArrivals, IsArrival, IsWritten, arrival_tests, entry_of_arrival};
 
 use crate::payload::payload_of;
 use bytes::{ByteStr, Bytes};
@@ -57,8 +57,9 @@ fn entry_of(
     answered: Option<u32>,
     frame: &Bytes,
 ) -> Result<EntryRow, AllocError>
-    requires { HEADER_LEN ≤ length frame.now }
-    ensures { IfOk result (λ entry. entry ≡ entry_of_arrival row.now ty answered (without HEADER_LEN frame.now)) }
+    requires framed { HEADER_LEN ≤ length frame.now }
+    requires room { row.now.progress.entries + 1 < 2 ^ 32 }
+    ensures { HasFewArrivals row.now.progress → IfOk result (λ entry. entry ≡ entry_of_arrival row.now ty answered (without HEADER_LEN frame.now)) }
 {
     let payload = payload_of_frame(frame)?;
     Ok(EntryRow {
@@ -70,15 +71,17 @@ fn entry_of(
         second_completion: None,
         answered,
         moment: 0,
+        arrival: Some(1_u32.saturating_add(row.progress.arrivals)),
     })
 }
 
-/// How far an invocation is that has one more entry.
-fn with_entry(mut progress: Progress) -> Progress
+/// How far an invocation is that has one more arrival.
+fn with_arrival(mut progress: Progress) -> Progress
     requires { progress.entries + 1 < 2 ^ 32 }
-    ensures { result ≡ grown 1 progress }
+    ensures { HasFewArrivals progress → result ≡ grown 1 1 progress }
 {
     progress.entries += 1;
+    progress.arrivals = progress.arrivals.saturating_add(1);
     progress.attempts_since_entry = 0;
     progress.first_moment = 0;
     progress
@@ -100,7 +103,7 @@ fn two_writes(
 
 fn writes_of(alloc: Global, row: InvocationRow, entry: EntryRow) -> Result<Vec<Write>, AllocError>
     requires { row.progress.entries + 1 < 2 ^ 32 }
-    ensures { IfOk result (λ writes. writes.items ≡ RowWrite.AddEntry entry ∷ RowWrite.SetProgress row.id (grown 1 row.progress) ∷ []) }
+    ensures { HasFewArrivals row.progress → IfOk result (λ writes. writes.items ≡ RowWrite.AddEntry entry ∷ RowWrite.SetProgress row.id (grown 1 1 row.progress) ∷ []) }
 {
     let InvocationRow {
         id,
@@ -111,7 +114,7 @@ fn writes_of(alloc: Global, row: InvocationRow, entry: EntryRow) -> Result<Vec<W
         progress,
     } = row;
     drop(object);
-    two_writes(alloc, entry, id, with_entry(progress))
+    two_writes(alloc, entry, id, with_arrival(progress))
 }
 
 /// The writes of an arrival whose frame stands.

@@ -7,6 +7,7 @@ ghost use Rattle.store_tables.specs.declared.row.Write.{Write as RowWrite};
 ghost use Rattle.store_model.specs.Steps.{grown};
 ghost use Rattle.store_refusals.specs.Prepared.{Tells};
 ghost use Rattle.store_invocations.specs.Rows.{Decides};
+ghost use Rattle.store_arrivals.specs.Arrivals.{HasFewArrivals};
 ghost use Rattle.store_arrivals.specs.Ended.{end_frame, end_row, end_rows};
 ghost use Rattle.store_live.specs.Added.{HasPlaces};
 ghost use Rattle.store_arrivals.specs.Made.{AreEndsOf, IsEnd, end_row_of, progress_writes, room_tests};
@@ -45,11 +46,13 @@ fn frame_of_end(alloc: Global, completion: u32) -> Result<Bytes, Refusal>
 fn entry_of_end(
     id: &ByteStr,
     place: u32,
+    before: u32,
     completion: u32,
     frame: &Bytes,
 ) -> Result<EntryRow, AllocError>
-    requires { HEADER_LEN ≤ length frame.now }
-    ensures { IfOk result (λ entry. entry ≡ end_row_of id.now place completion frame.now) }
+    requires framed { HEADER_LEN ≤ length frame.now }
+    requires room { 1 + before < 2 ^ 32 }
+    ensures { IfOk result (λ entry. entry ≡ end_row_of id.now place before completion frame.now) }
 {
     let payload = payload_of_frame(frame)?;
     Ok(EntryRow {
@@ -61,63 +64,78 @@ fn entry_of_end(
         second_completion: None,
         answered: Some(completion),
         moment: 0,
+        arrival: Some(1 + before),
     })
 }
 
-fn end_of(alloc: Global, id: &ByteStr, place: u32, completion: u32) -> Result<SleepEnd, Refusal>
-    ensures { Tells (IsEnd id.now place completion) result }
+fn end_of(
+    alloc: Global,
+    id: &ByteStr,
+    place: u32,
+    before: u32,
+    completion: u32,
+) -> Result<SleepEnd, Refusal>
+    requires { 1 + before < 2 ^ 32 }
+    ensures { Tells (IsEnd id.now place before completion) result }
 {
     let frame = frame_of_end(alloc, completion)?;
-    let entry = entry_of_end(id, place, completion, &frame)?;
+    let entry = entry_of_end(id, place, before, completion, &frame)?;
     Ok(SleepEnd { entry, frame })
 }
 
-/// The end of one sleep, behind others and behind other writes.
+/// The end of one sleep, behind so many arrivals, behind others and behind other writes.
 fn end_one(
     alloc: Global,
     id: &ByteStr,
     place: u32,
+    before: u32,
     completion: u32,
     frames: &mut Vec<Bytes>,
     writes: &mut Vec<Write>,
 ) -> Result<(), Refusal>
+    requires { 1 + before < 2 ^ 32 }
     ensures why { Tells (λ _. Unit {0}) result }
     ensures frames { OnOk result (frames.new.items ≡ frames.old.items ++ end_frame completion ∷ []) }
-    ensures written { OnOk result (writes.new.items ≡ writes.old.items ++ RowWrite.AddEntry (end_row id.now place completion) ∷ []) }
+    ensures written { OnOk result (writes.new.items ≡ writes.old.items ++ RowWrite.AddEntry (end_row id.now place before completion) ∷ []) }
 {
-    let SleepEnd { entry, frame } = end_of(alloc, id, place, completion)?;
+    let SleepEnd { entry, frame } = end_of(alloc, id, place, before, completion)?;
     frames.push(frame)?;
     writes.push(Write::AddEntry(entry))?;
     Ok(())
 }
 
-/// The ends of these sleeps, from a place on: their entries behind other writes, and their frames.
+/// The ends of these sleeps, from a place on and behind so many arrivals: their entries behind other writes, and their frames.
 fn end_each(
     alloc: Global,
     id: &ByteStr,
     place: u32,
+    before: u32,
     completions: &[u32],
     writes: &mut Vec<Write>,
 ) -> Result<Vec<Bytes>, Refusal>
-    requires { place + length completions.now < 2 ^ 32 }
+    requires room { place + length completions.now < 2 ^ 32 }
+    requires few { before ≤ place }
     ensures frames { Tells (λ frames. frames.items ≡ map end_frame completions.now) result }
-    ensures written { OnOk result (writes.new.items ≡ writes.old.items ++ map RowWrite.AddEntry (end_rows id.now place completions.now)) }
+    ensures written { OnOk result (writes.new.items ≡ writes.old.items ++ map RowWrite.AddEntry (end_rows id.now place before completions.now)) }
 {
     let mut frames = Vec::new(alloc);
     let mut next = place;
+    let mut known = before;
     for completion in completions {
-        end_one(alloc, id, next, *completion, &mut frames, writes)?;
+        end_one(alloc, id, next, known, *completion, &mut frames, writes)?;
         next += 1;
+        known += 1;
     }
     Ok(frames)
 }
 
-/// How far an invocation is that has so many more entries.
-fn with_entries(mut progress: Progress, count: u32) -> Progress
+/// How far an invocation is that has so many more arrivals.
+fn with_arrivals(mut progress: Progress, count: u32) -> Progress
     requires { progress.entries + count < 2 ^ 32 }
-    ensures { result ≡ grown count progress }
+    ensures { HasFewArrivals progress → result ≡ grown count count progress }
 {
     progress.entries += count;
+    progress.arrivals = progress.arrivals.saturating_add(count);
     progress.attempts_since_entry = 0;
     progress.first_moment = 0;
     progress
@@ -149,13 +167,14 @@ fn end_in_room(
 ) -> Result<Vec<Bytes>, Refusal>
     requires { progress.entries + length completions.now < 2 ^ 32 }
     ensures frames { Tells (λ frames. frames.items ≡ map end_frame completions.now) result }
-    ensures written { OnOk result (writes.new.items ≡ writes.old.items ++ progress_writes own progress completions.now) }
+    ensures written { HasFewArrivals progress → OnOk result (writes.new.items ≡ writes.old.items ++ progress_writes own progress completions.now) }
 {
-    match end_each(alloc, &own, progress.entries, completions, writes) {
+    let before = progress.arrivals.min(progress.entries);
+    match end_each(alloc, &own, progress.entries, before, completions, writes) {
         Ok(frames) => {
             set_progress(
                 own,
-                with_entries(progress, completions.len() as u32),
+                with_arrivals(progress, completions.len() as u32),
                 writes,
             )?;
             Ok(frames)

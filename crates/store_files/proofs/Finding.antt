@@ -1,5 +1,5 @@
 -- What a connection finds in files.
-use Rattle.std.proofs.Common.{◌≡◌, ◌≢◌, ◌⊎◌, ℕ, Bool, true, false, not, ◌||◌, if◌then◌else◌, refl, sym, ap, subst, ◌∙◌, arith, inl, inr, List, [], ◌∷◌, ◌++◌, length, filter, map, drop, slice_index}
+use Rattle.std.proofs.Common.{◌≡◌, ◌≢◌, ◌⊎◌, ℕ, zero, suc, ◌+◌, Bool, true, false, not, ◌||◌, if◌then◌else◌, refl, sym, ap, subst, ◌∙◌, arith, inl, inr, List, [], ◌∷◌, ◌++◌, length, filter, map, drop, slice_index}
 use Rattle.std.specs.List.{AllZip}
 use Rattle.std.proofs.Math.Logic.{∥∥₁_elim}
 use Rattle.std.proofs.lemmas.List.Sorted.{length_permutation}
@@ -85,48 +85,51 @@ listed_by_none : (objects : List Row) → Lists objects no_schema → objects �
 listed_by_none objects l =
     unlisted objects (none_from IsTableRow _ l.listed.tables) (none_from (IsIndexRow no_schema.tables) _ l.listed.indexes) (none_from IsViewRow _ l.listed.views)
 
--- ---- where nothing is listed the first tree is empty
+-- ---- where nothing is listed the trees are empty
 
-absent : (w : Wanted) (more : List Row) (shape : Shape) → listed 0 w shape ++ more ≡ [] → shape ≡ Absent
-absent w more Absent e = refl
-absent w more ATable e = absurd (cc)
-absent w more (AnIndex o) e = absurd (cc)
-absent w more Pageless e = absurd (cc)
-absent w more FrozenTable e = absurd (cc)
-absent w more (FrozenIndex o) e = absurd (cc)
+absent : (at : ℕ) (w : Wanted) (more : List Row) (shape : Shape) → listed at w shape ++ more ≡ [] → (shape ≡ Absent) × (more ≡ [])
+absent at w more Absent e = (refl, e)
+absent at w more ATable e = absurd (cc)
+absent at w more (AnIndex o) e = absurd (cc)
+absent at w more Pageless e = absurd (cc)
+absent at w more FrozenTable e = absurd (cc)
+absent at w more (FrozenIndex o) e = absurd (cc)
 
 rows_of : ℕ → PageMap → ℕ → ℕ → Shape → List Row
 rows_of size pages reals root shape = map (shown (thawed shape) reals) (rows_at size pages (thawed shape) root)
 
-first_rows : (size : ℕ) (schema : List Wanted) (pages : PageMap) → listed_from 0 schema ≡ [] → shape_at schema 0 ≡ Absent
-first_rows size [] pages e = refl
-first_rows size (w ∷ schema) pages e = absent w _ w.shape e
+all_absent : (at : ℕ) (schema : List Wanted) (n : ℕ) → listed_from at schema ≡ [] → shape_at schema n ≡ Absent
+all_absent at [] zero e = refl
+all_absent at [] (suc n) e = refl
+all_absent at (w ∷ schema) zero e = (absent at w _ w.shape e).0
+all_absent at (w ∷ schema) (suc n) e = all_absent (at + 1) schema n (absent at w _ w.shape e).1
 
 empty_rows : (size : ℕ) (pages : PageMap) (reals root : ℕ) (shape : Shape) → shape ≡ Absent → rows_of size pages reals root shape ≡ []
 unfolding rows_of
 empty_rows size pages reals root shape e = rw e refl
 
-first_empty : (size : ℕ) (schema : List Wanted) (pages : PageMap) → listed_from 0 schema ≡ [] → trees_in size schema pages 0 ≡ []
+tree_empty : (size : ℕ) (schema : List Wanted) (pages : PageMap) (n : ℕ) → listed_from 0 schema ≡ [] → trees_in size schema pages n ≡ []
 unfolding rows_of trees_in
-first_empty size schema pages e =
-    empty_rows size pages (reals_at schema 0) (slice_index (roots_of size schema pages) 0) (shape_at schema 0) (first_rows size schema pages e)
+tree_empty size schema pages n e =
+    empty_rows size pages (reals_at schema n) (slice_index (roots_of size schema pages) n) (shape_at schema n) (all_absent 0 schema n e)
 
-first_tree : (size : ℕ) (schema : List Wanted) (pages : PageMap) → file_trees size schema pages catalog_tree ≡ [] → file_trees size schema pages 0 ≡ []
-first_tree size schema pages e =
-    named_tree 0 (omega arith) size schema (in_use size pages) ∙ first_empty size schema (in_use size pages) (sym (catalog_rows size schema (in_use size pages)) ∙ e)
+-- of the table `meta`
+meta_empty : (size : ℕ) (schema : List Wanted) (pages : PageMap) → file_trees size schema pages catalog_tree ≡ [] → file_trees size schema pages 3 ≡ []
+meta_empty size schema pages e =
+    named_tree 3 (omega arith) size schema (in_use size pages) ∙ tree_empty size schema (in_use size pages) 3 (sym (catalog_rows size schema (in_use size pages)) ∙ e)
 
-pub found_empty : (image : Image) (trees : Trees) → AreFoundIn image trees → trees catalog_tree ≡ [] → trees 0 ≡ []
+pub found_empty : (image : Image) (trees : Trees) → AreFoundIn image trees → trees catalog_tree ≡ [] → trees 3 ≡ []
 found_empty image trees found e = elim found [
   | inl held ↦
       let same = held.5 in
-      ap (λ (t : Trees). t 0) same ∙ first_tree held.0 held.2 held.1 (sym (ap (λ (t : Trees). t catalog_tree) same) ∙ e)
-  | inr nothing ↦ nothing.1.0 0 (omega arith)
+      ap (λ (t : Trees). t 3) same ∙ meta_empty held.0 held.2 held.1 (sym (ap (λ (t : Trees). t catalog_tree) same) ∙ e)
+  | inr nothing ↦ nothing.1.0 3 (omega arith)
 ]
 
--- the tables of a store have its mark in the first tree
-marked : (events : List Event) (trees : Trees) → KeepsAll events trees → trees 0 ≡ [] → ⊥
+-- the tables of a store have its mark in the table `meta`
+marked : (events : List Event) (trees : Trees) → KeepsAll events trees → trees 3 ≡ [] → ⊥
 marked events trees keeps none =
-    let one = length_permutation (map (drop 1) (trees 0)) (mark_cells ∷ []) keeps.held.mark.same ∙ ap (λ (rows : List Row). length (map (drop 1) rows)) none in
+    let one = length_permutation (map (drop 1) (trees 3)) (mark_cells ∷ []) keeps.held.mark.same ∙ ap (λ (rows : List Row). length (map (drop 1) rows)) none in
     omega (arith, one)
 
 -- ---- what is found

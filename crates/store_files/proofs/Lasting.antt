@@ -34,10 +34,10 @@ none_listed image trees found holds (inl none) = elim found [
 none_listed image trees found holds (inr some) = ∥∥₁_elim some (rows_set _ _) (λ it. ap (λ (t : Trees). t catalog_tree) (holds it.0 it.1) ∙ it.2)
 
 -- and no mark
-unmarked : (trees : Trees) → IsMarked trees → trees 0 ≡ [] → ⊥
+unmarked : (trees : Trees) → IsMarked trees → trees 3 ≡ [] → ⊥
 unmarked trees mark none =
     let cells = λ (r : Row). column r 1 ∷ column r 2 ∷ [] in
-    let one = length_permutation (map cells (trees 0)) (mark_cells ∷ []) mark ∙ ap (λ (rows : List Row). length (map cells rows)) none in
+    let one = length_permutation (map cells (trees 3)) (mark_cells ∷ []) mark ∙ ap (λ (rows : List Row). length (map cells rows)) none in
     omega (arith, one)
 
 bare_stands : (image : Image) (s : State) (attempts : ByInvocation) → IsTaken image s attempts → IsBare image → Stands [] s attempts

@@ -6,7 +6,7 @@ use Rattle.journal_model.specs.Notification.{Text}
 use Rattle.journal_model.specs.State.{StateMap}
 use Rattle.journal_model.specs.declared.invocation.NewInvocation.{NewInvocation}
 use Rattle.journal_model.specs.Event.{Frame, Event}
-use Rattle.journal_model.specs.Journal.{Entry, is_of, closes, frame_of, frames_of, is_open, closing_frame, version_of, object_of, invocation_begun, entries_added, entries_from, entries_of, starting_state, requests_in}
+use Rattle.journal_model.specs.Journal.{Entry, is_of, closes, frame_of, frames_of, is_open, closing_frame, version_of, object_of, invocation_begun, entries_added, entries_from, entries_of, starting_state, arrivals_in, requests_in}
 use Rattle.journal_model.specs.Attempt.{begins_attempt, attempts_begun, suspension_in, suspension_of}
 use Rattle.journal_model.specs.Start.{is_some_entry, moment_begun, begun_since_entry, attempts_since_entry}
 use Rattle.journal_model.specs.Cause.{causes_of, IsAccepted, is_empty, last_completion, those_that_hold}
@@ -17,7 +17,7 @@ use Rattle.store_tables.specs.declared.row.InvocationRow.{InvocationRow}
 use Rattle.store_tables.specs.declared.row.Write.{Write}
 use Rattle.store_tables.specs.declared.row.Write.TheVariants.{AddInvocation, AddEntry}
 use Rattle.store_model.specs.Places.{handed_in, handed_of}
-use Rattle.store_model.specs.Progress.{first_of, number_or_zero, payload_of_suspension, way_closed, error_in, last_output, progress_of}
+use Rattle.store_model.specs.Progress.{first_of, is_unsuspended, number_or_zero, payload_of_suspension, way_closed, error_in, last_output, progress_of}
 use Rattle.store_model.specs.Kept.{input_row, invocation_row, is_shown_whole, version_kept}
 use Rattle.store_model.proofs.Versions.{kept_of}
 use Rattle.store_model.specs.Writes.{begin_writes, state_writes, writes_of}
@@ -149,6 +149,9 @@ module _ (events : List Event) (new : NewInvocation) (accepted : IsAccepted even
     first_moment = number_or_zero (first_of (no_moments_after i));
     last_completion = last_completion (requests_in (no_entries_after i));
     entries = 1 + length (no_entries_after i);
+    heard = None;
+    arrivals = length (arrivals_in (no_entries_after i));
+    is_awake = is_unsuspended (first_object i) (option_map payload_of_suspension (no_suspension new.id events others i));
   }
 
   pub first_row_is : invocation_row (Event.Invoke new ∷ events) new ≡ first_row (version_kept new.version) new

@@ -14,21 +14,22 @@ use Rattle.protocol_wire.specs.Fields.{fields}
 use Rattle.protocol_records.specs.declared.output_command.OutputCommandMessage.{OutputCommandMessage}
 use Rattle.protocol_records.specs.declared.output_command.OutputCommandResult.{OutputCommandResult}
 use Rattle.protocol_records.specs.OutputCommand.{OutputCommandFits, output_command_of}
-use Rattle.protocol_records.specs.SleepCommand.{sleep_command_of}
 use Rattle.protocol_records.specs.Suspension.{suspension_of}
 use Rattle.protocol_records.specs.SuspensionV6.{suspension_v6_of}
-use Rattle.protocol_calls.specs.Fields.{call_command_of}
 use Rattle.protocol_controls.specs.Error.{error_of}
 use Rattle.protocol_stream.specs.Header.{message_type}
 use Rattle.protocol_stream.specs.Records.{output_record}
 use Rattle.protocol_types.specs.declared.message_type.MessageType.{MessageType}
+use Rattle.protocol_types.specs.declared.message_type.MessageType.TheVariants as types
 use Rattle.protocol_types.specs.declared.feature.Feature.TheVariants as features
 use Rattle.protocol_types.specs.Feature.{lacks_feature}
 use Rattle.store_frames.specs.declared.kind.FrameKind.{FrameKind}
 use Rattle.store_frames.specs.declared.kind.FrameKind.TheVariants as kinds
 use Rattle.store_frames.specs.Kind.{kind_of, record_of}
-use Rattle.store_frames.specs.Meaning.{command_or_broken, error_frame, frame_by, other_frame, suspension_frame, unless_faulty}
-use Rattle.protocol_spellings.specs.Requests.{request_of_call, request_of_output, request_of_sleep, value_put_out}
+use Rattle.store_frames.specs.Meaning.{command_or_broken, error_frame, frame_by, read_as, read_if_record, suspension_frame, unless_faulty}
+use Rattle.store_frames.specs.Commands.{request_in}
+use Rattle.store_frames.proofs.Types.{request_typed}
+use Rattle.protocol_spellings.specs.Requests.{request_of_output, value_put_out}
 use Rattle.protocol_spellings.proofs.Back.{result_back}
 use Rattle.store_frames.specs.Requests.{suspension_of_lists, suspension_of_tree}
 use Rattle.store_frames.specs.Read.{IsFrameRead}
@@ -70,24 +71,39 @@ module _ (value : NonEmptyValue) (name : Text) where
   no_suspension true payload e = never records.SuspensionV6 payload (Frame.Suspend (Some (suspension_of_lists (suspension_v6_of LEVELS (fields payload))))) (λ is. cc) e
   no_suspension false payload e = never records.Suspension payload (Frame.Suspend (suspension_of_tree (suspension_of LEVELS (fields payload)))) (λ is. cc) e
 
-  no_other : (o : Option RecordType) (payload : List ℕ) → IsOutput (other_frame o payload) → ⊥
-  no_other None payload e = cc
-  no_other (Some t) payload e = never t payload Frame.NotAccepted (λ is. cc) e
+  no_record : (o : Option RecordType) (payload : List ℕ) → IsOutput (read_if_record o (λ fs. Frame.NotAccepted) payload) → ⊥
+  no_record None payload e = cc
+  no_record (Some t) payload e = never t payload Frame.NotAccepted (λ is. cc) e
 
-  held_by : (version : ℕ) (kind : FrameKind) (ty : MessageType) (payload : List ℕ) → IsOutput (frame_by version kind ty payload) → OutputCommandFits LEVELS (output_record value name)
-  held_by version kinds.Sleep ty payload e =
-      absurd (never records.SleepCommand payload (Frame.Command (request_of_sleep (sleep_command_of LEVELS (fields payload)))) (λ is. cc) e)
-  held_by version kinds.Call ty payload e =
-      absurd (never records.CallCommand payload (Frame.Command (request_of_call (call_command_of LEVELS (fields payload)))) (λ is. cc) e)
-  held_by version kinds.Output ty payload e =
+  output_in : (payload : List ℕ) → IsOutput (read_as records.OutputCommand (λ fs. command_or_broken (request_in types.OutputCommand fs)) payload) → OutputCommandFits LEVELS (output_record value name)
+  output_in payload e =
       let one = output_command_of LEVELS (fields payload) in
       let it = no_fault (payload_fault LEVELS records.OutputCommand payload) (command_or_broken (request_of_output one)) e in
       held_output one one.result value name (output_command_fits LEVELS payload it.0) refl it.1
+
+  -- a command that is an output came in a message of an output
+  is_one : (found : Option Request) → IsOutput (command_or_broken found) → found ≡ Some (Request.Output value name)
+  is_one None e = cc
+  is_one (Some request) e = let same : request ≡ Request.Output value name = cc in ap Some same
+
+  its_type : (ty : MessageType) (o : Option RecordType) (payload : List ℕ) → IsOutput (read_if_record o (λ fs. command_or_broken (request_in ty fs)) payload) → ty ≡ types.OutputCommand
+  its_type ty None payload e = cc
+  its_type ty (Some t) payload e =
+      let it = no_fault (payload_fault LEVELS t payload) (command_or_broken (request_in ty (fields payload))) e in
+      sym (request_typed ty (fields payload) (Request.Output value name) (is_one (request_in ty (fields payload)) it.1))
+
+  command_in : (ty : MessageType) (payload : List ℕ) → IsOutput (read_if_record (record_of ty) (λ fs. command_or_broken (request_in ty fs)) payload) → OutputCommandFits LEVELS (output_record value name)
+  command_in ty payload e =
+      let same : ty ≡ types.OutputCommand = its_type ty (record_of ty) payload e in
+      output_in payload (subst (λ (t : MessageType). IsOutput (read_if_record (record_of t) (λ fs. command_or_broken (request_in t fs)) payload)) same e)
+
+  held_by : (version : ℕ) (kind : FrameKind) (ty : MessageType) (payload : List ℕ) → IsOutput (frame_by version kind ty payload) → OutputCommandFits LEVELS (output_record value name)
+  held_by version kinds.Command ty payload e = command_in ty payload e
   held_by version kinds.AwaitingOn ty payload e = absurd (never records.AwaitingOn payload Frame.AwaitingOn (λ is. cc) e)
   held_by version kinds.Suspension ty payload e = absurd (no_suspension (lacks_feature version features.AwaitTree) payload e)
   held_by version kinds.Error ty payload e = absurd (never records.Error payload (error_frame version (error_of LEVELS (fields payload))) (λ is. cc) e)
   held_by version kinds.End ty payload e = absurd (never records.End payload Frame.End (λ is. cc) e)
-  held_by version kinds.Other ty payload e = absurd (no_other (record_of ty) payload e)
+  held_by version kinds.Other ty payload e = absurd (no_record (record_of ty) payload e)
 
 pub request_held : (request : Request) → IsFrameRead (Frame.Command request) → IsHeld request
 request_held (Request.Output value name) (version, m, e) =

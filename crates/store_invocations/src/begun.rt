@@ -18,6 +18,7 @@ fn begun_progress(mut progress: Progress, now: u64) -> Progress
     progress.attempts += 1;
     progress.attempts_since_entry = progress.attempts_since_entry.saturating_add(1);
     progress.handed = None;
+    progress.is_awake = progress.open_object.is_some();
     drop(progress.suspension.take());
     progress
 }

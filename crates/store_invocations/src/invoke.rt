@@ -87,6 +87,9 @@ fn progress_at_first(new: &NewInvocation) -> Result<Progress, AllocError>
         first_moment: 0,
         last_completion: 0,
         entries: 1,
+        heard: None,
+        arrivals: 0,
+        is_awake: true,
     })
 }
 
@@ -115,6 +118,7 @@ fn input_entry(new: &NewInvocation, payload: Bytes) -> Result<EntryRow, AllocErr
         second_completion: None,
         answered: None,
         moment: 0,
+        arrival: None,
     })
 }
 

@@ -10,13 +10,13 @@ use Rattle.journal_laws.proofs.ObjectState.{begun_before}
 use Rattle.protocol_types.specs.declared.message_type.MessageType.{MessageType}
 use Rattle.store_tables.specs.declared.row.EntryRow.{EntryRow}
 use Rattle.store_model.specs.Places.{places_of_arrivals}
-use Rattle.store_lookups.specs.Lookups.{row_frame}
+use Rattle.store_lookups.specs.Lookups.{row_frame, rows_of_arrivals}
 use Rattle.store_lookups.proofs.Framing.{AreAskedBefore, all_asked_before, kind_stays}
 use Rattle.store_live.specs.declared.input.PieceLeft.{PieceLeft}
 use Rattle.store_live.specs.declared.attempt.LiveAttempt.{LiveAttempt}
 use Rattle.store_live.specs.Attempts.{after_put}
 use Rattle.store_live.proofs.Pieces.{AreFrames}
-use Rattle.store_live_laws.specs.Agrees.{whole_pieces, row_piece, Agrees, rows_of_arrivals, after_rows, rows_arrived, AgreesTicked, AgreesCommanded}
+use Rattle.store_live_laws.specs.Agrees.{whole_pieces, row_piece, Agrees, after_rows, rows_arrived, AgreesTicked, AgreesCommanded}
 use Rattle.store_live_laws.proofs.Whole.{frame_full}
 use Rattle.store_live_laws.proofs.Growing.{entries_now, live_now, grown}
 use Rattle.store_live_laws.proofs.Opened.{and_false}

@@ -24,7 +24,8 @@ use Rattle.store_live.specs.declared.attempt.LiveAttempt.{LiveAttempt}
 use Rattle.store_live.specs.Input.{pieces_after, place_after}
 use Rattle.store_live.specs.Attempts.{after_put, after_close}
 use Rattle.store_live.proofs.Pieces.{pieces_twice, place_twice}
-use Rattle.store_live_laws.specs.Agrees.{rows_of_arrivals, after_rows, whole_pieces, Agrees, AgreesAtFirst, AgreesElsewhere, completed, signalled, cancelled, run_ended, AgreesArrived, AgreesHandedOut, AgreesClosed, is_answered_at_once, AgreesTaken, AgreesEnded, AgreesStopped, AgreesAcknowledged}
+use Rattle.store_live_laws.specs.Agrees.{after_rows, whole_pieces, Agrees, AgreesAtFirst, AgreesElsewhere, completed, signalled, cancelled, run_ended, AgreesArrived, AgreesHandedOut, AgreesClosed, is_answered_at_once, AgreesTaken, AgreesEnded, AgreesStopped, AgreesAcknowledged}
+use Rattle.store_lookups.specs.Lookups.{rows_of_arrivals}
 use Rattle.input_laws.proofs.Handed.{handed_within}
 use Rattle.store_live_laws.proofs.Whole.{place_counted, frame_full}
 use Rattle.store_live_laws.proofs.Growing.{version_same, pieces_now, places_now, handed_now, live_now, closed_now, grown}

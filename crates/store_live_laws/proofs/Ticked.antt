@@ -9,12 +9,12 @@ use Rattle.store_tables.specs.declared.row.EntryRow.{EntryRow}
 use Rattle.store_model.specs.Kept.{entry_row, rows_from}
 use Rattle.store_model.specs.Writes.{ends_sleep, rows_added}
 use Rattle.store_model.proofs.Journals.{rows_slept}
-use Rattle.store_lookups.specs.Lookups.{row_frame}
+use Rattle.store_lookups.specs.Lookups.{row_frame, rows_of_arrivals}
 use Rattle.store_live.specs.declared.input.PieceLeft.{PieceLeft}
 use Rattle.store_live.specs.declared.attempt.LiveAttempt.{LiveAttempt}
 use Rattle.store_live.specs.Input.{all_bytes, pieces_from}
 use Rattle.store_live.specs.Attempts.{after_put_all}
-use Rattle.store_live_laws.specs.Agrees.{Agrees, AgreesTickedAtOnce, AgreesUnticked, IsKeptLive, after_rows, row_piece, rows_arrived, rows_of_arrivals}
+use Rattle.store_live_laws.specs.Agrees.{Agrees, AgreesTickedAtOnce, AgreesUnticked, IsKeptLive, after_rows, row_piece, rows_arrived}
 use Rattle.store_live_laws.proofs.Added.{bytes_behind, kept_by, pieces_behind, ticked}
 
 -- ---- nothing is added

@@ -17,9 +17,9 @@ use Rattle.protocol_types.specs.Version.{version_number}
 use Rattle.protocol_types.specs.declared.feature.Feature.TheVariants.{Acknowledgement}
 use Rattle.store_tables.specs.declared.row.EntryRow.{EntryRow}
 use Rattle.store_model.specs.Places.{input_places, handed_place}
-use Rattle.store_model.specs.Kept.{entry_row, journal_rows}
+use Rattle.store_model.specs.Kept.{journal_rows}
 use Rattle.store_model.specs.Writes.{ends_sleep, rows_added}
-use Rattle.store_lookups.specs.Lookups.{row_frame}
+use Rattle.store_lookups.specs.Lookups.{row_frame, rows_of_arrivals}
 use Rattle.store_live.specs.declared.input.PieceLeft.{PieceLeft}
 use Rattle.store_live.specs.declared.attempt.LiveAttempt.{LiveAttempt}
 use Rattle.store_live.specs.Input.{pieces_after}
@@ -78,13 +78,6 @@ pub record IsBegunAs (events : List Event) (id : Text) (attempt : LiveAttempt) :
 abbrev pub AgreesBegun : Type 0
 AgreesBegun = (events : List Event) (id : Text) (now : ℕ) (attempt : LiveAttempt) → IsAccepted events → IsBegunAs events id attempt
     → Agrees (Event.Begin id now ∷ events) id (Some attempt)
-
--- the rows of the arrivals among entries that stand behind others, from a place on
-abbrev pub rows_of_arrivals : Text → List Entry → ℕ → List Entry → List EntryRow
-rows_of_arrivals id before place [] = []
-rows_of_arrivals id before place (Recorded request ∷ entries) = rows_of_arrivals id (before ++ Recorded request ∷ []) (place + 1) entries
-rows_of_arrivals id before place (Arrived arrival ∷ entries) =
-    entry_row id before place (Arrived arrival) ∷ rows_of_arrivals id (before ++ Arrived arrival ∷ []) (place + 1) entries
 
 -- the frames of rows are put behind, one by one
 abbrev pub after_rows : List EntryRow → LiveAttempt → LiveAttempt

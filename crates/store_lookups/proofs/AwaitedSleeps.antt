@@ -1,5 +1,5 @@
 -- Which sleeps are open among more entries: which of them ends, and what a request opens.
-use Rattle.std.proofs.Common.{ℕ, max, ◌+◌, ◌-◌, arith, ◌==◌, nat_lt, ◌≡◌, refl, sym, ap, ◌∙◌, true≢false, Bool, true, false, ◌||◌, ◌&&◌, not, if◌then◌else◌, List, [], ◌∷◌, ◌++◌, append-nil, append_assoc, length, map, filter, Option, Some, None, is_some}
+use Rattle.std.proofs.Common.{ℕ, max, arith, ◌==◌, nat_lt, ◌≡◌, refl, sym, ap, ◌∙◌, true≢false, Bool, true, false, ◌||◌, ◌&&◌, not, if◌then◌else◌, List, [], ◌∷◌, ◌++◌, append-nil, append_assoc, length, map, filter, Option, Some, None, is_some}
 use Rattle.std.specs.List.{AllByRecursion, find, list_any}
 use Rattle.std.proofs.lemmas.Bool.{eqb-true, eq-eqb, ltb-true}
 use Rattle.std.proofs.lemmas.List.Elements.{filter-append}

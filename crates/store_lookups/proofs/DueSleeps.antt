@@ -23,11 +23,11 @@ use Rattle.journal_model.specs.Cause.{IsAccepted, do_ascend, greatest}
 use Rattle.store_tables.specs.Records.{Records, ends_by, is_sleep_of}
 use Rattle.store_tables.specs.Orders.{AreApart, sleep_cmp}
 use Rattle.store_tables.specs.declared.row.SleepRow.{SleepRow}
-use Rattle.store_model.specs.Sleeps.{can_be_due, due_until, sleep_row, sleeps_kept}
+use Rattle.store_model.specs.Sleeps.{can_be_due, due_until, sleep_row}
 use Rattle.store_model.specs.Kept.{IsKept}
 use Rattle.store_model.proofs.Lists.{filter_swap}
 use Rattle.store_model.proofs.States.{itself}
-use Rattle.store_lookups.specs.Lookups.{AllEndedFound, FindsEnded, due_sleeps, ended_sleeps, is_open_sleep, open_among, open_sleeps}
+use Rattle.store_lookups.specs.Lookups.{AllEndedFound, due_sleeps, ended_sleeps, is_open_sleep, open_among}
 use Rattle.store_lookups.proofs.Only.{filter_both}
 use Rattle.store_lookups.proofs.Opening.{both_parts}
 use Rattle.store_lookups.proofs.Asking.{ascend_from, ascends}

@@ -6,6 +6,7 @@ pub mod Asking
 pub mod Sleeping
 pub mod Answering
 pub mod Framing
+pub mod Ordinals
 pub mod AwaitedSleeps
 pub mod OpenSleeps
 pub mod Sorting

@@ -1,5 +1,5 @@
 -- The rows of an invocation's sleeps are those of its open sleeps.
-use Rattle.std.proofs.Common.{ℕ, ◌+◌, ◌-◌, ◌^◌, ◌<◌, ◌≤◌, pos, arith, ◌==◌, nat_lt, nat_le, ◌≡◌, refl, sym, ap, ap₂, subst, ◌∙◌, inl, true≢false, Bool, true, false, ◌||◌, ◌&&◌, not, if◌then◌else◌, List, [], ◌∷◌, ◌++◌, append-nil, length, map, filter, filter_map, Option, Some, None, is_some, cond, Less, Equal, Greater, bytes_eq}
+use Rattle.std.proofs.Common.{ℕ, ◌-◌, ◌^◌, ◌<◌, ◌≤◌, pos, arith, ◌==◌, nat_lt, nat_le, ◌≡◌, refl, sym, ap, ap₂, subst, ◌∙◌, inl, true≢false, Bool, true, false, ◌||◌, ◌&&◌, not, if◌then◌else◌, List, [], ◌∷◌, ◌++◌, append-nil, length, map, filter, filter_map, Option, Some, None, is_some, cond, Less, Equal, Greater, bytes_eq}
 use Rattle.std.specs.List.{AllByRecursion, list_any, cons_option}
 use Rattle.std.specs.Int.{w64}
 use Rattle.std.specs.Ordering.{int_cmp, is_le}

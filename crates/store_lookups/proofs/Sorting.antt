@@ -1,5 +1,5 @@
 -- What sorting makes of a list of which no two are alike, and the one order that it has.
-use Rattle.std.proofs.Common.{ℕ, zero, suc, ◌+◌, arith, ◌≡◌, refl, sym, ap, subst, ◌∙◌, true≢false, Bool, true, false, cond, List, [], ◌∷◌, filter, Ordering, Less, Equal, Greater, is_lt, is_eq, is_gt, IsPermutation, IsSorted, slice_index_or}
+use Rattle.std.proofs.Common.{ℕ, zero, suc, ◌+◌, arith, ◌≡◌, refl, sym, ap, subst, ◌∙◌, true≢false, true, false, cond, List, [], ◌∷◌, Ordering, Less, Equal, Greater, is_lt, is_eq, is_gt, IsPermutation, IsSorted, slice_index_or}
 use Rattle.std.specs.List.{AllByRecursion}
 use Rattle.std.specs.Cmp.{IsTotalOrder}
 use Rattle.std.specs.Ordering.{ordering_reverse}

@@ -1,5 +1,5 @@
 -- What is found among the records that are kept of accepted events.
-use Rattle.std.specs.Prelude.{◌≡◌, ℕ, ◌+◌, ◌≤◌, Bool, true, false, not, if◌then◌else◌, List, [], ◌∷◌, ◌&&◌, length, map, filter, flat_map, slice_get, Option, Some, None, is_some, option_map, option_and_then, option_to_list}
+use Rattle.std.specs.Prelude.{◌≡◌, ℕ, ◌+◌, ◌≤◌, Bool, true, false, not, if◌then◌else◌, List, [], ◌∷◌, ◌&&◌, ◌++◌, length, map, filter, flat_map, drop, slice_get, Option, Some, None, is_some, option_map, option_and_then, option_to_list}
 use Rattle.std.specs.List.{find}
 use Rattle.journal_model.specs.Notification.{Bytes, Text}
 use Rattle.journal_model.specs.Request.{Request, completions_asked}
@@ -14,7 +14,7 @@ use Rattle.store_tables.specs.Records.{Records, ends_by, is_at_key, is_sleep_of}
 use Rattle.store_tables.specs.Orders.{AreApart, sleep_cmp}
 use Rattle.store_tables.specs.declared.row.EntryRow.{EntryRow}
 use Rattle.store_tables.specs.declared.row.SleepRow.{SleepRow}
-use Rattle.store_tables.specs.Questions.{has_id, is_open_of, is_at_place, asks_for, asks_second_for, answers, journal_of, is_number, AreInPlace}
+use Rattle.store_tables.specs.Questions.{has_id, is_open_of, is_at_place, asks_for, asks_second_for, answers, journal_of, is_arrival_after, is_arrival_at, is_number, AreCounted, AreInPlace}
 use Rattle.store_model.specs.Progress.{first_of, second_of}
 use Rattle.store_model.specs.Sleeps.{can_be_due, due_until, sleep_row, sleeps_kept}
 use Rattle.store_model.specs.Kept.{entry_row, journal_rows, invocation_row, state_row, IsKept}
@@ -78,6 +78,28 @@ row_frame row = frame_bytes row.kind row.payload
 abbrev pub AllFrames : Type 0
 AllFrames = (events : List Event) (id : Text) → IsAccepted events
     → flat_map row_frame (journal_rows events id) ≡ input_bytes (journal_pieces (invocation_begun events id) (entries_of events id))
+
+-- ---- arrivals
+
+-- the rows of the arrivals among entries that stand behind others, from a place on
+abbrev pub rows_of_arrivals : Text → List Entry → ℕ → List Entry → List EntryRow
+rows_of_arrivals id before place [] = []
+rows_of_arrivals id before place (Recorded request ∷ entries) = rows_of_arrivals id (before ++ Recorded request ∷ []) (place + 1) entries
+rows_of_arrivals id before place (Arrived arrival ∷ entries) =
+    entry_row id before place (Arrived arrival) ∷ rows_of_arrivals id (before ++ Arrived arrival ∷ []) (place + 1) entries
+
+-- those of an invocation's arrivals, by place; the first of them has the ordinal 1
+abbrev pub arrival_rows : List Event → Text → List EntryRow
+arrival_rows events id = rows_of_arrivals id [] 1 (entries_of events id)
+
+-- they are found by their ordinals: one, and all behind so many, whose ordinals count up
+pub record FindsArrivals (events : List Event) (r : Records) (id : Text) : Type 0 where
+  pub one : (k : ℕ) → IsOnly (is_arrival_at id (k + 1)) r.entries (slice_get (arrival_rows events id) k)
+  pub behind : (k : ℕ) → filter (is_arrival_after id k) r.entries ≡ drop k (arrival_rows events id)
+  pub counted : (k : ℕ) → AreCounted (k + 1) (drop k (arrival_rows events id))
+
+abbrev pub AllArrivalsFound : Type 0
+AllArrivalsFound = (events : List Event) (r : Records) (id : Text) → IsAccepted events → IsKept events r → FindsArrivals events r id
 
 -- ---- sleeps
 

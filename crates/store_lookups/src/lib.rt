@@ -2,7 +2,7 @@
 //! events decide. Each function does nothing: its contract is the law.
 #![tactic(auto)]
 
-ghost use Rattle.store_lookups.specs.Lookups.{AllAnswerOnce, AllAskOnce, AllEndedFound, AllFind, AllFrames, AllOpenOnce, SleepsKeptAfter};
+ghost use Rattle.store_lookups.specs.Lookups.{AllAnswerOnce, AllArrivalsFound, AllAskOnce, AllEndedFound, AllFind, AllFrames, AllOpenOnce, SleepsKeptAfter};
 
 /// An invocation is found by its id, an entry by its place and a value by its key, and no second one.
 pub fn records_found()
@@ -27,6 +27,11 @@ pub fn answers_found()
 /// What an attempt that is begun is handed is read off the rows of its journal, by their kinds and payloads.
 pub fn frames_found()
     ensures { AllFrames }
+{}
+
+/// An arrival is found by its ordinal, and no second one, and so are all behind so many, in the order in which they came.
+pub fn arrivals_found()
+    ensures { AllArrivalsFound }
 {}
 
 /// The rows of an invocation's sleeps are those of its open sleeps, and those that are due are the ones that a tick ends.

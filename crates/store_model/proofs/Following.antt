@@ -11,7 +11,7 @@ use Rattle.journal_model.specs.Request.{Request, completions_asked}
 use Rattle.journal_model.specs.State.{StateMap, state_after}
 use Rattle.journal_model.specs.declared.invocation.NewInvocation.{NewInvocation}
 use Rattle.journal_model.specs.Event.{Retry, Pause, Fail, Suspension, Frame, Event}
-use Rattle.journal_model.specs.Journal.{Entry, Recorded, Arrived, completion, id_of_signal, is_of, is_tick, invoked_by, begins, invocation_begun, version_of, starting_state, frame_of, frames_of, is_open, requests_in, read_answer, slept, entries_of, entries_from, entries_of_event, entries_added}
+use Rattle.journal_model.specs.Journal.{Entry, Recorded, Arrived, completion, id_of_signal, is_of, is_tick, invoked_by, begins, invocation_begun, version_of, starting_state, frame_of, frames_of, is_open, requests_in, read_answer, slept, entries_of, entries_from, entries_of_event, entries_added, arrivals_in}
 use Rattle.journal_model.specs.Attempt.{attempts_begun, or_before, suspension_of}
 use Rattle.journal_model.specs.Start.{is_some_entry, moment_begun, begun_since_entry, attempts_since_entry}
 use Rattle.journal_model.specs.Cause.{is_empty, greatest, last_completion}
@@ -23,9 +23,9 @@ use Rattle.store_tables.specs.declared.row.LastError.{LastError}
 use Rattle.store_tables.specs.declared.row.Progress.{Progress}
 use Rattle.store_tables.specs.declared.row.Closing.TheVariants.{Ended, Failed}
 use Rattle.store_model.specs.Places.{handed_place, or_kept, handed_of}
-use Rattle.store_model.specs.Progress.{first_of, or_last, last_of, number_or_zero, payload_of_suspension, way_closed, output_payload, last_output, progress_of}
+use Rattle.store_model.specs.Progress.{first_of, is_unsuspended, or_last, last_of, number_or_zero, payload_of_suspension, way_closed, output_payload, last_output, progress_of}
 use Rattle.store_model.proofs.Same.{both_same, is_still, opened, closed_by, error_of, same_progress, nothing_added}
-use Rattle.store_model.specs.Steps.{grown, answers_at_once, payload_or, after_command, after_begin, suspended_or, after_frame, after_event, ProgressFollows, ProgressTicks}
+use Rattle.store_model.specs.Steps.{grown, answers_at_once, payload_or, after_command, after_begin, awake_unless, suspended_or, after_frame, after_event, ProgressFollows, ProgressTicks}
 
 -- a progress by what it is read off
 abbrev progress_with : Option Text → Option Closing → Option LastError → Option Bytes → Option ℕ → ℕ → List ℕ → List Entry → Progress
@@ -41,6 +41,9 @@ progress_with object closing error suspension handed attempts moments entries = 
   first_moment = number_or_zero (first_of moments);
   last_completion = last_completion (requests_in entries);
   entries = 1 + length entries;
+  heard = None;
+  arrivals = length (arrivals_in entries);
+  is_awake = is_unsuspended object suspension;
 }
 
 begins_none : (event : Event) (id : Text) → invoked_by event ≡ None → begins id event ≡ false
@@ -105,14 +108,26 @@ last_more xs None = ap last_of (append-nil xs)
 last_more [] (Some y) = refl
 last_more (x ∷ xs) (Some y) = ap (or_last x) (last_more xs (Some y))
 
+pub arrived_more : (xs ys : List Entry) → length (arrivals_in (xs ++ ys)) ≡ length (arrivals_in xs) + length (arrivals_in ys)
+arrived_more [] ys = sym (zero-add (length (arrivals_in ys)))
+arrived_more (Recorded request ∷ xs) ys = arrived_more xs ys
+arrived_more (Arrived arrival ∷ xs) ys = let later = arrived_more xs ys in omega (arith, later)
+
+all_arrived : (entries : List Entry) → requests_in entries ≡ [] → length (arrivals_in entries) ≡ length entries
+all_arrived [] none = refl
+all_arrived (Recorded request ∷ entries) none = absurd cc
+all_arrived (Arrived arrival ∷ entries) none = ap suc (all_arrived entries none)
+
 -- arrivals alone
 only_arrivals : (object : Option Text) (closing : Option Closing) (error : Option LastError) (suspension : Option Bytes) (handed : Option ℕ) (attempts : ℕ) (moments : List ℕ)
     (entries more : List Entry) → requests_in more ≡ []
     → progress_with object closing error suspension handed attempts [] (entries ++ more)
-    ≡ grown (length more) (progress_with object closing error suspension handed attempts moments entries)
+    ≡ grown (length more) (length more) (progress_with object closing error suspension handed attempts moments entries)
 only_arrivals object closing error suspension handed attempts moments entries more none =
     let same : requests_in (entries ++ more) ≡ requests_in entries =
     requests_in-append entries more ∙ ap (λ (rest : List Request). requests_in entries ++ rest) none ∙ append-nil (requests_in entries) in
+    let arrived_now : length (arrivals_in (entries ++ more)) ≡ length (arrivals_in entries) + length more =
+    arrived_more entries more ∙ ap (λ (n : ℕ). length (arrivals_in entries) + n) (all_arrived more none) in
     λ i. record {
       open_object = object;
       suspension = suspension;
@@ -125,14 +140,17 @@ only_arrivals object closing error suspension handed attempts moments entries mo
       first_moment = 0;
       last_completion = last_completion (same i);
       entries = longer entries more i;
+      heard = None;
+      arrivals = arrived_now i;
+      is_awake = is_unsuspended object suspension;
     }
 
 -- a request, with what answers it at once
 with_request : (object : Option Text) (closing : Option Closing) (error : Option LastError) (suspension : Option Bytes) (handed : Option ℕ) (attempts : ℕ) (moments : List ℕ)
-    (entries more : List Entry) (request : Request) → requests_in more ≡ request ∷ [] → length more ≡ 1 + answers_at_once request
+    (entries more : List Entry) (request : Request) → requests_in more ≡ request ∷ [] → length more ≡ 1 + answers_at_once request → length (arrivals_in more) ≡ answers_at_once request
     → progress_with object closing error suspension handed attempts [] (entries ++ more)
     ≡ after_command request (progress_with object closing error suspension handed attempts moments entries)
-with_request object closing error suspension handed attempts moments entries more request one count =
+with_request object closing error suspension handed attempts moments entries more request one count arrived =
     let same : requests_in (entries ++ more) ≡ requests_in entries ++ request ∷ [] =
     requests_in-append entries more ∙ ap (λ (rest : List Request). requests_in entries ++ rest) one in
     let answer_now : last_output (requests_in (entries ++ more)) ≡ payload_or (output_payload request) (last_output (requests_in entries)) =
@@ -141,6 +159,8 @@ with_request object closing error suspension handed attempts moments entries mor
     ap last_completion same ∙ completion_more (requests_in entries) (request ∷ []) ∙ ap (max (last_completion (requests_in entries))) (max_zero (greatest (completions_asked request))) in
     let entries_now : 1 + length (entries ++ more) ≡ (1 + length entries) + (1 + answers_at_once request) =
     longer entries more ∙ ap (λ (n : ℕ). (1 + length entries) + n) count in
+    let arrived_now : length (arrivals_in (entries ++ more)) ≡ length (arrivals_in entries) + answers_at_once request =
+    arrived_more entries more ∙ ap (λ (n : ℕ). length (arrivals_in entries) + n) arrived in
     λ i. record {
       open_object = object;
       suspension = suspension;
@@ -153,6 +173,9 @@ with_request object closing error suspension handed attempts moments entries mor
       first_moment = 0;
       last_completion = greatest_now i;
       entries = entries_now i;
+      heard = None;
+      arrivals = arrived_now i;
+      is_awake = is_unsuspended object suspension;
     }
   where
     max_zero : (n : ℕ) → max n 0 ≡ n
@@ -162,6 +185,11 @@ answers_counted : (state : StateMap) (request : Request) → length (Recorded re
 answers_counted state (Request.GetLazyState key n name) = omega arith
 answers_counted state (Request.GetLazyStateKeys n name) = omega arith
 answers_counted state _ = omega arith
+
+answers_arrived : (state : StateMap) (request : Request) → length (arrivals_in (Recorded request ∷ map Arrived (read_answer state request))) ≡ answers_at_once request
+answers_arrived state (Request.GetLazyState key n name) = omega arith
+answers_arrived state (Request.GetLazyStateKeys n name) = omega arith
+answers_arrived state _ = omega arith
 
 no_requests : (arrivals : List Arrival) → requests_in (map Arrived arrivals) ≡ []
 no_requests [] = refl
@@ -183,7 +211,7 @@ follows_arrival : (events : List Event) (event : Event) (id : Text) (arrival : A
     → error_of (cons_option (frame_of event) (frames_of events id)) ≡ error_of (frames_of events id)
     → entries_of_event (starting_state events id) (entries_of events id) event ≡ Arrived arrival ∷ []
     → attempts_begun (event ∷ events) id ≡ attempts_begun events id → suspension_of (event ∷ events) id ≡ suspension_of events id → handed_of (event ∷ events) id ≡ handed_of events id
-    → progress_of (event ∷ events) id ≡ grown 1 (progress_of events id)
+    → progress_of (event ∷ events) id ≡ grown 1 1 (progress_of events id)
 follows_arrival events event id arrival e mine object closing error adds attempts suspension handed =
     progress_now events event id e (cons_option (frame_of event) (frames_of events id)) (mine_frames events event id mine) (Arrived arrival ∷ []) (mine_added events event id mine ∙ adds)
     ∙ (λ i. progress_with (object i) (closing i) (error i)
@@ -203,24 +231,27 @@ follows_command events id attempt request =
     (option_map payload_of_suspension (suspension_of events id)) (handed_of events id) (attempts_begun events id) (attempts_since_entry events id) (entries_of events id) more request
     (ap (λ (rest : List Request). request ∷ rest) (no_requests (read_answer (state_after (requests_in (entries_of events id)) (starting_state events id)) request)))
     (answers_counted (state_after (requests_in (entries_of events id)) (starting_state events id)) request)
+    (answers_arrived (state_after (requests_in (entries_of events id)) (starting_state events id)) request)
   where
     handed : handed_of (Event.Take id attempt (Frame.Command request) ∷ events) id ≡ handed_of events id
     handed = ap (λ (o : Option ℕ). or_kept o (handed_of events id)) (both_same (bytes_eq id id) None)
 
 -- a frame that ends the attempt, or the invocation: no entries are added
 follows_end : (events : List Event) (id : Text) (attempt : ℕ) (frame : Frame) (object : Option Text) (closing : Option Closing) (error : Option LastError)
-    (suspension : Option Bytes) (handed : Option ℕ)
+    (suspension : Option Bytes) (handed : Option ℕ) (awake : Bool)
     → entries_of_event (starting_state events id) (entries_of events id) (Event.Take id attempt frame) ≡ []
     → object_if (invocation_begun events id) (frame ∷ frames_of events id) ≡ object → way (invocation_begun events id) (frame ∷ frames_of events id) ≡ closing
     → error_of (frame ∷ frames_of events id) ≡ error
     → option_map payload_of_suspension (suspension_of (Event.Take id attempt frame ∷ events) id) ≡ suspension
     → handed_of (Event.Take id attempt frame ∷ events) id ≡ handed
+    → is_unsuspended object suspension ≡ awake
     → progress_of (Event.Take id attempt frame ∷ events) id
-    ≡ record (progress_of events id) { open_object = object; closing = closing; last_error = error; suspension = suspension; handed = handed }
-follows_end events id attempt frame object closing error suspension handed none a b c d f =
+    ≡ record (progress_of events id) { open_object = object; closing = closing; last_error = error; suspension = suspension; handed = handed; is_awake = awake }
+follows_end events id attempt frame object closing error suspension handed awake none a b c d f g =
     progress_now events (Event.Take id attempt frame) id refl (frame ∷ frames_of events id) (mine_frames events (Event.Take id attempt frame) id (itself id)) []
     (mine_added events (Event.Take id attempt frame) id (itself id) ∙ none)
     ∙ (λ i. progress_with (a i) (b i) (c i) (d i) (f i) (zero-add (attempts_begun events id) i) (moments i) (append-nil (entries_of events id) i))
+    ∙ (λ i. record (progress_of events id) { open_object = object; closing = closing; last_error = error; suspension = suspension; handed = handed; is_awake = g i })
   where
     moments : (attempts_since_entry events id ++ (if is_of id (Event.Take id attempt frame) then [] else [])) ≡ attempts_since_entry events id
     moments = ap (λ (more : List ℕ). attempts_since_entry events id ++ more) (both_same (bytes_eq id id) []) ∙ append-nil (attempts_since_entry events id)
@@ -239,19 +270,32 @@ suspended_here events id None = ap (λ (o : Option Suspension). option_map paylo
 suspended_here events id (Some suspension) =
     ap (λ (b : Bool). option_map payload_of_suspension (or_before (if b then Some suspension else None) (suspension_of events id))) (itself id)
 
+-- a closed one is not awake
+shut : (suspension : Option Bytes) → is_unsuspended None suspension ≡ false
+shut None = refl
+shut (Some payload) = refl
+
+slept_on : (object : Option Text) (suspension : Option Suspension) (before : Option Bytes)
+    → is_unsuspended object (suspended_or suspension before) ≡ awake_unless suspension (is_unsuspended object before)
+slept_on object None before = refl
+slept_on object (Some suspension) before = refl
+
 follows_failure : (events : List Event) (id : Text) (attempt code : ℕ) (message : Text) (delay : Option ℕ) (b : Bool) → has_feature (version_of events id) features.ErrorBehavior ≡ b
     → progress_of (Event.Take id attempt (Frame.Error code message Fail delay) ∷ events) id
     ≡ record (progress_of events id) {
       last_error = Some (record { code = code; behavior = 2; delay = delay; message = message });
       open_object = if b then None else (progress_of events id).open_object;
       closing = if b then Some Failed else (progress_of events id).closing;
+      is_awake = if b then false else (progress_of events id).is_awake;
     }
 follows_failure events id attempt code message delay b e =
     follows_end events id attempt (Frame.Error code message Fail delay)
     (if b then None else object_if (invocation_begun events id) (frames_of events id)) (if b then Some Failed else way (invocation_begun events id) (frames_of events id))
     (Some (record { code = code; behavior = 2; delay = delay; message = message }))
-    (option_map payload_of_suspension (suspension_of events id)) (handed_of events id) refl (object b e) (closing b e) refl refl
-    (handed_here events id attempt None)
+    (option_map payload_of_suspension (suspension_of events id)) (handed_of events id)
+    (if b then false else is_unsuspended (object_if (invocation_begun events id) (frames_of events id)) (option_map payload_of_suspension (suspension_of events id)))
+    refl (object b e) (closing b e) refl refl (handed_here events id attempt None)
+    (awake_now b)
   where
     object : (b : Bool) → has_feature (version_of events id) features.ErrorBehavior ≡ b
         → object_if (invocation_begun events id) (Frame.Error code message Fail delay ∷ frames_of events id)
@@ -264,6 +308,12 @@ follows_failure events id attempt code message delay b e =
         ≡ (if b then Some Failed else way (invocation_begun events id) (frames_of events id))
     closing true e = rw e refl
     closing false e = rw e refl
+
+    awake_now : (b : Bool)
+        → is_unsuspended (if b then None else object_if (invocation_begun events id) (frames_of events id)) (option_map payload_of_suspension (suspension_of events id))
+        ≡ (if b then false else is_unsuspended (object_if (invocation_begun events id) (frames_of events id)) (option_map payload_of_suspension (suspension_of events id)))
+    awake_now true = shut (option_map payload_of_suspension (suspension_of events id))
+    awake_now false = refl
 
 same_still : (events : List Event) (event : Event) (id : Text) → is_tick event ≡ false → is_still event ≡ true → progress_of (event ∷ events) id ≡ progress_of events id
 same_still events event id still quiet =
@@ -278,20 +328,22 @@ follows_frame events id attempt (Frame.RunOutcome n value is_acknowledged) =
 follows_frame events id attempt (Frame.Suspend suspension) =
     follows_end events id attempt (Frame.Suspend suspension) (object_if (invocation_begun events id) (frames_of events id)) (way (invocation_begun events id) (frames_of events id))
     (error_of (frames_of events id)) (suspended_or suspension (option_map payload_of_suspension (suspension_of events id))) (Some (handed_place events id))
+    (awake_unless suspension (progress_of events id).is_awake)
     refl refl refl refl (suspended_here events id suspension) (handed_here events id attempt (Some (handed_place events id)))
+    (slept_on (object_if (invocation_begun events id) (frames_of events id)) suspension (option_map payload_of_suspension (suspension_of events id)))
 follows_frame events id attempt Frame.End =
-    follows_end events id attempt Frame.End None (Some Ended) (error_of (frames_of events id)) (option_map payload_of_suspension (suspension_of events id)) (Some (handed_place events id))
+    follows_end events id attempt Frame.End None (Some Ended) (error_of (frames_of events id)) (option_map payload_of_suspension (suspension_of events id)) (Some (handed_place events id)) false
     refl (and_false (is_some (invocation_begun events id)) (option_map (λ (new : NewInvocation). new.object) (invocation_begun events id))) refl refl refl
-    (handed_here events id attempt (Some (handed_place events id)))
+    (handed_here events id attempt (Some (handed_place events id))) (shut (option_map payload_of_suspension (suspension_of events id)))
 follows_frame events id attempt (Frame.Error code message Fail delay) = follows_failure events id attempt code message delay (has_feature (version_of events id) features.ErrorBehavior) refl
 follows_frame events id attempt (Frame.Error code message Retry delay) =
     follows_end events id attempt (Frame.Error code message Retry delay) (object_if (invocation_begun events id) (frames_of events id)) (way (invocation_begun events id) (frames_of events id))
-    (Some (record { code = code; behavior = 0; delay = delay; message = message })) (option_map payload_of_suspension (suspension_of events id)) (handed_of events id)
-    refl refl refl refl refl (handed_here events id attempt None)
+    (Some (record { code = code; behavior = 0; delay = delay; message = message })) (option_map payload_of_suspension (suspension_of events id)) (handed_of events id) (progress_of events id).is_awake
+    refl refl refl refl refl (handed_here events id attempt None) refl
 follows_frame events id attempt (Frame.Error code message Pause delay) =
     follows_end events id attempt (Frame.Error code message Pause delay) (object_if (invocation_begun events id) (frames_of events id)) (way (invocation_begun events id) (frames_of events id))
-    (Some (record { code = code; behavior = 1; delay = delay; message = message })) (option_map payload_of_suspension (suspension_of events id)) (handed_of events id)
-    refl refl refl refl refl (handed_here events id attempt None)
+    (Some (record { code = code; behavior = 1; delay = delay; message = message })) (option_map payload_of_suspension (suspension_of events id)) (handed_of events id) (progress_of events id).is_awake
+    refl refl refl refl refl (handed_here events id attempt None) refl
 follows_frame events id attempt Frame.AwaitingOn = same_still events (Event.Take id attempt Frame.AwaitingOn) id refl refl
 follows_frame events id attempt Frame.Broken = same_still events (Event.Take id attempt Frame.Broken) id refl refl
 follows_frame events id attempt Frame.TooDeep = same_still events (Event.Take id attempt Frame.TooDeep) id refl refl
@@ -322,6 +374,9 @@ follows_begin events id now =
       first_moment = first_push (attempts_since_entry events id) now i;
       last_completion = last_completion (requests_in (entries_of events id));
       entries = 1 + length (entries_of events id);
+      heard = None;
+      arrivals = length (arrivals_in (entries_of events id));
+      is_awake = is_some (object_if (invocation_begun events id) (frames_of events id));
     })
   where
     suspension : option_map payload_of_suspension (suspension_of (Event.Begin id now ∷ events) id) ≡ None
@@ -389,4 +444,4 @@ ticks events now id e =
     ∙ only_arrivals (object_if (invocation_begun events id) (frames_of events id)) (way (invocation_begun events id) (frames_of events id)) (error_of (frames_of events id))
     (option_map payload_of_suspension (suspension_of events id)) (handed_of events id) (attempts_begun events id) (attempts_since_entry events id) (entries_of events id) more
     (no_requests arrivals)
-    ∙ ap (λ (n : ℕ). grown n (progress_of events id)) (length-arrived arrivals)
+    ∙ ap (λ (n : ℕ). grown n n (progress_of events id)) (length-arrived arrivals)

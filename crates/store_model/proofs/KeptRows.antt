@@ -1,5 +1,5 @@
 -- A worked example of what is written: an invocation that sleeps, is suspended, and is woken by a tick.
-use Rattle.std.specs.Prelude.{◌≡◌, ℕ, true, List, [], ◌∷◌, Some, None, codes}
+use Rattle.std.specs.Prelude.{◌≡◌, ℕ, true, false, List, [], ◌∷◌, Some, None, codes}
 use Rattle.std.proofs.Common.{refl}
 use Rattle.journal_model.specs.declared.notification.NotificationId.TheVariants.{CompletionId}
 use Rattle.journal_model.specs.Request.{Request}
@@ -70,25 +70,25 @@ at_sleep : writes_of handed_all (Event.Take (codes "nap") 1 (Frame.Command (Requ
 at_sleep = refl
 
 at_suspension : writes_of input_closed (Event.Take (codes "nap") 1 (Frame.Suspend (Some (ForAny (CompletionId 1 ∷ [])))))
-    ≡ SetProgress (codes "nap") (record start { attempts = 1; last_completion = 1; entries = 2; suspension = Some (0x0a ∷ 1 ∷ 1 ∷ []); handed = Some 1 }) ∷ []
+    ≡ SetProgress (codes "nap") (record start { attempts = 1; last_completion = 1; entries = 2; suspension = Some (0x0a ∷ 1 ∷ 1 ∷ []); handed = Some 1; is_awake = false }) ∷ []
 at_suspension = refl
 
 at_early_tick : writes_of suspended (Event.Tick 4999) ≡ CloseSleepsUntil 4999 ∷ []
 at_early_tick = refl
 
 at_tick : writes_of suspended (Event.Tick 5000)
-    ≡ AddEntry (record (row 2 MessageType.SleepCompletionNotification (8 ∷ 1 ∷ 0x22 ∷ 0 ∷ [])) { answered = Some 1 })
-    ∷ SetProgress (codes "nap") (record start { attempts = 1; last_completion = 1; entries = 3; suspension = Some (0x0a ∷ 1 ∷ 1 ∷ []); handed = Some 1 })
+    ≡ AddEntry (record (row 2 MessageType.SleepCompletionNotification (8 ∷ 1 ∷ 0x22 ∷ 0 ∷ [])) { answered = Some 1; arrival = Some 1 })
+    ∷ SetProgress (codes "nap") (record start { attempts = 1; last_completion = 1; entries = 3; suspension = Some (0x0a ∷ 1 ∷ 1 ∷ []); handed = Some 1; arrivals = 1; is_awake = false })
     ∷ CloseSleepsUntil 5000 ∷ []
 at_tick = refl
 
 at_state : writes_of (Event.Begin (codes "nap") 6000 ∷ woken) (Event.Take (codes "nap") 2 (Frame.Command (Request.SetState (codes "k") (9 ∷ []) [])))
     ≡ AddEntry (row 3 MessageType.SetStateCommand (0x0a ∷ 1 ∷ 0x6b ∷ 0x1a ∷ 3 ∷ 0x0a ∷ 1 ∷ 9 ∷ []))
-    ∷ SetProgress (codes "nap") (record start { attempts = 2; last_completion = 1; entries = 4 })
+    ∷ SetProgress (codes "nap") (record start { attempts = 2; last_completion = 1; entries = 4; arrivals = 1 })
     ∷ PutState (record { object = codes "bed"; key = codes "k"; value = 9 ∷ [] }) ∷ []
 at_state = refl
 
 at_end : writes_of sets_state (Event.Take (codes "nap") 2 Frame.End)
-    ≡ SetProgress (codes "nap") (record start { open_object = None; attempts = 2; last_completion = 1; entries = 4; handed = Some 0; closing = Some Ended })
+    ≡ SetProgress (codes "nap") (record start { open_object = None; attempts = 2; last_completion = 1; entries = 4; handed = Some 0; closing = Some Ended; arrivals = 1; is_awake = false })
     ∷ CloseSleeps (codes "nap") ∷ []
 at_end = refl

@@ -5,14 +5,14 @@ use Rattle.journal_model.specs.Notification.{Text}
 use Rattle.journal_model.specs.State.{StateMap}
 use Rattle.journal_model.specs.declared.invocation.NewInvocation.{NewInvocation}
 use Rattle.journal_model.specs.Event.{Frame, Event}
-use Rattle.journal_model.specs.Journal.{Entry, Closing as Closed, is_of, is_tick, begins, invocation_begun, starting_state, closes, closing_frame, frame_of, frames_of, is_open, closing_of, requests_in, entries_of, entries_from, entries_of_event, entries_added}
+use Rattle.journal_model.specs.Journal.{Entry, Closing as Closed, is_of, is_tick, begins, invocation_begun, starting_state, closes, closing_frame, frame_of, frames_of, is_open, closing_of, requests_in, entries_of, entries_from, entries_of_event, entries_added, arrivals_in}
 use Rattle.journal_model.specs.Attempt.{begins_attempt, attempts_begun, suspension_in, suspension_of}
 use Rattle.journal_model.specs.Start.{is_some_entry, moment_begun, begun_since_entry, attempts_since_entry}
 use Rattle.journal_model.specs.Cause.{last_completion}
 use Rattle.journal_laws.proofs.ObjectState.{begun_before}
 use Rattle.store_tables.specs.declared.row.LastError.{LastError}
 use Rattle.store_model.specs.Places.{handed_in, handed_of}
-use Rattle.store_model.specs.Progress.{first_of, number_or_zero, payload_of_suspension, way_closed, error_in, last_error_of, last_output, progress_of}
+use Rattle.store_model.specs.Progress.{first_of, is_unsuspended, number_or_zero, payload_of_suspension, way_closed, error_in, last_error_of, last_output, progress_of}
 
 -- frames, and events, by which nothing is told of an invocation
 abbrev pub is_quiet : Option Frame → Bool
@@ -181,6 +181,9 @@ module _ (events : List Event) (event : Event) (id : Text) (leaves : Leaves even
       first_moment = number_or_zero (first_of (same_moments i));
       last_completion = last_completion (requests_in (same_entries i));
       entries = 1 + length (same_entries i);
+      heard = None;
+      arrivals = length (arrivals_in (same_entries i));
+      is_awake = is_unsuspended (if same_open i then option_map (λ (new : NewInvocation). new.object) (same_begun i) else None) (option_map payload_of_suspension (same_suspension i));
     }
 
 -- ---- which events add nothing

@@ -1,18 +1,16 @@
 -- What a tick writes of several invocations may be written in any order.
-use Rattle.std.proofs.Common.{ℕ, ◌+◌, ◌≡◌, refl, sym, ap, ap₂, subst, ◌∙◌, Bool, true, false, ◌||◌, ◌&&◌, not, if◌then◌else◌, List, [], ◌∷◌, ◌++◌, append-nil, length, map, filter, flat_map, is_some, bytes_eq}
+use Rattle.std.proofs.Common.{ℕ, ◌+◌, ◌≡◌, refl, sym, ap, ap₂, subst, ◌∙◌, Bool, true, false, ◌||◌, ◌&&◌, not, if◌then◌else◌, List, [], ◌∷◌, ◌++◌, append-nil, length, map, filter, flat_map, bytes_eq}
 use Rattle.std.specs.List.{list_any}
 use Rattle.std.proofs.lemmas.List.Elements.{filter-append}
 use Rattle.sqlite_keyed.proofs.ListLemmas.{all_weaker, filter_same, flat_map-filter, flat_map_same_on, map-map}
 use Rattle.journal_model.specs.Notification.{Text}
 use Rattle.journal_model.specs.declared.invocation.NewInvocation.{NewInvocation}
 use Rattle.journal_model.specs.Event.{Event}
-use Rattle.journal_model.specs.Journal.{invocation_begun, is_open, slept, starting_state, entries_of, entries_of_event}
-use Rattle.journal_model.specs.Cause.{is_empty, causes_of, IsAccepted}
+use Rattle.journal_model.specs.Journal.{is_open, slept, starting_state, entries_of, entries_of_event}
+use Rattle.journal_model.specs.Cause.{is_empty, IsAccepted}
 use Rattle.store_tables.specs.Records.{Records, applied_all}
-use Rattle.store_tables.specs.declared.row.InvocationRow.{InvocationRow}
 use Rattle.store_tables.specs.declared.row.EntryRow.{EntryRow}
 use Rattle.store_tables.specs.declared.row.Progress.{Progress}
-use Rattle.store_tables.specs.Questions.{journal_of}
 use Rattle.store_model.specs.Progress.{progress_of}
 use Rattle.store_model.specs.Sleeps.{sleeps_after}
 use Rattle.store_model.specs.Kept.{journal_rows, begun, invocation_row, IsKept}

@@ -1,8 +1,8 @@
 -- The version that is kept of an accepted invocation has the number that came.
-use Rattle.std.proofs.Common.{◌≡◌, refl, sym, ap, subst, ◌∙◌, ℕ, Bool, true, false, List, [], ◌∷◌, Option, Some, None, option_map, unwrap_or, bytes_eq}
+use Rattle.std.proofs.Common.{◌≡◌, refl, sym, ap, subst, ◌∙◌, ℕ, Bool, true, false, List, [], ◌∷◌, Option, Some, option_map, unwrap_or, bytes_eq}
 use Rattle.std.specs.Prelude.{if◌then◌else◌}
 use Rattle.protocol_types.specs.declared.version.Version.{Version}
-use Rattle.protocol_types.specs.Version.{version_at, version_number, is_unsupported, oldest_version}
+use Rattle.protocol_types.specs.Version.{version_number, is_unsupported, oldest_version}
 use Rattle.protocol_types.proofs.Versions.{spoken_versions_have_numbers, versions_read_back}
 use Rattle.journal_model.specs.Notification.{Text}
 use Rattle.journal_model.specs.declared.invocation.NewInvocation.{NewInvocation}

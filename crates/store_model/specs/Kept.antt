@@ -1,5 +1,5 @@
 -- Which records are kept of the accepted events.
-use Rattle.std.specs.Prelude.{◌≡◌, ℕ, ◌+◌, Bool, true, false, List, [], ◌∷◌, ◌++◌, map, filter, Option, Some, None, unwrap_or, IsPermutation}
+use Rattle.std.specs.Prelude.{◌≡◌, ℕ, ◌+◌, Bool, true, false, List, [], ◌∷◌, ◌++◌, length, map, filter, Option, Some, None, unwrap_or, IsPermutation}
 use Rattle.journal_model.specs.Notification.{Bytes, Text}
 use Rattle.journal_model.specs.declared.notification.NotificationId.{NotificationId}
 use Rattle.journal_model.specs.declared.notification.NotificationId.TheVariants.{CompletionId}
@@ -8,7 +8,7 @@ use Rattle.journal_model.specs.declared.invocation.NewInvocation.{NewInvocation}
 use Rattle.journal_model.specs.declared.invocation.StateMode.{StateMode}
 use Rattle.journal_model.specs.Event.{Event}
 use Rattle.journal_model.specs.Spelling.{request_type, request_payload, notification_payload, input_payload}
-use Rattle.journal_model.specs.Journal.{Entry, Recorded, Arrived, invocation_begun, entries_of, object_state, sleep_in}
+use Rattle.journal_model.specs.Journal.{Entry, Recorded, Arrived, invocation_begun, arrivals_in, entries_of, object_state, sleep_in}
 use Rattle.journal_model.specs.Attempt.{notification_type}
 use Rattle.protocol_types.specs.declared.version.Version.{Version}
 use Rattle.protocol_types.specs.Version.{oldest_version, version_at}
@@ -43,6 +43,7 @@ plain_row id place kind payload = record {
   second_completion = None;
   answered = None;
   moment = 0;
+  arrival = None;
 }
 
 -- the row of an entry at a place; an arrival's kind is that of the request that asked for it, which is among the entries before it
@@ -56,9 +57,10 @@ entry_row id before place (Recorded request) = record {
   second_completion = second_of (completions_asked request);
   answered = None;
   moment = moment_of (sleep_in request);
+  arrival = None;
 }
 entry_row id before place (Arrived arrival) =
-    record (plain_row id place (notification_type before arrival.id) (notification_payload arrival)) { answered = answered_by arrival.id }
+    record (plain_row id place (notification_type before arrival.id) (notification_payload arrival)) { answered = answered_by arrival.id; arrival = Some (1 + length (arrivals_in before)) }
 
 -- the rows of entries that stand behind others, from a place on
 abbrev pub rows_from : Text → List Entry → ℕ → List Entry → List EntryRow

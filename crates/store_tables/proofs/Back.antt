@@ -99,12 +99,13 @@ entry_back row = record {
   completion = there short_in (column row 4);
   second_completion = there short_in (column row 5);
   answered = there short_in (column row 6);
-  moment = long_in (column row 7);
+  arrival = there short_in (column row 7);
+  moment = long_in (column row 8);
 }
 
 pub entry_back_is : (e : EntryRow) → FitsEntry e → entry_back (entry_cells e) ≡ e
 unfolding entry_back
-entry_back_is e fits = rw (short_back e.place, kind_in_back e.kind fits.kind, shorts_back e.completion, shorts_back e.second_completion, shorts_back e.answered, long_back e.moment fits.moment) refl
+entry_back_is e fits = rw (short_back e.place, kind_in_back e.kind fits.kind, shorts_back e.completion, shorts_back e.second_completion, shorts_back e.answered, shorts_back e.arrival, long_back e.moment fits.moment) refl
 
 -- ---- invocations
 
@@ -159,6 +160,9 @@ invocation_back row = record {
     first_moment = long_in (column row 16);
     last_completion = short_in (column row 17);
     entries = short_in (column row 18);
+    heard = there short_in (column row 19);
+    arrivals = short_in (column row 20);
+    is_awake = flag_in (column row 21);
   };
 }
 
@@ -179,6 +183,9 @@ invocation_back_is i fits =
       long_back i.progress.first_moment fits.progress.first_moment,
       short_back i.progress.last_completion,
       short_back i.progress.entries,
+      shorts_back i.progress.heard,
+      short_back i.progress.arrivals,
+      flag_back i.progress.is_awake,
     ) (ap (λ (v : Version). record i { version = v }) (version_back i.version))
 
 -- ---- the mark

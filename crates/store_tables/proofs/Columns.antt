@@ -13,11 +13,11 @@ use Rattle.store_tables.specs.Parts.{progress_columns}
 use Rattle.store_tables.specs.Records.{Closing, FitsError, LastError, closing_cell}
 use Rattle.store_tables.specs.declared.row.Closing.TheVariants.{Ended, Failed}
 
-pub eight : (row : Row) → length row ≡ 8 → row ≡ column row 0 ∷ column row 1 ∷ column row 2 ∷ column row 3 ∷ column row 4 ∷ column row 5 ∷ column row 6 ∷ column row 7 ∷ []
-eight row len = listed_as row 8 len
+pub nine : (row : Row) → length row ≡ 9 → row ≡ column row 0 ∷ column row 1 ∷ column row 2 ∷ column row 3 ∷ column row 4 ∷ column row 5 ∷ column row 6 ∷ column row 7 ∷ column row 8 ∷ []
+nine row len = listed_as row 9 len
 
-pub nineteen : (row : Row) → length row ≡ 19 → row ≡ column row 0 ∷ column row 1 ∷ column row 2 ∷ column row 3 ∷ column row 4 ∷ progress_columns row
-nineteen row len = listed_as row 19 len
+pub twenty_two : (row : Row) → length row ≡ 22 → row ≡ column row 0 ∷ column row 1 ∷ column row 2 ∷ column row 3 ∷ column row 4 ∷ progress_columns row
+twenty_two row len = listed_as row 22 len
 
 -- ---- the version
 

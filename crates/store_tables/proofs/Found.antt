@@ -1,5 +1,6 @@
 -- From rows to the records that were asked for.
-use Rattle.std.proofs.Common.{◌≡◌, ◌≤◌, ℕ, Bool, List, [], ◌∷◌, map, filter, length, Option, None, Some, Result, Ok, Err, IfErr, IfOk, IsTrue, refl, sym, ap, ◌∙◌, arith}
+use Rattle.std.proofs.Common.{◌≡◌, ◌≤◌, ℕ, Bool, List, [], ◌∷◌, map, filter, length, Option, None, Some, Result, Ok, Err, IfErr, IfOk, IsTrue, refl, sym, ap, subst, ◌∙◌, arith}
+use Rattle.sqlite_rules.proofs.ListLemmas.{all_has}
 use Rattle.std.specs.Prelude.{IfSome}
 use Rattle.std.specs.List.{AllByRecursion}
 use Rattle.std.specs.List.Sorted.{IsPermutation}
@@ -13,13 +14,13 @@ use Rattle.sqlite_value.specs.Order.{Row, column, value_cmp}
 use Rattle.sqlite_value.proofs.OrderLemmas.{value_cmp_total}
 use Rattle.sqlite.specs.State.{State}
 use Rattle.sql_tables.specs.Asking.{IsAnswer, IsOther}
-use Rattle.sql_tables.specs.Statements.{cells_cmp}
+use Rattle.sql_tables.specs.Statements.{IsFirst, cells_cmp}
 use Rattle.sql_tables.specs.declared.read.ReadError.{ReadError}
 use Rattle.sql_tables.specs.declared.read.ReadError.TheVariants.{Foreign}
 use Rattle.sql_tables.proofs.Reading.{all_back, found_as, no_more, only_one, same_records}
 use Rattle.sqlite_keyed.specs.Lists.{sort_by}
 use Rattle.sqlite_keyed.proofs.SortLemmas.{IsPermutation-sort_by}
-use Rattle.store_tables.specs.Asks.{AreTold, Asks, AsksInOrder, by_cells}
+use Rattle.store_tables.specs.Asks.{AreTold, Asks, AsksFirst, AsksInOrder, by_cells}
 use Rattle.store_tables.specs.Records.{Records, Holds}
 use Rattle.store_tables.specs.Questions.{IsAmbiguous, IsFound}
 use Rattle.store_tables.specs.Tables.{store_schema}
@@ -70,6 +71,30 @@ module _ {X : Type 0} (cells : X → Row) (Fits : X → Type 0) (records : Recor
 
   pub all_other : IsOther sql params s (λ rows. (xs : List X) × AllByRecursion Fits xs × (map cells xs ≡ rows)) → (r : Records) → Holds s.now.trees r → (zs : List X) → IsPermutation (filter test (records r)) zs → AreTold cells order zs → ⊥
   all_other other r h zs same told = other.2 (sort_by (by_cells cells order) zs, fit_arranged r h zs same, sym (it.ordered has other.0 other.1 r h zs same told))
+
+-- the first of the records in that order
+module _ {X : Type 0} (cells : X → Row) (Fits : X → Type 0) (records : Records → List X) (test : X → Bool) (order : List ℕ) (sql : List ℕ) (params : Row) (s : State) (has : s.now.schema ≡ store_schema) (it : AsksFirst cells Fits records test order sql params s) where
+  fits_first : (r : Records) → Holds s.now.trees r → (o : Option X) → IsFirst (by_cells cells order) (filter test (records r)) o → IfSome o Fits
+  fits_first r h None first = tt
+  fits_first r h (Some x) first = all_has Fits (filter test (records r)) x (all-filter Fits test (records r) (it.fit r h)) first.0
+
+  same_one : (a b : Option X) → IfSome a Fits → IfSome b Fits → map cells (option_to_list a) ≡ map cells (option_to_list b) → a ≡ b
+  same_one None None p q e = refl
+  same_one None (Some y) p q e = absurd cc
+  same_one (Some x) None p q e = absurd cc
+  same_one (Some x) (Some y) p q e =
+      let same : cells x ≡ cells y = cc in
+      ap Some (sym (it.told x p) ∙ ap it.back same ∙ it.told y q)
+
+  pub first_found : (o : Option X) → IsAnswer sql params s (map cells (option_to_list o)) → IfSome o Fits → (r : Records) → Holds s.now.trees r → IsFirst (by_cells cells order) (filter test (records r)) o
+  first_found o answer fits r h =
+      let read = it.read has (map cells (option_to_list o)) answer r h in
+      subst (IsFirst (by_cells cells order) (filter test (records r))) (sym (same_one o read.0 fits (fits_first r h read.0 read.1) read.2)) read.1
+
+  pub first_other : IsOther sql params s (λ rows. (o : Option X) × IfSome o Fits × (map cells (option_to_list o) ≡ rows)) → (r : Records) → Holds s.now.trees r → ⊥
+  first_other other r h =
+      let read = it.read has other.0 other.1 r h in
+      other.2 (read.0, fits_first r h read.0 read.1, sym read.2)
 
 -- ---- what the answer to a question tells
 

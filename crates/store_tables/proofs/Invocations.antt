@@ -36,9 +36,10 @@ use Rattle.store_tables.proofs.Moves.{IsInsert, Moves, inserted, invocations_tur
 terms : List Term
 terms =
     lit Null ∷ col 0 0 ∷ col 0 1 ∷ col 0 2 ∷ col 0 3 ∷ col 0 4 ∷ col 0 5 ∷ col 0 6 ∷ col 0 7 ∷ col 0 8 ∷ col 0 9
-    ∷ col 0 10 ∷ col 0 11 ∷ col 0 12 ∷ col 0 13 ∷ col 0 14 ∷ col 0 15 ∷ col 0 16 ∷ col 0 17 ∷ col 0 18 ∷ []
+    ∷ col 0 10 ∷ col 0 11 ∷ col 0 12 ∷ col 0 13 ∷ col 0 14 ∷ col 0 15 ∷ col 0 16 ∷ col 0 17 ∷ col 0 18
+    ∷ col 0 19 ∷ col 0 20 ∷ col 0 21 ∷ []
 
-adds : (i : InvocationRow) → IsInsert add_invocation_text (invocation_cells i) (invocation_cells i) 1 terms 20
+adds : (i : InvocationRow) → IsInsert add_invocation_text (invocation_cells i) (invocation_cells i) 1 terms 23
 unfolding understood everything terms
 adds i = record { command = refl; plain = (refl, refl); values = refl }
 
@@ -83,11 +84,14 @@ casts i =
       cast_int (cast_signed w64 i.progress.first_moment),
       cast_int (pos i.progress.last_completion),
       cast_int (pos i.progress.entries),
+      cast_shorts i.progress.heard,
+      cast_int (pos i.progress.arrivals),
+      cast_int (if i.progress.is_awake then pos 1 else pos 0),
     ) refl
 
 pub invocation_added : (i : InvocationRow) → FitsInvocation i → (old new : State) → old.now.schema ≡ store_schema → HasRun add_invocation_text (invocation_cells i) old new → Moves (with_invocation i) old new
 invocation_added i fits old new has run =
-    let change = inserted add_invocation_text (invocation_cells i) (invocation_cells i) 1 terms 20 (adds i) 1 (codes "invocation") invocation_columns invocation_keys refl (casts i) old new has run in (
+    let change = inserted add_invocation_text (invocation_cells i) (invocation_cells i) 1 terms 23 (adds i) 1 (codes "invocation") invocation_columns invocation_keys refl (casts i) old new has run in (
       change.schema,
       λ r h. invocations_turned old.now new.now r h change.others (r.invocations ++ i ∷ []) (subst (HasRows (new.now.trees 1)) (sym (map-append invocation_cells r.invocations (i ∷ []))) (change.rows _ h.invocations)) (all-append FitsInvocation r.invocations (i ∷ []) h.fit_invocations (fits, tt)),
     )
@@ -100,7 +104,8 @@ params_of id p = Text id ∷ progress_cells p
 sets : List Term
 sets =
     col 1 1 ∷ col 1 2 ∷ col 1 3 ∷ col 1 4 ∷ col 1 5 ∷ col 0 1 ∷ col 0 2 ∷ col 0 3 ∷ col 0 4 ∷ col 0 5
-    ∷ col 0 6 ∷ col 0 7 ∷ col 0 8 ∷ col 0 9 ∷ col 0 10 ∷ col 0 11 ∷ col 0 12 ∷ col 0 13 ∷ col 0 14 ∷ []
+    ∷ col 0 6 ∷ col 0 7 ∷ col 0 8 ∷ col 0 9 ∷ col 0 10 ∷ col 0 11 ∷ col 0 12 ∷ col 0 13 ∷ col 0 14
+    ∷ col 0 15 ∷ col 0 16 ∷ col 0 17 ∷ []
 
 set_is : command_of (understood store_schema set_progress_text) ≡ Update 1 (program_of (rows_of 1 (tests_of (equal 0 0 ∷ [])) (col 1 0 ∷ col 1 0 ∷ sets) []))
 unfolding understood everything sets

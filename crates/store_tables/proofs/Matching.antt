@@ -3,19 +3,23 @@ use Rattle.std.proofs.Common.{◌≡◌, ◌&&◌, ℕ, zero, suc, Bool, true, L
 use Rattle.sqlite.specs.declared.types.Value.TheVariants.{Null}
 use Rattle.sqlite_value.specs.Order.{Row, column}
 use Rattle.sqlite.specs.Term.{Term, col, eval_all, holds}
-use Rattle.sql_tables.specs.Statements.{at_most, equals}
+use Rattle.sql_tables.specs.Statements.{above, at_least, at_most, equals}
 use Rattle.sql_tables.proofs.Answers.{passes}
 use Rattle.sql_tables.proofs.Cells.{both_true}
 use Rattle.sql_tables.proofs.Reading.{listed}
 
--- a column equals a parameter, or is at most that, both counted from 0
+-- a column equals a parameter, or is at most that, at least that or above it, both counted from 0
 pub data Test : Type 0 where
   equal : (column parameter : ℕ) → Test
   until : (column parameter : ℕ) → Test
+  from : (column parameter : ℕ) → Test
+  behind : (column parameter : ℕ) → Test
 
 abbrev pub test_of : Test → Term
 test_of (equal at parameter) = equals (suc at) parameter
 test_of (until at parameter) = at_most (suc at) parameter
+test_of (from at parameter) = at_least (suc at) parameter
+test_of (behind at parameter) = above (suc at) parameter
 
 abbrev pub tests_of : List Test → List Term
 tests_of [] = []
@@ -34,6 +38,10 @@ one_matches params [] (equal at parameter) = refl
 one_matches params (x ∷ r) (equal at parameter) = refl
 one_matches params [] (until at parameter) = refl
 one_matches params (x ∷ r) (until at parameter) = refl
+one_matches params [] (from at parameter) = refl
+one_matches params (x ∷ r) (from at parameter) = refl
+one_matches params [] (behind at parameter) = refl
+one_matches params (x ∷ r) (behind at parameter) = refl
 
 pub cells_match : (params : Row) (tests : List Test) (r : Row) → passes params (tests_of tests) r ≡ match_cells params tests (drop 1 r)
 cells_match params [] r = refl

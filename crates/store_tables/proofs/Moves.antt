@@ -75,49 +75,49 @@ kept_rows old new tree rows same h = subst (λ t. HasRows t rows) (sym same) h
 module _ (old new : Database) (r : Records) (h : Holds old.trees r) where
   pub invocations_turned : KeepsOthers store_schema 1 old new → (is : List InvocationRow) → HasRows (new.trees 1) (map invocation_cells is) → AllByRecursion FitsInvocation is → Holds new.trees (record r { invocations = is })
   invocations_turned others is rows fit = record {
-    mark = kept_rows old.trees new.trees 0 _ (others.0 (λ e. omega arith)) h.mark;
+    mark = kept_rows old.trees new.trees 3 _ (others.1.1.0 (λ e. omega arith)) h.mark;
     invocations = rows;
-    entries = kept_rows old.trees new.trees 4 _ (others.1.1.0 (λ e. omega arith)) h.entries;
-    states = kept_rows old.trees new.trees 9 _ (others.1.1.1.0 (λ e. omega arith)) h.states;
-    sleeps = kept_rows old.trees new.trees 11 _ (others.1.1.1.1.0 (λ e. omega arith)) h.sleeps;
+    entries = kept_rows old.trees new.trees 0 _ (others.0 (λ e. omega arith)) h.entries;
+    states = kept_rows old.trees new.trees 5 _ (others.1.1.1.1.0 (λ e. omega arith)) h.states;
+    sleeps = kept_rows old.trees new.trees 4 _ (others.1.1.1.0 (λ e. omega arith)) h.sleeps;
     fit_invocations = fit;
     fit_entries = h.fit_entries;
     fit_states = h.fit_states;
     fit_sleeps = h.fit_sleeps;
   }
 
-  pub entries_turned : KeepsOthers store_schema 4 old new → (es : List EntryRow) → HasRows (new.trees 4) (map entry_cells es) → AllByRecursion FitsEntry es → Holds new.trees (record r { entries = es })
+  pub entries_turned : KeepsOthers store_schema 0 old new → (es : List EntryRow) → HasRows (new.trees 0) (map entry_cells es) → AllByRecursion FitsEntry es → Holds new.trees (record r { entries = es })
   entries_turned others es rows fit = record {
-    mark = kept_rows old.trees new.trees 0 _ (others.0 (λ e. omega arith)) h.mark;
+    mark = kept_rows old.trees new.trees 3 _ (others.1.1.0 (λ e. omega arith)) h.mark;
     invocations = kept_rows old.trees new.trees 1 _ (others.1.0 (λ e. omega arith)) h.invocations;
     entries = rows;
-    states = kept_rows old.trees new.trees 9 _ (others.1.1.1.0 (λ e. omega arith)) h.states;
-    sleeps = kept_rows old.trees new.trees 11 _ (others.1.1.1.1.0 (λ e. omega arith)) h.sleeps;
+    states = kept_rows old.trees new.trees 5 _ (others.1.1.1.1.0 (λ e. omega arith)) h.states;
+    sleeps = kept_rows old.trees new.trees 4 _ (others.1.1.1.0 (λ e. omega arith)) h.sleeps;
     fit_invocations = h.fit_invocations;
     fit_entries = fit;
     fit_states = h.fit_states;
     fit_sleeps = h.fit_sleeps;
   }
 
-  pub states_turned : KeepsOthers store_schema 9 old new → (ss : List StateRow) → HasRows (new.trees 9) (map state_cells ss) → AllByRecursion FitsState ss → Holds new.trees (record r { states = ss })
+  pub states_turned : KeepsOthers store_schema 5 old new → (ss : List StateRow) → HasRows (new.trees 5) (map state_cells ss) → AllByRecursion FitsState ss → Holds new.trees (record r { states = ss })
   states_turned others ss rows fit = record {
-    mark = kept_rows old.trees new.trees 0 _ (others.0 (λ e. omega arith)) h.mark;
+    mark = kept_rows old.trees new.trees 3 _ (others.1.1.0 (λ e. omega arith)) h.mark;
     invocations = kept_rows old.trees new.trees 1 _ (others.1.0 (λ e. omega arith)) h.invocations;
-    entries = kept_rows old.trees new.trees 4 _ (others.1.1.0 (λ e. omega arith)) h.entries;
+    entries = kept_rows old.trees new.trees 0 _ (others.0 (λ e. omega arith)) h.entries;
     states = rows;
-    sleeps = kept_rows old.trees new.trees 11 _ (others.1.1.1.1.0 (λ e. omega arith)) h.sleeps;
+    sleeps = kept_rows old.trees new.trees 4 _ (others.1.1.1.0 (λ e. omega arith)) h.sleeps;
     fit_invocations = h.fit_invocations;
     fit_entries = h.fit_entries;
     fit_states = fit;
     fit_sleeps = h.fit_sleeps;
   }
 
-  pub sleeps_turned : KeepsOthers store_schema 11 old new → (ss : List SleepRow) → HasRows (new.trees 11) (map sleep_cells ss) → AllByRecursion FitsSleep ss → Holds new.trees (record r { sleeps = ss })
+  pub sleeps_turned : KeepsOthers store_schema 4 old new → (ss : List SleepRow) → HasRows (new.trees 4) (map sleep_cells ss) → AllByRecursion FitsSleep ss → Holds new.trees (record r { sleeps = ss })
   sleeps_turned others ss rows fit = record {
-    mark = kept_rows old.trees new.trees 0 _ (others.0 (λ e. omega arith)) h.mark;
+    mark = kept_rows old.trees new.trees 3 _ (others.1.1.0 (λ e. omega arith)) h.mark;
     invocations = kept_rows old.trees new.trees 1 _ (others.1.0 (λ e. omega arith)) h.invocations;
-    entries = kept_rows old.trees new.trees 4 _ (others.1.1.0 (λ e. omega arith)) h.entries;
-    states = kept_rows old.trees new.trees 9 _ (others.1.1.1.0 (λ e. omega arith)) h.states;
+    entries = kept_rows old.trees new.trees 0 _ (others.0 (λ e. omega arith)) h.entries;
+    states = kept_rows old.trees new.trees 5 _ (others.1.1.1.1.0 (λ e. omega arith)) h.states;
     sleeps = rows;
     fit_invocations = h.fit_invocations;
     fit_entries = h.fit_entries;

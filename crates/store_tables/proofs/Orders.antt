@@ -1,5 +1,5 @@
 -- Orders of records that were read.
-use Rattle.std.proofs.Common.{◌≡◌, inl, inr, ◌+◌, ◌-◌, ◌<◌, ◌≤◌, ℕ, pos, zero, suc, cond, Ordering, Less, Equal, Greater, nat_lt, false, List, [], ◌∷◌, ◌++◌, length, slice_get, slice_index_or, Some, IsTrue, refl, sym, ap, ap₂, subst, ◌∙◌, arith}
+use Rattle.std.proofs.Common.{◌≡◌, inl, inr, ◌+◌, ◌-◌, ◌<◌, ◌≤◌, ℕ, pos, zero, suc, cond, Ordering, Less, Equal, Greater, nat_lt, false, List, [], ◌∷◌, ◌++◌, length, slice_get, slice_index_or, Option, Some, IsTrue, refl, sym, ap, ap₂, subst, ◌∙◌, arith}
 use Rattle.std.specs.List.Sorted.{IsPermutation}
 use Rattle.std.proofs.lemmas.List.Sorted.{IsPermutation-sym}
 use Rattle.std.proofs.lemmas.Bool.{cases_Bool, lt-ltb, ltb-true, ltb-false}
@@ -18,9 +18,13 @@ use Rattle.sqlite_rules.specs.Lists.{Has}
 use Rattle.sql_tables.proofs.Ordered.{rising_apart, rising_sorted}
 use Rattle.sql_tables.proofs.Reading.{permuted}
 use Rattle.store_tables.specs.Asks.{AreTold, by_cells}
-use Rattle.store_tables.specs.Orders.{AreApart, sleep_cmp}
-use Rattle.store_tables.specs.Records.{EntryRow, SleepRow, StateRow, entry_cells, sleep_cells, state_cells}
-use Rattle.store_tables.specs.Questions.{AreInPlace, DoAscend, is_before}
+use Rattle.store_tables.specs.Orders.{AreApart, moment_cmp, sleep_cmp}
+use Rattle.sql_tables.specs.Cells.{short_cell}
+use Rattle.sql_tables.specs.Statements.{IsFirst}
+use Rattle.sqlite.specs.Values.{or_null}
+use Rattle.sqlite_value.specs.Order.{value_cmp}
+use Rattle.store_tables.specs.Records.{EntryRow, InvocationRow, SleepRow, StateRow, entry_cells, invocation_cells, sleep_cells, state_cells}
+use Rattle.store_tables.specs.Questions.{AreCounted, AreInPlace, DoAscend, is_before}
 
 -- ---- places
 
@@ -73,6 +77,34 @@ places_told es h = rising_apart (by_cells entry_cells (1 ∷ [])) es (in_place_r
 
 pub places_sorted : (es : List EntryRow) → AreInPlace 0 es → sort_by (by_cells entry_cells (1 ∷ [])) es ≡ es
 places_sorted es h = rising_sorted (by_cells entry_cells (1 ∷ [])) es (in_place_rises 0 es h)
+
+-- ---- ordinals
+
+behind_all : (n : ℕ) (es : List EntryRow) → AreCounted n es → AllByRecursion (λ (e : EntryRow). (m : ℕ) × (e.arrival ≡ Some m) × (n ≤ m)) es
+behind_all n [] h = tt
+behind_all n (e ∷ es) h = (
+  (n, h.0, omega arith),
+  all_weaker (λ (x : EntryRow). (m : ℕ) × (x.arrival ≡ Some m) × (n + 1 ≤ m)) (λ (x : EntryRow). (m : ℕ) × (x.arrival ≡ Some m) × (n ≤ m)) (λ (x : EntryRow) later. (later.0, later.1, omega (arith, later.2))) es (behind_all (n + 1) es h.1),
+)
+
+abbrev pub IsCountedBefore : EntryRow → EntryRow → Type 0
+IsCountedBefore a b = by_cells entry_cells (7 ∷ []) a b ≡ Less
+
+counted_rises : (n : ℕ) (es : List EntryRow) → AreCounted n es → IsAscending IsCountedBefore es
+counted_rises n [] h = tt
+counted_rises n (e ∷ es) h = (
+  all_weaker (λ (x : EntryRow). (m : ℕ) × (x.arrival ≡ Some m) × (n + 1 ≤ m)) (IsCountedBefore e)
+      (λ (x : EntryRow) later. first_decides (ap₂ (λ (a b : Option ℕ). value_cmp (or_null short_cell a) (or_null short_cell b)) h.0 later.1 ∙ value_cmp-Int (pos n) (pos later.0) ∙ int_before n later.0 (omega (arith, later.2)))) es (behind_all (n + 1) es h.1),
+  counted_rises (n + 1) es h.1,
+)
+
+pub ordinals_told : (n : ℕ) (es : List EntryRow) → AreCounted n es → AreTold entry_cells (7 ∷ []) es
+ordinals_told n es h = rising_apart (by_cells entry_cells (7 ∷ [])) es (counted_rises n es h)
+
+pub ordinals_sorted : (n : ℕ) (es : List EntryRow) → AreCounted n es → sort_by (by_cells entry_cells (7 ∷ [])) es ≡ es
+ordinals_sorted n es h = rising_sorted (by_cells entry_cells (7 ∷ [])) es (counted_rises n es h)
+
+-- ---- places, one by one
 
 pub in_place_at : (n : ℕ) (es : List EntryRow) (k : ℕ) (x : EntryRow) → AreInPlace n es → k < length es → x ≡ slice_index_or es k x → x.place ≡ n + k
 in_place_at n [] k x h small is = absurd (omega (arith, small))
@@ -149,6 +181,21 @@ states_told xs up = rising_apart (by_cells state_cells (1 ∷ [])) xs (states_ri
 pub states_sorted : (xs : List StateRow) → DoAscend (λ (s : StateRow). s.key) xs → sort_by (by_cells state_cells (1 ∷ [])) xs ≡ xs
 states_sorted xs up = rising_sorted (by_cells state_cells (1 ∷ [])) xs (states_rise xs up)
 
+-- ---- invocations
+
+abbrev pub IsNamedBefore : InvocationRow → InvocationRow → Type 0
+IsNamedBefore a b = by_cells invocation_cells (0 ∷ []) a b ≡ Less
+
+ids_rise : (xs : List InvocationRow) → DoAscend (λ (i : InvocationRow). i.id) xs → IsAscending IsNamedBefore xs
+ids_rise xs up =
+    ascending_weaker (IsKeyedBefore (λ (i : InvocationRow). i.id)) IsNamedBefore (λ a b less. first_decides (value_cmp-Text a.id b.id ∙ less)) xs (ascending_rises (λ (i : InvocationRow). i.id) xs up)
+
+pub ids_told : (xs : List InvocationRow) → DoAscend (λ (i : InvocationRow). i.id) xs → AreTold invocation_cells (0 ∷ []) xs
+ids_told xs up = rising_apart (by_cells invocation_cells (0 ∷ [])) xs (ids_rise xs up)
+
+pub ids_sorted : (xs : List InvocationRow) → DoAscend (λ (i : InvocationRow). i.id) xs → sort_by (by_cells invocation_cells (0 ∷ [])) xs ≡ xs
+ids_sorted xs up = rising_sorted (by_cells invocation_cells (0 ∷ [])) xs (ids_rise xs up)
+
 -- ---- sleeps
 
 no_more : (o : Ordering) → ordering_then o Equal ≡ o
@@ -169,3 +216,9 @@ sleeps_told xs apart =
 
 pub sleeps_sorted : (xs : List SleepRow) → sort_by (by_cells sleep_cells (1 ∷ 0 ∷ 2 ∷ [])) xs ≡ sort_by sleep_cmp xs
 sleeps_sorted xs = ap (λ (cmp : SleepRow → SleepRow → Ordering). sort_by cmp xs) (λ i a b. sleep_order a b i)
+
+moment_order : (a b : SleepRow) → by_cells sleep_cells (0 ∷ []) a b ≡ moment_cmp a b
+moment_order a b = no_more _ ∙ value_cmp-Int (cast_signed w64 a.moment) (cast_signed w64 b.moment)
+
+pub first_by_moment : (xs : List SleepRow) (found : Option SleepRow) → IsFirst (by_cells sleep_cells (0 ∷ [])) xs found → IsFirst moment_cmp xs found
+first_by_moment xs found first = subst (λ (cmp : SleepRow → SleepRow → Ordering). IsFirst cmp xs found) (λ i a b. moment_order a b i) first

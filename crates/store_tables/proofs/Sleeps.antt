@@ -24,7 +24,7 @@ use Rattle.store_tables.proofs.Moves.{IsDelete, IsInsert, Moves, dropped, insert
 terms : List Term
 terms = lit Null ∷ col 0 0 ∷ col 0 1 ∷ col 0 2 ∷ []
 
-opens : (s : SleepRow) → IsInsert open_sleep_text (sleep_cells s) (sleep_cells s) 4 terms 4
+opens : (s : SleepRow) → IsInsert open_sleep_text (sleep_cells s) (sleep_cells s) 3 terms 4
 unfolding understood everything terms
 opens s = record { command = refl; plain = (refl, refl); values = refl }
 
@@ -33,30 +33,30 @@ casts s = rw (cast_int (cast_signed w64 s.moment), cast_int (pos s.completion)) 
 
 pub sleep_opened : (s : SleepRow) → FitsSleep s → (old new : State) → old.now.schema ≡ store_schema → HasRun open_sleep_text (sleep_cells s) old new → Moves (with_sleep s) old new
 sleep_opened s fits old new has run =
-    let change = inserted open_sleep_text (sleep_cells s) (sleep_cells s) 4 terms 4 (opens s) 11 (codes "sleep") sleep_columns sleep_keys refl (casts s) old new has run in (
+    let change = inserted open_sleep_text (sleep_cells s) (sleep_cells s) 3 terms 4 (opens s) 4 (codes "sleep") sleep_columns sleep_keys refl (casts s) old new has run in (
       change.schema,
-      λ r h. sleeps_turned old.now new.now r h change.others (r.sleeps ++ s ∷ []) (subst (HasRows (new.now.trees 11)) (sym (map-append sleep_cells r.sleeps (s ∷ []))) (change.rows _ h.sleeps)) (all-append FitsSleep r.sleeps (s ∷ []) h.fit_sleeps (fits, tt)),
+      λ r h. sleeps_turned old.now new.now r h change.others (r.sleeps ++ s ∷ []) (subst (HasRows (new.now.trees 4)) (sym (map-append sleep_cells r.sleeps (s ∷ []))) (change.rows _ h.sleeps)) (all-append FitsSleep r.sleeps (s ∷ []) h.fit_sleeps (fits, tt)),
     )
 
 -- ---- sleeps that are closed
 
 -- the sleeps stay that do not pass
-others_stay : (sql : List ℕ) (params : Row) (tests : List Test) → IsDelete sql 11 4 tests → (test : SleepRow → Bool) → ((s : SleepRow) → match_cells params tests (sleep_cells s) ≡ test s)
+others_stay : (sql : List ℕ) (params : Row) (tests : List Test) → IsDelete sql 4 3 tests → (test : SleepRow → Bool) → ((s : SleepRow) → match_cells params tests (sleep_cells s) ≡ test s)
     → (old new : State) → old.now.schema ≡ store_schema → HasRun sql params old new → Moves (λ r. record r { sleeps = filter (λ s. not (test s)) r.sleeps }) old new
 others_stay sql params tests it test is old new has run =
-    let change = dropped sql params 11 4 tests it (codes "sleep") sleep_columns sleep_keys refl sleep_cells test is old new has run in (
+    let change = dropped sql params 4 3 tests it (codes "sleep") sleep_columns sleep_keys refl sleep_cells test is old new has run in (
       change.0,
       λ r h. sleeps_turned old.now new.now r h change.1.0 (filter (λ s. not (test s)) r.sleeps) (change.1.1 r.sleeps h.sleeps) (all-filter FitsSleep (λ s. not (test s)) r.sleeps h.fit_sleeps),
     )
 
-closes_own : IsDelete close_sleeps_text 11 4 (equal 1 0 ∷ [])
+closes_own : IsDelete close_sleeps_text 4 3 (equal 1 0 ∷ [])
 unfolding understood everything
 closes_own = record { command = refl; plain = (refl, refl) }
 
 pub sleeps_closed : (invocation : List ℕ) (old new : State) → old.now.schema ≡ store_schema → HasRun close_sleeps_text (Text invocation ∷ []) old new → Moves (without_sleeps invocation) old new
 sleeps_closed invocation = others_stay close_sleeps_text (Text invocation ∷ []) (equal 1 0 ∷ []) closes_own (is_sleep_of invocation) (λ s. one_test _ _ (same_text s.invocation invocation))
 
-closes_until : IsDelete close_sleeps_until_text 11 4 (until 0 0 ∷ [])
+closes_until : IsDelete close_sleeps_until_text 4 3 (until 0 0 ∷ [])
 unfolding understood everything
 closes_until = record { command = refl; plain = (refl, refl) }
 

@@ -1,5 +1,5 @@
 -- Records that were asked for in an order.
-use Rattle.std.specs.Prelude.{◌≡◌, ℕ, pos, Bool, false, List, filter}
+use Rattle.std.specs.Prelude.{◌≡◌, ℕ, pos, Bool, false, List, Option, filter}
 use Rattle.std.specs.declared.cmp.Ordering.{Ordering}
 use Rattle.std.specs.Int.{w64, cast_signed}
 use Rattle.std.specs.Ordering.{int_cmp, is_eq, nat_cmp, ordering_then}
@@ -7,7 +7,8 @@ use Rattle.std.specs.Cmp.Lexicographic.{slice_cmp}
 use Rattle.std.specs.List.Sorted.{IsPermutation}
 use Rattle.sqlite_trees.specs.Tree.{Trees, IsAscending}
 use Rattle.sqlite_keyed.specs.Lists.{sort_by}
-use Rattle.store_tables.specs.Records.{Records, Holds, SleepRow, ends_by}
+use Rattle.sql_tables.specs.Statements.{IsFirst}
+use Rattle.store_tables.specs.Records.{Records, Holds, SleepRow, ends_by, ends_from}
 use Rattle.store_tables.specs.Questions.{DoAscend}
 
 -- the records that pass, by ascending keys, are these, whatever records the tables have
@@ -37,3 +38,11 @@ AreDue moment db found = (r : Records) → Holds db r → AreApart (filter (ends
 -- the tables have no records of which no two such sleeps are alike
 abbrev pub AreAlike : ℕ → Trees → Type 0
 AreAlike moment db = (r : Records) → Holds db r → AreApart (filter (ends_by moment) r.sleeps) → ⊥
+
+-- the order of sleeps by their moments alone
+abbrev pub moment_cmp : SleepRow → SleepRow → Ordering
+moment_cmp a b = int_cmp (cast_signed w64 a.moment) (cast_signed w64 b.moment)
+
+-- the first sleep that ends at that moment or after it, if there is one, whatever records the tables have
+abbrev pub IsFirstSleep : ℕ → Trees → Option SleepRow → Type 0
+IsFirstSleep moment db found = (r : Records) → Holds db r → IsFirst moment_cmp (filter (ends_from moment) r.sleeps) found

@@ -21,12 +21,14 @@ pub record AreCounts (row : Row) (c : Counts) : Type 0 where
   pub first_moment : long_cell c.first_moment ≡ column row 16
   pub last_completion : short_cell c.last_completion ≡ column row 17
   pub entries : short_cell c.entries ≡ column row 18
-  pub fit : IsShort c.attempts × (IsShort c.attempts_since_entry × (IsLong c.first_moment × (IsShort c.last_completion × IsShort c.entries)))
+  pub arrivals : short_cell c.arrivals ≡ column row 20
+  pub fit : IsShort c.attempts × (IsShort c.attempts_since_entry × (IsLong c.first_moment × (IsShort c.last_completion × (IsShort c.entries × IsShort c.arrivals))))
 
 abbrev pub progress_columns : Row → Row
 progress_columns row =
     column row 5 ∷ column row 6 ∷ column row 7 ∷ column row 8 ∷ column row 9 ∷ column row 10 ∷ column row 11
-    ∷ column row 12 ∷ column row 13 ∷ column row 14 ∷ column row 15 ∷ column row 16 ∷ column row 17 ∷ column row 18 ∷ []
+    ∷ column row 12 ∷ column row 13 ∷ column row 14 ∷ column row 15 ∷ column row 16 ∷ column row 17 ∷ column row 18
+    ∷ column row 19 ∷ column row 20 ∷ column row 21 ∷ []
 
 abbrev pub IsProgressAt : Row → Progress → Type 0
 IsProgressAt row p = (progress_cells p ≡ progress_columns row) × FitsProgress p

@@ -1,5 +1,5 @@
 -- What is asked of the records.
-use Rattle.std.specs.Prelude.{◌≡◌, ℕ, ◌+◌, ◌≤◌, ◌==◌, ◌&&◌, Bool, false, List, [], ◌∷◌, filter, length, bytes_eq, Option, None, Some, IsTrue, ⊤}
+use Rattle.std.specs.Prelude.{◌≡◌, ℕ, ◌+◌, ◌≤◌, ◌==◌, ◌&&◌, nat_lt, Bool, false, List, [], ◌∷◌, filter, length, bytes_eq, Option, None, Some, IsTrue, ⊤}
 use Rattle.std.specs.List.{find}
 use Rattle.std.specs.List.Sorted.{IsPermutation}
 use Rattle.std.specs.Ordering.{is_lt, nat_cmp}
@@ -45,6 +45,10 @@ has_id id i = bytes_eq i.id id
 abbrev pub is_open_of : List ℕ → InvocationRow → Bool
 is_open_of object i = is_text object i.progress.open_object
 
+-- what may go on
+abbrev pub is_awake : InvocationRow → Bool
+is_awake i = i.progress.is_awake
+
 -- ---- entries
 
 abbrev pub is_at_place : List ℕ → ℕ → EntryRow → Bool
@@ -60,6 +64,18 @@ asks_second_for invocation n e = bytes_eq e.invocation invocation && is_number n
 -- the arrival that answers a completion
 abbrev pub answers : List ℕ → ℕ → EntryRow → Bool
 answers invocation n e = bytes_eq e.invocation invocation && is_number n e.answered
+
+-- the arrival with an ordinal
+abbrev pub is_arrival_at : List ℕ → ℕ → EntryRow → Bool
+is_arrival_at invocation n e = bytes_eq e.invocation invocation && is_number n e.arrival
+
+-- an arrival behind so many
+abbrev pub is_above : ℕ → Option ℕ → Bool
+is_above n None = false
+is_above n (Some m) = nat_lt n m
+
+abbrev pub is_arrival_after : List ℕ → ℕ → EntryRow → Bool
+is_arrival_after invocation n e = bytes_eq e.invocation invocation && is_above n e.arrival
 
 -- the entries of an invocation, in the order in which they were added
 abbrev pub journal_of : List ℕ → Records → List EntryRow
@@ -77,3 +93,16 @@ IsJournal invocation db found = (r : Records) → Holds db r → AreInPlace 0 (j
 -- the tables have no records of which that journal counts up
 abbrev pub IsNoJournal : List ℕ → Trees → Type 0
 IsNoJournal invocation db = (r : Records) → Holds db r → AreInPlace 0 (journal_of invocation r) → ⊥
+
+-- the ordinals count up, from one on
+abbrev pub AreCounted : ℕ → List EntryRow → Type 0
+AreCounted n [] = ⊤
+AreCounted n (e ∷ es) = (e.arrival ≡ Some n) × AreCounted (n + 1) es
+
+-- the arrivals behind the first n, in the order in which they were added, if their ordinals count up, whatever records the tables have
+abbrev pub AreArrivals : List ℕ → ℕ → Trees → List EntryRow → Type 0
+AreArrivals invocation n db found = (r : Records) → Holds db r → AreCounted (n + 1) (filter (is_arrival_after invocation n) r.entries) → found ≡ filter (is_arrival_after invocation n) r.entries
+
+-- the tables have no records of which they count up
+abbrev pub AreNoArrivals : List ℕ → ℕ → Trees → Type 0
+AreNoArrivals invocation n db = (r : Records) → Holds db r → AreCounted (n + 1) (filter (is_arrival_after invocation n) r.entries) → ⊥

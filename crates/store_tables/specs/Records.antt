@@ -3,7 +3,7 @@ use Rattle.std.specs.Prelude.{ℕ, ◌<◌, ◌^◌, List, [], ◌∷◌, ◌++�
 use Rattle.std.specs.List.{AllByRecursion}
 use Rattle.std.specs.List.Sorted.{IsPermutation}
 use Rattle.std.specs.Int.{w64, cast_signed}
-use Rattle.std.specs.Ordering.{int_cmp, is_le}
+use Rattle.std.specs.Ordering.{int_cmp, is_ge, is_le}
 use Rattle.sqlite.specs.declared.types.Value.{Value}
 use Rattle.sqlite.specs.declared.types.Value.TheVariants.{Text, Blob}
 use Rattle.sqlite.specs.Values.{or_null}
@@ -53,6 +53,8 @@ pub record FitsProgress (p : Progress) : Type 0 where
   pub first_moment : IsLong p.first_moment
   pub last_completion : IsShort p.last_completion
   pub entries : IsShort p.entries
+  pub heard : IfSome p.heard IsShort
+  pub arrivals : IsShort p.arrivals
 
 pub record FitsInvocation (i : InvocationRow) : Type 0 where
   pub id : IsUtf8 i.id
@@ -67,6 +69,7 @@ pub record FitsEntry (e : EntryRow) : Type 0 where
   pub completion : IfSome e.completion IsShort
   pub second_completion : IfSome e.second_completion IsShort
   pub answered : IfSome e.answered IsShort
+  pub arrival : IfSome e.arrival IsShort
   pub moment : IsLong e.moment
 
 abbrev pub FitsState : StateRow → Type 0
@@ -92,7 +95,8 @@ abbrev pub progress_cells : Progress → Row
 progress_cells p =
     or_null Text p.open_object ∷ or_null Blob p.suspension ∷ or_null short_cell p.handed ∷ or_null closing_cell p.closing ∷ or_null Blob p.answer
     ∷ or_null (λ e. short_cell e.code) p.last_error ∷ or_null (λ e. short_cell e.behavior) p.last_error ∷ or_null long_cell (delay_of p.last_error) ∷ or_null (λ e. Text e.message) p.last_error
-    ∷ short_cell p.attempts ∷ short_cell p.attempts_since_entry ∷ long_cell p.first_moment ∷ short_cell p.last_completion ∷ short_cell p.entries ∷ []
+    ∷ short_cell p.attempts ∷ short_cell p.attempts_since_entry ∷ long_cell p.first_moment ∷ short_cell p.last_completion ∷ short_cell p.entries
+    ∷ or_null short_cell p.heard ∷ short_cell p.arrivals ∷ flag_cell p.is_awake ∷ []
 
 abbrev pub invocation_cells : InvocationRow → Row
 invocation_cells i = Text i.id ∷ Text i.object ∷ short_cell (version_number i.version) ∷ long_cell i.seed ∷ flag_cell i.is_whole ∷ progress_cells i.progress
@@ -100,7 +104,8 @@ invocation_cells i = Text i.id ∷ Text i.object ∷ short_cell (version_number 
 abbrev pub entry_cells : EntryRow → Row
 entry_cells e =
     Text e.invocation ∷ short_cell e.place ∷ short_cell (kept_kind e.kind) ∷ Blob e.payload
-    ∷ or_null short_cell e.completion ∷ or_null short_cell e.second_completion ∷ or_null short_cell e.answered ∷ long_cell e.moment ∷ []
+    ∷ or_null short_cell e.completion ∷ or_null short_cell e.second_completion ∷ or_null short_cell e.answered
+    ∷ or_null short_cell e.arrival ∷ long_cell e.moment ∷ []
 
 abbrev pub state_cells : StateRow → Row
 state_cells s = Text s.object ∷ Blob s.key ∷ Blob s.value ∷ []
@@ -122,17 +127,17 @@ pub record FitsMark (m : Mark) : Type 0 where
   pub name : IsUtf8 m.name
   pub version : IsShort m.version
 
--- the first columns of the first table are the mark's, and it has one row
+-- the first columns of the table `meta` are the mark's, and it has one row
 abbrev pub IsMarked : Trees → Type 0
-IsMarked db = IsPermutation (map (λ r. column r 1 ∷ column r 2 ∷ []) (db 0)) (mark_cells ∷ [])
+IsMarked db = IsPermutation (map (λ r. column r 1 ∷ column r 2 ∷ []) (db 3)) (mark_cells ∷ [])
 
 -- the tables have these records, in any order
 pub record Holds (db : Trees) (r : Records) : Type 0 where
-  pub mark : HasRows (db 0) (mark_cells ∷ [])
+  pub mark : HasRows (db 3) (mark_cells ∷ [])
   pub invocations : HasRows (db 1) (map invocation_cells r.invocations)
-  pub entries : HasRows (db 4) (map entry_cells r.entries)
-  pub states : HasRows (db 9) (map state_cells r.states)
-  pub sleeps : HasRows (db 11) (map sleep_cells r.sleeps)
+  pub entries : HasRows (db 0) (map entry_cells r.entries)
+  pub states : HasRows (db 5) (map state_cells r.states)
+  pub sleeps : HasRows (db 4) (map sleep_cells r.sleeps)
   pub fit_invocations : AllByRecursion FitsInvocation r.invocations
   pub fit_entries : AllByRecursion FitsEntry r.entries
   pub fit_states : AllByRecursion FitsState r.states
@@ -176,6 +181,10 @@ is_sleep_of invocation s = bytes_eq s.invocation invocation
 -- it ends at that moment or before it, both as integers with a sign
 abbrev pub ends_by : ℕ → SleepRow → Bool
 ends_by moment s = is_le (int_cmp (cast_signed w64 s.moment) (cast_signed w64 moment))
+
+-- it ends at that moment or after it, in the same order
+abbrev pub ends_from : ℕ → SleepRow → Bool
+ends_from moment s = is_ge (int_cmp (cast_signed w64 s.moment) (cast_signed w64 moment))
 
 abbrev pub without_sleeps : List ℕ → Records → Records
 without_sleeps invocation r = record r { sleeps = filter (λ s. not (is_sleep_of invocation s)) r.sleeps }

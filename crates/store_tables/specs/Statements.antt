@@ -5,13 +5,13 @@ abbrev pub mark_text : List ℕ
 mark_text = codes "INSERT INTO meta VALUES ('journal_store', 1)"
 
 abbrev pub add_invocation_text : List ℕ
-add_invocation_text = codes "INSERT INTO invocation VALUES (?1, ?2, ?3, ?4, ?5, ?6, ?7, ?8, ?9, ?10, ?11, ?12, ?13, ?14, ?15, ?16, ?17, ?18, ?19)"
+add_invocation_text = codes "INSERT INTO invocation VALUES (?1, ?2, ?3, ?4, ?5, ?6, ?7, ?8, ?9, ?10, ?11, ?12, ?13, ?14, ?15, ?16, ?17, ?18, ?19, ?20, ?21, ?22)"
 
 abbrev pub set_progress_text : List ℕ
-set_progress_text = codes "UPDATE invocation SET open_object = ?2, suspension = ?3, handed = ?4, closing = ?5, answer = ?6, error_code = ?7, error_behavior = ?8, error_delay = ?9, error_message = ?10, attempts = ?11, attempts_since_entry = ?12, first_moment = ?13, last_completion = ?14, entries = ?15 WHERE id = ?1"
+set_progress_text = codes "UPDATE invocation SET open_object = ?2, suspension = ?3, handed = ?4, closing = ?5, answer = ?6, error_code = ?7, error_behavior = ?8, error_delay = ?9, error_message = ?10, attempts = ?11, attempts_since_entry = ?12, first_moment = ?13, last_completion = ?14, entries = ?15, heard = ?16, arrivals = ?17, awake = ?18 WHERE id = ?1"
 
 abbrev pub add_entry_text : List ℕ
-add_entry_text = codes "INSERT INTO entry VALUES (?1, ?2, ?3, ?4, ?5, ?6, ?7, ?8)"
+add_entry_text = codes "INSERT INTO entry VALUES (?1, ?2, ?3, ?4, ?5, ?6, ?7, ?8, ?9)"
 
 abbrev pub add_state_text : List ℕ
 add_state_text = codes "INSERT INTO state VALUES (?1, ?2, ?3)"
@@ -31,6 +31,12 @@ invocation_by_id_text = codes "SELECT * FROM invocation WHERE id = ?1"
 abbrev pub open_invocation_text : List ℕ
 open_invocation_text = codes "SELECT * FROM invocation WHERE open_object = ?1"
 
+abbrev pub awake_invocations_text : List ℕ
+awake_invocations_text = codes "SELECT * FROM invocation WHERE awake = ?1 ORDER BY id"
+
+abbrev pub entry_at_text : List ℕ
+entry_at_text = codes "SELECT * FROM entry WHERE invocation = ?1 AND place = ?2"
+
 abbrev pub entry_by_completion_text : List ℕ
 entry_by_completion_text = codes "SELECT * FROM entry WHERE invocation = ?1 AND completion = ?2"
 
@@ -40,8 +46,17 @@ entry_by_second_completion_text = codes "SELECT * FROM entry WHERE invocation = 
 abbrev pub entry_by_answered_text : List ℕ
 entry_by_answered_text = codes "SELECT * FROM entry WHERE invocation = ?1 AND answered = ?2"
 
+abbrev pub arrival_at_text : List ℕ
+arrival_at_text = codes "SELECT * FROM entry WHERE invocation = ?1 AND arrival = ?2"
+
+abbrev pub arrivals_after_text : List ℕ
+arrivals_after_text = codes "SELECT * FROM entry WHERE invocation = ?1 AND arrival > ?2 ORDER BY arrival"
+
 abbrev pub entries_text : List ℕ
 entries_text = codes "SELECT * FROM entry WHERE invocation = ?1 ORDER BY place"
+
+abbrev pub state_at_text : List ℕ
+state_at_text = codes "SELECT * FROM state WHERE object = ?1 AND key = ?2"
 
 abbrev pub states_text : List ℕ
 states_text = codes "SELECT * FROM state WHERE object = ?1 ORDER BY key"
@@ -57,3 +72,6 @@ close_sleeps_until_text = codes "DELETE FROM sleep WHERE moment <= ?1"
 
 abbrev pub sleeps_until_text : List ℕ
 sleeps_until_text = codes "SELECT * FROM sleep WHERE moment <= ?1 ORDER BY invocation, moment, completion"
+
+abbrev pub first_sleep_text : List ℕ
+first_sleep_text = codes "SELECT * FROM sleep WHERE moment >= ?1 ORDER BY moment LIMIT 1"

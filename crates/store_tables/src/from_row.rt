@@ -115,7 +115,7 @@ fn entry_from(alloc: Global, row: &Row) -> Result<EntryRow, ReadError>
     ensures ok { IfOk result (λ e. (entry_cells e ≡ row.now) × FitsEntry e) }
     ensures foreign { IfErr result (λ e. e ≡ ReadError.Foreign → (x : Entry) → FitsEntry x → entry_cells x ≢ row.now) }
 {
-    if row.column_count() != 8 {
+    if row.column_count() != 9 {
         return Err(ReadError::Foreign);
     }
     let place = short_at(row, 1)?;
@@ -123,7 +123,8 @@ fn entry_from(alloc: Global, row: &Row) -> Result<EntryRow, ReadError>
     let completion = short_or_none_at(row, 4)?;
     let second_completion = short_or_none_at(row, 5)?;
     let answered = short_or_none_at(row, 6)?;
-    let moment = long_at(row, 7)?;
+    let arrival = short_or_none_at(row, 7)?;
+    let moment = long_at(row, 8)?;
     let payload = blob_at(alloc, row, 3)?;
     let invocation = text_at(alloc, row, 0)?;
     Ok(EntryRow {
@@ -134,6 +135,7 @@ fn entry_from(alloc: Global, row: &Row) -> Result<EntryRow, ReadError>
         completion,
         second_completion,
         answered,
+        arrival,
         moment,
     })
 }
@@ -190,6 +192,7 @@ pub struct Counts {
     pub first_moment: u64,
     pub last_completion: u32,
     pub entries: u32,
+    pub arrivals: u32,
 }
 
 fn counts_from(row: &Row) -> Result<Counts, ReadError>
@@ -202,6 +205,7 @@ fn counts_from(row: &Row) -> Result<Counts, ReadError>
         first_moment: long_at(row, 16)?,
         last_completion: short_at(row, 17)?,
         entries: short_at(row, 18)?,
+        arrivals: short_at(row, 20)?,
     })
 }
 
@@ -211,6 +215,8 @@ fn progress_from(alloc: Global, row: &Row) -> Result<Progress, ReadError>
 {
     let counts = counts_from(row)?;
     let handed = short_or_none_at(row, 7)?;
+    let heard = short_or_none_at(row, 19)?;
+    let is_awake = flag_at(row, 21)?;
     let closing = closing_from(row)?;
     let open_object = text_or_none_at(alloc, row, 5)?;
     let suspension = blob_or_none_at(alloc, row, 6)?;
@@ -228,6 +234,9 @@ fn progress_from(alloc: Global, row: &Row) -> Result<Progress, ReadError>
         first_moment: counts.first_moment,
         last_completion: counts.last_completion,
         entries: counts.entries,
+        heard,
+        arrivals: counts.arrivals,
+        is_awake,
     })
 }
 
@@ -246,7 +255,7 @@ fn invocation_from(alloc: Global, row: &Row) -> Result<InvocationRow, ReadError>
     ensures ok { IfOk result (λ i. (invocation_cells i ≡ row.now) × FitsInvocation i) }
     ensures foreign { IfErr result (λ e. e ≡ ReadError.Foreign → (x : Invocation) → FitsInvocation x → invocation_cells x ≢ row.now) }
 {
-    if row.column_count() != 19 {
+    if row.column_count() != 22 {
         return Err(ReadError::Foreign);
     }
     let version = version_from(row)?;

@@ -15,7 +15,7 @@ fn is_meta(table: &Table) -> bool
 {
     is_table(
         table,
-        0,
+        3,
         "meta",
         &[
             required("name", Kind::Text),
@@ -53,6 +53,9 @@ fn is_invocation(table: &Table) -> bool
             required("first_moment", Kind::Integer),
             required("last_completion", Kind::Integer),
             required("entries", Kind::Integer),
+            optional("heard", Kind::Integer),
+            required("arrivals", Kind::Integer),
+            required("awake", Kind::Integer),
         ],
         &[&[1]],
     )
@@ -64,7 +67,7 @@ fn is_entry(table: &Table) -> bool
 {
     is_table(
         table,
-        4,
+        0,
         "entry",
         &[
             required("invocation", Kind::Text),
@@ -74,6 +77,7 @@ fn is_entry(table: &Table) -> bool
             optional("completion", Kind::Integer),
             optional("second_completion", Kind::Integer),
             optional("answered", Kind::Integer),
+            optional("arrival", Kind::Integer),
             required("moment", Kind::Integer),
         ],
         &[],
@@ -86,7 +90,7 @@ fn is_state(table: &Table) -> bool
 {
     is_table(
         table,
-        9,
+        5,
         "state",
         &[
             required("object", Kind::Text),
@@ -103,7 +107,7 @@ fn is_sleep(table: &Table) -> bool
 {
     is_table(
         table,
-        11,
+        4,
         "sleep",
         &[
             required("moment", Kind::Integer),
@@ -118,27 +122,27 @@ fn are_tables(tables: &[Table]) -> bool
     ensures exact { IsTrue result → tables.now ≡ store_schema.tables }
     ensures complete { tables.now ≡ store_schema.tables → IsTrue result }
 {
-    let [meta, others @ ..] = tables else {
+    let [entry, others @ ..] = tables else {
         return false;
     };
     let [invocation, others @ ..] = others else {
         return false;
     };
-    let [entry, others @ ..] = others else {
-        return false;
-    };
-    let [state, others @ ..] = others else {
+    let [meta, others @ ..] = others else {
         return false;
     };
     let [sleep, others @ ..] = others else {
         return false;
     };
+    let [state, others @ ..] = others else {
+        return false;
+    };
     others.is_empty()
-        && is_meta(meta)
-        && is_invocation(invocation)
         && is_entry(entry)
-        && is_state(state)
+        && is_invocation(invocation)
+        && is_meta(meta)
         && is_sleep(sleep)
+        && is_state(state)
 }
 
 /// An index that a store must have.
@@ -210,14 +214,16 @@ fn are_indexes(indexes: &[Index]) -> bool
         indexes,
         &[
             of_key("sqlite_autoindex_invocation_1", 2, 1, &[1]),
-            to_look_up("invocation_by_open_object", 3, 1, &[6]),
-            to_look_up("entry_by_place", 5, 4, &[1, 2]),
-            to_look_up("entry_by_completion", 6, 4, &[1, 5]),
-            to_look_up("entry_by_second_completion", 7, 4, &[1, 6]),
-            to_look_up("entry_by_answered", 8, 4, &[1, 7]),
-            of_key("sqlite_autoindex_state_1", 10, 9, &[1, 2]),
-            to_look_up("sleep_by_invocation", 12, 11, &[2, 3]),
-            to_look_up("sleep_by_moment", 13, 11, &[1]),
+            of_key("sqlite_autoindex_state_1", 6, 5, &[1, 2]),
+            to_look_up("invocation_by_open_object", 7, 1, &[6]),
+            to_look_up("invocation_by_awake", 8, 1, &[22]),
+            to_look_up("entry_by_place", 9, 0, &[1, 2]),
+            to_look_up("entry_by_completion", 10, 0, &[1, 5]),
+            to_look_up("entry_by_second_completion", 11, 0, &[1, 6]),
+            to_look_up("entry_by_answered", 12, 0, &[1, 7]),
+            to_look_up("entry_by_arrival", 13, 0, &[1, 8]),
+            to_look_up("sleep_by_invocation", 14, 4, &[2, 3]),
+            to_look_up("sleep_by_moment", 15, 4, &[1]),
         ],
     )
 }

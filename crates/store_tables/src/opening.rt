@@ -7,7 +7,7 @@ ghost use Rattle.sql_tables.specs.Asking.{IsKept};
 ghost use Rattle.sql_tables.specs.Columns.{no_schema};
 ghost use Rattle.store_tables.specs.Records.{Holds, IsMarked, Records, no_records, the_mark};
 ghost use Rattle.store_tables.specs.Steps.{IsMade, IsStore};
-ghost use Rattle.store_tables.specs.Tables.{store_schema, with_answered, with_meta, with_open_object, with_state};
+ghost use Rattle.store_tables.specs.Tables.{store_schema, with_arrival, with_awake, with_state};
 
 use crate::layout::{is_empty_schema, is_store_schema};
 use crate::row::Mark;
@@ -17,37 +17,66 @@ use sql_tables::stored::one_by;
 use sqlite::{Alter, Connection, Error, Transaction};
 use std::alloc::Global;
 
-fn make_invocations<S: Alter>(tx: &mut Transaction<'_, S>) -> Result<(), Error>
-    requires { HasCleanDisk (state S.Store tx.old.conn.now) → IsMade with_meta (state S.Store tx.old.conn.now) }
+fn make_tables<S: Alter>(tx: &mut Transaction<'_, S>) -> Result<(), Error>
+    requires { HasCleanDisk (state S.Store tx.old.conn.now) → IsTrue (state S.Store tx.old.conn.now).is_open → (state S.Store tx.old.conn.now).now.schema ≡ no_schema }
     ensures same_reference { tx.new.conn.ghost_name ≡ tx.old.conn.ghost_name }
-    ensures ok { HasCleanDisk (state S.Store tx.new.conn.now) → OnOk result (IsMade with_open_object (state S.Store tx.new.conn.now)) }
+    ensures ok { HasCleanDisk (state S.Store tx.new.conn.now) → OnOk result (IsMade with_state (state S.Store tx.new.conn.now)) }
     ensures kept { HasCleanDisk (state S.Store tx.new.conn.now) → KeepsCommit (state S.Store tx.old.conn.now) (state S.Store tx.new.conn.now) }
     ensures survives { Survives (state S.Store tx.old.conn.now) (state S.Store tx.new.conn.now) (λ _. ⊥) }
 {
     run(
         tx,
-        "CREATE TABLE invocation (id TEXT NOT NULL UNIQUE, object TEXT NOT NULL, version INTEGER NOT NULL, seed INTEGER NOT NULL, mode INTEGER NOT NULL, open_object TEXT, suspension BLOB, handed INTEGER, closing INTEGER, answer BLOB, error_code INTEGER, error_behavior INTEGER, error_delay INTEGER, error_message TEXT, attempts INTEGER NOT NULL, attempts_since_entry INTEGER NOT NULL, first_moment INTEGER NOT NULL, last_completion INTEGER NOT NULL, entries INTEGER NOT NULL) STRICT",
+        "CREATE TABLE entry (invocation TEXT NOT NULL, place INTEGER NOT NULL, kind INTEGER NOT NULL, payload BLOB NOT NULL, completion INTEGER, second_completion INTEGER, answered INTEGER, arrival INTEGER, moment INTEGER NOT NULL) STRICT",
         &[],
     )?;
     run(
         tx,
-        "CREATE INDEX invocation_by_open_object ON invocation (open_object)",
+        "CREATE TABLE invocation (id TEXT NOT NULL UNIQUE, object TEXT NOT NULL, version INTEGER NOT NULL, seed INTEGER NOT NULL, mode INTEGER NOT NULL, open_object TEXT, suspension BLOB, handed INTEGER, closing INTEGER, answer BLOB, error_code INTEGER, error_behavior INTEGER, error_delay INTEGER, error_message TEXT, attempts INTEGER NOT NULL, attempts_since_entry INTEGER NOT NULL, first_moment INTEGER NOT NULL, last_completion INTEGER NOT NULL, entries INTEGER NOT NULL, heard INTEGER, arrivals INTEGER NOT NULL, awake INTEGER NOT NULL) STRICT",
+        &[],
+    )?;
+    run(
+        tx,
+        "CREATE TABLE meta (name TEXT NOT NULL, version INTEGER NOT NULL) STRICT",
+        &[],
+    )?;
+    run(
+        tx,
+        "CREATE TABLE sleep (moment INTEGER NOT NULL, invocation TEXT NOT NULL, completion INTEGER NOT NULL) STRICT",
+        &[],
+    )?;
+    run(
+        tx,
+        "CREATE TABLE state (object TEXT NOT NULL, key BLOB NOT NULL, value BLOB NOT NULL, UNIQUE (object, key)) STRICT",
         &[],
     )
 }
 
-fn make_entries<S: Alter>(tx: &mut Transaction<'_, S>) -> Result<(), Error>
-    requires { HasCleanDisk (state S.Store tx.old.conn.now) → IsMade with_open_object (state S.Store tx.old.conn.now) }
+fn index_invocations<S: Alter>(tx: &mut Transaction<'_, S>) -> Result<(), Error>
+    requires { HasCleanDisk (state S.Store tx.old.conn.now) → IsMade with_state (state S.Store tx.old.conn.now) }
     ensures same_reference { tx.new.conn.ghost_name ≡ tx.old.conn.ghost_name }
-    ensures ok { HasCleanDisk (state S.Store tx.new.conn.now) → OnOk result (IsMade with_answered (state S.Store tx.new.conn.now)) }
+    ensures ok { HasCleanDisk (state S.Store tx.new.conn.now) → OnOk result (IsMade with_awake (state S.Store tx.new.conn.now)) }
     ensures kept { HasCleanDisk (state S.Store tx.new.conn.now) → KeepsCommit (state S.Store tx.old.conn.now) (state S.Store tx.new.conn.now) }
     ensures survives { Survives (state S.Store tx.old.conn.now) (state S.Store tx.new.conn.now) (λ _. ⊥) }
 {
     run(
         tx,
-        "CREATE TABLE entry (invocation TEXT NOT NULL, place INTEGER NOT NULL, kind INTEGER NOT NULL, payload BLOB NOT NULL, completion INTEGER, second_completion INTEGER, answered INTEGER, moment INTEGER NOT NULL) STRICT",
+        "CREATE INDEX invocation_by_open_object ON invocation (open_object)",
         &[],
     )?;
+    run(
+        tx,
+        "CREATE INDEX invocation_by_awake ON invocation (awake)",
+        &[],
+    )
+}
+
+fn index_entries<S: Alter>(tx: &mut Transaction<'_, S>) -> Result<(), Error>
+    requires { HasCleanDisk (state S.Store tx.old.conn.now) → IsMade with_awake (state S.Store tx.old.conn.now) }
+    ensures same_reference { tx.new.conn.ghost_name ≡ tx.old.conn.ghost_name }
+    ensures ok { HasCleanDisk (state S.Store tx.new.conn.now) → OnOk result (IsMade with_arrival (state S.Store tx.new.conn.now)) }
+    ensures kept { HasCleanDisk (state S.Store tx.new.conn.now) → KeepsCommit (state S.Store tx.old.conn.now) (state S.Store tx.new.conn.now) }
+    ensures survives { Survives (state S.Store tx.old.conn.now) (state S.Store tx.new.conn.now) (λ _. ⊥) }
+{
     run(
         tx,
         "CREATE INDEX entry_by_place ON entry (invocation, place)",
@@ -67,21 +96,21 @@ fn make_entries<S: Alter>(tx: &mut Transaction<'_, S>) -> Result<(), Error>
         tx,
         "CREATE INDEX entry_by_answered ON entry (invocation, answered)",
         &[],
+    )?;
+    run(
+        tx,
+        "CREATE INDEX entry_by_arrival ON entry (invocation, arrival)",
+        &[],
     )
 }
 
-fn make_sleeps<S: Alter>(tx: &mut Transaction<'_, S>) -> Result<(), Error>
-    requires { HasCleanDisk (state S.Store tx.old.conn.now) → IsMade with_state (state S.Store tx.old.conn.now) }
+fn index_sleeps<S: Alter>(tx: &mut Transaction<'_, S>) -> Result<(), Error>
+    requires { HasCleanDisk (state S.Store tx.old.conn.now) → IsMade with_arrival (state S.Store tx.old.conn.now) }
     ensures same_reference { tx.new.conn.ghost_name ≡ tx.old.conn.ghost_name }
     ensures ok { HasCleanDisk (state S.Store tx.new.conn.now) → OnOk result (IsMade store_schema (state S.Store tx.new.conn.now)) }
     ensures kept { HasCleanDisk (state S.Store tx.new.conn.now) → KeepsCommit (state S.Store tx.old.conn.now) (state S.Store tx.new.conn.now) }
     ensures survives { Survives (state S.Store tx.old.conn.now) (state S.Store tx.new.conn.now) (λ _. ⊥) }
 {
-    run(
-        tx,
-        "CREATE TABLE sleep (moment INTEGER NOT NULL, invocation TEXT NOT NULL, completion INTEGER NOT NULL) STRICT",
-        &[],
-    )?;
     run(
         tx,
         "CREATE INDEX sleep_by_invocation ON sleep (invocation, completion)",
@@ -90,26 +119,18 @@ fn make_sleeps<S: Alter>(tx: &mut Transaction<'_, S>) -> Result<(), Error>
     run(tx, "CREATE INDEX sleep_by_moment ON sleep (moment)", &[])
 }
 
-fn make_tables<S: Alter>(tx: &mut Transaction<'_, S>) -> Result<(), Error>
+/// All tables by name, and then all indexes.
+fn make_schema<S: Alter>(tx: &mut Transaction<'_, S>) -> Result<(), Error>
     requires { HasCleanDisk (state S.Store tx.old.conn.now) → IsTrue (state S.Store tx.old.conn.now).is_open → (state S.Store tx.old.conn.now).now.schema ≡ no_schema }
     ensures same_reference { tx.new.conn.ghost_name ≡ tx.old.conn.ghost_name }
     ensures ok { HasCleanDisk (state S.Store tx.new.conn.now) → OnOk result (IsMade store_schema (state S.Store tx.new.conn.now)) }
     ensures kept { HasCleanDisk (state S.Store tx.new.conn.now) → KeepsCommit (state S.Store tx.old.conn.now) (state S.Store tx.new.conn.now) }
     ensures survives { Survives (state S.Store tx.old.conn.now) (state S.Store tx.new.conn.now) (λ _. ⊥) }
 {
-    run(
-        tx,
-        "CREATE TABLE meta (name TEXT NOT NULL, version INTEGER NOT NULL) STRICT",
-        &[],
-    )?;
-    make_invocations(tx)?;
-    make_entries(tx)?;
-    run(
-        tx,
-        "CREATE TABLE state (object TEXT NOT NULL, key BLOB NOT NULL, value BLOB NOT NULL, UNIQUE (object, key)) STRICT",
-        &[],
-    )?;
-    make_sleeps(tx)
+    make_tables(tx)?;
+    index_invocations(tx)?;
+    index_entries(tx)?;
+    index_sleeps(tx)
 }
 
 /// The row by which a database is a store's.
@@ -134,7 +155,7 @@ fn create<S: Alter>(conn: &mut Connection<S>) -> Result<(), Error>
 {
     let _settled = conn.is_autocommit();
     let mut tx = conn.transaction();
-    make_tables(&mut tx)?;
+    make_schema(&mut tx)?;
     add_mark(&mut tx)?;
     tx.commit()
 }

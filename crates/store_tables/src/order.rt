@@ -3,7 +3,7 @@
 ghost use Rattle.std.specs.Prelude.{◌≡◌, IsTrue};
 ghost use Rattle.store_tables.specs.Questions.{AreInPlace, DoAscend, is_before};
 
-use crate::row::{EntryRow, StateRow};
+use crate::row::{EntryRow, InvocationRow, StateRow};
 
 /// Whether the places count up from 0.
 #[tactic(auto, using(crate::proofs::Orders::in_place_at))]
@@ -32,6 +32,28 @@ pub(crate) fn do_states_ascend(states: &[StateRow]) -> bool
 {
     for at in 1..states.len() {
         if !is_first(states[at - 1].key.as_slice(), states[at].key.as_slice()) {
+            return false;
+        }
+    }
+    true
+}
+
+fn is_named_first(first: &InvocationRow, second: &InvocationRow) -> bool
+    ensures { result ≡ is_before first.now.id second.now.id }
+{
+    is_first(
+        first.id.as_bytes().as_slice(),
+        second.id.as_bytes().as_slice(),
+    )
+}
+
+/// Whether each id is before the next.
+pub(crate) fn do_ids_ascend(invocations: &[InvocationRow]) -> bool
+    ensures exact { IsTrue result → DoAscend (λ i. i.id) invocations.now }
+    ensures complete { DoAscend (λ i. i.id) invocations.now → IsTrue result }
+{
+    for at in 1..invocations.len() {
+        if !is_named_first(&invocations[at - 1], &invocations[at]) {
             return false;
         }
     }

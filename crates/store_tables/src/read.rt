@@ -8,18 +8,19 @@ ghost use Rattle.sqlite.specs.Held.{state};
 ghost use Rattle.sqlite.specs.State.{HasCleanDisk};
 ghost use Rattle.sqlite.specs.Values.{bound};
 ghost use Rattle.sqlite_keyed.specs.Lists.{sort_by};
-ghost use Rattle.store_tables.specs.Asks.{AreTold, Asks, AsksInOrder, by_cells};
+ghost use Rattle.store_tables.specs.Asks.{AreTold, Asks, AsksFirst, AsksInOrder, by_cells};
 ghost use Rattle.store_tables.specs.Looks.{Looks};
-ghost use Rattle.store_tables.specs.Questions.{AreFound, IsAmbiguous, IsFound, IsJournal, IsNoJournal, answers, asks_for, asks_second_for, has_id, is_of_object, is_open_of};
-ghost use Rattle.store_tables.specs.Orders.{AreAlike, AreDue, IsArranged, IsUnarranged};
+ghost use Rattle.sql_tables.specs.Statements.{IsFirst};
+ghost use Rattle.store_tables.specs.Questions.{AreArrivals, AreFound, AreNoArrivals, IsAmbiguous, IsFound, IsJournal, IsNoJournal, answers, asks_for, asks_second_for, has_id, is_arrival_at, is_at_key, is_at_place, is_awake, is_of_object, is_open_of};
+ghost use Rattle.store_tables.specs.Orders.{AreAlike, AreDue, IsArranged, IsFirstSleep, IsUnarranged};
 ghost use Rattle.store_tables.specs.Records.{Holds, Records};
 ghost use Rattle.store_tables.specs.Steps.{WasAsked};
 
-use crate::order::{are_in_place, do_states_ascend};
+use crate::order::{are_in_place, do_ids_ascend, do_states_ascend};
 use crate::row::{EntryRow, InvocationRow, SleepRow, StateRow};
 use crate::tables::StoreTables;
-use bytes::ByteStr;
-use sql_tables::cell::{long, short, text};
+use bytes::{ByteStr, Bytes};
+use sql_tables::cell::{blob, flag, long, short, text};
 use sql_tables::read::ReadError;
 use sql_tables::stored::{Stored, all_by, one_by};
 use sqlite::Alter;
@@ -54,6 +55,20 @@ fn find_all<R: Stored, S: Alter>(
     all_by(tables.alloc, &mut tables.connection, sql, params)
 }
 
+/// The record that a statement asks for that wants only the first, in the order of some of its cells.
+fn find_first<R: Stored, S: Alter>(
+    tables: &mut StoreTables<S>,
+    sql: &str,
+    params: &[ValueRef<'_>],
+) -> Result<Option<R>, ReadError>
+    ensures found { HasCleanDisk (state S.Store tables.new) → IfOk result (λ o. (records : Records → List R) (test : R → Bool) (order : List ℕ) → AsksFirst R.Stored.cells R.Stored.fits records test order sql.now (bound params.now) (state S.Store tables.old) → (r : Records) → Holds (state S.Store tables.old).now.trees r → IsFirst (by_cells R.Stored.cells order) (filter test (records r)) o) }
+    ensures foreign { HasCleanDisk (state S.Store tables.new) → IfErr result (λ e. e ≡ ReadError.Foreign → (records : Records → List R) (test : R → Bool) (order : List ℕ) → AsksFirst R.Stored.cells R.Stored.fits records test order sql.now (bound params.now) (state S.Store tables.old) → (r : Records) → Holds (state S.Store tables.old).now.trees r → ⊥) }
+    ensures looks { Looks S.Store tables.old tables.new }
+    ensures open { HasCleanDisk (state S.Store tables.new) → WasAsked result (state S.Store tables.old) }
+{
+    one_by(tables.alloc, &mut tables.connection, sql, params)
+}
+
 /// The invocation of that id.
 pub fn invocation_by_id<S: Alter>(
     tables: &mut StoreTables<S>,
@@ -85,6 +100,45 @@ pub fn open_invocation<S: Alter>(
         tables,
         "SELECT * FROM invocation WHERE open_object = ?1",
         &[text(object)],
+    )
+}
+
+/// The invocations of which an attempt may go on, by id.
+pub fn awake_invocations<S: Alter>(
+    tables: &mut StoreTables<S>,
+) -> Result<Vec<InvocationRow>, ReadError>
+    ensures found { HasCleanDisk (state S.Store tables.new) → IfOk result (λ is. AreFound (λ r. r.invocations) is_awake (λ i. i.id) (state S.Store tables.old).now.trees is.items) }
+    ensures arranged { HasCleanDisk (state S.Store tables.new) → IfOk result (λ is. IsArranged (λ r. r.invocations) is_awake (λ i. i.id) (state S.Store tables.old).now.trees is.items) }
+    ensures foreign { HasCleanDisk (state S.Store tables.new) → IfErr result (λ e. e ≡ ReadError.Foreign → IsUnarranged (λ r. r.invocations) is_awake (λ i. i.id) (state S.Store tables.old).now.trees) }
+    ensures looks { Looks S.Store tables.old tables.new }
+    ensures open { HasCleanDisk (state S.Store tables.new) → WasAsked result (state S.Store tables.old) }
+{
+    let records: Vec<InvocationRow> = find_all(
+        tables,
+        "SELECT * FROM invocation WHERE awake = ?1 ORDER BY id",
+        &[flag(true)],
+    )?;
+    if !do_ids_ascend(records.as_slice()) {
+        return Err(ReadError::Foreign);
+    }
+    Ok(records)
+}
+
+/// The entry at a place, the input at 0.
+pub fn entry_at<S: Alter>(
+    tables: &mut StoreTables<S>,
+    invocation: &ByteStr,
+    place: u32,
+) -> Result<Option<EntryRow>, ReadError>
+    ensures found { HasCleanDisk (state S.Store tables.new) → IfOk result (IsFound (λ r. r.entries) (is_at_place invocation.now place) (state S.Store tables.old).now.trees) }
+    ensures foreign { HasCleanDisk (state S.Store tables.new) → IfErr result (λ e. e ≡ ReadError.Foreign → IsAmbiguous (λ r. r.entries) (is_at_place invocation.now place) (state S.Store tables.old).now.trees) }
+    ensures looks { Looks S.Store tables.old tables.new }
+    ensures open { HasCleanDisk (state S.Store tables.new) → WasAsked result (state S.Store tables.old) }
+{
+    find_one(
+        tables,
+        "SELECT * FROM entry WHERE invocation = ?1 AND place = ?2",
+        &[text(invocation), short(place)],
     )
 }
 
@@ -142,6 +196,42 @@ pub fn entry_by_answered<S: Alter>(
     )
 }
 
+/// The arrival with an ordinal, the first one at 1.
+pub fn arrival_at<S: Alter>(
+    tables: &mut StoreTables<S>,
+    invocation: &ByteStr,
+    ordinal: u32,
+) -> Result<Option<EntryRow>, ReadError>
+    ensures found { HasCleanDisk (state S.Store tables.new) → IfOk result (IsFound (λ r. r.entries) (is_arrival_at invocation.now ordinal) (state S.Store tables.old).now.trees) }
+    ensures foreign { HasCleanDisk (state S.Store tables.new) → IfErr result (λ e. e ≡ ReadError.Foreign → IsAmbiguous (λ r. r.entries) (is_arrival_at invocation.now ordinal) (state S.Store tables.old).now.trees) }
+    ensures looks { Looks S.Store tables.old tables.new }
+    ensures open { HasCleanDisk (state S.Store tables.new) → WasAsked result (state S.Store tables.old) }
+{
+    find_one(
+        tables,
+        "SELECT * FROM entry WHERE invocation = ?1 AND arrival = ?2",
+        &[text(invocation), short(ordinal)],
+    )
+}
+
+/// The arrivals behind so many, in the order in which they came.
+pub fn arrivals_after<S: Alter>(
+    tables: &mut StoreTables<S>,
+    invocation: &ByteStr,
+    ordinal: u32,
+) -> Result<Vec<EntryRow>, ReadError>
+    ensures found { HasCleanDisk (state S.Store tables.new) → IfOk result (λ es. AreArrivals invocation.now ordinal (state S.Store tables.old).now.trees es.items) }
+    ensures foreign { HasCleanDisk (state S.Store tables.new) → IfErr result (λ e. e ≡ ReadError.Foreign → AreNoArrivals invocation.now ordinal (state S.Store tables.old).now.trees) }
+    ensures looks { Looks S.Store tables.old tables.new }
+    ensures open { HasCleanDisk (state S.Store tables.new) → WasAsked result (state S.Store tables.old) }
+{
+    find_all(
+        tables,
+        "SELECT * FROM entry WHERE invocation = ?1 AND arrival > ?2 ORDER BY arrival",
+        &[text(invocation), short(ordinal)],
+    )
+}
+
 /// The journal of an invocation, by place, where its places count up from 0.
 pub fn journal<S: Alter>(
     tables: &mut StoreTables<S>,
@@ -161,6 +251,24 @@ pub fn journal<S: Alter>(
         return Err(ReadError::Foreign);
     }
     Ok(records)
+}
+
+/// The value that an object has for a key.
+pub fn state_at<S: Alter>(
+    tables: &mut StoreTables<S>,
+    object: &ByteStr,
+    key: &Bytes,
+) -> Result<Option<StateRow>, ReadError>
+    ensures found { HasCleanDisk (state S.Store tables.new) → IfOk result (IsFound (λ r. r.states) (is_at_key object.now key.now) (state S.Store tables.old).now.trees) }
+    ensures foreign { HasCleanDisk (state S.Store tables.new) → IfErr result (λ e. e ≡ ReadError.Foreign → IsAmbiguous (λ r. r.states) (is_at_key object.now key.now) (state S.Store tables.old).now.trees) }
+    ensures looks { Looks S.Store tables.old tables.new }
+    ensures open { HasCleanDisk (state S.Store tables.new) → WasAsked result (state S.Store tables.old) }
+{
+    find_one(
+        tables,
+        "SELECT * FROM state WHERE object = ?1 AND key = ?2",
+        &[text(object), blob(key)],
+    )
 }
 
 /// The state of an object, in the order of the bytes of its keys.
@@ -198,6 +306,23 @@ pub fn sleeps_until<S: Alter>(
     find_all(
         tables,
         "SELECT * FROM sleep WHERE moment <= ?1 ORDER BY invocation, moment, completion",
+        &[long(moment)],
+    )
+}
+
+/// The sleep that ends first of those that end at a moment or after it.
+pub fn first_sleep<S: Alter>(
+    tables: &mut StoreTables<S>,
+    moment: u64,
+) -> Result<Option<SleepRow>, ReadError>
+    ensures found { HasCleanDisk (state S.Store tables.new) → IfOk result (IsFirstSleep moment (state S.Store tables.old).now.trees) }
+    ensures foreign { HasCleanDisk (state S.Store tables.new) → IfErr result (λ e. e ≡ ReadError.Foreign → (r : Records) → Holds (state S.Store tables.old).now.trees r → ⊥) }
+    ensures looks { Looks S.Store tables.old tables.new }
+    ensures open { HasCleanDisk (state S.Store tables.new) → WasAsked result (state S.Store tables.old) }
+{
+    find_first(
+        tables,
+        "SELECT * FROM sleep WHERE moment >= ?1 ORDER BY moment LIMIT 1",
         &[long(moment)],
     )
 }

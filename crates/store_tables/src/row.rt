@@ -46,6 +46,12 @@ pub struct Progress {
     pub last_completion: u32,
     /// How many entries there are, which is the next one's place.
     pub entries: u32,
+    /// How many of the arrivals were handed whole to the attempt that suspended or ended.
+    pub heard: Option<u32>,
+    /// How many of the entries are arrivals.
+    pub arrivals: u32,
+    /// Whether an attempt of it may go on.
+    pub is_awake: bool,
 }
 
 #[derive(Debug, Drop)]
@@ -73,6 +79,8 @@ pub struct EntryRow {
     pub second_completion: Option<u32>,
     /// The completion id that an arrival answers.
     pub answered: Option<u32>,
+    /// Which of its invocation's arrivals it is, the first one by 1.
+    pub arrival: Option<u32>,
     /// When a sleep ends, in milliseconds.
     pub moment: u64,
 }

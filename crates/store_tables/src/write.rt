@@ -85,7 +85,7 @@ fn add_invocation<S: Alter>(
     let progress = &invocation.progress;
     run(
         tx,
-        "INSERT INTO invocation VALUES (?1, ?2, ?3, ?4, ?5, ?6, ?7, ?8, ?9, ?10, ?11, ?12, ?13, ?14, ?15, ?16, ?17, ?18, ?19)",
+        "INSERT INTO invocation VALUES (?1, ?2, ?3, ?4, ?5, ?6, ?7, ?8, ?9, ?10, ?11, ?12, ?13, ?14, ?15, ?16, ?17, ?18, ?19, ?20, ?21, ?22)",
         &[
             text(&invocation.id),
             text(&invocation.object),
@@ -106,6 +106,9 @@ fn add_invocation<S: Alter>(
             long(progress.first_moment),
             short(progress.last_completion),
             short(progress.entries),
+            short_or_null(progress.heard),
+            short(progress.arrivals),
+            flag(progress.is_awake),
         ],
     )
 }
@@ -121,7 +124,7 @@ fn set_progress<S: Alter>(
 {
     run(
         tx,
-        "UPDATE invocation SET open_object = ?2, suspension = ?3, handed = ?4, closing = ?5, answer = ?6, error_code = ?7, error_behavior = ?8, error_delay = ?9, error_message = ?10, attempts = ?11, attempts_since_entry = ?12, first_moment = ?13, last_completion = ?14, entries = ?15 WHERE id = ?1",
+        "UPDATE invocation SET open_object = ?2, suspension = ?3, handed = ?4, closing = ?5, answer = ?6, error_code = ?7, error_behavior = ?8, error_delay = ?9, error_message = ?10, attempts = ?11, attempts_since_entry = ?12, first_moment = ?13, last_completion = ?14, entries = ?15, heard = ?16, arrivals = ?17, awake = ?18 WHERE id = ?1",
         &[
             text(id),
             text_or_null(&progress.open_object),
@@ -138,6 +141,9 @@ fn set_progress<S: Alter>(
             long(progress.first_moment),
             short(progress.last_completion),
             short(progress.entries),
+            short_or_null(progress.heard),
+            short(progress.arrivals),
+            flag(progress.is_awake),
         ],
     )
 }
@@ -149,7 +155,7 @@ fn add_entry<S: Alter>(tx: &mut Transaction<'_, S>, entry: &EntryRow) -> Result<
 {
     run(
         tx,
-        "INSERT INTO entry VALUES (?1, ?2, ?3, ?4, ?5, ?6, ?7, ?8)",
+        "INSERT INTO entry VALUES (?1, ?2, ?3, ?4, ?5, ?6, ?7, ?8, ?9)",
         &[
             text(&entry.invocation),
             short(entry.place),
@@ -158,6 +164,7 @@ fn add_entry<S: Alter>(tx: &mut Transaction<'_, S>, entry: &EntryRow) -> Result<
             short_or_null(entry.completion),
             short_or_null(entry.second_completion),
             short_or_null(entry.answered),
+            short_or_null(entry.arrival),
             long(entry.moment),
         ],
     )

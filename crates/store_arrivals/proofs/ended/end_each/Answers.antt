@@ -14,7 +14,7 @@ returns-clause-frames c =
 pub returns-clause-written : goal.returns-clause-written
 returns-clause-written c =
     sym (append-nil c.loop-completion.writes.items)
-    ∙ subst (λ (left : List ℕ). c.loop-completion.writes.items ++ map AddEntry (end_rows c.args.id.now c.loop-completion.next left) ≡ c.args.writes.now.items ++ map AddEntry (end_rows c.args.id.now c.args.place c.args.completions.now))
+    ∙ subst (λ (left : List ℕ). c.loop-completion.writes.items ++ map AddEntry (end_rows c.args.id.now c.loop-completion.next c.loop-completion.known left) ≡ c.args.writes.now.items ++ map AddEntry (end_rows c.args.id.now c.args.place c.args.before c.args.completions.now))
     (drop_all c.loop-completion.completion-index c.args.completions.now c.loop-completion-test.false) c.loop-completion.invariant.written
 
 pub returns-in_err-end_one-clause-frames : goal.returns-in_err-end_one-clause-frames

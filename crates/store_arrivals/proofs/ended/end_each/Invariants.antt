@@ -7,6 +7,7 @@ use Rattle.store_arrivals.proofs.ended.end_each.Given as goal
 abbrev pub invariant-loop-completion : goal.invariant-loop-completion
 invariant-loop-completion l = record {
   next : l.next ≡ l.place + l.completion-index;
+  known : l.known ≡ l.before + l.completion-index;
   frames : l.frames.items ++ map end_frame (drop l.completion-index l.completions) ≡ map end_frame l.completions;
-  written : l.writes.items ++ map AddEntry (end_rows l.id l.next (drop l.completion-index l.completions)) ≡ l.initial.writes.items ++ map AddEntry (end_rows l.id l.place l.completions);
+  written : l.writes.items ++ map AddEntry (end_rows l.id l.next l.known (drop l.completion-index l.completions)) ≡ l.initial.writes.items ++ map AddEntry (end_rows l.id l.place l.before l.completions);
 }

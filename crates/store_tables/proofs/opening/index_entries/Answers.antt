@@ -2,8 +2,8 @@ use Rattle.std.proofs.Common.{arith}
 use Rattle.sqlite.specs.State.{State, HasCleanDisk}
 use Rattle.sqlite.specs.Held.{state}
 use Rattle.sql_tables.proofs.Queries.{keeps_on, on_ok}
-use Rattle.store_tables.proofs.Making.{entries_made}
-use Rattle.store_tables.proofs.opening.make_entries.Goals as goal
+use Rattle.store_tables.proofs.Making.{entries_indexed}
+use Rattle.store_tables.proofs.opening.index_entries.Goals as goal
 
 pub returns-in_err-run-2-clause-kept : goal.returns-in_err-run-2-clause-kept
 returns-in_err-run-2-clause-kept g c clean =
@@ -62,4 +62,4 @@ returns-clause-ok g c clean =
     let clean_d : HasCleanDisk d = omega (arith, c.run-3.ensures.survives.clean) in
     let clean_b : HasCleanDisk b = omega (arith, c.run-2.ensures.survives.clean) in
     let clean_a : HasCleanDisk a = omega (arith, c.run.ensures.survives.clean) in
-    on_ok c.run-5.result (c.run-5.ensures.ran clean) (λ last. entries_made a b d e f h (c.requires clean_a) (c.in_ok-run.ensures.ran clean_b) (c.in_ok-run-2.ensures.ran clean_d) (c.in_ok-run-3.ensures.ran clean_e) (c.in_ok-run-4.ensures.ran clean_f) last)
+    on_ok c.run-5.result (c.run-5.ensures.ran clean) (λ last. entries_indexed a b d e f h (c.requires clean_a) (c.in_ok-run.ensures.ran clean_b) (c.in_ok-run-2.ensures.ran clean_d) (c.in_ok-run-3.ensures.ran clean_e) (c.in_ok-run-4.ensures.ran clean_f) last)

@@ -2,8 +2,8 @@ use Rattle.std.proofs.Common.{arith}
 use Rattle.sqlite.specs.State.{State, HasCleanDisk}
 use Rattle.sqlite.specs.Held.{state}
 use Rattle.sql_tables.proofs.Queries.{keeps_on, on_ok}
-use Rattle.store_tables.proofs.Making.{invocations_made}
-use Rattle.store_tables.proofs.opening.make_invocations.Goals as goal
+use Rattle.store_tables.proofs.Making.{invocations_indexed}
+use Rattle.store_tables.proofs.opening.index_invocations.Goals as goal
 
 pub returns-clause-kept : goal.returns-clause-kept
 returns-clause-kept g c clean =
@@ -20,4 +20,4 @@ returns-clause-ok g c clean =
     let d : State = state g.S.Store c.run-2.new.tx.conn.now in
     let clean_b : HasCleanDisk b = omega (arith, c.run-2.ensures.survives.clean) in
     let clean_a : HasCleanDisk a = omega (arith, c.run.ensures.survives.clean) in
-    on_ok c.run-2.result (c.run-2.ensures.ran clean) (λ last. invocations_made a b d (c.requires clean_a) (c.in_ok-run.ensures.ran clean_b) last)
+    on_ok c.run-2.result (c.run-2.ensures.ran clean) (λ last. invocations_indexed a b d (c.requires clean_a) (c.in_ok-run.ensures.ran clean_b) last)

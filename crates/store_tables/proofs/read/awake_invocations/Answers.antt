@@ -1,0 +1,34 @@
+use Rattle.std.proofs.Common.{◌≡◌, ◌∙◌, [], ◌∷◌, true, false, sym, subst}
+use Rattle.sqlite.specs.Held.{state}
+use Rattle.sql_tables.proofs.Reading.{err_and}
+use Rattle.store_tables.specs.Records.{InvocationRow}
+use Rattle.store_tables.specs.Questions.{DoAscend, is_awake}
+use Rattle.store_tables.proofs.Asked.{asked_err}
+use Rattle.store_tables.proofs.Asking.{asks_awake}
+use Rattle.store_tables.proofs.Orders.{ids_sorted, ids_told}
+use Rattle.store_tables.proofs.read.awake_invocations.Goals as goal
+
+pub returns-clause-found : goal.returns-clause-found
+returns-clause-found g c clean = (
+  rw c.as_slice.ensures.value at (c.do_ids_ascend.ensures.exact c.if-not-do_ids_ascend.false),
+  c.in_ok-records.ensures.found clean (λ r. r.invocations) is_awake (rw c.flag.ensures (asks_awake (state g.S.Store c.args.tables.now)).asks),
+)
+
+pub returns-clause-arranged : goal.returns-clause-arranged
+returns-clause-arranged g c clean = λ r h zs same up.
+    c.in_ok-records.ensures.arranged clean (λ r. r.invocations) is_awake (0 ∷ []) (rw c.flag.ensures (asks_awake (state g.S.Store c.args.tables.now))) r h zs same (ids_told zs up) ∙ ids_sorted zs up
+
+pub returns-in_err-records-clause-foreign : goal.returns-in_err-records-clause-foreign
+returns-in_err-records-clause-foreign g c clean =
+    err_and c.from_residual.result c.from_residual.ensures.1 (λ e gives is r h zs same up.
+    c.in_err-records.ensures.foreign clean (sym gives ∙ is) (λ r. r.invocations) is_awake (0 ∷ []) (rw c.flag.ensures (asks_awake (state g.S.Store c.args.tables.now))) r h zs same (ids_told zs up))
+
+pub returns-then-not-do_ids_ascend-clause-foreign : goal.returns-then-not-do_ids_ascend-clause-foreign
+returns-then-not-do_ids_ascend-clause-foreign g c clean is r h zs same up =
+    let arranged : c.in_ok-records.records.items ≡ zs = c.in_ok-records.ensures.arranged clean (λ r. r.invocations) is_awake (0 ∷ []) (rw c.flag.ensures (asks_awake (state g.S.Store c.args.tables.now))) r h zs same (ids_told zs up) ∙ ids_sorted zs up in
+    let yes : c.do_ids_ascend.result ≡ true = (rw c.as_slice.ensures.value at c.do_ids_ascend.ensures.complete) (subst (DoAscend (λ (i : InvocationRow). i.id)) (sym arranged) up) in
+    let no : true ≡ false = sym yes ∙ c.if-not-do_ids_ascend.true in
+    absurd cc
+
+pub returns-in_err-records-clause-open : goal.returns-in_err-records-clause-open
+returns-in_err-records-clause-open g c clean = asked_err (state g.S.Store c.args.tables.now) c.from_residual.result c.from_residual.ensures.1 (λ e gives is. c.in_err-records.ensures.open clean (sym gives ∙ is))

@@ -1,0 +1,29 @@
+use Rattle.std.proofs.Common.{arith}
+use Rattle.sqlite.specs.Held.{state}
+use Rattle.sqlite.specs.State.{State, HasCleanDisk}
+use Rattle.sql_tables.proofs.Queries.{err_then, ok_then}
+use Rattle.store_tables.proofs.Found.{first_found, first_other}
+use Rattle.store_tables.proofs.Asked.{was_asked}
+use Rattle.store_tables.proofs.read.find_first.Goals as goal
+
+pub returns-clause-found : goal.returns-clause-found
+returns-clause-found g c clean =
+    rw (← c.tables.view_is) (
+    let old : State = state g.S.Store c.tables.inside.connection in
+    let early : HasCleanDisk old = omega (arith, c.one_by.ensures.crash.clean) in
+    ok_then c.one_by.result (c.one_by.ensures.answers clean) (λ o it records test at asks.
+    first_found _ _ records test at _ _ old (c.tables.invariant.0 early it.0) asks o it.1 it.2))
+
+pub returns-clause-foreign : goal.returns-clause-foreign
+returns-clause-foreign g c clean =
+    rw (← c.tables.view_is) (
+    let old : State = state g.S.Store c.tables.inside.connection in
+    let early : HasCleanDisk old = omega (arith, c.one_by.ensures.crash.clean) in
+    err_then c.one_by.result (c.one_by.ensures.foreign clean) (λ e it is records test at asks.
+    first_other _ _ records test at _ _ old (c.tables.invariant.0 early (it is).0) asks (it is).1))
+
+pub returns-clause-open : goal.returns-clause-open
+returns-clause-open g c clean =
+    rw (← c.tables.view_is) (
+    was_asked (state g.S.Store c.tables.inside.connection) c.one_by.result (ok_then c.one_by.result (c.one_by.ensures.answers clean) (λ o it. it.0))
+    (err_then c.one_by.result (c.one_by.ensures.foreign clean) (λ e it is. (it is).0)))
