@@ -1,3 +1,4 @@
 pub mod Meanings
 pub mod Payloads
 pub mod Trees
+pub mod Types

@@ -9,17 +9,12 @@ use Rattle.protocol_wire.specs.Check.{payload_fault}
 use Rattle.protocol_wire.specs.declared.check.Fault.{Fault}
 use Rattle.protocol_wire.specs.declared.check.Fault.TheVariants.{BadPayload, TooDeep}
 use Rattle.protocol_wire.specs.declared.record.TheConstants.{LEVELS}
+use Rattle.journal_model.specs.Request.{Request}
 use Rattle.journal_model.specs.Event.{Frame, Retry, Pause, Fail}
-use Rattle.protocol_records.specs.declared.sleep_command.SleepCommandMessage.{SleepCommandMessage}
-use Rattle.protocol_records.specs.declared.output_command.OutputCommandResult.{OutputCommandResult}
 use Rattle.protocol_records.specs.declared.suspension_v6.SuspensionMessageV6.{SuspensionMessageV6}
 use Rattle.protocol_records.specs.declared.future.Future.{Future}
-use Rattle.protocol_records.specs.SleepCommand.{sleep_command_of}
-use Rattle.protocol_records.specs.OutputCommand.{output_command_of}
 use Rattle.protocol_records.specs.Suspension.{suspension_of}
 use Rattle.protocol_records.specs.SuspensionV6.{suspension_v6_of}
-use Rattle.protocol_calls.specs.Fields.{call_command_of}
-use Rattle.protocol_calls.specs.declared.call_command.CallCommandMessage.{CallCommandMessage}
 use Rattle.protocol_controls.specs.Error.{error_of}
 use Rattle.protocol_controls.specs.declared.error.ErrorMessage.{ErrorMessage}
 use Rattle.protocol_types.specs.declared.message_type.MessageType.{MessageType}
@@ -27,32 +22,24 @@ use Rattle.protocol_types.specs.declared.feature.Feature.TheVariants as features
 use Rattle.protocol_types.specs.Feature.{lacks_feature}
 use Rattle.protocol_stream.specs.declared.decoder.RawMessage.{RawMessage}
 use Rattle.protocol_stream.specs.Header.{message_type}
-use Rattle.protocol_stream.proofs.RecordSpellings.{sleeps_spelled}
 use Rattle.store_frames.specs.declared.kind.FrameKind.{FrameKind}
 use Rattle.store_frames.specs.declared.kind.FrameKind.TheVariants as kinds
 use Rattle.store_frames.specs.declared.frame.ErrorBehavior.TheVariants as behaviors
 use Rattle.store_frames.specs.declared.frame.AttemptFrame.{AttemptFrame}
 use Rattle.store_frames.specs.declared.frame.AttemptFrame.TheVariants as answers
 use Rattle.store_frames.specs.Kind.{kind_of, record_of}
-use Rattle.protocol_spellings.specs.Requests.{request_of_sleep, request_of_call, request_of_output}
 use Rattle.store_frames.specs.Requests.{suspension_of_tree, suspension_of_lists, behavior_numbered}
-use Rattle.store_frames.specs.Meaning.{unless_faulty, read_as, command_or_broken, error_frame, suspension_frame, other_frame, frame_by, frame_of}
-use Rattle.store_frames.specs.Told.{told_unless_faulty, told_as, told_sleep, told_call, told_output, told_tree, told_lists, told_number, told_error, told_suspension, told_other, told_by}
+use Rattle.store_frames.specs.Commands.{request_in}
+use Rattle.store_frames.specs.Meaning.{unless_faulty, read_as, read_if_record, command_or_broken, error_frame, suspension_frame, frame_by, frame_of}
+use Rattle.store_frames.specs.Told.{told_unless_faulty, told_as, told_if_record, told_request, told_tree, told_lists, told_number, told_error, told_suspension, told_by}
 use Rattle.store_frames.specs.Answer.{IsFrame, behavior_meant}
-use Rattle.store_frames.proofs.Payloads.{call_payload, output_payload, lists_payload}
+use Rattle.store_frames.proofs.Payloads.{lists_payload}
 
 -- ---- records
 
-sleep_is : (one : SleepCommandMessage) → IsFrame (Frame.Command (request_of_sleep one)) (told_sleep one)
-sleep_is one = record { kind = refl; payload = sleeps_spelled one.wake_up_time one.result_completion_id one.name; completion = refl; second_completion = refl; moment = refl }
-
-call_is : (one : CallCommandMessage) → IsFrame (Frame.Command (request_of_call one)) (told_call one)
-call_is one = record { kind = refl; payload = call_payload one; completion = refl; second_completion = refl; moment = refl }
-
-output_is : (name : List ℕ) (result : Option OutputCommandResult)
-    → IsFrame (command_or_broken (request_of_output (record { name = name; result = result }))) (told_output (record { name = name; result = result }))
-output_is name None = tt
-output_is name (Some result) = record { kind = refl; payload = output_payload name result; completion = refl; second_completion = refl; moment = refl }
+request_is : (request : Option Request) → IsFrame (command_or_broken request) (told_request request)
+request_is None = tt
+request_is (Some request) = record { kind = refl; payload = refl; completion = refl; second_completion = refl; moment = refl }
 
 tree_is : (awaited : Option Future) → IsFrame (Frame.Suspend (suspension_of_tree (record { awaiting_on = awaited }))) (told_tree (record { awaiting_on = awaited }))
 tree_is None = tt
@@ -90,24 +77,20 @@ suspension_is true payload =
 suspension_is false payload =
     read_is records.Suspension payload (λ fs. Frame.Suspend (suspension_of_tree (suspension_of LEVELS fs))) (λ fs. told_tree (suspension_of LEVELS fs)) (λ fs. tree_is (suspension_of LEVELS fs).awaiting_on)
 
-other_is : (found : Option RecordType) (payload : List ℕ) → IsFrame (other_frame found payload) (told_other found payload)
-other_is None payload = tt
-other_is (Some t) payload = read_is t payload (λ fs. Frame.NotAccepted) (λ fs. answers.NotAccepted) (λ fs. tt)
+if_record_is : (found : Option RecordType) (payload : List ℕ) (frame : List Field → Frame) (answer : List Field → AttemptFrame)
+    → ((fs : List Field) → IsFrame (frame fs) (answer fs)) → IsFrame (read_if_record found frame payload) (told_if_record found answer payload)
+if_record_is None payload frame answer h = tt
+if_record_is (Some t) payload frame answer h = read_is t payload frame answer h
 
 told_is : (version : ℕ) (kind : FrameKind) (ty : MessageType) (payload : List ℕ) → IsFrame (frame_by version kind ty payload) (told_by version kind ty payload)
-told_is version kinds.Sleep ty payload =
-    read_is records.SleepCommand payload (λ fs. Frame.Command (request_of_sleep (sleep_command_of LEVELS fs))) (λ fs. told_sleep (sleep_command_of LEVELS fs)) (λ fs. sleep_is (sleep_command_of LEVELS fs))
-told_is version kinds.Call ty payload =
-    read_is records.CallCommand payload (λ fs. Frame.Command (request_of_call (call_command_of LEVELS fs))) (λ fs. told_call (call_command_of LEVELS fs)) (λ fs. call_is (call_command_of LEVELS fs))
-told_is version kinds.Output ty payload =
-    read_is records.OutputCommand payload (λ fs. command_or_broken (request_of_output (output_command_of LEVELS fs))) (λ fs. told_output (output_command_of LEVELS fs))
-    (λ fs. output_is (output_command_of LEVELS fs).name (output_command_of LEVELS fs).result)
+told_is version kinds.Command ty payload =
+    if_record_is (record_of ty) payload (λ fs. command_or_broken (request_in ty fs)) (λ fs. told_request (request_in ty fs)) (λ fs. request_is (request_in ty fs))
 told_is version kinds.AwaitingOn ty payload = read_is records.AwaitingOn payload (λ fs. Frame.AwaitingOn) (λ fs. answers.AwaitingOn) (λ fs. tt)
 told_is version kinds.Suspension ty payload = suspension_is (lacks_feature version features.AwaitTree) payload
 told_is version kinds.Error ty payload =
     read_is records.Error payload (λ fs. error_frame version (error_of LEVELS fs)) (λ fs. told_error version (error_of LEVELS fs)) (λ fs. error_is version (error_of LEVELS fs))
 told_is version kinds.End ty payload = read_is records.End payload (λ fs. Frame.End) (λ fs. answers.End) (λ fs. tt)
-told_is version kinds.Other ty payload = other_is (record_of ty) payload
+told_is version kinds.Other ty payload = if_record_is (record_of ty) payload (λ fs. Frame.NotAccepted) (λ fs. answers.NotAccepted) (λ fs. tt)
 
 -- ---- messages
 

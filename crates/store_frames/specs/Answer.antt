@@ -1,9 +1,10 @@
 -- How what is kept of a message says which frame it is.
-use Rattle.std.specs.Prelude.{◌≡◌, ℕ, List, [], ◌∷◌, ◌++◌, Option, Some, None}
+use Rattle.std.specs.Prelude.{◌≡◌, ℕ, List, ◌++◌, Option, Some, None}
 use Rattle.journal_model.specs.Request.{Request, completions_asked}
 use Rattle.journal_model.specs.Spelling.{packed_numbers, repeated_bytes, suspension_payload, request_payload, request_type}
 use Rattle.journal_model.specs.Event.{Behavior, Retry, Pause, Fail, Suspension, ForTree, ForAny, Frame}
 use Rattle.protocol_records.specs.declared.suspension_v6.SuspensionMessageV6.{SuspensionMessageV6}
+use Rattle.store_frames.specs.Commands.{first_asked, second_asked, moment_of}
 use Rattle.store_frames.specs.Requests.{suspension_of_lists}
 use Rattle.store_frames.specs.declared.frame.RecordedCommand.{RecordedCommand}
 use Rattle.store_frames.specs.declared.frame.ErrorBehavior.{ErrorBehavior}
@@ -12,19 +13,6 @@ use Rattle.store_frames.specs.declared.frame.AttemptFrame.{AttemptFrame}
 use Rattle.store_frames.specs.declared.frame.AttemptFrame.TheVariants as answers
 
 -- ---- commands
-
-abbrev pub first_asked : List ℕ → Option ℕ
-first_asked [] = None
-first_asked (n ∷ ns) = Some n
-
-abbrev pub second_asked : List ℕ → Option ℕ
-second_asked [] = None
-second_asked (n ∷ ns) = first_asked ns
-
--- when a sleep ends
-abbrev pub moment_of : Request → ℕ
-moment_of (Request.Sleep moment n name) = moment
-moment_of _ = 0
 
 -- what is kept of a command is what is recorded of this request
 pub record IsCommand (request : Request) (command : RecordedCommand) : Type 0 where

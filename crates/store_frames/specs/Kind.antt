@@ -7,10 +7,19 @@ use Rattle.protocol_types.specs.declared.message_type.MessageType.TheVariants as
 use Rattle.store_frames.specs.declared.kind.FrameKind.{FrameKind}
 use Rattle.store_frames.specs.declared.kind.FrameKind.TheVariants as kinds
 
+-- Commands that read or write the state of an object, and those whose outcome an attempt proposes, are not accepted so far.
 abbrev pub kind_of : MessageType → FrameKind
-kind_of types.SleepCommand = kinds.Sleep
-kind_of types.CallCommand = kinds.Call
-kind_of types.OutputCommand = kinds.Output
+kind_of types.OutputCommand = kinds.Command
+kind_of types.GetPromiseCommand = kinds.Command
+kind_of types.PeekPromiseCommand = kinds.Command
+kind_of types.CompletePromiseCommand = kinds.Command
+kind_of types.SleepCommand = kinds.Command
+kind_of types.CallCommand = kinds.Command
+kind_of types.OneWayCallCommand = kinds.Command
+kind_of types.SendSignalCommand = kinds.Command
+kind_of types.AttachInvocationCommand = kinds.Command
+kind_of types.GetInvocationOutputCommand = kinds.Command
+kind_of types.CompleteAwakeableCommand = kinds.Command
 kind_of types.AwaitingOn = kinds.AwaitingOn
 kind_of types.Suspension = kinds.Suspension
 kind_of types.Error = kinds.Error

@@ -1,4 +1,5 @@
 pub mod Answer
+pub mod Commands
 pub mod Kind
 pub mod Meaning
 pub mod Read

@@ -10,11 +10,8 @@ use Rattle.protocol_wire.specs.declared.check.Fault.TheVariants.{BadPayload, Too
 use Rattle.protocol_wire.specs.declared.record.TheConstants.{LEVELS}
 use Rattle.journal_model.specs.Request.{Request}
 use Rattle.journal_model.specs.Event.{Frame}
-use Rattle.protocol_records.specs.SleepCommand.{sleep_command_of}
-use Rattle.protocol_records.specs.OutputCommand.{output_command_of}
 use Rattle.protocol_records.specs.Suspension.{suspension_of}
 use Rattle.protocol_records.specs.SuspensionV6.{suspension_v6_of}
-use Rattle.protocol_calls.specs.Fields.{call_command_of}
 use Rattle.protocol_controls.specs.Error.{error_of}
 use Rattle.protocol_controls.specs.declared.error.ErrorMessage.{ErrorMessage}
 use Rattle.protocol_types.specs.declared.message_type.MessageType.{MessageType}
@@ -25,7 +22,7 @@ use Rattle.protocol_types.specs.Feature.{lacks_feature}
 use Rattle.store_frames.specs.declared.kind.FrameKind.{FrameKind}
 use Rattle.store_frames.specs.declared.kind.FrameKind.TheVariants as kinds
 use Rattle.store_frames.specs.Kind.{kind_of, record_of}
-use Rattle.protocol_spellings.specs.Requests.{request_of_sleep, request_of_call, request_of_output}
+use Rattle.store_frames.specs.Commands.{request_in}
 use Rattle.store_frames.specs.Requests.{suspension_of_tree, suspension_of_lists, behavior_in}
 
 -- a payload with which something is wrong is no more than that
@@ -51,20 +48,19 @@ abbrev pub suspension_frame : Bool → List ℕ → Frame
 suspension_frame true = read_as records.SuspensionV6 (λ fs. Frame.Suspend (Some (suspension_of_lists (suspension_v6_of LEVELS fs))))
 suspension_frame false = read_as records.Suspension (λ fs. Frame.Suspend (suspension_of_tree (suspension_of LEVELS fs)))
 
--- Of a type that is not accepted too the payload is looked at, if it is one of a record: that it is broken comes first.
-abbrev pub other_frame : Option RecordType → List ℕ → Frame
-other_frame None payload = Frame.NotAccepted
-other_frame (Some t) payload = read_as t (λ fs. Frame.NotAccepted) payload
+-- the frame of a payload of some record, where there is one: a custom entry has none, and is never accepted
+abbrev pub read_if_record : Option RecordType → (List Field → Frame) → List ℕ → Frame
+read_if_record None frame payload = Frame.NotAccepted
+read_if_record (Some t) frame payload = read_as t frame payload
 
+-- Of a type that is not accepted too the payload is looked at, if it is one of a record: that it is broken comes first.
 abbrev pub frame_by : ℕ → FrameKind → MessageType → List ℕ → Frame
-frame_by version kinds.Sleep ty payload = read_as records.SleepCommand (λ fs. Frame.Command (request_of_sleep (sleep_command_of LEVELS fs))) payload
-frame_by version kinds.Call ty payload = read_as records.CallCommand (λ fs. Frame.Command (request_of_call (call_command_of LEVELS fs))) payload
-frame_by version kinds.Output ty payload = read_as records.OutputCommand (λ fs. command_or_broken (request_of_output (output_command_of LEVELS fs))) payload
+frame_by version kinds.Command ty payload = read_if_record (record_of ty) (λ fs. command_or_broken (request_in ty fs)) payload
 frame_by version kinds.AwaitingOn ty payload = read_as records.AwaitingOn (λ fs. Frame.AwaitingOn) payload
 frame_by version kinds.Suspension ty payload = suspension_frame (lacks_feature version AwaitTree) payload
 frame_by version kinds.Error ty payload = read_as records.Error (λ fs. error_frame version (error_of LEVELS fs)) payload
 frame_by version kinds.End ty payload = read_as records.End (λ fs. Frame.End) payload
-frame_by version kinds.Other ty payload = other_frame (record_of ty) payload
+frame_by version kinds.Other ty payload = read_if_record (record_of ty) (λ fs. Frame.NotAccepted) payload
 
 -- the frame that a message from an attempt of this version is
 abbrev pub frame_of : (version : ℕ) → RawMessage → Frame

@@ -9,26 +9,22 @@ use Rattle.protocol_wire.specs.Parts.{payload_of}
 use Rattle.protocol_wire.specs.declared.check.Fault.{Fault}
 use Rattle.protocol_wire.specs.declared.check.Fault.TheVariants.{BadPayload, TooDeep}
 use Rattle.protocol_wire.specs.declared.record.TheConstants.{LEVELS}
-use Rattle.journal_model.specs.Spelling.{suspension_payload}
+use Rattle.journal_model.specs.Request.{Request}
+use Rattle.journal_model.specs.Spelling.{request_payload, suspension_payload}
 use Rattle.protocol_trees.specs.Future.{future_tree}
 use Rattle.protocol_records.specs.declared.future.Future.{Future}
-use Rattle.protocol_records.specs.declared.sleep_command.SleepCommandMessage.{SleepCommandMessage}
-use Rattle.protocol_records.specs.declared.output_command.OutputCommandMessage.{OutputCommandMessage}
 use Rattle.protocol_records.specs.declared.suspension.SuspensionMessage.{SuspensionMessage}
 use Rattle.protocol_records.specs.declared.suspension_v6.SuspensionMessageV6.{SuspensionMessageV6}
-use Rattle.protocol_records.specs.SleepCommand.{sleep_command_of, sleep_command_parts}
-use Rattle.protocol_records.specs.OutputCommand.{output_command_of, output_command_parts}
 use Rattle.protocol_records.specs.Suspension.{suspension_of}
 use Rattle.protocol_records.specs.SuspensionV6.{suspension_v6_of, suspension_v6_parts}
-use Rattle.protocol_calls.specs.Fields.{call_command_of, call_command_parts}
-use Rattle.protocol_calls.specs.declared.call_command.CallCommandMessage.{CallCommandMessage}
 use Rattle.protocol_controls.specs.Error.{error_of}
 use Rattle.protocol_controls.specs.declared.error.ErrorMessage.{ErrorMessage}
 use Rattle.protocol_types.specs.declared.message_type.MessageType.{MessageType}
-use Rattle.protocol_types.specs.declared.message_type.MessageType.TheVariants as types
 use Rattle.protocol_types.specs.declared.feature.Feature.TheVariants as features
 use Rattle.protocol_types.specs.Feature.{lacks_feature}
+use Rattle.store_frames.specs.Commands.{request_in, asked_for}
 use Rattle.store_frames.specs.Kind.{record_of}
+use Rattle.store_frames.specs.declared.command.AskedFor.{AskedFor}
 use Rattle.store_frames.specs.declared.kind.FrameKind.{FrameKind}
 use Rattle.store_frames.specs.declared.kind.FrameKind.TheVariants as kinds
 use Rattle.store_frames.specs.declared.frame.ErrorBehavior.{ErrorBehavior}
@@ -47,27 +43,19 @@ told_unless_faulty (Some fault) answer = told_faulty fault
 abbrev pub told_as : RecordType → (List Field → AttemptFrame) → List ℕ → AttemptFrame
 told_as t answer payload = told_unless_faulty (payload_fault LEVELS t payload) (answer (fields payload))
 
-abbrev pub told_if_there : {A : Type 0} → Option A → AttemptFrame → AttemptFrame
-told_if_there None answer = answers.Broken
-told_if_there (Some part) answer = answer
-
-abbrev pub told_command : MessageType → List ℕ → Option ℕ → Option ℕ → ℕ → AttemptFrame
-told_command kind payload completion second_completion moment = answers.Command (record {
-  kind = kind;
+abbrev pub told_command : List ℕ → AskedFor → AttemptFrame
+told_command payload asked = answers.Command (record {
+  kind = asked.kind;
   payload = payload;
-  completion = completion;
-  second_completion = second_completion;
-  moment = moment;
+  completion = asked.completion;
+  second_completion = asked.second_completion;
+  moment = asked.moment;
 })
 
-abbrev pub told_sleep : SleepCommandMessage → AttemptFrame
-told_sleep one = told_command types.SleepCommand (payload_of (sleep_command_parts one)) (Some one.result_completion_id) None one.wake_up_time
-
-abbrev pub told_call : CallCommandMessage → AttemptFrame
-told_call one = told_command types.CallCommand (payload_of (call_command_parts one)) (Some one.invocation_id_notification_idx) (Some one.result_completion_id) 0
-
-abbrev pub told_output : OutputCommandMessage → AttemptFrame
-told_output one = told_if_there one.result (told_command types.OutputCommand (payload_of (output_command_parts one)) None None 0)
+-- of a command that stands for this request
+abbrev pub told_request : Option Request → AttemptFrame
+told_request None = answers.Broken
+told_request (Some request) = told_command (request_payload request) (asked_for request)
 
 abbrev pub told_waiting : Option Future → AttemptFrame
 told_waiting None = answers.Broken
@@ -92,16 +80,18 @@ abbrev pub told_suspension : Bool → List ℕ → AttemptFrame
 told_suspension true = told_as records.SuspensionV6 (λ fs. told_lists (suspension_v6_of LEVELS fs))
 told_suspension false = told_as records.Suspension (λ fs. told_tree (suspension_of LEVELS fs))
 
-abbrev pub told_other : Option RecordType → List ℕ → AttemptFrame
-told_other None payload = answers.NotAccepted
-told_other (Some t) payload = told_as t (λ fs. answers.NotAccepted) payload
+abbrev pub told_if_record : Option RecordType → (List Field → AttemptFrame) → List ℕ → AttemptFrame
+told_if_record None answer payload = answers.NotAccepted
+told_if_record (Some t) answer payload = told_as t answer payload
+
+-- of a message of a command's type
+abbrev pub told_by_type : MessageType → List ℕ → AttemptFrame
+told_by_type ty = told_if_record (record_of ty) (λ fs. told_request (request_in ty fs))
 
 abbrev pub told_by : ℕ → FrameKind → MessageType → List ℕ → AttemptFrame
-told_by version kinds.Sleep ty = told_as records.SleepCommand (λ fs. told_sleep (sleep_command_of LEVELS fs))
-told_by version kinds.Call ty = told_as records.CallCommand (λ fs. told_call (call_command_of LEVELS fs))
-told_by version kinds.Output ty = told_as records.OutputCommand (λ fs. told_output (output_command_of LEVELS fs))
+told_by version kinds.Command ty = told_by_type ty
 told_by version kinds.AwaitingOn ty = told_as records.AwaitingOn (λ fs. answers.AwaitingOn)
 told_by version kinds.Suspension ty = told_suspension (lacks_feature version features.AwaitTree)
 told_by version kinds.Error ty = told_as records.Error (λ fs. told_error version (error_of LEVELS fs))
 told_by version kinds.End ty = told_as records.End (λ fs. answers.End)
-told_by version kinds.Other ty = told_other (record_of ty)
+told_by version kinds.Other ty = told_if_record (record_of ty) (λ fs. answers.NotAccepted)

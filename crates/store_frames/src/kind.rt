@@ -8,9 +8,7 @@ use protocol_wire::RecordType;
 /// What a message of a type is for.
 #[derive(Clone, Copy, Debug, PartialEq, Eq)]
 pub enum FrameKind {
-    Sleep,
-    Call,
-    Output,
+    Command,
     AwaitingOn,
     Suspension,
     Error,
@@ -18,14 +16,23 @@ pub enum FrameKind {
     Other,
 }
 
-/// What messages of this type are for.
+/// What messages of this type are for. Commands that read or write the state of an object, and those whose outcome an attempt
+/// proposes, are not accepted so far.
 pub(crate) fn kind_of(ty: MessageType) -> FrameKind
     ensures { result ≡ the_kind_of ty }
 {
     match ty {
-        MessageType::SleepCommand => FrameKind::Sleep,
-        MessageType::CallCommand => FrameKind::Call,
-        MessageType::OutputCommand => FrameKind::Output,
+        MessageType::OutputCommand
+        | MessageType::GetPromiseCommand
+        | MessageType::PeekPromiseCommand
+        | MessageType::CompletePromiseCommand
+        | MessageType::SleepCommand
+        | MessageType::CallCommand
+        | MessageType::OneWayCallCommand
+        | MessageType::SendSignalCommand
+        | MessageType::AttachInvocationCommand
+        | MessageType::GetInvocationOutputCommand
+        | MessageType::CompleteAwakeableCommand => FrameKind::Command,
         MessageType::AwaitingOn => FrameKind::AwaitingOn,
         MessageType::Suspension => FrameKind::Suspension,
         MessageType::Error => FrameKind::Error,

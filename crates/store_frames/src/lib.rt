@@ -5,6 +5,9 @@
 //! numbers and moments in it. Whether the frame is accepted then depends on what is recorded, which is not known here.
 #![tactic(auto)]
 
+mod command;
+mod commands;
+mod fault;
 mod frame;
 mod kind;
 mod read;

@@ -1,48 +1,24 @@
 // Reading a message from an attempt.
 ghost use Rattle.std.specs.Prelude.{◌≡◌, IfOk};
-ghost use Rattle.protocol_wire.specs.Check.{payload_fault};
 ghost use Rattle.protocol_wire.specs.declared.record.TheConstants.{LEVELS as the_levels};
 ghost use Rattle.protocol_types.specs.declared.feature.Feature.TheVariants.{AwaitTree};
 ghost use Rattle.protocol_types.specs.Feature.{lacks_feature};
 ghost use Rattle.protocol_types.specs.Version.{version_number};
 ghost use Rattle.store_frames.specs.Answer.{IsFrame};
-ghost use Rattle.store_frames.specs.Kind.{kind_of as the_kind_of, record_of as the_record_of};
+ghost use Rattle.store_frames.specs.Kind.{kind_of as the_kind_of};
 ghost use Rattle.store_frames.specs.Meaning.{frame_of};
-ghost use Rattle.store_frames.specs.Told.{told_faulty, told_unless_faulty, told_as, told_by, told_other, told_suspension};
+ghost use Rattle.store_frames.specs.Told.{told_as, told_by, told_suspension};
 
+use crate::commands::read_by_type;
+use crate::fault::{faulty, read_other, unless_faulty};
 use crate::frame::AttemptFrame;
-use crate::kind::{FrameKind, kind_of, record_of};
+use crate::kind::{FrameKind, kind_of};
 use crate::record::FrameRecord;
-use protocol_calls::CallCommandMessage;
 use protocol_controls::ErrorMessage;
-use protocol_records::{
-    OutputCommandMessage, SleepCommandMessage, SuspensionMessage, SuspensionMessageV6,
-};
+use protocol_records::{SuspensionMessage, SuspensionMessageV6};
 use protocol_stream::{Feature, MessageHeader, MessageType, RawMessage, Version};
-use protocol_wire::{DecodeError, Fault, LEVELS, Payload, RecordType, decode, fault_in};
+use protocol_wire::{DecodeError, RecordType, decode};
 use std::alloc::{AllocError, Global};
-
-fn faulty(fault: Fault) -> AttemptFrame
-    ensures { result ≡ told_faulty fault }
-{
-    match fault {
-        Fault::BadPayload => AttemptFrame::Broken,
-        Fault::TooDeep => AttemptFrame::TooDeep,
-    }
-}
-
-/// The frame, of whose record nothing is kept, unless its payload has a fault.
-fn unless_faulty(of: RecordType, payload: &[u8], frame: AttemptFrame) -> AttemptFrame
-    ensures { result ≡ told_unless_faulty (payload_fault the_levels of payload.now) frame }
-{
-    match fault_in(of, &Payload::new(payload), LEVELS) {
-        None => frame,
-        Some(fault) => {
-            drop(frame);
-            faulty(fault)
-        }
-    }
-}
 
 /// What is kept of the record that a payload is.
 fn read_as<R: FrameRecord>(
@@ -77,15 +53,6 @@ fn read_suspension(
     }
 }
 
-fn read_other(ty: MessageType, payload: &[u8]) -> AttemptFrame
-    ensures { result ≡ told_other (the_record_of ty) payload.now }
-{
-    match record_of(ty) {
-        Some(of) => unless_faulty(of, payload, AttemptFrame::NotAccepted),
-        None => AttemptFrame::NotAccepted,
-    }
-}
-
 fn read_payload(
     alloc: Global,
     version: Version,
@@ -95,9 +62,7 @@ fn read_payload(
     ensures { IfOk result (λ frame. frame ≡ told_by (version_number version) (the_kind_of ty) ty payload.now) }
 {
     match kind_of(ty) {
-        FrameKind::Sleep => read_as::<SleepCommandMessage>(alloc, version, payload),
-        FrameKind::Call => read_as::<CallCommandMessage>(alloc, version, payload),
-        FrameKind::Output => read_as::<OutputCommandMessage>(alloc, version, payload),
+        FrameKind::Command => read_by_type(alloc, ty, payload),
         FrameKind::AwaitingOn => Ok(unless_faulty(
             RecordType::AwaitingOn,
             payload,
@@ -106,7 +71,7 @@ fn read_payload(
         FrameKind::Suspension => read_suspension(alloc, version, payload),
         FrameKind::Error => read_as::<ErrorMessage>(alloc, version, payload),
         FrameKind::End => Ok(unless_faulty(RecordType::End, payload, AttemptFrame::End)),
-        FrameKind::Other => Ok(read_other(ty, payload)),
+        FrameKind::Other => Ok(read_other(ty, payload, AttemptFrame::NotAccepted)),
     }
 }
 

@@ -1,23 +1,20 @@
-// What is kept of each record that an attempt writes.
+// What is kept of each record that an attempt writes, other than commands.
 ghost use Rattle.std.specs.Prelude.{◌≡◌, ℕ, IfOk};
 ghost use Rattle.protocol_wire.specs.Parts.{payload_of};
 ghost use Rattle.store_frames.specs.declared.frame.AttemptFrame.{AttemptFrame as Frames};
 ghost use Rattle.protocol_types.specs.Version.{version_number};
-ghost use Rattle.store_frames.specs.Told.{told_command, told_behavior, told_number};
+ghost use Rattle.store_frames.specs.Told.{told_behavior, told_number};
 
-use crate::frame::{AttemptFrame, ErrorBehavior, RecordedCommand};
+use crate::frame::{AttemptFrame, ErrorBehavior};
 use crate::tree::tree_payload;
 use bytes::Bytes;
-use protocol_calls::CallCommandMessage;
 use protocol_controls::ErrorMessage;
-use protocol_records::{
-    OutputCommandMessage, SleepCommandMessage, SuspensionMessage, SuspensionMessageV6,
-};
-use protocol_stream::{Feature, MessageType, Version};
+use protocol_records::{SuspensionMessage, SuspensionMessageV6};
+use protocol_stream::{Feature, Version};
 use protocol_wire::{Record, encode};
 use std::alloc::{AllocError, Global};
 
-/// A record that a frame of an attempt is the payload of.
+/// A record that a frame of an attempt is the payload of, other than a command.
 pub(crate) trait FrameRecord: Record {
     ghost told: { ℕ → Self → Frames };
 
@@ -27,73 +24,10 @@ pub(crate) trait FrameRecord: Record {
 }
 
 /// The canonical payload.
-fn canonical<R: Record>(alloc: Global, one: &R) -> Result<Bytes, AllocError>
+pub(crate) fn canonical<R: Record>(alloc: Global, one: &R) -> Result<Bytes, AllocError>
     ensures { IfOk result (λ payload. payload ≡ payload_of (R.parts one.now)) }
 {
     Ok(Bytes::from_vec(encode(alloc, one)?)?)
-}
-
-fn command<R: Record>(
-    alloc: Global,
-    kind: MessageType,
-    one: &R,
-    completion: Option<u32>,
-    second_completion: Option<u32>,
-    moment: u64,
-) -> Result<AttemptFrame, AllocError>
-    ensures { IfOk result (λ frame. frame ≡ told_command kind (payload_of (R.parts one.now)) completion second_completion moment) }
-{
-    let payload = canonical(alloc, one)?;
-    Ok(AttemptFrame::Command(RecordedCommand {
-        kind,
-        payload,
-        completion,
-        second_completion,
-        moment,
-    }))
-}
-
-impl FrameRecord for SleepCommandMessage {
-    ghost use Rattle.store_frames.specs.Told.{told_sleep};
-
-    ghost told = { λ version one. told_sleep one };
-
-    fn to_frame(&self, alloc: Global, _version: Version) -> Result<AttemptFrame, AllocError> {
-        let completion = Some(self.result_completion_id);
-        command(
-            alloc,
-            MessageType::SleepCommand,
-            self,
-            completion,
-            None,
-            self.wake_up_time,
-        )
-    }
-}
-
-impl FrameRecord for CallCommandMessage {
-    ghost use Rattle.store_frames.specs.Told.{told_call};
-
-    ghost told = { λ version one. told_call one };
-
-    fn to_frame(&self, alloc: Global, _version: Version) -> Result<AttemptFrame, AllocError> {
-        let first = Some(self.invocation_id_notification_idx);
-        let second = Some(self.result_completion_id);
-        command(alloc, MessageType::CallCommand, self, first, second, 0)
-    }
-}
-
-impl FrameRecord for OutputCommandMessage {
-    ghost use Rattle.store_frames.specs.Told.{told_output};
-
-    ghost told = { λ version one. told_output one };
-
-    fn to_frame(&self, alloc: Global, _version: Version) -> Result<AttemptFrame, AllocError> {
-        match &self.result {
-            None => Ok(AttemptFrame::Broken),
-            Some(_) => command(alloc, MessageType::OutputCommand, self, None, None, 0),
-        }
-    }
 }
 
 impl FrameRecord for SuspensionMessage {

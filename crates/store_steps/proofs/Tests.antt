@@ -13,7 +13,8 @@ use Rattle.store_refusals.specs.Refused.{refusal_by}
 use Rattle.store_frames.specs.declared.frame.RecordedCommand.{RecordedCommand}
 use Rattle.store_frames.specs.declared.frame.AttemptFrame.{AttemptFrame}
 use Rattle.store_frames.specs.declared.frame.AttemptFrame.TheVariants as told
-use Rattle.store_frames.specs.Answer.{first_asked, second_asked, IsCommand, IsFrame}
+use Rattle.store_frames.specs.Commands.{first_asked, second_asked}
+use Rattle.store_frames.specs.Answer.{IsCommand, IsFrame}
 use Rattle.store_model.specs.Progress.{progress_of}
 use Rattle.store_steps.specs.Stateless.{is_of_state, LeavesState}
 use Rattle.store_steps.specs.Told.{asked, asked_by, tests_of_told}

@@ -1,5 +1,5 @@
 -- What is written of a frame, by what is kept of its invocation and of the frame, is what the event writes.
-use Rattle.std.proofs.Common.{◌≡◌, refl, sym, ap, ap₂, ◌∙◌, ℕ, ◌+◌, ◌^◌, max, nat_lt, Bool, true, false, ◌&&◌, if◌then◌else◌, List, [], ◌∷◌, ◌++◌, append-nil, length, map, Option, Some, None}
+use Rattle.std.proofs.Common.{arith, ◌≡◌, refl, sym, ap, ap₂, ◌∙◌, ℕ, ◌+◌, ◌^◌, max, nat_lt, Bool, true, false, ◌&&◌, if◌then◌else◌, List, [], ◌∷◌, ◌++◌, append-nil, length, map, Option, Some, None}
 use Rattle.journal_model.specs.Notification.{Bytes, Text, Arrival}
 use Rattle.journal_model.specs.State.{state_after}
 use Rattle.journal_model.specs.Request.{Request, completions_asked}
@@ -12,7 +12,8 @@ use Rattle.store_frames.specs.declared.frame.ErrorBehavior.{ErrorBehavior}
 use Rattle.store_frames.specs.declared.frame.ErrorBehavior.TheVariants as behaviors
 use Rattle.store_frames.specs.declared.frame.AttemptFrame.{AttemptFrame}
 use Rattle.store_frames.specs.declared.frame.AttemptFrame.TheVariants as told
-use Rattle.store_frames.specs.Answer.{first_asked, second_asked, moment_of as moment_told, behavior_meant, IsCommand, IsError, IsFrame}
+use Rattle.store_frames.specs.Commands.{first_asked, second_asked, moment_of as moment_told}
+use Rattle.store_frames.specs.Answer.{behavior_meant, IsCommand, IsError, IsFrame}
 use Rattle.store_refusals.specs.Refused.{refusal_by}
 use Rattle.store_tables.specs.declared.row.Closing.TheVariants.{Failed}
 use Rattle.store_tables.specs.declared.row.Progress.{Progress}
@@ -62,6 +63,7 @@ row_same id before place request command h = λ i. record {
   second_completion = second i;
   answered = None;
   moment = moment i;
+  arrival = None;
 }
   where
     kind : request_type request ≡ command.kind
@@ -97,11 +99,16 @@ output_same _ = refl
 
 command_progress : (request : Request) (command : RecordedCommand) (p : Progress) → is_of_state request ≡ false → IsCommand request command
     → after_command request p ≡ after_recorded command p
-command_progress request command p stateless h = λ i. record (grown (1 + none_at_once request stateless i) p) {
-  last_completion = max p.last_completion (greatest (asked_same request command h i));
-  answer = payload_or (put_out i) p.answer;
-}
+command_progress request command p stateless h =
+    (λ i. record (grown (1 + none_at_once request stateless i) (none_at_once request stateless i) p) {
+      last_completion = max p.last_completion (greatest (asked_same request command h i));
+      answer = payload_or (put_out i) p.answer;
+    })
+    ∙ (λ i. record (after_recorded command p) { arrivals = no_more p.arrivals i })
   where
+    no_more : (n : ℕ) → n + 0 ≡ n
+    no_more n = omega arith
+
     put_out : output_payload request ≡ value_put_out command
     put_out = output_same request ∙ (λ i. if puts_out (facts_of (sym h.kind i)) then Some (sym h.payload i) else None)
 
@@ -130,6 +137,7 @@ error_progress version place code message behavior delay told_code told_message 
   last_error = Some (record { code = sym h.code_is i; behavior = number i; delay = sym h.delay_is i; message = sym h.message_is i });
   open_object = if fails i then None else p.open_object;
   closing = if fails i then Some Failed else p.closing;
+  is_awake = if fails i then false else p.is_awake;
 }
   where
     number : behavior_number behavior ≡ number_of_behavior told_behavior

@@ -1,5 +1,5 @@
 -- Why a frame is refused, what is written of it and how it is answered, by what is kept of its invocation and of the frame.
-use Rattle.std.specs.Prelude.{ℕ, ◌<◌, ◌-◌, ◌^◌, max, nat_lt, Bool, true, false, not, ◌&&◌, if◌then◌else◌, List, [], ◌∷◌, map, Option, Some, None, option_to_list}
+use Rattle.std.specs.Prelude.{ℕ, ◌+◌, ◌<◌, ◌-◌, ◌^◌, max, nat_lt, Bool, true, false, not, ◌&&◌, if◌then◌else◌, List, [], ◌∷◌, map, Option, Some, None, option_to_list}
 use Rattle.journal_model.specs.Notification.{Bytes, Text}
 use Rattle.journal_model.specs.Cause.{BrokenPayload, NestedTooDeep, FrameNotAccepted, BadCompletion, InputNotClosed, NumbersUsedUp, PayloadTooLong, Tests, do_ascend, greatest, is_too_long}
 use Rattle.protocol_stream.specs.declared.command_facts.CommandFacts.{CommandFacts}
@@ -18,7 +18,7 @@ use Rattle.store_tables.specs.declared.row.EntryRow.{EntryRow}
 use Rattle.store_tables.specs.declared.row.SleepRow.{SleepRow}
 use Rattle.store_tables.specs.declared.row.Write.{Write}
 use Rattle.store_tables.specs.declared.row.Write.TheVariants.{SetProgress, AddEntry, OpenSleep, CloseSleeps}
-use Rattle.store_model.specs.Steps.{grown, payload_or}
+use Rattle.store_model.specs.Steps.{payload_or}
 use Rattle.store_steps.specs.declared.frame.FrameReply.{FrameReply}
 use Rattle.store_steps.specs.declared.frame.FrameReply.TheVariants as replies
 
@@ -51,6 +51,7 @@ command_row id place command = record {
   second_completion = command.second_completion;
   answered = None;
   moment = command.moment;
+  arrival = None;
 }
 
 -- whether the moment of a command of this line is kept, as one at which it is due
@@ -68,7 +69,10 @@ abbrev pub sleep_told : Text → RecordedCommand → List SleepRow
 sleep_told id command = sleep_if (keeps_moment (facts_of command.kind) && nat_lt command.moment (2 ^ 63)) id command.moment command.completion
 
 abbrev pub after_recorded : RecordedCommand → Progress → Progress
-after_recorded command p = record (grown 1 p) {
+after_recorded command p = record p {
+  entries = p.entries + 1;
+  attempts_since_entry = 0;
+  first_moment = 0;
   last_completion = max p.last_completion (greatest (asked_by command));
   answer = payload_or (value_put_out command) p.answer;
 }
@@ -86,17 +90,18 @@ does_fail version behaviors.Fail = has_feature version features.ErrorBehavior
 does_fail version _ = false
 
 abbrev pub after_suspension : Bytes → ℕ → Progress → Progress
-after_suspension payload place p = record p { suspension = Some payload; handed = Some place }
+after_suspension payload place p = record p { suspension = Some payload; handed = Some place; is_awake = false }
 
 abbrev pub after_error : LastError → Bool → Progress → Progress
 after_error error fails p = record p {
   last_error = Some error;
   open_object = if fails then None else p.open_object;
   closing = if fails then Some Failed else p.closing;
+  is_awake = if fails then false else p.is_awake;
 }
 
 abbrev pub after_end : ℕ → Progress → Progress
-after_end place p = record p { open_object = None; closing = Some Ended; handed = Some place }
+after_end place p = record p { open_object = None; closing = Some Ended; handed = Some place; is_awake = false }
 
 abbrev pub error_told : ℕ → Text → ErrorBehavior → Option ℕ → LastError
 error_told code message behavior delay = record { code = code; behavior = number_of_behavior behavior; delay = delay; message = message }

@@ -1,5 +1,5 @@
 // What is written of a frame, and how it is answered.
-ghost use Rattle.std.specs.Prelude.{◌≡◌, ◌<◌, ◌-◌, ◌^◌, max, [], ◌∷◌, ◌++◌, map, option_to_list, IfOk, OnOk};
+ghost use Rattle.std.specs.Prelude.{false, ◌≡◌, ◌<◌, ◌-◌, ◌^◌, max, [], ◌∷◌, ◌++◌, map, option_to_list, IfOk, OnOk};
 ghost use Rattle.journal_model.specs.Cause.{greatest};
 ghost use Rattle.store_tables.specs.declared.row.Write.TheVariants.{AddEntry, OpenSleep, SetProgress};
 ghost use Rattle.store_model.specs.Steps.{payload_or};
@@ -93,6 +93,7 @@ fn entry_of(id: ByteStr, place: u32, command: RecordedCommand) -> EntryRow
         second_completion: command.second_completion,
         answered: None,
         moment: command.moment,
+        arrival: None,
     }
 }
 
@@ -234,6 +235,7 @@ fn suspend(progress: &mut Progress, payload: Bytes, handed: u32)
 {
     drop(progress.suspension.replace(payload));
     progress.handed = Some(handed);
+    progress.is_awake = false;
 }
 
 fn behavior_number(behavior: ErrorBehavior) -> u32
@@ -257,9 +259,10 @@ fn closes(version: Version, behavior: ErrorBehavior) -> bool
 }
 
 fn close(progress: &mut Progress, closing: Closing)
-    ensures { progress.new ≡ record progress.old { open_object = None; closing = Some closing } }
+    ensures { progress.new ≡ record progress.old { open_object = None; closing = Some closing; is_awake = false } }
 {
     drop(progress.open_object.take());
+    progress.is_awake = false;
     progress.closing = Some(closing);
 }
 
