@@ -1,5 +1,5 @@
 -- What is recorded of an invocation of which each event fits can be told to its attempts.
-use Rattle.std.proofs.Common.{◌≡◌, ◌≢◌, ℕ, zero, suc, ◌+◌, ◌/◌, ◌%◌, ◌^◌, ◌<◌, ◌≤◌, ◌==◌, arith, Bool, true, false, true≢false, not, ◌||◌, nat_le, nat_lt, if◌then◌else◌, List, [], ◌∷◌, ◌++◌, append_assoc, length, length-append, map, filter, filter_map, Some, None, is_some, bytes_eq, refl, sym, ap, subst, ◌∙◌, find}
+use Rattle.std.proofs.Common.{◌≡◌, ◌≢◌, ℕ, zero, suc, ◌+◌, ◌/◌, ◌%◌, ◌^◌, ◌<◌, ◌≤◌, ◌==◌, arith, Bool, true, false, true≢false, not, ◌||◌, nat_le, nat_lt, if◌then◌else◌, List, [], ◌∷◌, ◌++◌, append_assoc, length, length-append, map, filter, filter_map, Option, Some, None, is_some, bytes_eq, refl, sym, ap, subst, ◌∙◌, find}
 use Rattle.std.specs.List.{AllByRecursion, list_any}
 use Rattle.std.proofs.lemmas.Bool.Decides.{nat_tests, Decides-eqb}
 use Rattle.std.proofs.lemmas.Slice.Eq.{bytes_eq-Decides}
@@ -7,23 +7,24 @@ use Rattle.journal_model.specs.declared.invocation.NewInvocation.{NewInvocation}
 use Rattle.journal_model.specs.declared.notification.NotificationId.{NotificationId}
 use Rattle.journal_model.specs.declared.notification.NotificationId.TheVariants.{CompletionId}
 use Rattle.journal_model.specs.declared.notification.NotificationResult.{NotificationResult}
-use Rattle.journal_model.specs.Notification.{Text, Arrival}
+use Rattle.journal_model.specs.Notification.{Bytes, Text, Arrival}
 use Rattle.journal_model.specs.Request.{Request}
-use Rattle.journal_model.specs.State.{StateMap, state_after}
-use Rattle.journal_model.specs.Spelling.{varint, varint_groups, input_payload, notification_payload}
+use Rattle.journal_model.specs.State.{StateMap, value_at, state_keys, state_after}
+use Rattle.journal_model.specs.Delivery.{value_or_void}
+use Rattle.journal_model.specs.Spelling.{varint, varint_groups, input_payload, request_payload, notification_payload}
 use Rattle.journal_model.specs.declared.value.NonEmptyValue.{NonEmptyValue}
 use Rattle.journal_model.specs.Event.{Event, Frame}
 use Rattle.journal_model.specs.Journal.{Entry, Recorded, Arrived, is_of, is_open, begins, invoked_by, invocation_begun, starting_state, entries_of, entries_of_event, requests_in, arrivals_in, recorded_arrivals, completion, asks_for, request_asking, is_awaited, open_request, sleeps_in, by_moment, sorted_by_moment, is_over, slept, read_answer}
-use Rattle.journal_model.specs.Cause.{causes_of, tests_of, own_tests, is_too_long, IsAccepted}
+use Rattle.journal_model.specs.Cause.{causes_of, tests_of, own_tests, entry_payload, is_too_long, IsAccepted}
 use Rattle.journal_laws.proofs.ObjectState.{tail_of, holds-head, holds-tail, begun_before, find-passes, not-false, open_when_accepted, requests_in-append}
 use Rattle.input_laws.specs.Message.{InputMessage, CarriesInput, CarriesRequest, CarriesArrival, CarriesOutcome, arrivals_carried, IsBroughtBy}
 use Rattle.input_laws.proofs.Events.{added_by, entries_now, entries_first, unborn_open}
 use Rattle.input_laws.proofs.Telling.{arrivals_carried-append}
+use Rattle.machine_laws.proofs.Recording.{own_passes}
 use Rattle.children_laws.specs.Childless.{is_cancellation}
 use Rattle.request_laws.specs.Fitting.{RequestFits}
 use Rattle.beginning_laws.proofs.Passed.{of_asked}
 use Rattle.beginning_laws.specs.Reading.{ArrivalFits, IsAsked, IsNotificationType, MayCome}
-use Rattle.sending_laws.specs.Sent.{is_recorded}
 use Rattle.schedule_model.specs.Fitting.{InvocationFits, ResultFits}
 use Rattle.fitting_laws.specs.Fitting.{AcceptedFits, AllFit}
 use Rattle.fitting_laws.specs.Laws.{MessagesMayCome, UnbornFit}
@@ -263,10 +264,55 @@ open_asks entries n e = found_any (asks_for n) (requests_in entries) (by_test (i
     by_test true e = e
     by_test false e = absurd (true≢false (sym e))
 
-read_none : (state : StateMap) (request : Request) → is_recorded request ≡ true → read_answer state request ≡ []
-read_none state (Request.GetLazyState key n name) e = absurd (true≢false (sym e))
-read_none state (Request.GetLazyStateKeys n name) e = absurd (true≢false (sym e))
-read_none state request e = refl
+-- ---- the answer of a lazy read, which stands behind its request
+
+any_after : (test : Request → Bool) (some more : List Request) → list_any test more ≡ true → list_any test (some ++ more) ≡ true
+any_after test [] more e = e
+any_after test (request ∷ some) more e = any_behind test request (some ++ more) (any_after test some more e)
+
+value_fits : (n : ℕ) (found : Option Bytes) → n < 2 ^ 32 → ResultFits (completion n (value_or_void found))
+value_fits n None small = record { level = omega arith; id = small; result = record { level = omega arith } }
+value_fits n (Some bytes) small = record { level = omega arith; id = small; result = record { level = omega arith } }
+
+-- of what a command adds no payload passes 32 bits
+answer_short : (long answer_long : Bool) → (long || (answer_long || false)) ≡ false → answer_long ≡ false
+answer_short true answer_long e = absurd (true≢false e)
+answer_short false true e = absurd (true≢false e)
+answer_short false false e = refl
+
+answer_come : (all : List Entry) (request : Request) (n : ℕ) (value : NotificationResult) → asks_for n request ≡ true → ResultFits (completion n value)
+    → (is_too_long (request_payload request) || (is_too_long (notification_payload (completion n value)) || false)) ≡ false
+    → ArrivalCome (all ++ Recorded request ∷ Arrived (completion n value) ∷ []) (completion n value)
+answer_come all request n value asks fits long = record {
+  fits = record {
+    fits = fits;
+    short = not_long (length (notification_payload (completion n value))) (answer_short (is_too_long (request_payload request)) (is_too_long (notification_payload (completion n value))) long);
+  };
+  uncancelled = refl;
+  asked =
+      ap (λ (requests : List Request). list_any (asks_for n) requests) (requests_in-append all (Recorded request ∷ Arrived (completion n value) ∷ []))
+      ∙ any_after (asks_for n) (requests_in all) (request ∷ []) (any_first (asks_for n) request [] asks);
+}
+
+command_fits : (all : List Entry) (state : StateMap) (request : Request) → RequestFits request
+    → list_any (λ entry. is_too_long (entry_payload entry)) (Recorded request ∷ map Arrived (read_answer state request)) ≡ false
+    → AllByRecursion (EntryFits (all ++ Recorded request ∷ map Arrived (read_answer state request))) (Recorded request ∷ map Arrived (read_answer state request))
+command_fits all state (Request.GetLazyState key n name) fits long = (
+  fits,
+  (
+    answer_come all (Request.GetLazyState key n name) n (value_or_void (value_at state key)) (itself_asked n) (value_fits n (value_at state key) fits.fits.result_completion_id) long,
+    tt,
+  ),
+)
+command_fits all state (Request.GetLazyStateKeys n name) fits long = (
+  fits,
+  (
+    answer_come all (Request.GetLazyStateKeys n name) n (NotificationResult.StateKeys (state_keys state)) (itself_asked n)
+        (record { level = omega arith; id = fits.fits.result_completion_id; result = record { level = omega arith } }) long,
+    tt,
+  ),
+)
+command_fits all state request fits long = (fits, tt)
 
 module _ (id : Text) (events : List Event) where
   abbrev all : List Entry
@@ -290,28 +336,43 @@ module _ (id : Text) (events : List Event) where
       either true e = e
       either false e = refl
 
-  own_command : (request : Request) → RequestFits request → is_recorded request ≡ true → AllByRecursion (EntryFits all) (Recorded request ∷ map Arrived (read_answer (state_after (requests_in all) (starting_state events id)) request))
-  own_command request fits recorded =
-      subst (λ (arrivals : List Arrival). AllByRecursion (EntryFits all) (Recorded request ∷ map Arrived arrivals)) (sym (read_none (state_after (requests_in all) (starting_state events id)) request recorded)) (fits, tt)
+  own_command : (attempt : ℕ) (request : Request) → causes_of events (Event.Take id attempt (Frame.Command request)) ≡ [] → RequestFits request
+      → let added = Recorded request ∷ map Arrived (read_answer (state_after (requests_in all) (starting_state events id)) request) in AllByRecursion (EntryFits (all ++ added)) added
+  own_command attempt request causes fits =
+      let tests = own_tests events (Event.Take id attempt (Frame.Command request)) in
+      command_fits all (state_after (requests_in all) (starting_state events id)) request fits
+      (holds-head (tail_of (tail_of (tail_of (tail_of tests))))
+      (holds-tail (tail_of (tail_of (tail_of tests)))
+      (holds-tail (tail_of (tail_of tests)) (holds-tail (tail_of tests) (holds-tail tests (own_passes events (Event.Take id attempt (Frame.Command request)) id causes))))))
 
-  added_fit : (event : Event) → causes_of events event ≡ [] → AcceptedFits id event → AllByRecursion (EntryFits all) all → AllByRecursion (EntryFits all) (added_by events id event)
+  -- it fits over all entries with its own: the answer of a lazy read is asked for by the request in front of it
+  added_fit : (event : Event) → causes_of events event ≡ [] → AcceptedFits id event → AllByRecursion (EntryFits all) all → AllByRecursion (EntryFits (all ++ added_by events id event)) (added_by events id event)
   added_fit (Event.Complete other n value) causes fits before =
-      if_adds (EntryFits all) (bytes_eq other id || false) (Arrived (completion n value) ∷ [])
+      if_adds (EntryFits (all ++ added_by events id (Event.Complete other n value))) (bytes_eq other id || false) (Arrived (completion n value) ∷ [])
       (λ e. let same : other ≡ id = (bytes_eq-Decides other id).0 (or_false (bytes_eq other id) e) in
+      entries_more all (added_by events id (Event.Complete other n value)) (Arrived (completion n value) ∷ [])
       (completed n value (subst (λ (x : Text). causes_of events (Event.Complete x n value) ≡ []) same causes) (fits same), tt))
   added_fit (Event.Signal other key value) causes fits before =
-      if_adds (EntryFits all) (bytes_eq other id || false) (entries_of_event (starting_state events id) all (Event.Signal other key value)) (λ e. absurd (fits ((bytes_eq-Decides other id).0 (or_false (bytes_eq other id) e))))
-  added_fit (Event.Cancel other) causes fits before =
-      if_adds (EntryFits all) (bytes_eq other id || false) (entries_of_event (starting_state events id) all (Event.Cancel other)) (λ e. absurd (fits ((bytes_eq-Decides other id).0 (or_false (bytes_eq other id) e))))
-  added_fit (Event.Tick now) causes fits before = if_adds (EntryFits all) (is_open events id) (map Arrived (slept all now)) (λ e. slept_fit all now before)
-  added_fit (Event.Take other attempt (Frame.Command request)) causes fits before =
-      if_adds (EntryFits all) (bytes_eq other id || false) (entries_of_event (starting_state events id) all (Event.Take other attempt (Frame.Command request)))
-      (λ e. let f = fits ((bytes_eq-Decides other id).0 (or_false (bytes_eq other id) e)) in own_command request f.0 f.1)
-  added_fit (Event.Take other attempt (Frame.RunOutcome n value is_acknowledged)) causes fits before =
-      if_adds (EntryFits all) (bytes_eq other id || false) (entries_of_event (starting_state events id) all (Event.Take other attempt (Frame.RunOutcome n value is_acknowledged)))
+      if_adds (EntryFits (all ++ added_by events id (Event.Signal other key value))) (bytes_eq other id || false) (entries_of_event (starting_state events id) all (Event.Signal other key value))
       (λ e. absurd (fits ((bytes_eq-Decides other id).0 (or_false (bytes_eq other id) e))))
-  added_fit (Event.Take other attempt frame) causes fits before = if_adds (EntryFits all) (bytes_eq other id || false) [] (λ e. tt)
-  added_fit event causes fits before = if_adds (EntryFits all) (is_of id event || false) [] (λ e. tt)
+  added_fit (Event.Cancel other) causes fits before =
+      if_adds (EntryFits (all ++ added_by events id (Event.Cancel other))) (bytes_eq other id || false) (entries_of_event (starting_state events id) all (Event.Cancel other))
+      (λ e. absurd (fits ((bytes_eq-Decides other id).0 (or_false (bytes_eq other id) e))))
+  added_fit (Event.Tick now) causes fits before =
+      if_adds (EntryFits (all ++ added_by events id (Event.Tick now))) (is_open events id) (map Arrived (slept all now))
+      (λ e. entries_more all (added_by events id (Event.Tick now)) (map Arrived (slept all now)) (slept_fit all now before))
+  added_fit (Event.Take other attempt (Frame.Command request)) causes fits before =
+      let added = Recorded request ∷ map Arrived (read_answer (state_after (requests_in all) (starting_state events id)) request) in
+      if_adds (EntryFits (all ++ added_by events id (Event.Take other attempt (Frame.Command request)))) (bytes_eq other id || false) added
+      (λ e. let same : other ≡ id = (bytes_eq-Decides other id).0 (or_false (bytes_eq other id) e) in
+      subst (λ (more : List Entry). AllByRecursion (EntryFits (all ++ more)) added) (sym (ap (λ (b : Bool). if b then added else []) e))
+      (own_command attempt request (subst (λ (x : Text). causes_of events (Event.Take x attempt (Frame.Command request)) ≡ []) same causes) (fits same)))
+  added_fit (Event.Take other attempt (Frame.RunOutcome n value is_acknowledged)) causes fits before =
+      if_adds (EntryFits (all ++ added_by events id (Event.Take other attempt (Frame.RunOutcome n value is_acknowledged)))) (bytes_eq other id || false)
+      (entries_of_event (starting_state events id) all (Event.Take other attempt (Frame.RunOutcome n value is_acknowledged)))
+      (λ e. absurd (fits ((bytes_eq-Decides other id).0 (or_false (bytes_eq other id) e))))
+  added_fit (Event.Take other attempt frame) causes fits before = if_adds (EntryFits (all ++ added_by events id (Event.Take other attempt frame))) (bytes_eq other id || false) [] (λ e. tt)
+  added_fit event causes fits before = if_adds (EntryFits (all ++ added_by events id event)) (is_of id event || false) [] (λ e. tt)
 
 pub entries_fit : (id : Text) (events : List Event) → IsAccepted events → AllFit id events → AllByRecursion (EntryFits (entries_of events id)) (entries_of events id)
 entries_fit id [] accepted fits = tt
@@ -324,8 +385,7 @@ entries_fit id (event ∷ events) accepted fits = by_begins (begins id event) re
         let added = added_fit id events event accepted.0 fits.0 before in
         subst (λ (entries : List Entry). AllByRecursion (EntryFits entries) entries) (sym (entries_now event events id e))
         (all_both (EntryFits (entries_of events id ++ added_by events id event)) (entries_of events id) (added_by events id event)
-        (entries_more (entries_of events id) (added_by events id event) (entries_of events id) before)
-        (entries_more (entries_of events id) (added_by events id event) (added_by events id event) added))
+        (entries_more (entries_of events id) (added_by events id event) (entries_of events id) before) added)
 
 -- ---- what comes to the attempt
 

@@ -1,16 +1,15 @@
--- Which events calls can bring: their numbers are within their types, their texts are UTF-8, and what an attempt asks for is recorded.
-use Rattle.std.specs.Prelude.{◌≡◌, ◌<◌, ◌^◌, true, List}
+-- Which events calls can bring: their numbers are within their types, and their texts are UTF-8.
+use Rattle.std.specs.Prelude.{◌≡◌, ◌<◌, ◌^◌, List}
 use Rattle.std.specs.List.{AllByRecursion}
 use Rattle.journal_model.specs.Notification.{Text}
 use Rattle.journal_model.specs.Event.{Event, Frame}
 use Rattle.journal_model.specs.Journal.{completion}
 use Rattle.request_laws.specs.Fitting.{RequestFits}
 use Rattle.schedule_model.specs.Fitting.{InvocationFits, ResultFits}
-use Rattle.sending_laws.specs.Sent.{is_recorded}
 
--- a request that a store records; no run is executed, so none has an outcome
+-- of a frame that was taken; no run is executed, so none has an outcome
 abbrev pub FrameFits : Frame → Type 0
-FrameFits (Frame.Command request) = RequestFits request × (is_recorded request ≡ true)
+FrameFits (Frame.Command request) = RequestFits request
 FrameFits (Frame.RunOutcome completion value is_acknowledged) = ⊥
 FrameFits _ = Unit {0}
 

@@ -109,15 +109,15 @@ request_read_as version (Request.GetEagerStateKeys keys name) h = not_recorded r
 request_read_as version (Request.SetState key value name) h = not_recorded records.SetStateCommand set_state_command_of request_of_set_state (Request.SetState key value name) (request_payload (Request.SetState key value name)) (payload_read (Request.SetState key value name) h)
 request_read_as version (Request.ClearState key name) h = not_recorded records.ClearStateCommand clear_state_command_of (λ one. Some (request_of_clear_state one)) (Request.ClearState key name) (request_payload (Request.ClearState key name)) (payload_read (Request.ClearState key name) h)
 request_read_as version (Request.ClearAllState name) h = not_recorded records.ClearAllStateCommand clear_all_state_command_of (λ one. Some (request_of_clear_all_state one)) (Request.ClearAllState name) (request_payload (Request.ClearAllState name)) (payload_read (Request.ClearAllState name) h)
-request_read_as version (Request.GetPromise key n name) h = not_recorded records.GetPromiseCommand get_promise_command_of (λ one. Some (request_of_get_promise one)) (Request.GetPromise key n name) (request_payload (Request.GetPromise key n name)) (payload_read (Request.GetPromise key n name) h)
-request_read_as version (Request.PeekPromise key n name) h = not_recorded records.PeekPromiseCommand peek_promise_command_of (λ one. Some (request_of_peek_promise one)) (Request.PeekPromise key n name) (request_payload (Request.PeekPromise key n name)) (payload_read (Request.PeekPromise key n name) h)
-request_read_as version (Request.CompletePromise key value n name) h = not_recorded records.CompletePromiseCommand complete_promise_command_of request_of_complete_promise (Request.CompletePromise key value n name) (request_payload (Request.CompletePromise key value n name)) (payload_read (Request.CompletePromise key value n name) h)
-request_read_as version (Request.OneWayCall call time m name) h = not_recorded records.OneWayCallCommand one_way_call_command_of (λ one. Some (request_of_one_way_call one)) (Request.OneWayCall call time m name) (request_payload (Request.OneWayCall call time m name)) (payload_read (Request.OneWayCall call time m name) h)
-request_read_as version (Request.SendSignal target key value name) h = not_recorded records.SendSignalCommand send_signal_command_of request_of_send_signal (Request.SendSignal target key value name) (request_payload (Request.SendSignal target key value name)) (payload_read (Request.SendSignal target key value name) h)
+request_read_as version (Request.GetPromise key n name) h = recorded records.GetPromiseCommand get_promise_command_of (λ one. Some (request_of_get_promise one)) (Request.GetPromise key n name) (request_payload (Request.GetPromise key n name)) (payload_read (Request.GetPromise key n name) h)
+request_read_as version (Request.PeekPromise key n name) h = recorded records.PeekPromiseCommand peek_promise_command_of (λ one. Some (request_of_peek_promise one)) (Request.PeekPromise key n name) (request_payload (Request.PeekPromise key n name)) (payload_read (Request.PeekPromise key n name) h)
+request_read_as version (Request.CompletePromise key value n name) h = recorded records.CompletePromiseCommand complete_promise_command_of request_of_complete_promise (Request.CompletePromise key value n name) (request_payload (Request.CompletePromise key value n name)) (payload_read (Request.CompletePromise key value n name) h)
+request_read_as version (Request.OneWayCall call time m name) h = recorded records.OneWayCallCommand one_way_call_command_of (λ one. Some (request_of_one_way_call one)) (Request.OneWayCall call time m name) (request_payload (Request.OneWayCall call time m name)) (payload_read (Request.OneWayCall call time m name) h)
+request_read_as version (Request.SendSignal target key value name) h = recorded records.SendSignalCommand send_signal_command_of request_of_send_signal (Request.SendSignal target key value name) (request_payload (Request.SendSignal target key value name)) (payload_read (Request.SendSignal target key value name) h)
 request_read_as version (Request.Run n name) h = not_recorded records.RunCommand run_command_of (λ one. Some (request_of_run one)) (Request.Run n name) (request_payload (Request.Run n name)) (payload_read (Request.Run n name) h)
-request_read_as version (Request.AttachInvocation target n name) h = not_recorded records.AttachInvocationCommand attach_invocation_command_of request_of_attach_invocation (Request.AttachInvocation target n name) (request_payload (Request.AttachInvocation target n name)) (payload_read (Request.AttachInvocation target n name) h)
-request_read_as version (Request.GetInvocationOutput target n name) h = not_recorded records.GetInvocationOutputCommand get_invocation_output_command_of request_of_get_invocation_output (Request.GetInvocationOutput target n name) (request_payload (Request.GetInvocationOutput target n name)) (payload_read (Request.GetInvocationOutput target n name) h)
-request_read_as version (Request.CompleteAwakeable id value name) h = not_recorded records.CompleteAwakeableCommand complete_awakeable_command_of request_of_complete_awakeable (Request.CompleteAwakeable id value name) (request_payload (Request.CompleteAwakeable id value name)) (payload_read (Request.CompleteAwakeable id value name) h)
+request_read_as version (Request.AttachInvocation target n name) h = recorded records.AttachInvocationCommand attach_invocation_command_of request_of_attach_invocation (Request.AttachInvocation target n name) (request_payload (Request.AttachInvocation target n name)) (payload_read (Request.AttachInvocation target n name) h)
+request_read_as version (Request.GetInvocationOutput target n name) h = recorded records.GetInvocationOutputCommand get_invocation_output_command_of request_of_get_invocation_output (Request.GetInvocationOutput target n name) (request_payload (Request.GetInvocationOutput target n name)) (payload_read (Request.GetInvocationOutput target n name) h)
+request_read_as version (Request.CompleteAwakeable id value name) h = recorded records.CompleteAwakeableCommand complete_awakeable_command_of request_of_complete_awakeable (Request.CompleteAwakeable id value name) (request_payload (Request.CompleteAwakeable id value name)) (payload_read (Request.CompleteAwakeable id value name) h)
 
 awaiting_read : (tree : AwaitTree NotificationId) → TreeFits tree → length (awaiting_on_payload tree false) < 2 ^ 32 → payload_fault LEVELS records.AwaitingOn (awaiting_on_payload tree false) ≡ None
 awaiting_read tree h short =

@@ -49,30 +49,23 @@ none_of ((b, c) ∷ tests) h = one_more b c tests h.0 (none_of tests h.1)
 not_true : (b : Bool) → b ≡ true → not b ≡ false
 not_true b is = ap not is
 
-command_none : (events : List Event) (id : Text) (number : ℕ) (request : Request) → keys_of request ≡ [] → do_ascend (last_completion (recorded_requests events id)) (completions_asked request) ≡ true
+command_none : (events : List Event) (id : Text) (number : ℕ) (request : Request) → list_all is_utf8 (keys_of request) ≡ true → do_ascend (last_completion (recorded_requests events id)) (completions_asked request) ≡ true
     → list_any is_of_frame (causes_of events (Event.Take id number (Frame.Command request))) ≡ false
-command_none events id number request no_keys ascends =
+command_none events id number request text ascends =
     none_of (tests_of events (Event.Take id number (Frame.Command request)))
-    (inr refl, (inr refl, (inr refl, (inl (not_true (do_ascend (last_completion (recorded_requests events id)) (completions_asked request)) ascends), (inl (ap (λ (keys : List (List ℕ)). not (list_all is_utf8 keys)) no_keys), (inr refl, (inr refl, tt)))))))
+    (inr refl, (inr refl, (inr refl, (inl (not_true (do_ascend (last_completion (recorded_requests events id)) (completions_asked request)) ascends), (inl (not_true (list_all is_utf8 (keys_of request)) text), (inr refl, (inr refl, tt)))))))
 
--- requests that a store records so far have no keys of state
-keyless : (request : Request) → is_recorded request ≡ true → keys_of request ≡ []
-keyless (Request.Sleep time n name) is = refl
-keyless (Request.CallService call m n name) is = refl
-keyless (Request.Output value name) is = refl
-keyless (Request.GetLazyState key n name) is = absurd cc
-keyless (Request.GetEagerState key value name) is = absurd cc
-keyless (Request.GetEagerStateKeys keys name) is = absurd cc
-keyless (Request.SetState key value name) is = absurd cc
-keyless (Request.ClearState key name) is = absurd cc
-keyless _ is = refl
-
--- and read and write nothing of an object's state
+-- requests that a store records so far read and write nothing of an object's state
 leaves_state : (version : Version) (sent : Sent) → IsOfStore sent → LeavesState (frame_meant version sent)
-leaves_state version (Asks (Request.Sleep time n name)) is = refl
-leaves_state version (Asks (Request.CallService call m n name)) is = refl
-leaves_state version (Asks (Request.Output value name)) is = refl
-leaves_state version (Asks _) is = tt
+leaves_state version (Asks (Request.GetLazyState key n name)) is = tt
+leaves_state version (Asks (Request.GetEagerState key value name)) is = tt
+leaves_state version (Asks (Request.GetLazyStateKeys n name)) is = tt
+leaves_state version (Asks (Request.GetEagerStateKeys keys name)) is = tt
+leaves_state version (Asks (Request.SetState key value name)) is = tt
+leaves_state version (Asks (Request.ClearState key name)) is = tt
+leaves_state version (Asks (Request.ClearAllState name)) is = tt
+leaves_state version (Asks (Request.Run n name)) is = tt
+leaves_state version (Asks _) is = refl
 leaves_state version (Awaits tree) is = tt
 leaves_state version (Suspends tree) is = tt
 leaves_state version (Fails error) is = tt
@@ -84,10 +77,10 @@ meant_command version request is = ap (λ (b : Bool). if b then Frame.Command re
 causes_none : (next : Handler) (given : Invocation) (arrivals : List Arrival) (version : Version) (sent : Sent) (id : Text) (events : List Event) → IsSentOfRun next given arrivals version sent id events
     → (number : ℕ) → list_any is_of_frame (causes_of events (Event.Take id number (frame_meant version sent))) ≡ false
 causes_none next given arrivals version (Asks request) id events h number =
-    let same : frame_meant version (Asks request) ≡ Frame.Command request = meant_command version request h.of_store in
+    let same : frame_meant version (Asks request) ≡ Frame.Command request = meant_command version request h.of_store.0 in
     let of_run = subst (λ (frame : Frame). SendsOneOfRun next given arrivals (is_input_closed events id) (recorded_requests events id) frame) same h.of_run in
     subst (λ (frame : Frame). list_any is_of_frame (causes_of events (Event.Take id number frame)) ≡ false) (sym same)
-    (command_none events id number request (keyless request h.of_store) (next_ascends next given arrivals (recorded_requests events id) request of_run))
+    (command_none events id number request h.of_store.1 (next_ascends next given arrivals (recorded_requests events id) request of_run))
 causes_none next given arrivals version (Awaits tree) id events h number =
     none_of (tests_of events (Event.Take id number Frame.AwaitingOn)) (inr refl, (inr refl, (inr refl, (inr refl, (inr refl, tt)))))
 causes_none next given arrivals version (Suspends tree) id events h number =

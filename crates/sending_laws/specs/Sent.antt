@@ -82,11 +82,9 @@ AllFit version coming = AllByRecursion (SentFits version) coming
 
 -- ---- what it is meant as
 
--- the commands that a store records so far
+-- the commands that a store records so far, whether an attempt carries out calls for them or not
 abbrev pub is_command : FrameKind → Bool
-is_command kinds.Sleep = true
-is_command kinds.Call = true
-is_command kinds.Output = true
+is_command kinds.Command = true
 is_command _ = false
 
 abbrev pub is_recorded : Request → Bool

@@ -1,13 +1,14 @@
 -- No frame that an attempt has sent is refused for a cause that lies in it.
 use Rattle.std.specs.Prelude.{◌≡◌, ℕ, true, false, List, Result, IfErr}
-use Rattle.std.specs.List.{list_any}
+use Rattle.std.specs.List.{list_any, list_all}
+use Rattle.std.specs.Str.{is_utf8}
 use Rattle.protocol_types.specs.declared.version.Version.{Version}
 use Rattle.journal_model.specs.Notification.{Text, Arrival}
 use Rattle.journal_model.specs.Run.{Handler, Invocation}
 use Rattle.journal_model.specs.Event.{Event}
 use Rattle.journal_model.specs.Journal.{recorded_requests}
 use Rattle.journal_model.specs.Attempt.{is_input_closed}
-use Rattle.journal_model.specs.Cause.{causes_of, is_of_frame}
+use Rattle.journal_model.specs.Cause.{causes_of, is_of_frame, keys_of}
 use Rattle.turn_laws.specs.Sending.{SendsOneOfRun}
 use Rattle.store_frames.specs.declared.frame.AttemptFrame.{AttemptFrame}
 use Rattle.store_frames.specs.Answer.{IsFrame}
@@ -17,9 +18,9 @@ use Rattle.store_steps.specs.declared.frame.PreparedFrame.{PreparedFrame}
 use Rattle.store_steps.specs.Taken.{IsLive, Takes, lies_in_frame}
 use Rattle.sending_laws.specs.Sent.{Sent, Asks, is_recorded, frame_meant}
 
--- a request among these is one that the store records
+-- a request among these is one that the store records, and asks for state, or changes it, by keys that are text
 abbrev pub IsOfStore : Sent → Type 0
-IsOfStore (Asks request) = is_recorded request ≡ true
+IsOfStore (Asks request) = (is_recorded request ≡ true) × (list_all is_utf8 (keys_of request) ≡ true)
 IsOfStore _ = Unit {0}
 
 -- It was sent, it asks for what a store records, and it is of the run over what was handed out, behind what is recorded.

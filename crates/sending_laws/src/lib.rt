@@ -42,8 +42,8 @@ pub fn turns_send()
     ensures { TurnsSend }
 {}
 
-/// A frame of the run that asks for what a store records is refused for no cause that lies in the frame: its payload can be read, its
-/// type is accepted, its completions ascend, its input is closed where it suspends, and its keys are text.
+/// A frame of the run that asks for what a store records, by keys that are text, is refused for no cause that lies in the frame: its
+/// payload can be read, its type is accepted, its completions ascend, its input is closed where it suspends, and its keys are text.
 pub fn none_lie_in_frames()
     ensures { NoneLieInFrames }
 {}

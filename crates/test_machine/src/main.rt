@@ -1,12 +1,13 @@
 //! Rows of a machine: each file that a word of the call names has a call a line, its name and its operands; printed is the row
 //! and, behind ` = `, the answer. `new` begins another machine, `shown` prints it with `{:?}`, `tree` prints one of trees so, and
-//! `debug` another value. A row that is not understood is printed with a `?`.
+//! `debug` another value; `steps` drives a handler of these calls. A row that is not understood is printed with a `?`.
 #![tactic(auto)]
 
 mod answers;
 mod asking;
 mod awaits;
 mod commands;
+mod driven;
 mod feeding;
 pub mod names;
 mod operands;
@@ -14,6 +15,7 @@ mod printed;
 mod requests;
 mod results;
 mod state;
+mod steps;
 mod tables;
 mod telling;
 
@@ -74,6 +76,7 @@ impl<V: VM + fmt::Debug + Drop> Answers for Machine<V> {
             ["new", operands @ ..] => begin(alloc, &mut self.vm, operands),
             ["resolve", operands @ ..] => tables::answer::<V>(alloc, operands),
             ["copies", operands @ ..] => results::answer(alloc, operands),
+            ["steps", operands @ ..] => driven::answer(alloc, operands),
             ["tree", operands @ ..] => answers::debug(alloc, awaits::tree(alloc, operands, 0)?),
             ["debug", name, operands @ ..] => printed::answer(alloc, *name, operands),
             ["shown"] => answers::shown(alloc, self.vm.as_ref()?),

@@ -30,6 +30,7 @@ pub fn name_items<H: Handler + Drop>() {
         enqueue create_handle_mapping try_resolve_future is_handle_completed take_handle
         copy_handle resolve_unresolved_future
     );
+    named!(async_results::FlatTree: new is_awake deliver left);
     named!(Attempt<H>: new feed close_input turn first_output advance_output take_output);
     named!(NotificationHandle as From<u32>: from);
     named!(u32 as From<NotificationHandle>: from);

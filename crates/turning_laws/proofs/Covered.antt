@@ -1,11 +1,10 @@
 -- A call that is carried out asks for what a store records, and what it awaits can be told.
-use Rattle.std.proofs.Common.{◌≡◌, ◌-◌, ℕ, zero, suc, Bool, true, false, true≢false, ◌&&◌, [], ◌∷◌, None, refl, sym}
+use Rattle.std.proofs.Common.{◌≡◌, ◌-◌, ℕ, zero, suc, Bool, true, false, ◌&&◌, refl}
 use Rattle.protocol_wire.specs.declared.record.TheConstants.{LEVELS}
 use Rattle.journal_model.specs.declared.call.Call.{Call}
 use Rattle.journal_model.specs.declared.options.RunOptions.{RunOptions}
 use Rattle.journal_model.specs.Await.{awaited_tree}
 use Rattle.journal_model.specs.AwaitTree.{AwaitTree, Single, Combined, AwaitTrees, no_trees, and_trees}
-use Rattle.journal_model.specs.State.{StartState}
 use Rattle.vm_attempt.specs.Covered.{asks_of_store, is_nested_within, are_nested_within, is_covered}
 use Rattle.turning_laws.specs.Serving.{IsOfStore, AwaitsWithin}
 use Rattle.turning_laws.specs.Words.{ImplicitCancellationOption, IsWithin, AreWithin}
@@ -14,34 +13,19 @@ use Rattle.turning_laws.specs.Words.{ImplicitCancellationOption, IsWithin, AreWi
 
 -- what is told by its kind is so, whatever was asked and recorded before
 pub stored : (call : Call) → asks_of_store call ≡ true → IsOfStore call
-stored (Call.Sleep name wake_up now) e = λ start done left completion. (refl, tt)
-stored (Call.Call target parameter name options) e = λ start done left completion. (refl, tt)
-stored (Call.Output value options) e = λ start done left completion. (refl, tt)
+stored (Call.StateGet key name options) e = cc
+stored (Call.StateGetKeys name) e = cc
+stored (Call.StateSet key value name options) e = cc
+stored (Call.StateClear key name) e = cc
+stored (Call.StateClearAll name) e = cc
+stored (Call.Run name) e = cc
 stored Call.Awakeable e = λ start done left completion. tt
 stored (Call.Signal name) e = λ start done left completion. tt
 stored (Call.IsCompleted handle) e = λ start done left completion. tt
 stored (Call.Take handle) e = λ start done left completion. tt
 stored (Call.Await tree) e = λ start done left completion. tt
 stored Call.End e = λ start done left completion. tt
-stored _ e = cc
-
-abbrev no_state : StartState
-no_state = record { is_whole = false; entries = [] }
-
--- and no other is
-pub asks_stored : (call : Call) → IsOfStore call → asks_of_store call ≡ true
-asks_stored (Call.Sleep name wake_up now) h = refl
-asks_stored (Call.Call target parameter name options) h = refl
-asks_stored (Call.Output value options) h = refl
-asks_stored Call.Awakeable h = refl
-asks_stored (Call.Signal name) h = refl
-asks_stored (Call.IsCompleted handle) h = refl
-asks_stored (Call.Take handle) h = refl
-asks_stored (Call.Await tree) h = refl
-asks_stored Call.End h = refl
-asks_stored (Call.StateGet key name options) h = absurd (true≢false (sym (h no_state [] (None ∷ []) 0).0))
-asks_stored (Call.StateGetKeys name) h = absurd (true≢false (sym (h no_state [] (None ∷ []) 0).0))
-asks_stored _ h = absurd (true≢false (sym (h no_state [] [] 0).0))
+stored _ e = λ start done left completion. (refl, tt)
 
 pub covered_stored : (cancellation : ImplicitCancellationOption) (call : Call) → is_covered cancellation call ≡ true → IsOfStore call
 covered_stored cancellation (Call.Await tree) e = λ start done left completion. tt

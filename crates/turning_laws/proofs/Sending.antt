@@ -18,9 +18,9 @@ use Rattle.turning_laws.specs.Machine.{MachineState, Fits, Active, Written, with
 use Rattle.turning_laws.specs.Reading.{Kind}
 use Rattle.turning_laws.specs.Sending.{Sent, Asks, sent_stream, AllFit, is_recorded, frame_meant, TurnSends}
 use Rattle.turning_laws.specs.Serving.{AwaitsWithin, HasNumbers}
-use Rattle.turning_laws.specs.Words.{LEVELS, version_number, Version, Answer, Call, is_input_closed, awaited_tree, AwaitTree, Event, Frame, completions_of, signals_of, Text, Request, Handler, Invocation, RunOptions, Machine, Reply, Answered, AwaitsTree, Finished, reply_to, LiveAttempt, untracked, childless, run_options, VMOptions, IsWithin, SlotsFit, TreeFits, refusal_of, Slots, slot_of, requests_by, SendsReply, AnswersNext, RepliesAsRun, requests_carried, arrivals_carried, are_by_text, requests_of, Progress}
+use Rattle.turning_laws.specs.Words.{LEVELS, version_number, Version, Answer, Call, is_input_closed, awaited_tree, AwaitTree, Event, Frame, completions_of, signals_of, Text, Request, Handler, Invocation, RunOptions, Machine, Reply, Answered, AwaitsTree, Finished, reply_to, LiveAttempt, untracked, childless, run_options, VMOptions, IsWithin, SlotsFit, TreeFits, refusal_of, Slots, slot_of, requests_by, SendsReply, AnswersNext, RepliesAsRun, requests_carried, arrivals_carried, are_by_text}
 use Rattle.turning_laws.proofs.Now.{Now, compares, call_of, reply_at}
-use Rattle.turning_laws.proofs.Texts.{written_text}
+use Rattle.turning_laws.proofs.Texts.{reply_text}
 use Rattle.turning_laws.proofs.Replies.{Grown, Stayed, Grows, reply_grows, awaits_of, answered_of, awaiting_of, finished_of}
 
 -- ---- requests
@@ -136,8 +136,7 @@ module _ (next : Handler) (version : Version) (options : VMOptions) (id : Text) 
       completions = subst (λ (n : ℕ). n ≤ 2 ^ 32) (sym (ap (λ (m : Machine). m.completions) behind.2 ∙ grown.completions)) completions_left;
       signals = subst (λ (n : ℕ). n ≤ 2 ^ 32) (sym (ap (λ (m : Machine). m.signals) behind.2 ∙ grown.signals)) signals_left;
       slots = subst (λ (m : Machine). SlotsFit m.slots) (sym behind.2) slots_left;
-      texts = written_text (requests_carried live.read) next_one.stands.steps behind.0.left behind.0.written next_one.stands.requests
-          (ap (λ (p : Progress). are_by_text (requests_of p.steps)) (sym next_one.stands.going) ∙ n.by_text);
+      texts = reply_text next given (requests_carried live.read) (arrivals_carried live.read) live.calls n.by_text (Answered answer behind.0) next_one;
     }
 
     pub answers_so : AnswersSo answer new

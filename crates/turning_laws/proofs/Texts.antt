@@ -11,7 +11,7 @@ use Rattle.journal_model.specs.Refusal.{Refusal, refusal_of}
 use Rattle.journal_model.specs.Run.{Kind, Awaits, Ends, Answers, kind_of, name_or_empty, requests_to, after_await, carried_out, unless_refused, continued_by}
 use Rattle.attempt_laws.proofs.Coming.{all-both, all-back}
 use Rattle.machine_laws.proofs.Texts.{text_after, keys_text}
-use Rattle.turning_laws.specs.Words.{Bytes, Call, Commands, IsTypedCall, RequestsStand, are_by_text, AsksByText, NotificationId, RunOptions, AwaitTree, keys_of, Step, answers_of, requests_of, Arrival, Request, Handler, Invocation, Progress, Ending, GoesOn, run, next_completion, StateMap, knows_key, knows_all_keys, known_value, known_keys, state_after, HasTextKeys}
+use Rattle.turning_laws.specs.Words.{Bytes, Call, Commands, IsTypedCall, RequestsStand, are_by_text, AsksByText, NotificationId, RunOptions, AwaitTree, keys_of, Step, answers_of, requests_of, Arrival, Request, Handler, Invocation, Progress, Ending, GoesOn, run, next_completion, StateMap, knows_key, knows_all_keys, known_value, known_keys, state_after, HasTextKeys, Reply, Answered, RepliesAsRun}
 
 abbrev HaveText : List Request → Type 0
 HaveText requests = are_by_text requests ≡ true
@@ -29,6 +29,17 @@ written_text journal steps commands written stand all = by_replays stand.replays
         all-back (λ request. list_all is_utf8 (keys_of request)) journal written
         (ap are_by_text (sym stand.requests ∙ ap (λ (left : List Request). requests_of steps ++ left) none ∙ append-nil (requests_of steps)) ∙ all)
     by_replays (inr none) = ap are_by_text none
+
+-- and what a machine that has answered as the run answers, where the run asks by keys that are text
+abbrev pub HasTexts : Reply → Type 0
+HasTexts (Answered answer after) = HaveText after.written
+HasTexts _ = Unit {0}
+
+pub reply_text : (next : Handler) (given : Invocation) (journal : List Request) (arrivals : List Arrival) (calls : ℕ) → AsksByText next given arrivals (suc calls) → (reply : Reply)
+    → RepliesAsRun next given journal arrivals calls reply → HasTexts reply
+reply_text next given journal arrivals calls all (Answered answer after) as_run =
+    written_text journal as_run.stands.steps after.left after.written as_run.stands.requests (ap (λ (p : Progress). are_by_text (requests_of p.steps)) (sym as_run.stands.going) ∙ all)
+reply_text next given journal arrivals calls all _ as_run = tt
 
 -- ---- a call
 

@@ -17,6 +17,7 @@ use Rattle.turning_laws.specs.Turning.{RunComesTo, turns_answered, GoesOnWith, F
 use Rattle.turning_laws.proofs.Failing.{fails_so}
 use Rattle.turning_laws.proofs.Now.{Now, call_of, reply_at}
 use Rattle.turning_laws.proofs.Stored.{sent_of_store, notes_of_store}
+use Rattle.turning_laws.proofs.Texts.{reply_text}
 use Rattle.turning_laws.proofs.Sending.{SendsFor, AnswersSo, answers_so, waits_behind, waits_written, waits_number, waits_send, suspends_send, ends_send}
 
 module _ {H : Type 0} (function : H → Handler) (next : Handler) (version : Version) (options : VMOptions) (id : Text) (events : List Event) (live : LiveAttempt) (before : Attempt H)
@@ -43,7 +44,8 @@ module _ {H : Type 0} (function : H → Handler) (next : Handler) (version : Ver
     keeps_turn turn behind = record {
       sent = sends.coming;
       fit = sends.fit;
-      of_store = sent_of_store live.start.given.version (is_input_closed events id) live.machine (reply_at next live before.vm.state n.at) version sends.coming sends.sends;
+      of_store = sent_of_store live.start.given.version (is_input_closed events id) live.machine (reply_at next live before.vm.state n.at) version sends.coming
+          (reply_text next live.start.given (requests_carried live.read) (arrivals_carried live.read) live.calls n.by_text (reply_at next live before.vm.state n.at) n.as_run) sends.sends;
       output = sent_more;
       follows = n.keeps.follows (map (frame_meant version) sends.coming) n.whole sends.sends;
       behind = behind;

@@ -92,7 +92,7 @@ module _ {H : Type 0} (function : H → Handler) (next : Handler) (version : Ver
     pub record TurnKeeps (turn : Turn) (after : Attempt H) : Type 0 where
       pub sent : List Sent
       pub fit : AllFit version sent
-      -- requests among them are such as the store records
+      -- requests among them are such as the store records, and their keys are text
       pub of_store : AllByRecursion IsOfStore sent
       pub output : output_of after ≡ output_of before ++ sent_stream version sent
       pub follows : FollowsSo next live.start.given id events (live.coming ++ map (frame_meant version) sent)

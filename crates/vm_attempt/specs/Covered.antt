@@ -9,18 +9,15 @@ use Rattle.journal_model.specs.declared.options.ImplicitCancellationOption.TheVa
 
 -- ---- what it asks for
 
--- what a store records so far, or nothing
+-- what a store records so far, or nothing: an object's state and runs are to come
 abbrev pub asks_of_store : Call → Bool
-asks_of_store (Call.Sleep name wake_up now) = true
-asks_of_store (Call.Call target parameter name options) = true
-asks_of_store (Call.Output value options) = true
-asks_of_store Call.Awakeable = true
-asks_of_store (Call.Signal name) = true
-asks_of_store (Call.IsCompleted handle) = true
-asks_of_store (Call.Take handle) = true
-asks_of_store (Call.Await tree) = true
-asks_of_store Call.End = true
-asks_of_store _ = false
+asks_of_store (Call.StateGet key name options) = false
+asks_of_store (Call.StateGetKeys name) = false
+asks_of_store (Call.StateSet key value name options) = false
+asks_of_store (Call.StateClear key name) = false
+asks_of_store (Call.StateClearAll name) = false
+asks_of_store (Call.Run name) = false
+asks_of_store _ = true
 
 -- ---- what it awaits
 

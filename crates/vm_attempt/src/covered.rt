@@ -51,21 +51,18 @@ fn can_be_told(cancellation: ImplicitCancellationOption, future: &AwaitedFuture)
     is_within(future, levels_left(cancellation))
 }
 
-// Whether a call asks for what a store records, or for nothing.
+// Whether a call asks for what a store records, or for nothing. What is to come are an object's state and runs.
 fn asks_of_store(call: &Call) -> bool
     ensures { result ≡ asks_of_store call.now }
 {
-    matches!(
+    !matches!(
         call,
-        Call::Sleep { .. }
-            | Call::Call { .. }
-            | Call::Output { .. }
-            | Call::Awakeable
-            | Call::Signal { .. }
-            | Call::IsCompleted(_)
-            | Call::Take(_)
-            | Call::Await(_)
-            | Call::End
+        Call::StateGet { .. }
+            | Call::StateGetKeys { .. }
+            | Call::StateSet { .. }
+            | Call::StateClear { .. }
+            | Call::StateClearAll { .. }
+            | Call::Run { .. }
     )
 }
 
