@@ -63,6 +63,11 @@ IsWritten _ answer = ⊥
 abbrev pub IsLive : {S : Type 0} → Text → (attempt : ℕ) → Stored S → Type 0
 IsLive id attempt store = has_number attempt (attempt_of store.live.attempts id) ≡ true
 
+-- it is done, or nobody holds the attempt
+abbrev pub IsDoneIfHeld : Reply → Type 0
+IsDoneIfHeld (reply.Refused refusal.AttemptNotHeld) = Unit {0}
+IsDoneIfHeld answer = IsDone answer
+
 -- bytes were moved, or nobody holds the attempt, or memory was refused
 abbrev pub IsMovedIfHeld : Reply → Type 0
 IsMovedIfHeld (reply.Moved bytes frames why) = Unit {0}
@@ -70,9 +75,9 @@ IsMovedIfHeld (reply.Refused refusal.AttemptNotHeld) = Unit {0}
 IsMovedIfHeld (reply.Refused (refusal.Store why)) = why ≡ OutOfMemory
 IsMovedIfHeld _ = ⊥
 
--- Whatever the store stands for: a stop of a live attempt is never refused, nor are its bytes but for want of memory.
+-- Whatever the store stands for: a stop of a live attempt that is held is never refused, nor are its bytes but for want of memory.
 abbrev pub TakesLive : {H S : Type 0} → scheduled.Event H → Reply → Stored S → Type 0
-TakesLive (event.Stop id attempt) answer store = IsLive id attempt store → IsDone answer
+TakesLive (event.Stop id attempt) answer store = IsLive id attempt store → IsDoneIfHeld answer
 TakesLive (event.Move id attempt count) answer store = IsLive id attempt store → IsMovedIfHeld answer
 TakesLive _ answer store = Unit {0}
 

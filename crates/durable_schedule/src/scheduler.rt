@@ -82,7 +82,10 @@ impl<H: Handler + Drop, S: Alter + Drop> Scheduler<H, S> {
     fn stop(&mut self, invocation: &ByteStr, number: u32) -> Reply
         ensures { Performs S.Store H.next_call (Event.Stop invocation.now number) result self.old self.new }
     {
-        done(self.store.stop(invocation, number))
+        match self.held.get_mut(invocation, number) {
+            None => Reply::Refused(Refusal::AttemptNotHeld),
+            Some(_) => done(self.store.stop(invocation, number)),
+        }
     }
 
     /// An attempt is begun, and held. Where memory is refused for that, it stays begun, and nobody holds it.
@@ -221,7 +224,7 @@ impl<H: Handler + Drop, S: Alter + Drop> Scheduler<H, S> {
         // What is answered as written lasts: whatever a crash leaves from then on, the tables keep it.
         ensures settled { IsWritten event result → HasCleanDisk (state S.Store self.new.store.connection) → (old : Scheduled H) → IsScheduled S.Store old self.old → (new : Scheduled H) × IsScheduled S.Store new self.new × Applies H.next_call self.old.options event result old new × OutlastsEvent event result new.standing (state S.Store self.new.store.connection) }
         ensures fits { FitsEvent event }
-        // A stop of a live attempt is never refused, nor are its bytes but for want of memory, whatever the store stands for.
+        // A stop of a live attempt that is held is never refused, nor are its bytes but for want of memory, whatever the store stands for.
         ensures live { TakesLive event result self.old.store }
         // Where nobody holds the attempt that it names (X2), all is as it was; a turn leaves the store as it was; and bytes that are handed
         // out, an input that is closed and a stop commit nothing: this too whatever the store stands for, and whatever the disk returned.

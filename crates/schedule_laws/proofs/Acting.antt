@@ -1,5 +1,5 @@
 -- What is done with the live attempt that is held keeps its invocation in the run: it is fed, closed, makes a turn, and its output leaves.
-use Rattle.std.proofs.Common.{◌≡◌, ℕ, ◌<◌, Bool, true, false, ◌&&◌, ◌||◌, if◌then◌else◌, zero-add, List, [], ◌∷◌, ◌++◌, map, take, drop, Option, Some, Ok, refl, sym, ap, subst, ◌∙◌, inl, inr, ◌⊎◌, append_assoc, take-append-drop}
+use Rattle.std.proofs.Common.{◌≡◌, ℕ, ◌<◌, Bool, true, false, ◌&&◌, ◌||◌, zero-add, List, [], ◌∷◌, ◌++◌, map, take, drop, Option, Some, Ok, refl, sym, ap, subst, ◌∙◌, inl, inr, ◌⊎◌, append_assoc, take-append-drop}
 use Rattle.std.specs.List.{AllByRecursion}
 use Rattle.journal_model.specs.declared.invocation.NewInvocation.{NewInvocation}
 use Rattle.journal_model.specs.Notification.{Bytes, Text}
@@ -14,14 +14,14 @@ use Rattle.protocol_types.specs.declared.version.Version.{Version}
 use Rattle.input_laws.proofs.Events.{itself, start_same}
 use Rattle.input_laws.proofs.LiveAttempts.{live_now, closed_now}
 use Rattle.turn_laws.specs.Sending.{FollowsSo}
-use Rattle.turn_laws.specs.Turning.{IsNote}
 use Rattle.turn_laws.proofs.Keeping.{one_event}
 use Rattle.machine_laws.specs.Living.{LiveAttempt, handed_bytes, after_reading, after_turn}
 use Rattle.vm_types.specs.Options.{run_options}
 use Rattle.vm_types.specs.declared.options.VMOptions.{VMOptions}
 use Rattle.turning_laws.specs.Attempts.{Feeds, ClosesInput, output_of, Turns, Attempt, Turn}
 use Rattle.turning_laws.specs.Sending.sent
-use Rattle.turning_laws.specs.Sending.{Sent, Asks, is_recorded, sent_stream, sent_frame, frame_meant, IsOfStore}
+use Rattle.turning_laws.specs.Sending.{Sent, sent_stream, sent_frame, frame_meant, IsOfStore}
+use Rattle.turning_laws.proofs.Stored.{notes_of_store}
 use Rattle.turning_laws.specs.Keeping.{StaysClosed, IsLiveAt}
 use Rattle.turning_laws.specs.Serving.{Serves, IsOver, machine_failed}
 use Rattle.turning_laws.specs.Turning.{TurnsBehind}
@@ -52,16 +52,6 @@ stream_append version (one ∷ coming) more =
 pub all_append : {A : Type 0} (P : A → Type 0) (xs ys : List A) → AllByRecursion P xs → AllByRecursion P ys → AllByRecursion P (xs ++ ys)
 all_append P [] ys a b = b
 all_append P (x ∷ xs) ys a b = (a.0, all_append P xs ys a.1 b)
-
--- notes ask for nothing
-pub notes_of_store : (version : Version) (coming : List Sent) → AllByRecursion IsNote (map (frame_meant version) coming) → AllByRecursion IsOfStore coming
-notes_of_store version [] notes = tt
-notes_of_store version (Asks request ∷ coming) notes = (asks_nothing (is_recorded request) notes.0, notes_of_store version coming notes.1)
-  where
-    asks_nothing : (b : Bool) → IsNote (if b then Frame.Command request else Frame.NotAccepted) → b ≡ true
-    asks_nothing true note = refl
-    asks_nothing false note = absurd note
-notes_of_store version (one ∷ coming) notes = (tt, notes_of_store version coming notes.1)
 
 -- bytes behind those on the way
 pub written_behind : (version : Version) (waits before after : Bytes) (coming more : List Sent) → waits ++ before ≡ sent_stream version coming → after ≡ before ++ sent_stream version more

@@ -32,7 +32,7 @@ use Rattle.schedule_laws.specs.Attempts.{Feeds, ClosesInput, Gathers, Turns, Att
 use Rattle.schedule_laws.specs.Schedules.event
 use Rattle.schedule_laws.specs.Schedules.reply
 use Rattle.schedule_laws.specs.Schedules.refusal
-use Rattle.schedule_laws.specs.Schedules.{Event, Reply, HeldAttempt, with_first, is_held, held_of, with_attempt, RepliesDone, RepliesPlace, RepliesCount, BeginDoes, IfHeld, FeedsOne, ClosesOne, TurnsOne, MovesOne, Does, Brings, FitsEvent}
+use Rattle.schedule_laws.specs.Schedules.{Event, Reply, HeldAttempt, with_first, is_held, held_of, with_attempt, RepliesDone, RepliesPlace, RepliesCount, BeginDoes, IfHeld, FeedsOne, ClosesOne, StopsOne, TurnsOne, MovesOne, Does, Brings, FitsEvent}
 
 never : (b : Bool) → (b && false) ≡ false
 never true = refl
@@ -210,10 +210,16 @@ module _ {H : Type 0} (function : H → Handler) (next : Handler) (options : VMO
   kept_tick now (reply.Refused (refusal.Store why)) s t held d f = stands_still function next options id s t held d.stays f
   kept_tick now _ s t held d f = absurd d
 
-  kept_stop : (other : Text) (n : ℕ) (answer : Reply) (s t : Standing) (held : List (HeldAttempt H)) → RepliesDone (λ result. Stops other n result s t) answer → In s held → In t held
-  kept_stop other n reply.Done s t held d f = stopped function next options id laws other n s t held d f
-  kept_stop other n (reply.Refused (refusal.Store why)) s t held d f = stands_still function next options id s t held d.stays f
-  kept_stop other n _ s t held d f = absurd d
+  kept_done : (other : Text) (n : ℕ) (answer : Reply) (s t : Standing) (held : List (HeldAttempt H)) → RepliesDone (λ result. Stops other n result s t) answer → In s held → In t held
+  kept_done other n reply.Done s t held d f = stopped function next options id laws other n s t held d f
+  kept_done other n (reply.Refused (refusal.Store why)) s t held d f = stands_still function next options id s t held d.stays f
+  kept_done other n _ s t held d f = absurd d
+
+  kept_stop : (one : HeldAttempt H) (answer : Reply) (s t : Standing) (held : List (HeldAttempt H)) (changed : Attempt H) → held_of held one.invocation one.number ≡ Some one
+      → StopsOne one s answer t changed → In s held → In t (with_attempt held one changed)
+  kept_stop one answer s t held changed there d f =
+      subst (λ (hs : List (HeldAttempt H)). In t hs) (sym (ap (λ (a : Attempt H). with_attempt held one a) d.1 ∙ with_same (is_held one.invocation one.number) held one there))
+      (kept_done one.invocation one.number answer s t held d.0 f)
 
   kept_begin : (other : Text) (handler : H) (now : ℕ) (answer : Reply) (s t : Standing) (held more : List (HeldAttempt H)) → ReplaysInLine options → now < 2 ^ 64 → (other ≡ id → function handler ≡ next)
       → BeginDoes options other handler now s held answer t more → In s held → In t more
@@ -295,4 +301,5 @@ module _ {H : Type 0} (function : H → Handler) (next : Handler) (options : VMO
       (λ one changed there i m is c g. kept_turn one answer s t held changed in_line there c g) d f
   keeps (event.Move other n count) answer s t held more in_line fits brings d f =
       kept_held (MovesOne count) other n answer s t held more (λ one changed there i m is c g. kept_move count one answer s t held changed there c g) d f
-  keeps (event.Stop other n) answer s t held more in_line fits brings d f = subst (λ (hs : List (HeldAttempt H)). In t hs) (sym d.1) (kept_stop other n answer s t held d.0 f)
+  keeps (event.Stop other n) answer s t held more in_line fits brings d f =
+      kept_held StopsOne other n answer s t held more (λ one changed there i m is c g. kept_stop one answer s t held changed there c g) d f

@@ -39,11 +39,11 @@ never false = refl
 
 -- what was sent is such as a store is told
 pub meant_fits : (version : Version) (one : Sent) → sent.SentFits version one → FrameFits (frame_meant version one)
-meant_fits version (Asks request) fits = by_kind (is_recorded request) refl
+meant_fits version (Asks request) fits = by_kind (is_recorded request)
   where
-    by_kind : (b : Bool) → is_recorded request ≡ b → FrameFits (if b then Frame.Command request else Frame.NotAccepted)
-    by_kind true is = (fits.told, is)
-    by_kind false is = tt
+    by_kind : (b : Bool) → FrameFits (if b then Frame.Command request else Frame.NotAccepted)
+    by_kind true = fits.told
+    by_kind false = tt
 meant_fits version (Awaits tree) fits = tt
 meant_fits version (Suspends tree) fits = tt
 meant_fits version (Fails error) fits = tt

@@ -1,18 +1,27 @@
 -- What stands of an invocation, what it is answered, and what that depends on.
-use Rattle.std.specs.Prelude.{◌≡◌, true, List, Some}
-use Rattle.journal_model.specs.Notification.{Text}
+use Rattle.std.specs.Prelude.{◌≡◌, ℕ, true, List, Some, Ok}
+use Rattle.journal_model.specs.Notification.{Bytes, Text}
+use Rattle.journal_model.specs.declared.notification.NotificationResult.{NotificationResult}
 use Rattle.journal_model.specs.State.{state_after}
 use Rattle.journal_model.specs.declared.invocation.NewInvocation.{NewInvocation}
-use Rattle.journal_model.specs.Event.{Event}
-use Rattle.journal_model.specs.Journal.{view_of, invocation_of, invocation_begun, starting_state, object_state, entries_of, recorded_requests, closing_of, recorded_answer, is_open}
+use Rattle.journal_model.specs.Event.{Event, Frame}
+use Rattle.journal_model.specs.Journal.{view_of, invocation_of, invocation_begun, starting_state, object_state, entries_of, frames_of, recorded_requests, closing_of, recorded_answer, is_open}
+use Rattle.journal_model.specs.Start.{start_payload}
 use Rattle.journal_model.specs.Attempt.{attempts_begun, live_attempt, input_left, is_due}
 use Rattle.journal_model.specs.Headline.{arrivals_handed}
 use Rattle.journal_model.specs.Cause.{causes_of, IsAccepted}
+use Rattle.protocol_types.specs.Version.{version_number}
 use Rattle.store_refusals.specs.Refused.{first_of}
+use Rattle.store_steps.specs.declared.frame.FrameReply.{FrameReply}
+use Rattle.store_steps.specs.Taken.{IsReply}
+use Rattle.store_calls.specs.declared.begun.BegunAttempt.{BegunAttempt}
+use Rattle.store_calls.specs.Standing.{Standing}
+use Rattle.store_calls.specs.Calls.{Begins, Completes, HandsOut}
 
 -- The same stands of an invocation behind two lists of events: how it was begun and the state of its object then, its entries, how it was
--- closed and what it answers, whether it is open, whether it is due, how many attempts were begun, which of them is live, which arrivals
--- the last one was handed, and the bytes that are left to be handed to it.
+-- closed and what it answers, whether it is open, whether it is due, how many attempts were begun, which of them is live, the frames that
+-- were taken of them, and so the last error that one told, which arrivals the last one was handed, and the bytes that are left to be handed
+-- to it.
 pub record StandsAlike (events others : List Event) (id : Text) : Type 0 where
   pub begun : invocation_begun events id ≡ invocation_begun others id
   pub start : starting_state events id ≡ starting_state others id
@@ -23,6 +32,7 @@ pub record StandsAlike (events others : List Event) (id : Text) : Type 0 where
   pub dueness : is_due events id ≡ is_due others id
   pub attempts : attempts_begun events id ≡ attempts_begun others id
   pub live : live_attempt events id ≡ live_attempt others id
+  pub frames : frames_of events id ≡ frames_of others id
   pub handed : arrivals_handed events id ≡ arrivals_handed others id
   pub left : input_left events id ≡ input_left others id
 
@@ -40,10 +50,11 @@ abbrev pub IsOwn : Text → Event → Type 0
 IsOwn id (Event.Invoke new) = ⊥
 IsOwn id event = invocation_of event ≡ Some id
 
--- While it is open its object's state is the same too; and one more event of its own is refused behind the one as behind the other: for the
--- same least cause, or for none.
+-- While it is open its object's state is the same too, and an attempt that is begun is told the same start, with how often it was tried
+-- and for how long; and one more event of its own is refused behind the one as behind the other: for the same least cause, or for none.
 pub record AnswersAlike (events others : List Event) (id : Text) : Type 0 where
   pub state : (new : NewInvocation) → invocation_begun events id ≡ Some new → is_open events id ≡ true → object_state events new.object ≡ object_state others new.object
+  pub start : (now : ℕ) → is_open events id ≡ true → start_payload events id now ≡ start_payload others id now
   pub refusal : (event : Event) → IsOwn id event → first_of (causes_of events event) ≡ first_of (causes_of others event)
 
 -- while an invocation is open, its object's state is its starting state changed by its recorded requests
@@ -63,3 +74,17 @@ AllAnswerAlone = (events others : List Event) (id : Text) → KeepsState events 
 -- what stands of it is the same, and what it is answered
 abbrev pub IsAlike : List Event → List Event → Text → Type 0
 IsAlike events others id = StandsAlike events others id × AnswersAlike events others id
+
+-- ---- the replies to its own events
+
+-- What two stores reply to one event of an invocation that both accept is the same: to a begin, a hand-out, a result, and a frame.
+pub record RepliesAlike (id : Text) (old other : Standing) : Type 0 where
+  pub begun : (now : ℕ) (one two : BegunAttempt) (new more : Standing) → Begins id now one old new → Begins id now two other more
+      → (one.number ≡ two.number) × (version_number one.version ≡ version_number two.version) × (one.start ≡ two.start)
+  pub handed : (attempt most : ℕ) (bytes others : Bytes) (new more : Standing) → HandsOut id attempt most (Ok bytes) old new → HandsOut id attempt most (Ok others) other more → bytes ≡ others
+  pub placed : (completion : ℕ) (brought : NotificationResult) (place at : ℕ) (new more : Standing) → Completes id completion brought (Ok place) old new
+      → Completes id completion brought (Ok at) other more → place ≡ at
+  pub taken : (frame : Frame) (reply answer : FrameReply) → IsReply old.events id frame reply → IsReply other.events id frame answer → reply ≡ answer
+
+abbrev pub AllReplyAlike : Type 0
+AllReplyAlike = (id : Text) (old other : Standing) → IsAlike old.events other.events id → RepliesAlike id old other

@@ -4,7 +4,7 @@
 //! follows from what an attempt keeps that serves a live attempt. The functions do nothing: their contracts are the laws.
 #![tactic(auto)]
 
-ghost use Rattle.schedule_laws.specs.Isolation.{AllAnswerAlone, AllKeepState, AllStandAlone};
+ghost use Rattle.schedule_laws.specs.Isolation.{AllAnswerAlone, AllKeepState, AllReplyAlike, AllStandAlone};
 ghost use Rattle.schedule_laws.specs.Laws.{FollowsHolds, FramesAreTaken, HoldsFollows, HoldsHeadline, HoldsNeverLate, HoldsWakesExactly, KeptByEach, LeavesHolds, NoneRefused};
 
 pub use fitting_laws::inputs_are_handed_out;
@@ -66,3 +66,8 @@ pub fn invocations_stand_alone()
 {
     invocations_isolated();
 }
+
+/// So the replies to its own events depend on the same.
+pub fn replies_alike()
+    ensures { AllReplyAlike }
+{}

@@ -79,6 +79,10 @@ module _ {H : Type 0} where
   ClosesOne one old (reply.Refused (refusal.Store why)) new changed = ClosesInput one.invocation one.number (Err why) old new × (changed ≡ one.attempt)
   ClosesOne one old _ new changed = ⊥
 
+  -- the store ends it, and it is held as before
+  abbrev pub StopsOne : HeldAttempt H → Standing → Reply → Standing → Attempt H → Type 0
+  StopsOne one old answer new changed = RepliesDone (λ result. Stops one.invocation one.number result old new) answer × (changed ≡ one.attempt)
+
   -- it makes a turn, and the store is not asked
   abbrev pub TurnsOne : (H → Handler) → HeldAttempt H → Standing → Reply → Standing → Attempt H → Type 0
   TurnsOne function one old (reply.Turned turn) new changed = Turns function one.attempt turn changed × Stays old new
@@ -112,7 +116,7 @@ module _ {H : Type 0} where
   Does function options (event.Close id number) old held answer new more = IfHeld ClosesOne (held_of held id number) old held answer new more
   Does function options (event.Turn id number) old held answer new more = IfHeld (TurnsOne function) (held_of held id number) old held answer new more
   Does function options (event.Move id number count) old held answer new more = IfHeld (MovesOne count) (held_of held id number) old held answer new more
-  Does function options (event.Stop id number) old held answer new more = RepliesDone (λ result. Stops id number result old new) answer × (more ≡ held)
+  Does function options (event.Stop id number) old held answer new more = IfHeld StopsOne (held_of held id number) old held answer new more
 
   -- one event
   abbrev pub Applies : (H → Handler) → VMOptions → Event H → Reply → Scheduled H → Scheduled H → Type 0

@@ -1,21 +1,29 @@
 use Rattle.std.proofs.Common.{refl}
 use Rattle.schedule_model.specs.declared.event.Event.TheVariants as event
 use Rattle.schedule_model.specs.declared.event.Reply.TheVariants as reply
+use Rattle.schedule_model.specs.Schedule.{StopsOne}
 use Rattle.store_calls.specs.Calls.{Stops}
 use Rattle.durable_schedule.specs.Scheduled.{reply_to}
-use Rattle.durable_schedule.proofs.Replying.{is_done, replies_done}
-use Rattle.durable_schedule.proofs.Scheduling.{performs_quiet, stored_leads, stored_spares}
+use Rattle.durable_schedule.proofs.Holding.{misses, finds}
+use Rattle.durable_schedule.proofs.Replying.{is_done, replies_done, not_unheld}
+use Rattle.durable_schedule.proofs.Scheduling.{performs_quiet, performs_unheld, same_quiet, spares_held}
 use Rattle.durable_schedule.proofs.scheduler.Scheduler.stop.Goals as goal
 
-pub returns : goal.returns
-returns g c =
+pub returns-in-None : goal.returns-in-None
+returns-in-None g c =
+    let old = c.args.self.now in
+    performs_unheld g.S.Store g.H.Handler.next_call (event.Stop c.args.invocation.now c.args.number) old (λ never. never) tt (λ live. tt) (same_quiet g.S.Store old.store)
+    (misses g.S.Store StopsOne c.args.invocation.now c.args.number old.held c.get_mut.result c.get_mut.ensures.found c.in-None.is old.store)
+
+pub returns-in-Some : goal.returns-in-Some
+returns-in-Some g c =
     let old = c.args.self.now in
     let id = c.args.invocation.now in
     let n = c.args.number in
-    let one = event.Stop id n in
     let told = c.stop.result in
     rw c.done.ensures
-    (performs_quiet g.S.Store g.H.Handler.next_call one old (reply_to (λ _. reply.Done) told) (record old { store = c.stop.new.self }) (λ never. never) refl tt (λ live. is_done told (c.stop.ensures.live live))
-    (stored_spares g.S.Store g.H.Handler.next_call one old c.stop.new.self (λ _. reply.Done) (Stops id n) (λ told s t it. (replies_done (λ told. Stops id n told s t) told it, refl)) (λ done. tt) told)
+    (performs_quiet g.S.Store g.H.Handler.next_call (event.Stop id n) old (reply_to (λ _. reply.Done) told) _ (λ never. never) refl tt (λ live. is_done told (c.stop.ensures.live live))
+    (spares_held _ _ _ (not_unheld told))
     c.stop.ensures.crash c.stop.ensures.crash
-    (stored_leads g.S.Store g.H.Handler.next_call one old c.stop.new.self (λ _. reply.Done) (Stops id n) (λ told s t it. (replies_done (λ told. Stops id n told s t) told it, refl)) (λ done. tt) told c.stop.ensures.does))
+    (finds g.S.Store StopsOne id n old.held c.get_mut.result c.get_mut.ensures.found c.in-Some.field-0 c.in-Some.is old.store c.stop.new.self c.in-Some.field-0.now (reply_to (λ _. reply.Done) told)
+    (λ clean s is. let it = c.stop.ensures.does clean s is in (it.0, it.1, (replies_done (λ told. Stops id n told s it.0) told it.2, refl)))))
