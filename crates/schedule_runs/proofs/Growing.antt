@@ -17,7 +17,7 @@ use Rattle.schedule_laws.specs.Schedules.scheduled
 use Rattle.schedule_laws.specs.Schedules.event
 use Rattle.schedule_laws.specs.Schedules.reply
 use Rattle.schedule_laws.specs.Schedules.refusal
-use Rattle.schedule_laws.specs.Schedules.{Reply, HeldAttempt, held_of, RepliesDone, RepliesPlace, RepliesCount, BeginDoes, FeedsOne, ClosesOne, TurnsOne, MovesOne, IfHeld, Does, Scheduled, AppliesAll}
+use Rattle.schedule_laws.specs.Schedules.{Reply, HeldAttempt, held_of, RepliesDone, RepliesPlace, RepliesCount, BeginDoes, FeedsOne, ClosesOne, StopsOne, TurnsOne, MovesOne, IfHeld, Does, Scheduled, AppliesAll}
 use Rattle.store_steps.specs.declared.frame.FrameReply.{FrameReply}
 use Rattle.store_steps.specs.Taken.{lies_in_frame}
 use Rattle.store_calls.specs.Standing.{Standing, Stays, Refuses}
@@ -173,7 +173,8 @@ module _ {H : Type 0} (function : H → Handler) (options : VMOptions) where
   does_grow (event.Close id n) s t held more answer it = held_grows false ClosesOne id n s t held more answer (λ one. close_grows one s t answer) it
   does_grow (event.Turn id n) s t held more answer it = held_grows false (TurnsOne function) id n s t held more answer (λ one. turn_grows one s t answer) it
   does_grow (event.Move id n count) s t held more answer it = held_grows false (MovesOne count) id n s t held more answer (λ one. move_grows count one s t answer) it
-  does_grow (event.Stop id n) s t held more answer it = done_grows (λ result. Stops id n result s t) (Some id, false) answer s t (stop_grows id n s t) it.0
+  does_grow (event.Stop id n) s t held more answer it =
+      held_grows false StopsOne id n s t held more answer (λ one changed it. done_grows (λ result. Stops one.invocation one.number result s t) (Some one.invocation, false) answer s t (stop_grows one.invocation one.number s t) it.0) it
 
   name_is : (one : scheduled.Event H) (event : Event) → IsOfKind (kind_named one) event → IsOneOf (invocation_named one) event
   name_is (event.Begin id handler now) event is = ap (λ (kind : Kind). kind.0) is

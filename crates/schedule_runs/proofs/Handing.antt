@@ -25,7 +25,7 @@ use Rattle.schedule_laws.specs.Schedules.scheduled
 use Rattle.schedule_laws.specs.Schedules.event
 use Rattle.schedule_laws.specs.Schedules.reply
 use Rattle.schedule_laws.specs.Schedules.refusal
-use Rattle.schedule_laws.specs.Schedules.{Reply, HeldAttempt, held_of, BeginDoes, FeedsOne, ClosesOne, TurnsOne, MovesOne, IfHeld, Scheduled, Applies}
+use Rattle.schedule_laws.specs.Schedules.{Reply, HeldAttempt, held_of, BeginDoes, FeedsOne, ClosesOne, StopsOne, TurnsOne, MovesOne, IfHeld, Scheduled, Applies}
 use Rattle.schedule_runs.specs.Runs.{AppliesEach}
 use Rattle.schedule_runs.specs.Handed.{AreOfInput, HandsEach, HandsOne, IsHandedInput, handed_to, start_frame, while_last}
 use Rattle.schedule_runs.proofs.Growing.{GrowsBy, IsOfKind, Kind, does_grow, does_hand}
@@ -348,7 +348,7 @@ module _ (id : Text) where
             (same_unheld old.held new.held it.0.1) at
         step (event.Stop other k) answer bytes old new before it at =
             quiet_step (event.Stop other k) answer old new before it.0 (Some other, false) refl (does_grow function options (event.Stop other k) old.standing new.standing old.held new.held answer it.0)
-            (same_unheld old.held new.held it.0.1) at
+            (if_unheld StopsOne other k old.held new.held old.standing new.standing answer it.0) at
 
         of_input : (all : List Event) (held : List (HeldAttempt H)) (before : Bytes) → IsAccepted all → Handed before all held → AreOfInput id before (while_last id n all)
         of_input all held before accepted (inl none) = inl none.1

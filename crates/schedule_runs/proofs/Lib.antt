@@ -8,3 +8,5 @@ pub mod Crashing
 pub mod Settling
 pub mod Schedules
 mod Reopening
+mod Adding
+mod Fronting

@@ -15,7 +15,7 @@ use Rattle.store_calls.specs.Calls.{Stops}
 use Rattle.schedule_laws.specs.Attempts.{Attempt}
 use Rattle.schedule_laws.specs.Schedules.reply
 use Rattle.schedule_laws.specs.Schedules.refusal
-use Rattle.schedule_laws.specs.Schedules.{Reply, HeldAttempt, RepliesDone, IfHeld, FeedsOne, ClosesOne, TurnsOne}
+use Rattle.schedule_laws.specs.Schedules.{Reply, HeldAttempt, RepliesDone, IfHeld, FeedsOne, ClosesOne, StopsOne, TurnsOne}
 
 -- whatever tables keep of one, they keep of the other
 abbrev pub KeepsAsWell : Standing → Standing → Type 0
@@ -54,7 +54,7 @@ module _ (database : State) (clean : HasCleanDisk database) where
 
     -- ---- calls that commit nothing
 
-    pub stop_kept : (id : Text) (n : ℕ) (answer : Reply) → RepliesDone (λ result. Stops id n result s t) answer → KeepsAsWell s t
+    stop_kept : (id : Text) (n : ℕ) (answer : Reply) → RepliesDone (λ result. Stops id n result s t) answer → KeepsAsWell s t
     stop_kept id n reply.Done it = stopped_kept id n it.events
     stop_kept id n (reply.Refused (refusal.Store why)) it = same_kept s t it.stays.events
     stop_kept id n _ it = absurd it
@@ -88,6 +88,9 @@ module _ (database : State) (clean : HasCleanDisk database) where
 
         pub shut_kept : IfHeld ClosesOne found s held answer t more → KeepsAsWell s t
         shut_kept = if_held ClosesOne (λ one. close_kept one answer)
+
+        pub ended_kept : IfHeld StopsOne found s held answer t more → KeepsAsWell s t
+        ended_kept = if_held StopsOne (λ one changed it. stop_kept one.invocation one.number answer it.0)
 
         pub turned_kept : (function : H → Handler) → IfHeld (TurnsOne function) found s held answer t more → KeepsAsWell s t
         turned_kept function = if_held (TurnsOne function) (λ one. turn_kept function one answer)

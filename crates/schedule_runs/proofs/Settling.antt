@@ -18,7 +18,7 @@ use Rattle.schedule_laws.specs.Schedules.{Event, Reply, HeldAttempt, Scheduled, 
 use Rattle.durable_schedule.specs.declared.scheduler.Scheduler.{Scheduler}
 use Rattle.durable_schedule.specs.Scheduled.{AppliesWith, IsScheduled, IsWritten, OutlastsEvent, Spares}
 use Rattle.schedule_runs.specs.Runs.{AreCertain, IsCertain, LastsNext, LastsBehind, at_first}
-use Rattle.schedule_runs.proofs.Quieting.{KeepsAsWell, fed_kept, shut_kept, turned_kept, stop_kept}
+use Rattle.schedule_runs.proofs.Quieting.{KeepsAsWell, fed_kept, shut_kept, turned_kept, ended_kept}
 use Rattle.schedule_runs.proofs.Refusing.{rest_lasts}
 use Rattle.schedule_runs.proofs.Crashing.{IsUnwritten, invoke_unwritten, complete_unwritten, tick_unwritten, begin_unwritten, refused_unwritten, moved_unwritten, unheld_kept, move_replies}
 use Rattle.schedule_runs.proofs.Running.{LeadsFirst}
@@ -152,7 +152,7 @@ module _ {H : Type 0} (function : H → Handler) (options : VMOptions) where
           inl (λ it. (
             it,
             quiet_carries (event.Stop id n) answer old new clean spares.quiet
-                (λ before behind is. stop_kept (state g new.store.connection) clean before.standing behind.standing id n answer is.0),
+                (λ before behind. ended_kept (state g new.store.connection) clean before.standing behind.standing (held_of before.held id n) before.held behind.held answer),
           ))
 
     -- what is applied to a scheduler, and what lasts of it

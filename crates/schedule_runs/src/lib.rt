@@ -11,6 +11,7 @@ ghost use Rattle.schedule_laws.specs.Schedules.{AppliesAll, FitsEvent, Scheduled
 ghost use Rattle.durable_schedule.specs.Scheduled.{IsScheduled};
 ghost use Rattle.schedule_runs.specs.Runs.{LastsBehind, Leaves, LeavesFirst, at_first};
 
+mod front;
 mod laws;
 
 pub use durable_schedule::{
@@ -19,6 +20,7 @@ pub use durable_schedule::{
     NotificationResult, PayloadOptions, Refusal, Reply, Scheduler, Sequence, StateMode, Target,
     TerminalFailure, Turn, UnresolvedFuture, VMOptions, Value,
 };
+pub use front::run_new_schedule;
 pub use journal_store::Store;
 pub use laws::reopened_stores_hold;
 pub use schedule_laws::{
