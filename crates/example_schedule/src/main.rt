@@ -1,14 +1,17 @@
-//! `example_schedule`: a handler of one's own, stopped while it sleeps and begun again, by the schedule whose contract is the headline.
+//! `example_schedule`: a handler of one's own, stopped while it sleeps, by the schedule whose contract is the headline, and gone on with by
+//! a loop over the scheduler that this leaves.
 #![tactic(auto)]
 
+mod attempt;
 mod reminder;
 
 use anyhow::{Result, bail};
+use attempt::go_on;
 use bytes::{ByteStr, Bytes};
 use reminder::Reminder;
 use schedule_runs::{
     Event, NewInvocation, NoRoom, Reply, Scheduler, Sequence, StateMode, Store, VMOptions,
-    run_schedule,
+    run_new_schedule,
 };
 use sqlite::Alter;
 use std::alloc::{AllocError, Global};
@@ -71,7 +74,7 @@ fn stop(attempt: u32) -> Event<Reminder> {
     }
 }
 
-// The first attempt is stopped where it sleeps. A second one makes no turn before it is begun, and goes on ten milliseconds later.
+// The first attempt is stopped where it sleeps. A second one makes no turn before it is begun.
 fn events(alloc: Global) -> Result<Vec<Event<Reminder>>, AllocError> {
     Ok(vec![in alloc;
         Event::Invoke(invocation(alloc)),
@@ -83,15 +86,6 @@ fn events(alloc: Global) -> Result<Vec<Event<Reminder>>, AllocError> {
         transfer(1),
         stop(1),
         turn(2),
-        Event::Tick(10),
-        begin(10),
-        feed(2),
-        turn(2),
-        turn(2),
-        turn(2),
-        turn(2),
-        turn(2),
-        transfer(2),
     ]?)
 }
 
@@ -130,7 +124,12 @@ fn run<R: Print>(rt: &R, alloc: Global) -> Result<()> {
         close(store);
         bail!("memory was refused");
     };
-    let (mut scheduler, replies) = match run_schedule(alloc, store, VMOptions::default(), events) {
+    let (mut scheduler, replies) = match run_new_schedule(
+        alloc,
+        store,
+        VMOptions::default(),
+        events,
+    ) {
         Ok(done) => done,
         Err(NoRoom { store }) => {
             close(store);
@@ -139,11 +138,15 @@ fn run<R: Print>(rt: &R, alloc: Global) -> Result<()> {
     };
     let printed = print_replies(rt, replies.as_slice());
     drop(replies);
+    // Ten milliseconds later.
+    let last = go_on(&mut scheduler, 10);
+    let moved = println!(rt; "{last:?}");
     let told = print_told(rt, &mut scheduler);
     let mut store = scheduler.into_store();
     let kept = print_entries(rt, &mut store);
     close(store);
     printed?;
+    moved?;
     told?;
     Ok(kept?)
 }
