@@ -1,5 +1,10 @@
 //! An attempt that replays answers as the one run of its handler: laws over a machine without bytes. Each function does nothing, and
 //! its contract is the law. Worked rows are computed in `proofs/MachineRows.antt`.
+//!
+//! What an attempt is fed has to fit: the recorded requests are a prefix of the run's, signals wait in line, and each completion comes once.
+//! At each call what has come is of its kind, by the calls that were made so far: an invocation id for a child that a cancellation is passed
+//! on to, and text for keys that are taken. These are premises of `calls_simulate` and `attempts_follow`; `awaits_resolve` asks nothing of
+//! what comes.
 #![tactic(auto)]
 
 ghost use Rattle.attempt_model.specs.Attempts.{AttemptsFollow, KindsByAsking, OnceByAsking, ReadsJournal};

@@ -1,4 +1,6 @@
 //! What a machine that is fed the frames of an attempt's input keeps of them. Each function does nothing: its contract is the law.
+//!
+//! Acknowledgements of outcomes are outside these laws, since no run is executed.
 #![tactic(auto)]
 
 ghost use Rattle.feeding_laws.specs.Arrivals.{ArrivalsReadBack};

@@ -1,6 +1,10 @@
 //! How an attempt over a machine stands to the live attempt of which the definitions speak: as it begins, as it is fed and closed, as
 //! what it has written is taken, and behind its end; and what each of its turns comes to: the run goes on, waits, has ended, or the
 //! attempt has failed for a cause. Each function does nothing: its contract is the law.
+//!
+//! That signals wait in line, that the live attempt was handed no cancellation, and that its messages are such as the protocol can carry, are
+//! premises. That a call which is carried out is of its type is none: the turn tells it. A schedule keeps what is said here of messages, and
+//! takes what is said of options as a premise of its own.
 #![tactic(auto)]
 
 ghost use Rattle.turning_laws.specs.Keeping.{BeginsServing, ClosesServing, FeedsServing, NotesFollow, OversStay, StaysServing, TakesServing};

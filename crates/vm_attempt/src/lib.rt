@@ -1,4 +1,7 @@
 //! An attempt: a handler at work on one invocation, over the machine that reads its input and carries its calls out.
+//!
+//! No contract sees that memory was refused with reason, so a turn that always answers so, and a `take_output` that always fails, meet theirs
+//! and are refused by tests alone. Nor does one say that bytes are shared and not copied.
 #![tactic(auto)]
 
 mod attempt;

@@ -2,6 +2,11 @@
 //!
 //! `VM` is the trait that a host calls, and `CoreVM` is what answers it. `carry_out` carries out one call of a handler by the
 //! methods of the trait: it tells what the call is answered, or that it waits, or that the attempt is over.
+//!
+//! No call of `CoreVM` requires anything. What a call does is said of each abstract machine that keeps what this one keeps, and `host_laws`
+//! says that there is one; of calls and sends it is said where they begin no child that a cancellation is passed on to. By `carry_out` a
+//! mismatch is told with its code: of which types it is, and at which place, is said where the call is made. Want of memory is a cause that
+//! no contract sees, so a body that always fails for it is refused by tests alone.
 #![tactic(auto)]
 
 mod awaits;
