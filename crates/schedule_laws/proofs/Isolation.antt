@@ -1,5 +1,5 @@
 -- What stands of an invocation, and what it is answered, is read off its own events.
-use Rattle.std.proofs.Common.{◌≡◌, ◌+◌, refl, sym, ap, ap₂, subst, ◌∙◌, ℕ, true, length, List, [], ◌∷◌, take, Option, Some, None, Ok, option_and_then, option_map, unwrap_or}
+use Rattle.std.proofs.Common.{◌≡◌, ◌+◌, refl, sym, ap, ap₂, subst, ◌∙◌, ℕ, true, length, List, [], ◌∷◌, take, Option, Some, None, option_and_then, option_map, unwrap_or}
 use Rattle.std.specs.List.{find}
 use Rattle.journal_model.specs.Notification.{Arrival, Bytes, Text}
 use Rattle.journal_model.specs.Request.{Request}
@@ -24,7 +24,7 @@ use Rattle.journal_laws.proofs.Isolation.{IsToldAlike, frames_of-view, version_o
 use Rattle.journal_laws.proofs.ObjectState.{accepted_followed, open_when_accepted}
 use Rattle.journal_laws.proofs.Refusing.{first_cause, left_alike, refused_alike}
 use Rattle.input_laws.proofs.Events.{itself}
-use Rattle.schedule_laws.specs.Isolation.{AllAnswerAlone, AllKeepState, AllReplyAlike, AllStandAlone, IsAlike, IsOwn}
+use Rattle.schedule_laws.specs.Isolation.{AllAnswerAlone, AllKeepState, AllReplyAlike, AllStandAlone, IsOwn}
 -- passed on, so that crates above name this one alone
 pub use Rattle.journal_laws.proofs.ObjectState.{own_followed}
 
