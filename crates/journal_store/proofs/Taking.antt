@@ -27,10 +27,10 @@ use Rattle.store_refusals.specs.Refused.{first_of, is_circumstance, IsRefused}
 use Rattle.store_invocations.specs.Rows.{IsStoreOf}
 use Rattle.store_steps.specs.declared.frame.FrameReply.{FrameReply}
 use Rattle.store_steps.specs.declared.frame.PreparedFrame.{PreparedFrame}
-use Rattle.store_steps.specs.Stateless.{is_of_state, LeavesState}
+use Rattle.store_steps.specs.LazyReads.{is_lazy_read, IsNoLazyRead}
 use Rattle.store_steps.specs.Taken.{IsLive, IsReply, IsTaken, Takes, does_end, lies_in_frame}
 use Rattle.store_steps.proofs.Live.{begun_open}
-use Rattle.store_steps.proofs.Stateless.{all_leave}
+use Rattle.store_steps.proofs.LazyReads.{none_are_reads}
 use Rattle.store_steps.proofs.Tests.{causes_left}
 use Rattle.store_live.specs.declared.attempt.LiveAttempt.{LiveAttempt}
 use Rattle.store_live.specs.Attempts.{Attempts, ByInvocation, attempt_of, IsNow, after_take}
@@ -56,23 +56,23 @@ use Rattle.journal_store.proofs.Leading.{leaves, stays}
 
 -- ---- what a frame leaves
 
-not_at_once : (request : Request) → is_of_state request ≡ false → not (is_answered_at_once request) ≡ true
+not_at_once : (request : Request) → is_lazy_read request ≡ false → not (is_answered_at_once request) ≡ true
 not_at_once (Request.GetLazyState key n name) e = cc
 not_at_once (Request.GetLazyStateKeys n name) e = cc
 not_at_once _ e = refl
 
 -- a frame that does not end its attempt brings it nothing
-silent : (frame : Frame) (read : AttemptFrame) → LeavesState frame → IsFrame frame read → ends_attempt frame ≡ false
+silent : (frame : Frame) (read : AttemptFrame) → IsNoLazyRead frame → IsFrame frame read → ends_attempt frame ≡ false
     → (events : List Event) (id : Text) (reply : FrameReply) → IsReply events id frame reply → is_silent frame ≡ true
-silent (Frame.Command request) read stateless is goes events id reply replied = not_at_once request stateless
-silent Frame.AwaitingOn read stateless is goes events id reply replied = refl
-silent (Frame.RunOutcome n value is_acknowledged) read stateless is goes events id reply replied = absurd is
-silent (Frame.Suspend suspension) read stateless is goes events id reply replied = cc
-silent (Frame.Error code said behavior delay) read stateless is goes events id reply replied = cc
-silent Frame.End read stateless is goes events id reply replied = cc
-silent Frame.Broken read stateless is goes events id reply replied = absurd replied
-silent Frame.TooDeep read stateless is goes events id reply replied = absurd replied
-silent Frame.NotAccepted read stateless is goes events id reply replied = absurd replied
+silent (Frame.Command request) read unread is goes events id reply replied = not_at_once request unread
+silent Frame.AwaitingOn read unread is goes events id reply replied = refl
+silent (Frame.RunOutcome n value is_acknowledged) read unread is goes events id reply replied = absurd is
+silent (Frame.Suspend suspension) read unread is goes events id reply replied = cc
+silent (Frame.Error code said behavior delay) read unread is goes events id reply replied = cc
+silent Frame.End read unread is goes events id reply replied = cc
+silent Frame.Broken read unread is goes events id reply replied = absurd replied
+silent Frame.TooDeep read unread is goes events id reply replied = absurd replied
+silent Frame.NotAccepted read unread is goes events id reply replied = absurd replied
 
 -- ---- the attempt that is left
 
@@ -87,12 +87,12 @@ other_output events id attempt rest agrees =
     record { number = agrees.number; version = agrees.version; bytes = agrees.bytes; pieces = agrees.pieces; handed = agrees.handed; closed = agrees.closed }
 
 agrees_left : (events : List Event) (id : Text) (number : ℕ) (frame : Frame) (read : AttemptFrame) (reply : FrameReply) (attempt : LiveAttempt) (rest : Bytes)
-    → LeavesState frame → IsFrame frame read → IsReply events id frame reply → Agrees events id (Some attempt) → (b : Bool) → does_end reply ≡ b
+    → IsNoLazyRead frame → IsFrame frame read → IsReply events id frame reply → Agrees events id (Some attempt) → (b : Bool) → does_end reply ≡ b
     → Agrees (Event.Take id number frame ∷ events) id (attempt_left b rest attempt)
-agrees_left events id number frame read reply attempt rest stateless is replied agrees true e = ended events id number frame (sym (told_end events id frame reply replied) ∙ e)
-agrees_left events id number frame read reply attempt rest stateless is replied agrees false e =
+agrees_left events id number frame read reply attempt rest unread is replied agrees true e = ended events id number frame (sym (told_end events id frame reply replied) ∙ e)
+agrees_left events id number frame read reply attempt rest unread is replied agrees false e =
     other_output (Event.Take id number frame ∷ events) id attempt rest
-    (taken events id number frame (Some attempt) (silent frame read stateless is (sym (told_end events id frame reply replied) ∙ e) events id reply replied) agrees)
+    (taken events id number frame (Some attempt) (silent frame read unread is (sym (told_end events id frame reply replied) ∙ e) events id reply replied) agrees)
 
 passed_left : (b : Bool) (len : ℕ) (found : Option LiveAttempt) (attempt : LiveAttempt) → found ≡ Some attempt → passed b len found ≡ attempt_left b (drop len attempt.output) attempt
 passed_left true len found attempt is = refl
@@ -199,8 +199,8 @@ module _ {S : Type 0} (g : Ghosts S) (a mid b : Held S) (before after : Attempts
   live_of events stands =
       is_live_here events id n one.attempt it (subst (Agrees events id) one.found (stands.live id)) (live_here events (state g a) before.attempts id n stands ∙ one.here) one.seen
 
-  stateless : LeavesState frame
-  stateless = all_leave (version_number one.attempt.version) one.seen.message_is
+  unread : IsNoLazyRead frame
+  unread = none_are_reads (version_number one.attempt.version) one.seen.message_is
 
   -- what was made ready of it, if anything was
   abbrev pub IsPrepared : Result PreparedFrame Refusal → Type 0
@@ -208,14 +208,14 @@ module _ {S : Type 0} (g : Ghosts S) (a mid b : Held S) (before after : Attempts
 
   ready_of : (made : PreparedFrame) → IsPrepared (Ok made) → HasCleanDisk (state g mid) → (events : List Event) → Stands events (state g a) before.attempts
       → (causes_of events event ≡ []) × IsTaken events id n frame made
-  ready_of made prepared clean events stands = prepared clean events stands.kept n frame (live_of events stands) stateless one.seen.read
+  ready_of made prepared clean events stands = prepared clean events stands.kept n frame (live_of events stands) unread one.seen.read
 
   -- it is refused, and with it its attempt where the cause lies in it
   pub seen_refused : (why : Refusal) → Looks g a mid → IsEndedBy (lies_in_frame why) id before.attempts after.attempts
       → IsPrepared (Err why)
       → Leads g (Steps id n (Err why)) (stored a before) (stored mid after)
   seen_refused why looks ends prepared clean s is =
-      let it = item_refused g (stored a before) (stored mid after) s is id n one.attempt (message one.seen.message_is) left_of one.found one.seen.first why one.here (prepared clean s.events is.stands.kept n frame (live_of s.events is.stands) stateless one.seen.read)
+      let it = item_refused g (stored a before) (stored mid after) s is id n one.attempt (message one.seen.message_is) left_of one.found one.seen.first why one.here (prepared clean s.events is.stands.kept n frame (live_of s.events is.stands) unread one.seen.read)
       (store_still s.events (state g a) (state g mid) (λ _. ⊥) looks.crash looks.kept is.stands.kept) (lies_in_frame why) refl ends in
       (it.0, it.1, inr it.2)
 
@@ -240,7 +240,7 @@ module _ {S : Type 0} (g : Ghosts S) (a mid b : Held S) (before after : Attempts
       subst (λ (o : Option LiveAttempt). IsNow id o before.attempts after.attempts)
       (ap (λ (r : FrameReply). passed (does_end r) it.len (attempt_of before.attempts id)) (sym replied) ∙ passed_left (does_end reply) it.len (attempt_of before.attempts id) one.attempt one.found) now in
       let then = stands_after s.events event id (attempt_left (does_end reply) left_of one.attempt) (state g b) before.attempts after.attempts refl refl all
-      (agrees_left s.events id n frame it.frame reply one.attempt left_of stateless one.seen.read is_reply agrees (does_end reply) refl) is_now is.stands.live in
+      (agrees_left s.events id n frame it.frame reply one.attempt left_of unread one.seen.read is_reply agrees (does_end reply) refl) is_now is.stands.live in
       let waits = subst (λ (output : Option Bytes). WaitsNow id output before.attempts after.attempts) (left_alike (does_end reply) left_of one.attempt)
       (now_waits id (attempt_left (does_end reply) left_of one.attempt) before.attempts after.attempts is_now) in
       let to = leaves g s (stored a before) (stored b after) is event id (rest_after (does_end reply) left_of) then waits in (

@@ -1,3 +1,5 @@
+pub mod Commanding
+pub mod TextLemmas
 pub mod Meanings
 pub mod Payloads
 pub mod Trees

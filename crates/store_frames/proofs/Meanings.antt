@@ -39,7 +39,7 @@ use Rattle.store_frames.proofs.Payloads.{lists_payload}
 
 request_is : (request : Option Request) → IsFrame (command_or_broken request) (told_request request)
 request_is None = tt
-request_is (Some request) = record { kind = refl; payload = refl; completion = refl; second_completion = refl; moment = refl }
+request_is (Some request) = record { kind = refl; payload = refl; completion = refl; second_completion = refl; moment = refl; state = refl; text = refl }
 
 tree_is : (awaited : Option Future) → IsFrame (Frame.Suspend (suspension_of_tree (record { awaiting_on = awaited }))) (told_tree (record { awaiting_on = awaited }))
 tree_is None = tt

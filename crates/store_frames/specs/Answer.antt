@@ -1,10 +1,13 @@
 -- How what is kept of a message says which frame it is.
 use Rattle.std.specs.Prelude.{◌≡◌, ℕ, List, ◌++◌, Option, Some, None}
+use Rattle.std.specs.List.{list_all}
+use Rattle.std.specs.Str.{is_utf8}
 use Rattle.journal_model.specs.Request.{Request, completions_asked}
+use Rattle.journal_model.specs.Cause.{keys_of}
 use Rattle.journal_model.specs.Spelling.{packed_numbers, repeated_bytes, suspension_payload, request_payload, request_type}
 use Rattle.journal_model.specs.Event.{Behavior, Retry, Pause, Fail, Suspension, ForTree, ForAny, Frame}
 use Rattle.protocol_records.specs.declared.suspension_v6.SuspensionMessageV6.{SuspensionMessageV6}
-use Rattle.store_frames.specs.Commands.{first_asked, second_asked, moment_of}
+use Rattle.store_frames.specs.Commands.{first_asked, second_asked, moment_of, state_use}
 use Rattle.store_frames.specs.Requests.{suspension_of_lists}
 use Rattle.store_frames.specs.declared.frame.RecordedCommand.{RecordedCommand}
 use Rattle.store_frames.specs.declared.frame.ErrorBehavior.{ErrorBehavior}
@@ -21,6 +24,8 @@ pub record IsCommand (request : Request) (command : RecordedCommand) : Type 0 wh
   pub completion : command.completion ≡ first_asked (completions_asked request)
   pub second_completion : command.second_completion ≡ second_asked (completions_asked request)
   pub moment : command.moment ≡ moment_of request
+  pub state : command.state ≡ state_use request
+  pub text : command.are_keys_text ≡ list_all is_utf8 (keys_of request)
 
 -- ---- what an attempt ends with
 

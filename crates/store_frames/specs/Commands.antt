@@ -1,11 +1,14 @@
 -- Which request the fields of a message stand for, by the type of the message: one line a command.
 use Rattle.std.specs.Prelude.{◌≡◌, ℕ, List, [], ◌∷◌, Option, Some, None}
+use Rattle.std.specs.List.{list_all}
+use Rattle.std.specs.Str.{is_utf8}
 use Rattle.std.proofs.Common.{sym, ap, ◌∙◌}
 use Rattle.protocol_wire.specs.Wire.{Field}
 use Rattle.protocol_wire.specs.Parts.{Part, payload_of}
 use Rattle.protocol_wire.specs.declared.record.TheConstants.{LEVELS}
 use Rattle.journal_model.specs.Request.{Request, completions_asked}
 use Rattle.journal_model.specs.Spelling.{request_payload, request_type}
+use Rattle.journal_model.specs.Cause.{keys_of}
 use Rattle.protocol_records.specs.SleepCommand.{sleep_command_of}
 use Rattle.protocol_records.specs.OutputCommand.{output_command_of}
 use Rattle.protocol_commands.specs.Fields.{get_lazy_state_command_of, get_lazy_state_keys_command_of, get_eager_state_keys_command_of, set_state_command_of, clear_state_command_of, clear_all_state_command_of, get_promise_command_of, peek_promise_command_of, run_command_of}
@@ -23,6 +26,8 @@ use Rattle.protocol_spellings.specs.Requests.{request_told, request_of_output, r
 use Rattle.protocol_spellings.proofs.Back.{records_told}
 use Rattle.protocol_spellings.proofs.Requests.{requests_spelled}
 use Rattle.store_frames.specs.declared.command.AskedFor.{AskedFor}
+use Rattle.store_frames.specs.declared.frame.StateUse.{StateUse}
+use Rattle.store_frames.specs.declared.frame.StateUse.TheVariants as uses
 
 -- None where they lack what each request of the kind has, and of a type that is no command's
 abbrev pub request_in : MessageType → List Field → Option Request
@@ -62,6 +67,15 @@ abbrev pub moment_of : Request → ℕ
 moment_of (Request.Sleep moment n name) = moment
 moment_of _ = 0
 
+-- what it does with the state
+abbrev pub state_use : Request → StateUse
+state_use (Request.SetState key value name) = uses.Put key value
+state_use (Request.ClearState key name) = uses.Remove key
+state_use (Request.ClearAllState name) = uses.RemoveAll
+state_use (Request.GetLazyState key n name) = uses.ReadValue key
+state_use (Request.GetLazyStateKeys n name) = uses.ReadKeys
+state_use _ = uses.Nothing
+
 -- beside its payload
 abbrev pub asked_for : Request → AskedFor
 asked_for request = record {
@@ -69,6 +83,8 @@ asked_for request = record {
   completion = first_asked (completions_asked request);
   second_completion = second_asked (completions_asked request);
   moment = moment_of request;
+  state = state_use request;
+  are_keys_text = list_all is_utf8 (keys_of request);
 }
 
 -- the canonical payload of a record that stands for a request is that request's

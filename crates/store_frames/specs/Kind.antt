@@ -7,9 +7,14 @@ use Rattle.protocol_types.specs.declared.message_type.MessageType.TheVariants as
 use Rattle.store_frames.specs.declared.kind.FrameKind.{FrameKind}
 use Rattle.store_frames.specs.declared.kind.FrameKind.TheVariants as kinds
 
--- Commands that read or write the state of an object, and those whose outcome an attempt proposes, are not accepted so far.
+-- Reads of the state that the store has to answer, and commands whose outcome an attempt proposes, are not accepted so far.
 abbrev pub kind_of : MessageType → FrameKind
 kind_of types.OutputCommand = kinds.Command
+kind_of types.SetStateCommand = kinds.Command
+kind_of types.ClearStateCommand = kinds.Command
+kind_of types.ClearAllStateCommand = kinds.Command
+kind_of types.GetEagerStateCommand = kinds.Command
+kind_of types.GetEagerStateKeysCommand = kinds.Command
 kind_of types.GetPromiseCommand = kinds.Command
 kind_of types.PeekPromiseCommand = kinds.Command
 kind_of types.CompletePromiseCommand = kinds.Command

@@ -50,6 +50,8 @@ told_command payload asked = answers.Command (record {
   completion = asked.completion;
   second_completion = asked.second_completion;
   moment = asked.moment;
+  state = asked.state;
+  are_keys_text = asked.are_keys_text;
 })
 
 -- of a command that stands for this request

@@ -7,7 +7,8 @@ ghost use Rattle.store_frames.specs.Told.{told_by_type};
 
 use crate::command::{AskedFor, CommandRecord, read_command};
 use crate::fault::read_other;
-use crate::frame::AttemptFrame;
+use crate::frame::{AttemptFrame, StateUse};
+use crate::keys::{are_text, is_key_text};
 use protocol_calls::{
     AttachInvocationCommandMessage, CallCommandMessage, CompleteAwakeableCommandMessage,
     GetInvocationOutputCommandMessage, OneWayCallCommandMessage, SendSignalCommandMessage,
@@ -25,10 +26,10 @@ use std::alloc::{AllocError, Global};
 impl CommandRecord for OutputCommandMessage {
     ghost request_of = { request_of_output };
 
-    fn asked(&self) -> Option<AskedFor> {
+    fn asked(&self) -> Result<Option<AskedFor>, AllocError> {
         match &self.result {
-            Some(_) => Some(AskedFor::nothing(MessageType::OutputCommand)),
-            None => None
+            Some(_) => Ok(Some(AskedFor::of(MessageType::OutputCommand, None, None))),
+            None => Ok(None),
         }
     }
 
@@ -38,8 +39,17 @@ impl CommandRecord for OutputCommandMessage {
 impl CommandRecord for GetLazyStateCommandMessage {
     ghost request_of = { λ one. Some (request_of_get_lazy_state one) };
 
-    fn asked(&self) -> Option<AskedFor> {
-        Some(AskedFor::one(MessageType::GetLazyStateCommand, self.result_completion_id))
+    fn asked(&self) -> Result<Option<AskedFor>, AllocError> {
+        let read = StateUse::ReadValue {
+            key: self.key.clone()?,
+        };
+        let is_key_text = is_key_text(&self.key);
+        Ok(Some(AskedFor::of_keys(
+            MessageType::GetLazyStateCommand,
+            Some(self.result_completion_id),
+            read,
+            is_key_text,
+        )))
     }
 
     ghost spelled = { spells records.GetLazyState (λ one. refl) (λ one. refl) };
@@ -48,10 +58,18 @@ impl CommandRecord for GetLazyStateCommandMessage {
 impl CommandRecord for GetEagerStateCommandMessage {
     ghost request_of = { request_of_get_eager_state };
 
-    fn asked(&self) -> Option<AskedFor> {
+    fn asked(&self) -> Result<Option<AskedFor>, AllocError> {
         match &self.result {
-            Some(_) => Some(AskedFor::nothing(MessageType::GetEagerStateCommand)),
-            None => None
+            Some(_) => {
+                let is_key_text = is_key_text(&self.key);
+                Ok(Some(AskedFor::of_keys(
+                    MessageType::GetEagerStateCommand,
+                    None,
+                    StateUse::Nothing,
+                    is_key_text,
+                )))
+            }
+            None => Ok(None),
         }
     }
 
@@ -61,11 +79,13 @@ impl CommandRecord for GetEagerStateCommandMessage {
 impl CommandRecord for GetLazyStateKeysCommandMessage {
     ghost request_of = { λ one. Some (request_of_get_lazy_state_keys one) };
 
-    fn asked(&self) -> Option<AskedFor> {
-        Some(AskedFor::one(
+    fn asked(&self) -> Result<Option<AskedFor>, AllocError> {
+        Ok(Some(AskedFor::of_keys(
             MessageType::GetLazyStateKeysCommand,
-            self.result_completion_id,
-        ))
+            Some(self.result_completion_id),
+            StateUse::ReadKeys,
+            true,
+        )))
     }
 
     ghost spelled = { spells records.GetLazyStateKeys (λ one. refl) (λ one. refl) };
@@ -74,10 +94,18 @@ impl CommandRecord for GetLazyStateKeysCommandMessage {
 impl CommandRecord for GetEagerStateKeysCommandMessage {
     ghost request_of = { request_of_get_eager_state_keys };
 
-    fn asked(&self) -> Option<AskedFor> {
+    fn asked(&self) -> Result<Option<AskedFor>, AllocError> {
         match &self.value {
-            Some(_) => Some(AskedFor::nothing(MessageType::GetEagerStateKeysCommand)),
-            None => None
+            Some(value) => {
+                let are_keys_text = are_text(value.keys.as_slice());
+                Ok(Some(AskedFor::of_keys(
+                    MessageType::GetEagerStateKeysCommand,
+                    None,
+                    StateUse::Nothing,
+                    are_keys_text,
+                )))
+            }
+            None => Ok(None),
         }
     }
 
@@ -87,10 +115,18 @@ impl CommandRecord for GetEagerStateKeysCommandMessage {
 impl CommandRecord for SetStateCommandMessage {
     ghost request_of = { request_of_set_state };
 
-    fn asked(&self) -> Option<AskedFor> {
+    fn asked(&self) -> Result<Option<AskedFor>, AllocError> {
         match &self.value {
-            Some(_) => Some(AskedFor::nothing(MessageType::SetStateCommand)),
-            None => None
+            Some(value) => {
+                let key = self.key.clone()?;
+                let put = StateUse::Put {
+                    key,
+                    value: value.content.clone()?,
+                };
+                let is_key_text = is_key_text(&self.key);
+                Ok(Some(AskedFor::of_keys(MessageType::SetStateCommand, None, put, is_key_text)))
+            }
+            None => Ok(None),
         }
     }
 
@@ -100,8 +136,12 @@ impl CommandRecord for SetStateCommandMessage {
 impl CommandRecord for ClearStateCommandMessage {
     ghost request_of = { λ one. Some (request_of_clear_state one) };
 
-    fn asked(&self) -> Option<AskedFor> {
-        Some(AskedFor::nothing(MessageType::ClearStateCommand))
+    fn asked(&self) -> Result<Option<AskedFor>, AllocError> {
+        let remove = StateUse::Remove {
+            key: self.key.clone()?,
+        };
+        let is_key_text = is_key_text(&self.key);
+        Ok(Some(AskedFor::of_keys(MessageType::ClearStateCommand, None, remove, is_key_text)))
     }
 
     ghost spelled = { spells records.ClearState (λ one. refl) (λ one. refl) };
@@ -110,8 +150,13 @@ impl CommandRecord for ClearStateCommandMessage {
 impl CommandRecord for ClearAllStateCommandMessage {
     ghost request_of = { λ one. Some (request_of_clear_all_state one) };
 
-    fn asked(&self) -> Option<AskedFor> {
-        Some(AskedFor::nothing(MessageType::ClearAllStateCommand))
+    fn asked(&self) -> Result<Option<AskedFor>, AllocError> {
+        Ok(Some(AskedFor::of_keys(
+            MessageType::ClearAllStateCommand,
+            None,
+            StateUse::RemoveAll,
+            true,
+        )))
     }
 
     ghost spelled = { spells records.ClearAllState (λ one. refl) (λ one. refl) };
@@ -120,8 +165,12 @@ impl CommandRecord for ClearAllStateCommandMessage {
 impl CommandRecord for GetPromiseCommandMessage {
     ghost request_of = { λ one. Some (request_of_get_promise one) };
 
-    fn asked(&self) -> Option<AskedFor> {
-        Some(AskedFor::one(MessageType::GetPromiseCommand, self.result_completion_id))
+    fn asked(&self) -> Result<Option<AskedFor>, AllocError> {
+        Ok(Some(AskedFor::of(
+            MessageType::GetPromiseCommand,
+            Some(self.result_completion_id),
+            None,
+        )))
     }
 
     ghost spelled = { spells records.GetPromise (λ one. refl) (λ one. refl) };
@@ -130,8 +179,12 @@ impl CommandRecord for GetPromiseCommandMessage {
 impl CommandRecord for PeekPromiseCommandMessage {
     ghost request_of = { λ one. Some (request_of_peek_promise one) };
 
-    fn asked(&self) -> Option<AskedFor> {
-        Some(AskedFor::one(MessageType::PeekPromiseCommand, self.result_completion_id))
+    fn asked(&self) -> Result<Option<AskedFor>, AllocError> {
+        Ok(Some(AskedFor::of(
+            MessageType::PeekPromiseCommand,
+            Some(self.result_completion_id),
+            None,
+        )))
     }
 
     ghost spelled = { spells records.PeekPromise (λ one. refl) (λ one. refl) };
@@ -140,13 +193,14 @@ impl CommandRecord for PeekPromiseCommandMessage {
 impl CommandRecord for CompletePromiseCommandMessage {
     ghost request_of = { request_of_complete_promise };
 
-    fn asked(&self) -> Option<AskedFor> {
+    fn asked(&self) -> Result<Option<AskedFor>, AllocError> {
         match &self.completion {
-            Some(_) => Some(AskedFor::one(
+            Some(_) => Ok(Some(AskedFor::of(
                 MessageType::CompletePromiseCommand,
-                self.result_completion_id,
-            )),
-            None => None
+                Some(self.result_completion_id),
+                None,
+            ))),
+            None => Ok(None),
         }
     }
 
@@ -156,11 +210,15 @@ impl CommandRecord for CompletePromiseCommandMessage {
 impl CommandRecord for SleepCommandMessage {
     ghost request_of = { λ one. Some (request_of_sleep one) };
 
-    fn asked(&self) -> Option<AskedFor> {
-        Some(AskedFor {
+    fn asked(&self) -> Result<Option<AskedFor>, AllocError> {
+        Ok(Some(AskedFor {
+            kind: MessageType::SleepCommand,
+            completion: Some(self.result_completion_id),
+            second_completion: None,
             moment: self.wake_up_time,
-            ..AskedFor::one(MessageType::SleepCommand, self.result_completion_id)
-        })
+            state: StateUse::Nothing,
+            are_keys_text: true,
+        }))
     }
 
     ghost spelled = { spells records.Sleep (λ one. refl) (λ one. refl) };
@@ -169,14 +227,12 @@ impl CommandRecord for SleepCommandMessage {
 impl CommandRecord for CallCommandMessage {
     ghost request_of = { λ one. Some (request_of_call one) };
 
-    fn asked(&self) -> Option<AskedFor> {
-        Some(AskedFor {
-            second_completion: Some(self.result_completion_id),
-            ..AskedFor::one(
-                MessageType::CallCommand,
-                self.invocation_id_notification_idx,
-            )
-        })
+    fn asked(&self) -> Result<Option<AskedFor>, AllocError> {
+        Ok(Some(AskedFor::of(
+            MessageType::CallCommand,
+            Some(self.invocation_id_notification_idx),
+            Some(self.result_completion_id),
+        )))
     }
 
     ghost spelled = { spells records.CallService (λ one. refl) (λ one. refl) };
@@ -185,11 +241,12 @@ impl CommandRecord for CallCommandMessage {
 impl CommandRecord for OneWayCallCommandMessage {
     ghost request_of = { λ one. Some (request_of_one_way_call one) };
 
-    fn asked(&self) -> Option<AskedFor> {
-        Some(AskedFor::one(
+    fn asked(&self) -> Result<Option<AskedFor>, AllocError> {
+        Ok(Some(AskedFor::of(
             MessageType::OneWayCallCommand,
-            self.invocation_id_notification_idx,
-        ))
+            Some(self.invocation_id_notification_idx),
+            None,
+        )))
     }
 
     ghost spelled = { spells records.OneWayCall (λ one. refl) (λ one. refl) };
@@ -198,10 +255,14 @@ impl CommandRecord for OneWayCallCommandMessage {
 impl CommandRecord for SendSignalCommandMessage {
     ghost request_of = { request_of_send_signal };
 
-    fn asked(&self) -> Option<AskedFor> {
+    fn asked(&self) -> Result<Option<AskedFor>, AllocError> {
         match (&self.signal_id, &self.result) {
-            (Some(_), Some(_)) => Some(AskedFor::nothing(MessageType::SendSignalCommand)),
-            _ => None
+            (Some(_), Some(_)) => Ok(Some(AskedFor::of(
+                MessageType::SendSignalCommand,
+                None,
+                None,
+            ))),
+            _ => Ok(None),
         }
     }
 
@@ -211,8 +272,12 @@ impl CommandRecord for SendSignalCommandMessage {
 impl CommandRecord for RunCommandMessage {
     ghost request_of = { λ one. Some (request_of_run one) };
 
-    fn asked(&self) -> Option<AskedFor> {
-        Some(AskedFor::one(MessageType::RunCommand, self.result_completion_id))
+    fn asked(&self) -> Result<Option<AskedFor>, AllocError> {
+        Ok(Some(AskedFor::of(
+            MessageType::RunCommand,
+            Some(self.result_completion_id),
+            None,
+        )))
     }
 
     ghost spelled = { spells records.Run (λ one. refl) (λ one. refl) };
@@ -221,13 +286,14 @@ impl CommandRecord for RunCommandMessage {
 impl CommandRecord for AttachInvocationCommandMessage {
     ghost request_of = { request_of_attach_invocation };
 
-    fn asked(&self) -> Option<AskedFor> {
+    fn asked(&self) -> Result<Option<AskedFor>, AllocError> {
         match &self.target {
-            Some(_) => Some(AskedFor::one(
+            Some(_) => Ok(Some(AskedFor::of(
                 MessageType::AttachInvocationCommand,
-                self.result_completion_id,
-            )),
-            None => None
+                Some(self.result_completion_id),
+                None,
+            ))),
+            None => Ok(None),
         }
     }
 
@@ -237,13 +303,14 @@ impl CommandRecord for AttachInvocationCommandMessage {
 impl CommandRecord for GetInvocationOutputCommandMessage {
     ghost request_of = { request_of_get_invocation_output };
 
-    fn asked(&self) -> Option<AskedFor> {
+    fn asked(&self) -> Result<Option<AskedFor>, AllocError> {
         match &self.target {
-            Some(_) => Some(AskedFor::one(
+            Some(_) => Ok(Some(AskedFor::of(
                 MessageType::GetInvocationOutputCommand,
-                self.result_completion_id,
-            )),
-            None => None
+                Some(self.result_completion_id),
+                None,
+            ))),
+            None => Ok(None),
         }
     }
 
@@ -253,10 +320,10 @@ impl CommandRecord for GetInvocationOutputCommandMessage {
 impl CommandRecord for CompleteAwakeableCommandMessage {
     ghost request_of = { request_of_complete_awakeable };
 
-    fn asked(&self) -> Option<AskedFor> {
+    fn asked(&self) -> Result<Option<AskedFor>, AllocError> {
         match &self.result {
-            Some(_) => Some(AskedFor::nothing(MessageType::CompleteAwakeableCommand)),
-            None => None
+            Some(_) => Ok(Some(AskedFor::of(MessageType::CompleteAwakeableCommand, None, None))),
+            None => Ok(None),
         }
     }
 

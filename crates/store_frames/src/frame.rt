@@ -2,6 +2,19 @@
 use bytes::{ByteStr, Bytes};
 use protocol_stream::MessageType;
 
+/// What a command does with the state of its object. A read whose answer it carries does nothing.
+#[derive(Debug, Drop)]
+pub enum StateUse {
+    Nothing,
+    Put { key: Bytes, value: Bytes },
+    Remove { key: Bytes },
+    RemoveAll,
+    /// The store has to answer with the value of the key, or that it has none.
+    ReadValue { key: Bytes },
+    /// The store has to answer with all keys.
+    ReadKeys,
+}
+
 /// A command as it is recorded.
 #[derive(Debug, Drop)]
 pub struct RecordedCommand {
@@ -14,6 +27,9 @@ pub struct RecordedCommand {
     pub second_completion: Option<u32>,
     /// Of a sleep, when it ends, in milliseconds; else 0.
     pub moment: u64,
+    pub state: StateUse,
+    /// Whether each key of the object's state that it names is UTF-8.
+    pub are_keys_text: bool,
 }
 
 /// What an attempt that failed wants done.

@@ -16,13 +16,18 @@ pub enum FrameKind {
     Other,
 }
 
-/// What messages of this type are for. Commands that read or write the state of an object, and those whose outcome an attempt
+/// What messages of this type are for. Reads of the state that the store has to answer, and commands whose outcome an attempt
 /// proposes, are not accepted so far.
 pub(crate) fn kind_of(ty: MessageType) -> FrameKind
     ensures { result ≡ the_kind_of ty }
 {
     match ty {
         MessageType::OutputCommand
+        | MessageType::SetStateCommand
+        | MessageType::ClearStateCommand
+        | MessageType::ClearAllStateCommand
+        | MessageType::GetEagerStateCommand
+        | MessageType::GetEagerStateKeysCommand
         | MessageType::GetPromiseCommand
         | MessageType::PeekPromiseCommand
         | MessageType::CompletePromiseCommand

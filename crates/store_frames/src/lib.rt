@@ -9,10 +9,11 @@ mod command;
 mod commands;
 mod fault;
 mod frame;
+mod keys;
 mod kind;
 mod read;
 mod record;
 mod tree;
 
-pub use frame::{AttemptFrame, ErrorBehavior, RecordedCommand};
+pub use frame::{AttemptFrame, ErrorBehavior, RecordedCommand, StateUse};
 pub use read::{read_frame, read_frame_at};

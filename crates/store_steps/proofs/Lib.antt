@@ -1,6 +1,6 @@
-pub mod Stateless
-pub mod Live
+pub mod LazyReads
 pub mod Lists
+pub mod Live
+pub mod Taking
 pub mod Tests
 pub mod Writes
-pub mod Taking

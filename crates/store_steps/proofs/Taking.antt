@@ -29,7 +29,7 @@ use Rattle.store_refusals.specs.Prepared.{Keeps, Prepares}
 use Rattle.store_refusals.proofs.First.{first_holds, none_holds}
 use Rattle.store_steps.specs.declared.frame.LiveFacts.{LiveFacts}
 use Rattle.store_steps.specs.declared.frame.PreparedFrame.{PreparedFrame}
-use Rattle.store_steps.specs.Stateless.{LeavesState}
+use Rattle.store_steps.specs.LazyReads.{IsNoLazyRead}
 use Rattle.store_steps.specs.Told.{tests_of_told, writes_of_told}
 use Rattle.store_steps.specs.Taken.{IsLive, IsReply, IsTaken, Takes, IsMade, IsWhy}
 use Rattle.store_steps.proofs.Live.{begun_open, live_open}
@@ -39,25 +39,25 @@ use Rattle.store_steps.proofs.Writes.{written, replied}
 -- ---- a frame of a live attempt of an invocation that was begun so
 
 module _ (events : List Event) (id : Text) (number : ℕ) (new : NewInvocation) (is : invocation_begun events id ≡ Some new) (opened : is_open events id ≡ true)
-    (attempt : LiveFacts) (live : IsLive events id number attempt) (frame : Frame) (read : AttemptFrame) (stateless : LeavesState frame) (h : IsFrame frame read) where
+    (attempt : LiveFacts) (live : IsLive events id number attempt) (frame : Frame) (read : AttemptFrame) (unread : IsNoLazyRead frame) (h : IsFrame frame read) where
   causes_are : causes_of events (Event.Take id number frame) ≡ those_that_hold (tests_left events id number frame)
   causes_are = causes_left events id number frame (ap (λ (o : Option NewInvocation). is_some o) is) opened live.live
 
   same : refusal_by (tests_left events id number frame) ≡ refusal_by (tests_of_told (progress_of events id) attempt.is_input_closed read)
-  same = tests_same events id number frame read stateless h ∙ ap (λ (b : Bool). refusal_by (tests_of_told (progress_of events id) b read)) (sym live.closed)
+  same = tests_same events id number frame read unread h ∙ ap (λ (b : Bool). refusal_by (tests_of_told (progress_of events id) b read)) (sym live.closed)
 
   version_is : new.version ≡ version_of events id
   version_is = sym (ap (λ (o : Option NewInvocation). unwrap_or (option_map (λ (begun : NewInvocation). begun.version) o) 0) is)
 
-  pub prepared : (result : Result PreparedFrame Refusal) → IfOk result (IsMade id new.version (progress_of events id) attempt read) → IfErr result (IsWhy (progress_of events id) attempt read)
+  pub prepared : (result : Result PreparedFrame Refusal) → IfOk result (IsMade id new.object new.version (progress_of events id) attempt read) → IfErr result (IsWhy (progress_of events id) attempt read)
       → Prepares events (Event.Take id number frame) (IsTaken events id number frame) result
   prepared (Ok made) ok err = (
     causes_are ∙ none_holds (tests_left events id number frame) (same ∙ ok.accepted),
     record {
       writes =
           ok.writes
-          ∙ (λ i. writes_of_told id (version_is i) (live.handed i) (progress_of events id) read)
-          ∙ sym (written events id number attempt.is_input_closed frame read stateless h ok.accepted);
+          ∙ (λ i. writes_of_told id new.object (version_is i) (live.handed i) (progress_of events id) read)
+          ∙ sym (written events id number new.object attempt.is_input_closed frame read (ap (option_map (λ (begun : NewInvocation). begun.object)) is) unread h ok.accepted);
       reply = subst (IsReply events id frame) (sym ok.reply) (replied events id number attempt.is_input_closed frame read h ok.accepted);
     },
   )
@@ -92,18 +92,19 @@ module _ (events : List Event) (s : State) (keeps : Keeps events s) (id : Text) 
   same_row : (row : InvocationRow) (new : NewInvocation) → Some row ≡ Some (invocation_row events new) → row ≡ invocation_row events new
   same_row row new e = cc
 
-  made_as : (attempt : LiveFacts) (read : AttemptFrame) (result : Result PreparedFrame Refusal) (v version : ℕ) (p progress : Progress) → v ≡ version → p ≡ progress
-      → IfOk result (IsMade id v p attempt read) → IfOk result (IsMade id version progress attempt read)
-  made_as attempt read result v version p progress same_version same_progress ok =
-      subst₂ (λ (v : ℕ) (p : Progress). IfOk result (IsMade id v p attempt read)) same_version same_progress ok
+  made_as : (attempt : LiveFacts) (read : AttemptFrame) (result : Result PreparedFrame Refusal) (o object : Text) (v version : ℕ) (p progress : Progress) → o ≡ object → v ≡ version → p ≡ progress
+      → IfOk result (IsMade id o v p attempt read) → IfOk result (IsMade id object version progress attempt read)
+  made_as attempt read result o object v version p progress same_object same_version same_progress ok =
+      subst (λ (o : Text). IfOk result (IsMade id o version progress attempt read)) same_object
+      (subst₂ (λ (v : ℕ) (p : Progress). IfOk result (IsMade id o v p attempt read)) same_version same_progress ok)
 
   why_as : (attempt : LiveFacts) (read : AttemptFrame) (result : Result PreparedFrame Refusal) (p progress : Progress) → p ≡ progress
       → IfErr result (IsWhy p attempt read) → IfErr result (IsWhy progress attempt read)
   why_as attempt read result p progress same_progress err = subst (λ (p : Progress). IfErr result (IsWhy p attempt read)) same_progress err
 
   pub taken_by_row : (row : InvocationRow) → IsFound (λ r. r.invocations) (has_id id) s.now.trees (Some row) → (attempt : LiveFacts) (read : AttemptFrame) (result : Result PreparedFrame Refusal)
-      → IfOk result (IsMade id (version_number row.version) row.progress attempt read) → IfErr result (IsWhy row.progress attempt read) → Takes events id attempt read result
-  taken_by_row row found attempt read result ok err number frame live stateless h = by_begun (invocation_begun events id) refl
+      → IfOk result (IsMade id row.object (version_number row.version) row.progress attempt read) → IfErr result (IsWhy row.progress attempt read) → Takes events id attempt read result
+  taken_by_row row found attempt read result ok err number frame live unread h = by_begun (invocation_begun events id) refl
     where
       by_begun : (o : Option NewInvocation) → invocation_begun events id ≡ o → Prepares events (Event.Take id number frame) (IsTaken events id number frame) result
       by_begun None e = let no : Some row ≡ None = row_found (Some row) found ∙ ap (option_map (invocation_row events)) e in absurd cc
@@ -112,12 +113,12 @@ module _ (events : List Event) (s : State) (keeps : Keeps events s) (id : Text) 
           let named : new.id ≡ id = (bytes_eq-Decides new.id id).0 (find-passes (λ other. bytes_eq other.id id) (filter_map invoked_by events) new e) in
           let progress_is : row.progress ≡ progress_of events id = ap (λ (r : InvocationRow). r.progress) is_row ∙ ap (progress_of events) named in
           let version_is : version_number row.version ≡ new.version = ap (λ (r : InvocationRow). version_number r.version) is_row ∙ begun_number events id new keeps.accepted e in
-          prepared events id number new e (opened_live number attempt live) attempt live frame read stateless h result
-          (made_as attempt read result (version_number row.version) new.version row.progress (progress_of events id) version_is progress_is ok)
+          prepared events id number new e (opened_live number attempt live) attempt live frame read unread h result
+          (made_as attempt read result row.object new.object (version_number row.version) new.version row.progress (progress_of events id) (ap (λ (r : InvocationRow). r.object) is_row) version_is progress_is ok)
           (why_as attempt read result row.progress (progress_of events id) progress_is err)
 
   pub never_missing : IsFound (λ r. r.invocations) (has_id id) s.now.trees None → (attempt : LiveFacts) (read : AttemptFrame) (result : Result PreparedFrame Refusal) → Takes events id attempt read result
-  never_missing found attempt read result number frame live stateless h = absurd (by_begun (invocation_begun events id) refl)
+  never_missing found attempt read result number frame live unread h = absurd (by_begun (invocation_begun events id) refl)
     where
       by_begun : (o : Option NewInvocation) → invocation_begun events id ≡ o → ⊥
       by_begun None e =
@@ -134,6 +135,6 @@ was_asked (Err why) it = tt
 -- a row that could not be read, and is no foreign one
 pub read_failed : (events : List Event) (id : Text) (error : ReadError) → (error ≡ reading.Foreign → ⊥) → (attempt : LiveFacts) (read : AttemptFrame)
     → Takes events id attempt read (Err (reading_refusal error))
-read_failed events id (reading.Refused cause) foreign attempt read number frame live stateless h = inr refl
-read_failed events id reading.Foreign foreign attempt read number frame live stateless h = absurd (foreign refl)
-read_failed events id reading.OutOfMemory foreign attempt read number frame live stateless h = inr refl
+read_failed events id (reading.Refused cause) foreign attempt read number frame live unread h = inr refl
+read_failed events id reading.Foreign foreign attempt read number frame live unread h = absurd (foreign refl)
+read_failed events id reading.OutOfMemory foreign attempt read number frame live unread h = inr refl

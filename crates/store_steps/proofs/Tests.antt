@@ -16,9 +16,9 @@ use Rattle.store_frames.specs.declared.frame.AttemptFrame.TheVariants as told
 use Rattle.store_frames.specs.Commands.{first_asked, second_asked}
 use Rattle.store_frames.specs.Answer.{IsCommand, IsFrame}
 use Rattle.store_model.specs.Progress.{progress_of}
-use Rattle.store_steps.specs.Stateless.{is_of_state, LeavesState}
+use Rattle.store_steps.specs.LazyReads.{is_lazy_read, IsNoLazyRead}
 use Rattle.store_steps.specs.Told.{asked, asked_by, tests_of_told}
-use Rattle.store_steps.proofs.Stateless.{no_keys, no_answer}
+use Rattle.store_steps.proofs.LazyReads.{no_answer}
 
 -- ---- completions
 
@@ -49,10 +49,10 @@ causes_left events id number frame begun opened live =
 
 -- ---- commands
 
--- the tests of a command with these keys, answers at once, completions and payload
-abbrev command_tests : List Entry → Request → ℕ → ℕ → List Bytes → List Arrival → List ℕ → Bytes → Tests
-command_tests entries request last count keys answers completions payload =
-    (not (do_ascend last completions), BadCompletion) ∷ (not (list_all is_utf8 keys), KeyNotText)
+-- the tests of a command with keys that are text or are not, and with these answers at once, completions and payload
+abbrev command_tests : List Entry → Request → ℕ → ℕ → Bool → List Arrival → List ℕ → Bytes → Tests
+command_tests entries request last count is_text answers completions payload =
+    (not (do_ascend last completions), BadCompletion) ∷ (not is_text, KeyNotText)
     ∷ (nat_lt (2 ^ 32 - 2) (count + length (Recorded request ∷ map Arrived answers)), NumbersUsedUp)
     ∷ (is_too_long payload || list_any (λ entry. is_too_long (entry_payload entry)) (map Arrived answers), PayloadTooLong) ∷ []
 
@@ -64,29 +64,29 @@ one_more : (n : ℕ) → n + 1 ≡ 1 + n
 one_more n = omega arith
 
 module _ (events : List Event) (id : Text) (number : ℕ) where
-  command_same : (request : Request) (command : RecordedCommand) → is_of_state request ≡ false → IsCommand request command
+  command_same : (request : Request) (command : RecordedCommand) → is_lazy_read request ≡ false → IsCommand request command
       → refusal_by (tests_left events id number (Frame.Command request)) ≡ refusal_by (tests_of_told (progress_of events id) (is_input_closed events id) (told.Command command))
-  command_same request command stateless h =
+  command_same request command unread h =
       let entries = entries_of events id in
       let last = last_completion (requests_in (entries_of events id)) in
       let state = state_after (requests_in (entries_of events id)) (starting_state events id) in
       let told_tests = tests_of_told (progress_of events id) (is_input_closed events id) (told.Command command) in
-      let left : refusal_by (tests_left events id number (Frame.Command request)) ≡ refusal_by (command_tests entries request last (length entries) [] [] (asked_by command) command.payload) =
-      (λ i. refusal_by (command_tests entries request last (length entries) (no_keys request stateless i) (no_answer state request stateless i) (asked_same request command h i) (sym h.payload i))) in
-      let right : refusal_by (command_tests entries request last (length entries) [] [] (asked_by command) command.payload) ≡ refusal_by told_tests =
-      (λ i. refusal_by ((not (do_ascend last (asked_by command)), BadCompletion)
+      let left : refusal_by (tests_left events id number (Frame.Command request)) ≡ refusal_by (command_tests entries request last (length entries) command.are_keys_text [] (asked_by command) command.payload) =
+      (λ i. refusal_by (command_tests entries request last (length entries) (sym h.text i) (no_answer state request unread i) (asked_same request command h i) (sym h.payload i))) in
+      let right : refusal_by (command_tests entries request last (length entries) command.are_keys_text [] (asked_by command) command.payload) ≡ refusal_by told_tests =
+      (λ i. refusal_by ((not (do_ascend last (asked_by command)), BadCompletion) ∷ (not command.are_keys_text, KeyNotText)
       ∷ (nat_lt (2 ^ 32 - 2) (one_more (length entries) i), NumbersUsedUp) ∷ (or_false (is_too_long command.payload) i, PayloadTooLong) ∷ [])) in
       left ∙ right
 
-  pub tests_same : (frame : Frame) (read : AttemptFrame) → LeavesState frame → IsFrame frame read
+  pub tests_same : (frame : Frame) (read : AttemptFrame) → IsNoLazyRead frame → IsFrame frame read
       → refusal_by (tests_left events id number frame) ≡ refusal_by (tests_of_told (progress_of events id) (is_input_closed events id) read)
-  tests_same (Frame.Command request) (told.Command command) stateless h = command_same request command stateless h
-  tests_same Frame.AwaitingOn told.AwaitingOn stateless h = refl
-  tests_same (Frame.Suspend None) told.Broken stateless h = refl
-  tests_same (Frame.Suspend (Some suspension)) (told.Suspension payload) stateless h = refl
-  tests_same (Frame.Error code message behavior delay) (told.Error told_code told_message told_behavior told_delay) stateless h = refl
-  tests_same Frame.End told.End stateless h = refl
-  tests_same Frame.Broken told.Broken stateless h = refl
-  tests_same Frame.TooDeep told.TooDeep stateless h = refl
-  tests_same Frame.NotAccepted told.NotAccepted stateless h = refl
-  tests_same _ _ stateless h = absurd h
+  tests_same (Frame.Command request) (told.Command command) unread h = command_same request command unread h
+  tests_same Frame.AwaitingOn told.AwaitingOn unread h = refl
+  tests_same (Frame.Suspend None) told.Broken unread h = refl
+  tests_same (Frame.Suspend (Some suspension)) (told.Suspension payload) unread h = refl
+  tests_same (Frame.Error code message behavior delay) (told.Error told_code told_message told_behavior told_delay) unread h = refl
+  tests_same Frame.End told.End unread h = refl
+  tests_same Frame.Broken told.Broken unread h = refl
+  tests_same Frame.TooDeep told.TooDeep unread h = refl
+  tests_same Frame.NotAccepted told.NotAccepted unread h = refl
+  tests_same _ _ unread h = absurd h

@@ -1,18 +1,19 @@
 -- What is written of a frame, by what is kept of its invocation and of the frame, is what the event writes.
-use Rattle.std.proofs.Common.{arith, ◌≡◌, refl, sym, ap, ap₂, ◌∙◌, ℕ, ◌+◌, ◌^◌, max, nat_lt, Bool, true, false, ◌&&◌, if◌then◌else◌, List, [], ◌∷◌, ◌++◌, append-nil, length, map, Option, Some, None}
+use Rattle.std.proofs.Common.{arith, ◌≡◌, refl, sym, ap, ap₂, ◌∙◌, ℕ, ◌+◌, ◌^◌, max, nat_lt, Bool, true, false, ◌&&◌, if◌then◌else◌, List, [], ◌∷◌, ◌++◌, append-nil, length, map, Option, Some, None, option_map}
 use Rattle.journal_model.specs.Notification.{Bytes, Text, Arrival}
 use Rattle.journal_model.specs.State.{state_after}
+use Rattle.journal_model.specs.declared.invocation.NewInvocation.{NewInvocation}
 use Rattle.journal_model.specs.Request.{Request, completions_asked}
 use Rattle.journal_model.specs.Spelling.{request_type, request_payload}
 use Rattle.journal_model.specs.Event.{Behavior, Frame, Event}
-use Rattle.journal_model.specs.Journal.{Entry, Recorded, Arrived, version_of, object_of, closes, sleep_in, starting_state, requests_in, entries_of}
+use Rattle.journal_model.specs.Journal.{Entry, Recorded, Arrived, invocation_begun, version_of, object_of, closes, sleep_in, starting_state, requests_in, entries_of}
 use Rattle.journal_model.specs.Cause.{greatest}
 use Rattle.store_frames.specs.declared.frame.RecordedCommand.{RecordedCommand}
 use Rattle.store_frames.specs.declared.frame.ErrorBehavior.{ErrorBehavior}
 use Rattle.store_frames.specs.declared.frame.ErrorBehavior.TheVariants as behaviors
 use Rattle.store_frames.specs.declared.frame.AttemptFrame.{AttemptFrame}
 use Rattle.store_frames.specs.declared.frame.AttemptFrame.TheVariants as told
-use Rattle.store_frames.specs.Commands.{first_asked, second_asked, moment_of as moment_told}
+use Rattle.store_frames.specs.Commands.{first_asked, second_asked, moment_of as moment_told, state_use}
 use Rattle.store_frames.specs.Answer.{behavior_meant, IsCommand, IsError, IsFrame}
 use Rattle.store_refusals.specs.Refused.{refusal_by}
 use Rattle.store_tables.specs.declared.row.Closing.TheVariants.{Failed}
@@ -25,16 +26,16 @@ use Rattle.store_model.specs.Places.{handed_place}
 use Rattle.store_model.specs.Progress.{first_of, second_of, output_payload, behavior_number, progress_of}
 use Rattle.store_model.specs.Kept.{moment_of, entry_row, rows_from}
 use Rattle.store_model.specs.Sleeps.{sleep_row, sleeps_opened}
-use Rattle.store_model.specs.Writes.{state_writes, writes_of}
+use Rattle.store_model.specs.Writes.{state_write, state_writes, writes_of}
 use Rattle.store_model.specs.Steps.{grown, payload_or, after_command, after_frame}
 use Rattle.store_model.proofs.Following.{follows}
-use Rattle.store_steps.specs.Stateless.{is_of_state, LeavesState}
+use Rattle.store_steps.specs.LazyReads.{is_lazy_read, IsNoLazyRead}
 use Rattle.store_steps.specs.Taken.{IsReply}
 use Rattle.protocol_types.specs.MessageType.{number_of}
 use Rattle.protocol_types.specs.declared.message_type.MessageType.{MessageType}
 use Rattle.protocol_stream.specs.CommandFacts.{facts_of}
-use Rattle.store_steps.specs.Told.{puts_out, value_put_out, command_row, keeps_moment, sleep_if, sleep_told, closing_writes, tests_of_told, reply_to_told, after_recorded, number_of_behavior, does_fail, after_suspension, after_error, after_end, error_told, writes_of_told}
-use Rattle.store_steps.proofs.Stateless.{no_answer, none_at_once, no_writes, nothing_written}
+use Rattle.store_steps.specs.Told.{puts_out, value_put_out, command_row, keeps_moment, sleep_if, sleep_told, state_told, closing_writes, tests_of_told, reply_to_told, after_recorded, number_of_behavior, does_fail, after_suspension, after_error, after_end, error_told, writes_of_told}
+use Rattle.store_steps.proofs.LazyReads.{no_answer, none_at_once}
 use Rattle.store_steps.proofs.Tests.{asked_same}
 use Rattle.store_steps.proofs.Lists.{payload_kept}
 
@@ -97,10 +98,10 @@ output_same : (request : Request) → output_payload request ≡ (if puts_out (f
 output_same (Request.Output value name) = refl
 output_same _ = refl
 
-command_progress : (request : Request) (command : RecordedCommand) (p : Progress) → is_of_state request ≡ false → IsCommand request command
+command_progress : (request : Request) (command : RecordedCommand) (p : Progress) → is_lazy_read request ≡ false → IsCommand request command
     → after_command request p ≡ after_recorded command p
-command_progress request command p stateless h =
-    (λ i. record (grown (1 + none_at_once request stateless i) (none_at_once request stateless i) p) {
+command_progress request command p unread h =
+    (λ i. record (grown (1 + none_at_once request unread i) (none_at_once request unread i) p) {
       last_completion = max p.last_completion (greatest (asked_same request command h i));
       answer = payload_or (put_out i) p.answer;
     })
@@ -111,6 +112,22 @@ command_progress request command p stateless h =
 
     put_out : output_payload request ≡ value_put_out command
     put_out = output_same request ∙ (λ i. if puts_out (facts_of (sym h.kind i)) then Some (sym h.payload i) else None)
+
+-- what a request writes of the state of its object
+state_same : (object : Text) (found : Option Text) (request : Request) (command : RecordedCommand) → IsCommand request command → found ≡ Some object
+    → state_writes found (request ∷ []) ≡ state_told object command.state
+state_same object found request command h is =
+    ap (λ (o : Option Text). state_writes o (request ∷ [])) is ∙ by_request request ∙ ap (state_told object) (sym h.state)
+  where
+    by_request : (request : Request) → state_write object request ++ [] ≡ state_told object (state_use request)
+    by_request (Request.SetState key value name) = refl
+    by_request (Request.ClearState key name) = refl
+    by_request (Request.ClearAllState name) = refl
+    by_request _ = refl
+
+nothing_written : (object : Option Text) → state_writes object [] ≡ []
+nothing_written None = refl
+nothing_written (Some object) = refl
 
 -- ---- errors
 
@@ -167,41 +184,42 @@ module _ (events : List Event) (id : Text) (number : ℕ) where
       shape ∙ ap₂ (λ (q : Progress) (writes : List Write). SetProgress id q ∷ writes) (progress_is frame p e)
       (ap₂ (λ (c : Bool) (writes : List Write). closing_writes c id ++ writes) f (nothing_written (object frame)) ∙ append-nil (closing_writes is_closed id))
 
-  command_written : (request : Request) (command : RecordedCommand) → is_of_state request ≡ false → IsCommand request command
+  command_written : (kept : Text) (request : Request) (command : RecordedCommand) → object (Frame.Command request) ≡ Some kept → is_lazy_read request ≡ false → IsCommand request command
       → writes_of events (Event.Take id number (Frame.Command request))
-      ≡ AddEntry (command_row id (1 + length (entries_of events id)) command) ∷ SetProgress id (after_recorded command (progress_of events id)) ∷ map OpenSleep (sleep_told id command)
-  command_written request command stateless h =
+      ≡ AddEntry (command_row id (1 + length (entries_of events id)) command) ∷ SetProgress id (after_recorded command (progress_of events id))
+      ∷ (map OpenSleep (sleep_told id command) ++ state_told kept command.state)
+  command_written kept request command is unread h =
       let entries = entries_of events id in
       let place = 1 + length (entries_of events id) in
       let state = state_after (requests_in (entries_of events id)) (starting_state events id) in
       ap₂ (λ (answers : List Arrival) (writes : List Write).
       ((AddEntry (entry_row id entries place (Recorded request)) ∷ map AddEntry (rows_from id (entries ++ Recorded request ∷ []) (place + 1) (map Arrived answers)))
       ++ SetProgress id (after (Frame.Command request)) ∷ []) ++ [] ++ (map OpenSleep (sleeps_opened id request) ++ writes))
-      (no_answer state request stateless) (no_writes (object (Frame.Command request)) request stateless)
-      ∙ ap (λ (writes : List Write). AddEntry (entry_row id entries place (Recorded request)) ∷ SetProgress id (after (Frame.Command request)) ∷ writes)
-      (append-nil (map OpenSleep (sleeps_opened id request)) ∙ ap (map OpenSleep) (sleep_same id request command h))
-      ∙ ap₂ (λ (row : EntryRow) (p : Progress). AddEntry row ∷ SetProgress id p ∷ map OpenSleep (sleep_told id command)) (row_same id entries place request command h)
-      (progress_is (Frame.Command request) (after_recorded command (progress_of events id)) (command_progress request command (progress_of events id) stateless h))
+      (no_answer state request unread) (state_same kept (object (Frame.Command request)) request command h is)
+      ∙ ap (λ (sleeps : List SleepRow). AddEntry (entry_row id entries place (Recorded request)) ∷ SetProgress id (after (Frame.Command request)) ∷ (map OpenSleep sleeps ++ state_told kept command.state))
+      (sleep_same id request command h)
+      ∙ ap₂ (λ (row : EntryRow) (p : Progress). AddEntry row ∷ SetProgress id p ∷ (map OpenSleep (sleep_told id command) ++ state_told kept command.state)) (row_same id entries place request command h)
+      (progress_is (Frame.Command request) (after_recorded command (progress_of events id)) (command_progress request command (progress_of events id) unread h))
 
   -- of a frame that no test refuses
-  pub written : (is_closed : Bool) (frame : Frame) (read : AttemptFrame) → LeavesState frame → IsFrame frame read
+  pub written : (kept : Text) (is_closed : Bool) (frame : Frame) (read : AttemptFrame) → option_map (λ (new : NewInvocation). new.object) (invocation_begun events id) ≡ Some kept → IsNoLazyRead frame → IsFrame frame read
       → refusal_by (tests_of_told (progress_of events id) is_closed read) ≡ None
-      → writes_of events (Event.Take id number frame) ≡ writes_of_told id (version_of events id) (handed_place events id) (progress_of events id) read
-  written is_closed (Frame.Command request) (told.Command command) stateless h e = command_written request command stateless h
-  written is_closed Frame.AwaitingOn told.AwaitingOn stateless h e = nothing_written (object Frame.AwaitingOn)
-  written is_closed (Frame.Suspend None) told.Broken stateless h e = cc
-  written is_closed (Frame.Suspend (Some suspension)) (told.Suspension payload) stateless h e =
+      → writes_of events (Event.Take id number frame) ≡ writes_of_told id kept (version_of events id) (handed_place events id) (progress_of events id) read
+  written kept is_closed (Frame.Command request) (told.Command command) of unread h e = command_written kept request command of unread h
+  written kept is_closed Frame.AwaitingOn told.AwaitingOn of unread h e = nothing_written (object Frame.AwaitingOn)
+  written kept is_closed (Frame.Suspend None) told.Broken of unread h e = cc
+  written kept is_closed (Frame.Suspend (Some suspension)) (told.Suspension payload) of unread h e =
       only_progress (Frame.Suspend (Some suspension)) (after_suspension payload (handed_place events id) (progress_of events id)) false refl
       (ap (λ (bytes : Bytes). after_suspension bytes (handed_place events id) (progress_of events id)) (payload_kept suspension payload h)) refl
-  written is_closed (Frame.Error code message behavior delay) (told.Error told_code told_message told_behavior told_delay) stateless h e =
+  written kept is_closed (Frame.Error code message behavior delay) (told.Error told_code told_message told_behavior told_delay) of unread h e =
       only_progress (Frame.Error code message behavior delay) (after_error (error_told told_code told_message told_behavior told_delay) (does_fail (version_of events id) told_behavior) (progress_of events id)) (does_fail (version_of events id) told_behavior) refl
       (error_progress (version_of events id) (handed_place events id) code message behavior delay told_code told_message told_behavior told_delay (progress_of events id) h)
       (fails_same (version_of events id) code message behavior delay told_behavior h.behavior_is)
-  written is_closed Frame.End told.End stateless h e = only_progress Frame.End (after_end (handed_place events id) (progress_of events id)) true refl refl refl
-  written is_closed Frame.Broken told.Broken stateless h e = cc
-  written is_closed Frame.TooDeep told.TooDeep stateless h e = cc
-  written is_closed Frame.NotAccepted told.NotAccepted stateless h e = cc
-  written is_closed _ _ stateless h e = absurd h
+  written kept is_closed Frame.End told.End of unread h e = only_progress Frame.End (after_end (handed_place events id) (progress_of events id)) true refl refl refl
+  written kept is_closed Frame.Broken told.Broken of unread h e = cc
+  written kept is_closed Frame.TooDeep told.TooDeep of unread h e = cc
+  written kept is_closed Frame.NotAccepted told.NotAccepted of unread h e = cc
+  written kept is_closed _ _ of unread h e = absurd h
 
   pub replied : (is_closed : Bool) (frame : Frame) (read : AttemptFrame) → IsFrame frame read → refusal_by (tests_of_told (progress_of events id) is_closed read) ≡ None
       → IsReply events id frame (reply_to_told (progress_of events id) read)

@@ -1,4 +1,4 @@
+pub mod LazyReads
 pub mod Live
-pub mod Stateless
 pub mod Told
 pub mod Taken

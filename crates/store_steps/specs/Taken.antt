@@ -18,7 +18,7 @@ use Rattle.store_steps.specs.declared.frame.FrameReply.{FrameReply}
 use Rattle.store_steps.specs.declared.frame.FrameReply.TheVariants as replies
 use Rattle.store_steps.specs.declared.frame.LiveFacts.{LiveFacts}
 use Rattle.store_steps.specs.declared.frame.PreparedFrame.{PreparedFrame}
-use Rattle.store_steps.specs.Stateless.{LeavesState}
+use Rattle.store_steps.specs.LazyReads.{IsNoLazyRead}
 use Rattle.store_steps.specs.Told.{tests_of_told, writes_of_told, reply_to_told}
 
 -- ---- by the events
@@ -45,14 +45,14 @@ pub record IsTaken (events : List Event) (id : Text) (number : ℕ) (frame : Fra
 
 -- whichever frame this is, and whatever number the live attempt has
 abbrev pub Takes : List Event → Text → LiveFacts → AttemptFrame → Result PreparedFrame Refusal → Type 0
-Takes events id attempt read result = (number : ℕ) (frame : Frame) → IsLive events id number attempt → LeavesState frame → IsFrame frame read
+Takes events id attempt read result = (number : ℕ) (frame : Frame) → IsLive events id number attempt → IsNoLazyRead frame → IsFrame frame read
     → Prepares events (Event.Take id number frame) (IsTaken events id number frame) result
 
 -- ---- by what is kept of the invocation
 
-pub record IsMade (id : Text) (version : ℕ) (p : Progress) (attempt : LiveFacts) (read : AttemptFrame) (made : PreparedFrame) : Type 0 where
+pub record IsMade (id object : Text) (version : ℕ) (p : Progress) (attempt : LiveFacts) (read : AttemptFrame) (made : PreparedFrame) : Type 0 where
   pub accepted : refusal_by (tests_of_told p attempt.is_input_closed read) ≡ None
-  pub writes : made.writes.items ≡ writes_of_told id version attempt.handed p read
+  pub writes : made.writes.items ≡ writes_of_told id object version attempt.handed p read
   pub reply : made.reply ≡ reply_to_told p read
 
 -- the refusal of the first test that holds; where none does, memory was refused

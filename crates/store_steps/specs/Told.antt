@@ -1,12 +1,14 @@
 -- Why a frame is refused, what is written of it and how it is answered, by what is kept of its invocation and of the frame.
-use Rattle.std.specs.Prelude.{ℕ, ◌+◌, ◌<◌, ◌-◌, ◌^◌, max, nat_lt, Bool, true, false, not, ◌&&◌, if◌then◌else◌, List, [], ◌∷◌, map, Option, Some, None, option_to_list}
+use Rattle.std.specs.Prelude.{ℕ, ◌+◌, ◌<◌, ◌-◌, ◌^◌, max, nat_lt, Bool, true, false, not, ◌&&◌, if◌then◌else◌, List, [], ◌∷◌, ◌++◌, map, Option, Some, None, option_to_list}
 use Rattle.journal_model.specs.Notification.{Bytes, Text}
-use Rattle.journal_model.specs.Cause.{BrokenPayload, NestedTooDeep, FrameNotAccepted, BadCompletion, InputNotClosed, NumbersUsedUp, PayloadTooLong, Tests, do_ascend, greatest, is_too_long}
+use Rattle.journal_model.specs.Cause.{BrokenPayload, NestedTooDeep, FrameNotAccepted, BadCompletion, KeyNotText, InputNotClosed, NumbersUsedUp, PayloadTooLong, Tests, do_ascend, greatest, is_too_long}
 use Rattle.protocol_stream.specs.declared.command_facts.CommandFacts.{CommandFacts}
 use Rattle.protocol_stream.specs.CommandFacts.{facts_of, is_answer, is_moment}
 use Rattle.protocol_types.specs.declared.feature.Feature.TheVariants as features
 use Rattle.protocol_types.specs.Feature.{has_feature}
 use Rattle.store_frames.specs.declared.frame.RecordedCommand.{RecordedCommand}
+use Rattle.store_frames.specs.declared.frame.StateUse.{StateUse}
+use Rattle.store_frames.specs.declared.frame.StateUse.TheVariants as uses
 use Rattle.store_frames.specs.declared.frame.ErrorBehavior.{ErrorBehavior}
 use Rattle.store_frames.specs.declared.frame.ErrorBehavior.TheVariants as behaviors
 use Rattle.store_frames.specs.declared.frame.AttemptFrame.{AttemptFrame}
@@ -17,7 +19,7 @@ use Rattle.store_tables.specs.declared.row.Closing.TheVariants.{Ended, Failed}
 use Rattle.store_tables.specs.declared.row.EntryRow.{EntryRow}
 use Rattle.store_tables.specs.declared.row.SleepRow.{SleepRow}
 use Rattle.store_tables.specs.declared.row.Write.{Write}
-use Rattle.store_tables.specs.declared.row.Write.TheVariants.{SetProgress, AddEntry, OpenSleep, CloseSleeps}
+use Rattle.store_tables.specs.declared.row.Write.TheVariants.{SetProgress, AddEntry, PutState, DropState, DropStates, OpenSleep, CloseSleeps}
 use Rattle.store_model.specs.Steps.{payload_or}
 use Rattle.store_steps.specs.declared.frame.FrameReply.{FrameReply}
 use Rattle.store_steps.specs.declared.frame.FrameReply.TheVariants as replies
@@ -68,6 +70,13 @@ sleep_if false id moment completion = []
 abbrev pub sleep_told : Text → RecordedCommand → List SleepRow
 sleep_told id command = sleep_if (keeps_moment (facts_of command.kind) && nat_lt command.moment (2 ^ 63)) id command.moment command.completion
 
+-- what it writes of the state of the object
+abbrev pub state_told : Text → StateUse → List Write
+state_told object (uses.Put key value) = PutState (record { object = object; key = key; value = value }) ∷ []
+state_told object (uses.Remove key) = DropState object key ∷ []
+state_told object uses.RemoveAll = DropStates object ∷ []
+state_told object _ = []
+
 abbrev pub after_recorded : RecordedCommand → Progress → Progress
 after_recorded command p = record p {
   entries = p.entries + 1;
@@ -112,6 +121,7 @@ error_told code message behavior delay = record { code = code; behavior = number
 abbrev pub tests_of_told : Progress → Bool → AttemptFrame → Tests
 tests_of_told p is_closed (told.Command command) =
     (not (do_ascend p.last_completion (asked_by command)), BadCompletion)
+    ∷ (not command.are_keys_text, KeyNotText)
     ∷ (nat_lt (2 ^ 32 - 2) p.entries, NumbersUsedUp)
     ∷ (is_too_long command.payload, PayloadTooLong) ∷ []
 tests_of_told p is_closed (told.Suspension payload) = (not is_closed, InputNotClosed) ∷ []
@@ -124,15 +134,16 @@ tests_of_told p is_closed _ = []
 abbrev pub closing_writes : Bool → Text → List Write
 closing_writes is_closed id = if is_closed then CloseSleeps id ∷ [] else []
 
--- what is written of a frame: of an invocation that speaks this version, whose attempt was handed what stands before the place
-abbrev pub writes_of_told : Text → ℕ → ℕ → Progress → AttemptFrame → List Write
-writes_of_told id version place p (told.Command command) =
-    AddEntry (command_row id p.entries command) ∷ SetProgress id (after_recorded command p) ∷ map OpenSleep (sleep_told id command)
-writes_of_told id version place p (told.Suspension payload) = SetProgress id (after_suspension payload place p) ∷ []
-writes_of_told id version place p (told.Error code message behavior delay) =
+-- what is written of a frame: of an invocation of this object that speaks this version, whose attempt was handed what stands before
+-- the place
+abbrev pub writes_of_told : Text → Text → ℕ → ℕ → Progress → AttemptFrame → List Write
+writes_of_told id object version place p (told.Command command) =
+    AddEntry (command_row id p.entries command) ∷ SetProgress id (after_recorded command p) ∷ (map OpenSleep (sleep_told id command) ++ state_told object command.state)
+writes_of_told id object version place p (told.Suspension payload) = SetProgress id (after_suspension payload place p) ∷ []
+writes_of_told id object version place p (told.Error code message behavior delay) =
     SetProgress id (after_error (error_told code message behavior delay) (does_fail version behavior) p) ∷ closing_writes (does_fail version behavior) id
-writes_of_told id version place p told.End = SetProgress id (after_end place p) ∷ closing_writes true id
-writes_of_told id version place p _ = []
+writes_of_told id object version place p told.End = SetProgress id (after_end place p) ∷ closing_writes true id
+writes_of_told id object version place p _ = []
 
 -- how a frame is answered; one that is always refused has no answer of its own
 abbrev pub reply_to_told : Progress → AttemptFrame → FrameReply

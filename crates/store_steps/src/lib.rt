@@ -13,5 +13,5 @@ mod write;
 
 pub use end::refusal_ends_attempt;
 pub use frame::{FrameReply, LiveFacts, PreparedFrame};
-pub use laws::{frames_leave_state, live_are_open};
+pub use laws::{frames_are_no_lazy_reads, live_are_open};
 pub use prepare::prepare_frame;

@@ -23,23 +23,25 @@ use store_tables::{InvocationRow, Progress, StoreTables, invocation_by_id};
 fn decide(
     alloc: Global,
     id: &ByteStr,
+    object: ByteStr,
     version: Version,
     progress: Progress,
     attempt: LiveFacts,
     frame: AttemptFrame,
 ) -> Result<PreparedFrame, Refusal>
-    ensures ok { IfOk result (IsMade id.now (version_number version) progress attempt frame) }
+    ensures ok { IfOk result (IsMade id.now object (version_number version) progress attempt frame) }
     ensures err { IfErr result (IsWhy progress attempt frame) }
 {
     match frame_refusal(&progress, attempt, &frame) {
         Some(refusal) => {
+            drop(object);
             drop(progress);
             drop(frame);
             Err(refusal)
         }
         None => {
             let reply = reply_to(&progress, &frame);
-            let writes = frame_writes(alloc, id, version, attempt.handed, progress, frame)?;
+            let writes = frame_writes(alloc, id, object, version, attempt.handed, progress, frame)?;
             Ok(PreparedFrame { writes, reply })
         }
     }
@@ -52,10 +54,18 @@ fn decide_by_row(
     attempt: LiveFacts,
     frame: AttemptFrame,
 ) -> Result<PreparedFrame, Refusal>
-    ensures ok { IfOk result (IsMade id.now (version_number row.version) row.progress attempt frame) }
+    ensures ok { IfOk result (IsMade id.now row.object (version_number row.version) row.progress attempt frame) }
     ensures err { IfErr result (IsWhy row.progress attempt frame) }
 {
-    decide(alloc, id, row.version, row.progress, attempt, frame)
+    decide(
+        alloc,
+        id,
+        row.object,
+        row.version,
+        row.progress,
+        attempt,
+        frame,
+    )
 }
 
 /// Decides on a frame that the live attempt of the invocation has written, and makes ready what is written of it. The row of the

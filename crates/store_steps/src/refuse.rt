@@ -29,6 +29,8 @@ fn command_refusal(progress: &Progress, command: &RecordedCommand) -> Option<Ref
     let last = progress.last_completion;
     if !do_completions_ascend(last, command.completion, command.second_completion) {
         Some(Refusal::BadCompletion)
+    } else if !command.are_keys_text {
+        Some(Refusal::KeyNotText)
     } else if progress.entries > LAST_PLACE {
         Some(Refusal::NumbersUsedUp)
     } else if command.payload.len() > u32::MAX as usize {

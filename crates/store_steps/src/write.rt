@@ -5,14 +5,15 @@ ghost use Rattle.store_tables.specs.declared.row.Write.TheVariants.{AddEntry, Op
 ghost use Rattle.store_model.specs.Steps.{payload_or};
 ghost use Rattle.protocol_types.specs.Version.{version_number};
 ghost use Rattle.protocol_stream.specs.CommandFacts.{facts_of};
-ghost use Rattle.store_steps.specs.Told.{HasRoom, after_end, after_error, after_recorded, after_suspension, asked, closing_writes, command_row, does_fail, keeps_moment as keeps_a_moment, number_of_behavior, puts_out as puts_value_out, reply_to_told, sleep_told, value_put_out, writes_of_told};
+ghost use Rattle.store_steps.specs.Told.{HasRoom, after_end, after_error, after_recorded, after_suspension, asked, closing_writes, command_row, does_fail, keeps_moment as keeps_a_moment, number_of_behavior, puts_out as puts_value_out, reply_to_told, sleep_told, state_told, value_put_out, writes_of_told};
 
 use crate::frame::FrameReply;
 use bytes::{ByteStr, Bytes};
 use protocol_stream::{CommandFacts, Feature, Version};
 use std::alloc::{AllocError, Global};
-use store_frames::{AttemptFrame, ErrorBehavior, RecordedCommand};
-use store_tables::{Closing, EntryRow, LastError, Progress, SleepRow, Write};
+use std::mem;
+use store_frames::{AttemptFrame, ErrorBehavior, RecordedCommand, StateUse};
+use store_tables::{Closing, EntryRow, LastError, Progress, SleepRow, StateRow, Write};
 
 /// How a frame is answered. One that is always refused is not asked for.
 pub(crate) fn reply_to(progress: &Progress, frame: &AttemptFrame) -> FrameReply
@@ -138,6 +139,31 @@ fn with_sleep(mut writes: Vec<Write>, sleep: Option<SleepRow>) -> Result<Vec<Wri
     Ok(writes)
 }
 
+/// What a command writes of the state of the object.
+fn state_write(object: ByteStr, state: StateUse) -> Option<Write>
+    ensures { option_to_list result ≡ state_told object state }
+{
+    match state {
+        StateUse::Put { key, value } => Some(Write::PutState(StateRow { object, key, value })),
+        StateUse::Remove { key } => Some(Write::DropState { object, key }),
+        StateUse::RemoveAll => Some(Write::DropStates { object }),
+        StateUse::Nothing | StateUse::ReadValue { .. } | StateUse::ReadKeys => {
+            drop(object);
+            None
+        }
+    }
+}
+
+/// The writes, and this one behind them.
+fn with_write(mut writes: Vec<Write>, write: Option<Write>) -> Result<Vec<Write>, AllocError>
+    ensures { IfOk result (λ all. all.items ≡ writes.items ++ option_to_list write) }
+{
+    if let Some(write) = write {
+        writes.push(write)?;
+    }
+    Ok(writes)
+}
+
 /// Two of one id, once the progress is that after the command.
 fn start_recording(
     id: &ByteStr,
@@ -175,7 +201,8 @@ fn entry_writes(
     }
 }
 
-fn command_writes(
+/// What a command writes of its invocation.
+fn recorded_writes(
     alloc: Global,
     id: &ByteStr,
     progress: Progress,
@@ -195,6 +222,27 @@ fn command_writes(
         Err(error) => {
             drop(progress);
             drop(command);
+            Err(error)
+        }
+    }
+}
+
+fn command_writes(
+    alloc: Global,
+    id: &ByteStr,
+    object: ByteStr,
+    progress: Progress,
+    mut command: RecordedCommand,
+) -> Result<Vec<Write>, AllocError>
+    requires { progress.entries < 2 ^ 32 - 1 }
+    ensures { IfOk result (λ writes. writes.items ≡ AddEntry (command_row id.now progress.entries command) ∷ SetProgress id.now (after_recorded command progress) ∷ (map OpenSleep (sleep_told id.now command) ++ state_told object command.state)) }
+{
+    let state = mem::replace(&mut command.state, StateUse::Nothing);
+    let write = state_write(object, state);
+    match recorded_writes(alloc, id, progress, command) {
+        Ok(writes) => with_write(writes, write),
+        Err(error) => {
+            drop(write);
             Err(error)
         }
     }
@@ -286,17 +334,19 @@ fn end(progress: &mut Progress, handed: u32)
 pub(crate) fn frame_writes(
     alloc: Global,
     id: &ByteStr,
+    object: ByteStr,
     version: Version,
     handed: u32,
     mut progress: Progress,
     frame: AttemptFrame,
 ) -> Result<Vec<Write>, AllocError>
     requires { HasRoom progress frame }
-    ensures { IfOk result (λ writes. writes.items ≡ writes_of_told id.now (version_number version) handed progress frame) }
+    ensures { IfOk result (λ writes. writes.items ≡ writes_of_told id.now object (version_number version) handed progress frame) }
 {
     match frame {
-        AttemptFrame::Command(command) => command_writes(alloc, id, progress, command),
+        AttemptFrame::Command(command) => command_writes(alloc, id, object, progress, command),
         AttemptFrame::Suspension { payload } => {
+            drop(object);
             suspend(&mut progress, payload, handed);
             progress_write(alloc, id, progress)
         }
@@ -306,6 +356,7 @@ pub(crate) fn frame_writes(
             behavior,
             delay,
         } => {
+            drop(object);
             let error = LastError {
                 code,
                 behavior: behavior_number(behavior),
@@ -317,6 +368,7 @@ pub(crate) fn frame_writes(
             ending_writes(alloc, id, progress, is_closed)
         }
         AttemptFrame::End => {
+            drop(object);
             end(&mut progress, handed);
             ending_writes(alloc, id, progress, true)
         }
@@ -324,6 +376,7 @@ pub(crate) fn frame_writes(
         | AttemptFrame::Broken
         | AttemptFrame::TooDeep
         | AttemptFrame::NotAccepted => {
+            drop(object);
             drop(progress);
             Ok(Vec::new(alloc))
         }
