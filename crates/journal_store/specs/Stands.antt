@@ -10,6 +10,7 @@ use Rattle.store_frames.specs.Read.{AreRead}
 use Rattle.store_tables.specs.Records.{Records, Holds}
 use Rattle.store_model.specs.Kept.{IsKept}
 use Rattle.store_refusals.specs.declared.refusal.Refusal.{Refusal}
+use Rattle.store_refusals.specs.Prepared.{Tells}
 use Rattle.store_invocations.specs.Rows.{Decides, IsStoreOf, known_tests}
 use Rattle.store_live.specs.declared.attempt.LiveAttempt.{LiveAttempt}
 use Rattle.store_live.specs.Attempts.{ByInvocation, attempt_of}
@@ -95,6 +96,12 @@ module _ {S : Type 0} (g : Ghosts S) where
       HasCleanDisk (state g new.connection) → (s : Standing) → IsStanding s old → (t : Standing) × IsStanding t new × Relation s t × Outlasts t.events (state g new.connection)
 
   -- ---- what is told
+
+  -- Of whatever accepted events it stood for a store tells this, and it stands for them then.
+  abbrev pub TellsAlways : {A : Type 0} → (List Event → A → Type 0) → Result A Refusal → Stored S → Stored S → Type 0
+  TellsAlways IsTold result old new =
+      HasCleanDisk (state g new.connection) → (events : List Event) → Stands events (state g old.connection) old.live.attempts
+      → Tells (IsTold events) result × Stands events (state g new.connection) new.live.attempts
 
   -- Of whatever accepted events it stood for a store tells this where they know the invocation, and is refused where they do not; and
   -- it stands for them then.

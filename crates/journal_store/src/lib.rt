@@ -24,4 +24,4 @@ pub use store_calls::BegunAttempt;
 pub use store_invocations::{EntryKind, RecordedEntry};
 pub use store_refusals::Refusal;
 pub use store_steps::FrameReply;
-pub use store_tables::LastError;
+pub use store_tables::{LastError, StateRow};

@@ -1,18 +1,19 @@
-// What a store tells of an invocation.
-ghost use Rattle.std.specs.Prelude.{◌≡◌};
-ghost use Rattle.journal_model.specs.Journal.{is_open as is_open_after};
+// What a store tells of an invocation, and of an object.
+ghost use Rattle.std.specs.Prelude.{◌≡◌, map};
+ghost use Rattle.journal_model.specs.Journal.{is_open as is_open_after, object_state};
+ghost use Rattle.store_model.specs.Kept.{state_row};
 ghost use Rattle.store_model.specs.Progress.{last_error_of};
 ghost use Rattle.store_invocations.specs.Told.{entries_told};
 ghost use Rattle.store_invocations.specs.Answered.{answer_told};
-ghost use Rattle.journal_store.specs.Stands.{IsQuiet, TellsOf};
+ghost use Rattle.journal_store.specs.Stands.{IsQuiet, TellsAlways, TellsOf};
 
 use crate::store::Store;
 use bytes::ByteStr;
 use journal_model::NonEmptyValue;
 use sqlite::Alter;
-use store_invocations::{RecordedEntry, answer, entries, failure, is_open};
+use store_invocations::{RecordedEntry, answer, entries, failure, is_open, object_states};
 use store_refusals::Refusal;
-use store_tables::LastError;
+use store_tables::{LastError, StateRow};
 
 impl<S: Alter + Drop> Store<S> {
     /// The recorded requests and arrivals, by place.
@@ -50,5 +51,14 @@ impl<S: Alter + Drop> Store<S> {
         ensures crash { IsQuiet S.Store self.old self.new }
     {
         is_open(&mut self.tables, id)
+    }
+
+    /// The values of an object's state, by ascending keys: what the requests of its invocations, closed ones too, have made of it.
+    pub fn state(&mut self, object: &ByteStr) -> Result<Vec<StateRow>, Refusal>
+        ensures told { TellsAlways S.Store (λ events states. states.items ≡ map (state_row object.now) (object_state events object.now)) result self.old self.new }
+        ensures live { self.new.live ≡ self.old.live }
+        ensures crash { IsQuiet S.Store self.old self.new }
+    {
+        object_states(&mut self.tables, object)
     }
 }

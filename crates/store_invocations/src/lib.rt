@@ -20,6 +20,7 @@ mod progress;
 mod recorded;
 mod row;
 mod start;
+mod states;
 
 pub use answering::answer;
 pub use attempt::{AttemptFrames, PreparedAttempt};
@@ -30,3 +31,4 @@ pub use invoke::prepare_invoke;
 pub use progress::{failure, is_open};
 pub use recorded::{EntryKind, RecordedEntry, entries};
 pub use row::{known_row, open_row, row_of};
+pub use states::object_states;

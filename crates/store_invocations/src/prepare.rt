@@ -20,11 +20,12 @@ use crate::attempt::{AttemptFrames, PreparedAttempt};
 use crate::begun::begun_writes;
 use crate::frames::{JournalFrames, journal_frames};
 use crate::start::start_frame;
+use crate::states::object_states;
 use bytes::{ByteStr, Bytes};
 use sqlite::Alter;
 use std::alloc::Global;
 use store_refusals::Refusal;
-use store_tables::{InvocationRow, StateRow, StoreTables, journal, states_of};
+use store_tables::{InvocationRow, StateRow, StoreTables, journal};
 
 /// The state that an attempt is shown: all of its object's, or none.
 fn shown_states<S: Alter>(
@@ -37,8 +38,7 @@ fn shown_states<S: Alter>(
     if !row.is_whole {
         return Ok(Vec::new(tables.alloc()));
     }
-    let states = states_of(tables, &row.object)?;
-    Ok(states)
+    object_states(tables, &row.object)
 }
 
 /// The start frame, with that state.

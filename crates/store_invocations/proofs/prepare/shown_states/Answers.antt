@@ -1,22 +1,4 @@
-use Rattle.std.proofs.Common.{◌≡◌, [], sym, subst, arith, inr}
-use Rattle.sqlite.specs.Held.{state}
-use Rattle.sqlite.specs.State.{State, HasCleanDisk}
-use Rattle.store_invocations.proofs.Reading.{told_err}
-use Rattle.store_refusals.specs.Refused.{IsRefused}
-use Rattle.store_invocations.proofs.Deciding.{states_are, states_known}
-use Rattle.store_invocations.specs.Begun.{shown_states}
 use Rattle.store_invocations.proofs.prepare.shown_states.Goals as goal
 
 pub returns-clause-told : goal.returns-clause-told
-returns-clause-told g c clean events store =
-    let old : State = state g.S.Store c.args.tables.now in
-    let early : HasCleanDisk old = omega (arith, c.states_of.ensures.looks.crash.clean) in
-    let k = store.keeps early (c.in_ok-states.ensures.open clean) in
-    rw c.if-not-row.false (states_are events old c.args.row.now.object c.in_ok-states.states.items k (c.in_ok-states.ensures.arranged clean))
-
-pub returns-in_err-states-clause-told : goal.returns-in_err-states-clause-told
-returns-in_err-states-clause-told g c clean events store =
-    let old : State = state g.S.Store c.args.tables.now in
-    let early : HasCleanDisk old = omega (arith, c.states_of.ensures.looks.crash.clean) in
-    told_err (λ states. states.items ≡ shown_states events c.args.row.now) c.from_residual.result c.from_residual.ensures.1 (λ why gives.
-    subst (IsRefused []) (sym gives) (inr (states_known events old c.args.row.now.object _ (store.keeps early) (c.in_err-states.ensures.open clean) (c.in_err-states.ensures.foreign clean))))
+returns-clause-told g c clean events store = rw c.if-not-row.false (c.object_states.ensures.told clean events store)

@@ -1,0 +1,23 @@
+use Rattle.std.proofs.Common.{◌≡◌, [], map, sym, subst, arith, inr}
+use Rattle.sqlite.specs.Held.{state}
+use Rattle.sqlite.specs.State.{State, HasCleanDisk}
+use Rattle.journal_model.specs.Journal.{object_state}
+use Rattle.store_model.specs.Kept.{state_row}
+use Rattle.store_refusals.specs.Refused.{IsRefused}
+use Rattle.store_invocations.proofs.Reading.{told_err}
+use Rattle.store_invocations.proofs.Deciding.{states_are, states_known}
+use Rattle.store_invocations.proofs.states.object_states.Goals as goal
+
+pub returns-clause-told : goal.returns-clause-told
+returns-clause-told g c clean events store =
+    let old : State = state g.S.Store c.args.tables.now in
+    let early : HasCleanDisk old = omega (arith, c.states_of.ensures.looks.crash.clean) in
+    let k = store.keeps early (c.in_ok-states.ensures.open clean) in
+    states_are events old c.args.object.now c.in_ok-states.states.items k (c.in_ok-states.ensures.arranged clean)
+
+pub returns-in_err-states-clause-told : goal.returns-in_err-states-clause-told
+returns-in_err-states-clause-told g c clean events store =
+    let old : State = state g.S.Store c.args.tables.now in
+    let early : HasCleanDisk old = omega (arith, c.states_of.ensures.looks.crash.clean) in
+    told_err (λ states. states.items ≡ map (state_row c.args.object.now) (object_state events c.args.object.now)) c.from_residual.result c.from_residual.ensures.1 (λ why gives.
+    subst (IsRefused []) (sym gives) (inr (states_known events old c.args.object.now _ (store.keeps early) (c.in_err-states.ensures.open clean) (c.in_err-states.ensures.foreign clean))))
