@@ -1,7 +1,8 @@
 //! What calls answer, each printed as the end of a line.
 use crate::fault::Fault;
 use journal_store::{
-    Accepted, BegunAttempt, EntryKind, FrameReply, LastError, NonEmptyValue, RecordedEntry, Refusal,
+    Accepted, BegunAttempt, EntryKind, FrameReply, LastError, NonEmptyValue, RecordedEntry,
+    Refusal, StateRow,
 };
 use std::fmt;
 use test_rows::Hex;
@@ -128,6 +129,26 @@ pub fn print_entries<R: Print>(
         Ok(entries) => {
             let done = print_each(rt, entries.as_slice());
             drop(entries);
+            done
+        }
+        Err(why) => print_refusal(rt, why),
+    }
+}
+
+fn print_all_states<R: Print>(rt: &R, states: &[StateRow]) -> Result<(), Fault> {
+    for state in states {
+        print!(rt; "{}=", Hex(state.key.as_slice()))?;
+        print!(rt; "{}, ", Hex(state.value.as_slice()))?;
+    }
+    Ok(println!(rt; "no more")?)
+}
+
+/// The values of an object, each behind its key.
+pub fn print_states<R: Print>(rt: &R, states: Result<Vec<StateRow>, Refusal>) -> Result<(), Fault> {
+    match states {
+        Ok(states) => {
+            let done = print_all_states(rt, states.as_slice());
+            drop(states);
             done
         }
         Err(why) => print_refusal(rt, why),

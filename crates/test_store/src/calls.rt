@@ -2,7 +2,7 @@
 //! it answered, so that a file is printed as it stands where all is as it says.
 use crate::answers::{
     print_accepted, print_answer, print_begun, print_bytes, print_done, print_entries,
-    print_failure, print_number, print_openness, print_refusal, print_step,
+    print_failure, print_number, print_openness, print_refusal, print_states, print_step,
 };
 use crate::database::{Database, empty};
 use crate::fault::Fault;
@@ -140,7 +140,7 @@ fn ask_attempt<R: Print>(
     }
 }
 
-/// A call about one invocation.
+/// A call about one invocation, or about one object.
 fn ask_invocation<R: Print>(
     rt: &R,
     alloc: Global,
@@ -155,6 +155,7 @@ fn ask_invocation<R: Print>(
             "answer" => print_answer(rt, store.answer(id)),
             "failure" => print_failure(rt, store.failure(id)),
             "is_open" => print_openness(rt, store.is_open(id)),
+            "state" => print_states(rt, store.state(id)),
             _ => Err(Fault::NotUnderstood),
         },
         [now] if call == "begin" => begin(rt, store, id, *now),
