@@ -1,5 +1,5 @@
 -- A frame is taken, or refused.
-use Rattle.std.proofs.Common.{◌≡◌, ℕ, refl, sym, ap, subst, ◌∙◌, inl, inr, arith, drop, Bool, true, false, not, List, [], ◌∷◌, Option, Some, None, option_map, Result, Ok, Err, IfOk, OnOk, OnErr, IsTrue}
+use Rattle.std.proofs.Common.{◌≡◌, ℕ, ◌+◌, refl, sym, ap, ap₂, subst, ◌∙◌, inl, inr, arith, drop, length, Bool, true, false, ◌||◌, if◌then◌else◌, List, [], ◌∷◌, Option, Some, None, option_map, Result, Ok, Err, IfOk, OnOk, OnErr, IsTrue}
 use Rattle.sqlite_trees.specs.declared.store.Store.{Ghosts}
 use Rattle.sqlite_trees.specs.Tree.{Trees}
 use Rattle.sqlite.specs.Held.{Held, state}
@@ -8,16 +8,19 @@ use Rattle.sqlite.proofs.StateLemmas.{survives_then}
 use Rattle.journal_model.specs.Notification.{Bytes, Text}
 use Rattle.journal_model.specs.Request.{Request}
 use Rattle.journal_model.specs.Event.{Event, Frame}
-use Rattle.journal_model.specs.Journal.{ends_attempt}
+use Rattle.journal_model.specs.Journal.{ends_attempt, entries_of, entries_of_frame, starting_state}
 use Rattle.journal_model.specs.Attempt.{is_live}
-use Rattle.journal_model.specs.Cause.{FrameNotAccepted, causes_of, those_that_hold, adding_tests}
+use Rattle.journal_model.specs.Cause.{FrameNotAccepted, causes_of, those_that_hold, adding_tests, IsAccepted}
 use Rattle.protocol_stream.specs.declared.frame.TheConstants.{HEADER_LEN}
 use Rattle.protocol_types.specs.Version.{version_number}
 use Rattle.protocol_stream.specs.Item.{Item, unknown, message, item_at}
 use Rattle.store_frames.specs.declared.frame.AttemptFrame.{AttemptFrame}
 use Rattle.store_frames.specs.Answer.{IsFrame}
 use Rattle.store_frames.specs.Meaning.{frame_of}
+use Rattle.store_tables.specs.declared.row.EntryRow.{EntryRow}
 use Rattle.store_tables.specs.declared.row.Write.{Write}
+use Rattle.store_model.proofs.States.{itself}
+use Rattle.store_lookups.specs.Lookups.{rows_of_arrivals}
 use Rattle.store_tables.specs.Looks.{Lasts, Looks}
 use Rattle.store_tables.specs.Records.{Holds, applied_all}
 use Rattle.store_tables.specs.Steps.{Lands}
@@ -27,15 +30,17 @@ use Rattle.store_refusals.specs.Refused.{first_of, is_circumstance, IsRefused}
 use Rattle.store_invocations.specs.Rows.{IsStoreOf}
 use Rattle.store_steps.specs.declared.frame.FrameReply.{FrameReply}
 use Rattle.store_steps.specs.declared.frame.PreparedFrame.{PreparedFrame}
-use Rattle.store_steps.specs.LazyReads.{is_lazy_read, IsNoLazyRead}
+use Rattle.store_steps.specs.declared.frame.HandedAnswer.{HandedAnswer}
+use Rattle.store_steps.specs.Reads.{IsHanded, answer_rows}
 use Rattle.store_steps.specs.Taken.{IsLive, IsReply, IsTaken, Takes, does_end, lies_in_frame}
 use Rattle.store_steps.proofs.Live.{begun_open}
-use Rattle.store_steps.proofs.LazyReads.{none_are_reads}
 use Rattle.store_steps.proofs.Tests.{causes_left}
 use Rattle.store_live.specs.declared.attempt.LiveAttempt.{LiveAttempt}
-use Rattle.store_live.specs.Attempts.{Attempts, ByInvocation, attempt_of, IsNow, after_take}
-use Rattle.store_live_laws.specs.Agrees.{Agrees, IsKeptLive, has_number, is_answered_at_once, is_silent}
+use Rattle.store_live.specs.Attempts.{Attempts, ByInvocation, attempt_of, IsNow, after_put, after_take}
+use Rattle.store_live.specs.Before.{AreAsBefore}
+use Rattle.store_live_laws.specs.Agrees.{Agrees, IsKeptLive, after_rows, has_number, rows_arrived}
 use Rattle.store_live_laws.proofs.Steps.{taken, ended}
+use Rattle.store_live_laws.proofs.Added.{commanded}
 use Rattle.store_live_laws.proofs.Tests.{live_is_open}
 use Rattle.journal_store.specs.declared.step.SeenFrame.{SeenFrame}
 use Rattle.journal_store.specs.declared.step.FirstSeen.TheVariants as firsts
@@ -46,33 +51,30 @@ use Rattle.store_calls.proofs.Live.{told_end}
 use Rattle.store_calls.proofs.Taking.{same_stays}
 use Rattle.journal_store.specs.Stored.{Stored, stored}
 use Rattle.journal_store.specs.Stands.{Stands, IsStanding, Leads, Keeps, KeepsAll, Endures, WaitsNow}
-use Rattle.journal_store.specs.Taking.{HasMessage, HasMessageOf, IsEndedBy, IsFirstOf, IsSeen, IsSeenOf, SettlesStep, passed}
+use Rattle.journal_store.specs.Taking.{HasMessage, HasMessageOf, IsEndedBy, IsFirstOf, IsSeen, IsSeenOf, SettlesStep, after_answer, passed}
 use Rattle.journal_store.specs.Writing.{Writes}
 use Rattle.journal_store.proofs.Lasting.{outlasts_now}
-use Rattle.journal_store.proofs.Standing.{all_stored, landed, store_still, stands_after}
+use Rattle.journal_store.proofs.Standing.{all_stored, landed, store_still, stands_after, stands_still}
 use Rattle.journal_store.proofs.Quiet.{live_here, stands_stopped, this_one}
-use Rattle.journal_store.proofs.Waiting.{now_waits, same_waits, stopped_waits}
+use Rattle.journal_store.proofs.Waiting.{before_waits, now_waits, same_waits, stopped_waits}
 use Rattle.journal_store.proofs.Leading.{leaves, stays}
 
 -- ---- what a frame leaves
 
-not_at_once : (request : Request) → is_lazy_read request ≡ false → not (is_answered_at_once request) ≡ true
-not_at_once (Request.GetLazyState key n name) e = cc
-not_at_once (Request.GetLazyStateKeys n name) e = cc
-not_at_once _ e = refl
+-- the rows of the arrivals that a command brings are those of what the store answers to it
+rows_brought : (events : List Event) (id : Text) (number : ℕ) (request : Request)
+    → rows_arrived events (Event.Take id number (Frame.Command request)) id ≡ answer_rows events id (Frame.Command request)
+rows_brought events id number request =
+    ap (λ (mine : Bool). rows_of_arrivals id (entries_of events id) (1 + length (entries_of events id))
+    (if mine || false then entries_of_frame (starting_state events id) (entries_of events id) (Frame.Command request) else [])) (itself id)
 
--- a frame that does not end its attempt brings it nothing
-silent : (frame : Frame) (read : AttemptFrame) → IsNoLazyRead frame → IsFrame frame read → ends_attempt frame ≡ false
-    → (events : List Event) (id : Text) (reply : FrameReply) → IsReply events id frame reply → is_silent frame ≡ true
-silent (Frame.Command request) read unread is goes events id reply replied = not_at_once request unread
-silent Frame.AwaitingOn read unread is goes events id reply replied = refl
-silent (Frame.RunOutcome n value is_acknowledged) read unread is goes events id reply replied = absurd is
-silent (Frame.Suspend suspension) read unread is goes events id reply replied = cc
-silent (Frame.Error code said behavior delay) read unread is goes events id reply replied = cc
-silent Frame.End read unread is goes events id reply replied = cc
-silent Frame.Broken read unread is goes events id reply replied = absurd replied
-silent Frame.TooDeep read unread is goes events id reply replied = absurd replied
-silent Frame.NotAccepted read unread is goes events id reply replied = absurd replied
+put_rows : (rows : List EntryRow) (answer : Option HandedAnswer) (attempt : LiveAttempt) → IsHanded rows answer → after_rows rows attempt ≡ after_answer answer attempt
+put_rows [] None attempt h = refl
+put_rows [] (Some answer) attempt h = absurd h
+put_rows (row ∷ []) None attempt h = absurd h
+put_rows (row ∷ []) (Some answer) attempt h = ap₂ (λ (place : ℕ) (frame : Bytes). after_put place frame attempt) (sym h.0) (sym h.1)
+put_rows (row ∷ other ∷ rows) None attempt h = absurd h
+put_rows (row ∷ other ∷ rows) (Some answer) attempt h = absurd h
 
 -- ---- the attempt that is left
 
@@ -86,13 +88,41 @@ other_output : (events : List Event) (id : Text) (attempt : LiveAttempt) (rest :
 other_output events id attempt rest agrees =
     record { number = agrees.number; version = agrees.version; bytes = agrees.bytes; pieces = agrees.pieces; handed = agrees.handed; closed = agrees.closed }
 
-agrees_left : (events : List Event) (id : Text) (number : ℕ) (frame : Frame) (read : AttemptFrame) (reply : FrameReply) (attempt : LiveAttempt) (rest : Bytes)
-    → IsNoLazyRead frame → IsFrame frame read → IsReply events id frame reply → Agrees events id (Some attempt) → (b : Bool) → does_end reply ≡ b
-    → Agrees (Event.Take id number frame ∷ events) id (attempt_left b rest attempt)
-agrees_left events id number frame read reply attempt rest unread is replied agrees true e = ended events id number frame (sym (told_end events id frame reply replied) ∙ e)
-agrees_left events id number frame read reply attempt rest unread is replied agrees false e =
-    other_output (Event.Take id number frame ∷ events) id attempt rest
-    (taken events id number frame (Some attempt) (silent frame read unread is (sym (told_end events id frame reply replied) ∙ e) events id reply replied) agrees)
+-- what is put behind the input is put there whatever waits of the output
+put_apart : (answer : Option HandedAnswer) (attempt : LiveAttempt) (rest : Bytes) → record (after_answer answer attempt) { output = rest } ≡ after_answer answer (record attempt { output = rest })
+put_apart None attempt rest = refl
+put_apart (Some answer) attempt rest = refl
+
+agrees_left : (events : List Event) (id : Text) (number : ℕ) (frame : Frame) (read : AttemptFrame) (reply : FrameReply) (answer : Option HandedAnswer) (attempt : LiveAttempt) (rest : Bytes)
+    → IsAccepted events → causes_of events (Event.Take id number frame) ≡ [] → IsHanded (answer_rows events id frame) answer
+    → IsFrame frame read → IsReply events id frame reply → Agrees events id (Some attempt) → (b : Bool) → does_end reply ≡ b
+    → Agrees (Event.Take id number frame ∷ events) id (option_map (after_answer answer) (attempt_left b rest attempt))
+agrees_left events id number frame read reply answer attempt rest accepted none handed is replied agrees true e =
+    ended events id number frame (sym (told_end events id frame reply replied) ∙ e)
+agrees_left events id number frame read reply answer attempt rest accepted none handed is replied agrees false e =
+    by_frame frame read (sym (told_end events id frame reply replied) ∙ e) none handed is replied
+  where
+    by_frame : (frame : Frame) (read : AttemptFrame) → ends_attempt frame ≡ false → causes_of events (Event.Take id number frame) ≡ [] → IsHanded (answer_rows events id frame) answer
+        → IsFrame frame read → IsReply events id frame reply → Agrees (Event.Take id number frame ∷ events) id (Some (after_answer answer (record attempt { output = rest })))
+    by_frame (Frame.Command request) read goes none handed is replied =
+        let event = Event.Take id number (Frame.Command request) in
+        let brought : after_rows (rows_arrived events event id) attempt ≡ after_answer answer attempt =
+        put_rows (rows_arrived events event id) answer attempt (subst (λ (rows : List EntryRow). IsHanded rows answer) (sym (rows_brought events id number request)) handed) in
+        subst (λ (left : LiveAttempt). Agrees (event ∷ events) id (Some left)) (put_apart answer attempt rest)
+        (other_output (event ∷ events) id (after_answer answer attempt) rest
+        (subst (λ (left : LiveAttempt). Agrees (event ∷ events) id (Some left)) brought (commanded events id number request (Some attempt) accepted none agrees)))
+    by_frame Frame.AwaitingOn read goes none handed is replied = by_answer answer handed
+      where
+        by_answer : (o : Option HandedAnswer) → IsHanded [] o → Agrees (Event.Take id number Frame.AwaitingOn ∷ events) id (Some (after_answer o (record attempt { output = rest })))
+        by_answer None h = other_output (Event.Take id number Frame.AwaitingOn ∷ events) id attempt rest (taken events id number Frame.AwaitingOn (Some attempt) refl agrees)
+        by_answer (Some answered) h = absurd h
+    by_frame (Frame.RunOutcome n value is_acknowledged) read goes none handed is replied = absurd is
+    by_frame (Frame.Suspend suspension) read goes none handed is replied = cc
+    by_frame (Frame.Error code said behavior delay) read goes none handed is replied = cc
+    by_frame Frame.End read goes none handed is replied = cc
+    by_frame Frame.Broken read goes none handed is replied = absurd replied
+    by_frame Frame.TooDeep read goes none handed is replied = absurd replied
+    by_frame Frame.NotAccepted read goes none handed is replied = absurd replied
 
 passed_left : (b : Bool) (len : ℕ) (found : Option LiveAttempt) (attempt : LiveAttempt) → found ≡ Some attempt → passed b len found ≡ attempt_left b (drop len attempt.output) attempt
 passed_left true len found attempt is = refl
@@ -116,9 +146,10 @@ is_live_here events id number attempt it agrees live seen = record { live = live
 abbrev output_in : LiveAttempt → Bytes
 output_in attempt = attempt.output
 
-left_alike : (b : Bool) (rest : Bytes) (attempt : LiveAttempt) → option_map output_in (attempt_left b rest attempt) ≡ rest_after b rest
-left_alike true rest attempt = refl
-left_alike false rest attempt = refl
+left_alike : (answer : Option HandedAnswer) (b : Bool) (rest : Bytes) (attempt : LiveAttempt) → option_map output_in (option_map (after_answer answer) (attempt_left b rest attempt)) ≡ rest_after b rest
+left_alike answer true rest attempt = refl
+left_alike None false rest attempt = refl
+left_alike (Some answered) false rest attempt = refl
 
 module _ {S : Type 0} (g : Ghosts S) (old new : Stored S) (s : Standing) (is : IsStanding g s old) (id : Text) (n : ℕ) (attempt : LiveAttempt) (item : Item) (rest : Bytes)
     (found : attempt_of old.live.attempts id ≡ Some attempt) (first : item_at attempt.output ≡ Some (item, rest)) where
@@ -144,6 +175,13 @@ module _ {S : Type 0} (g : Ghosts S) (old new : Stored S) (s : Standing) (is : I
     cause = cause;
     left = subst (λ (lies : Bool). LeavesRefused lies id n s t) (sym lies) left;
   }
+
+  -- it is refused for a circumstance, and nothing was done but that room was made
+  pub item_waits : (why : Refusal) → has_number n (attempt_of old.live.attempts id) ≡ true → IsRefused (causes_of s.events (Event.Take id n (frame_in (version_number attempt.version) item))) why
+      → lies_in_frame why ≡ false → Stands s.events (state g new.connection) new.live.attempts → AreAsBefore old.live.attempts new.live.attempts
+      → (t : Standing) × IsStanding g t new × RefusesFrame id n why s t
+  item_waits why here cause lies still same =
+      let it = stays g s old new is still (before_waits old.live.attempts new.live.attempts same) in (it.0, it.1, refuses_first why here cause false lies it.0 it.2)
 
   -- it is refused, and its attempt is over where the cause lies in it
   pub item_refused : (why : Refusal) → has_number n (attempt_of old.live.attempts id) ≡ true → IsRefused (causes_of s.events (Event.Take id n (frame_in (version_number attempt.version) item))) why
@@ -199,23 +237,20 @@ module _ {S : Type 0} (g : Ghosts S) (a mid b : Held S) (before after : Attempts
   live_of events stands =
       is_live_here events id n one.attempt it (subst (Agrees events id) one.found (stands.live id)) (live_here events (state g a) before.attempts id n stands ∙ one.here) one.seen
 
-  unread : IsNoLazyRead frame
-  unread = none_are_reads (version_number one.attempt.version) one.seen.message_is
-
   -- what was made ready of it, if anything was
   abbrev pub IsPrepared : Result PreparedFrame Refusal → Type 0
   IsPrepared result = HasCleanDisk (state g mid) → (events : List Event) → IsStoreOf events (state g a) → Takes events id it.facts it.frame result
 
   ready_of : (made : PreparedFrame) → IsPrepared (Ok made) → HasCleanDisk (state g mid) → (events : List Event) → Stands events (state g a) before.attempts
       → (causes_of events event ≡ []) × IsTaken events id n frame made
-  ready_of made prepared clean events stands = prepared clean events stands.kept n frame (live_of events stands) unread one.seen.read
+  ready_of made prepared clean events stands = prepared clean events stands.kept n frame (live_of events stands) one.seen.read
 
   -- it is refused, and with it its attempt where the cause lies in it
   pub seen_refused : (why : Refusal) → Looks g a mid → IsEndedBy (lies_in_frame why) id before.attempts after.attempts
       → IsPrepared (Err why)
       → Leads g (Steps id n (Err why)) (stored a before) (stored mid after)
   seen_refused why looks ends prepared clean s is =
-      let it = item_refused g (stored a before) (stored mid after) s is id n one.attempt (message one.seen.message_is) left_of one.found one.seen.first why one.here (prepared clean s.events is.stands.kept n frame (live_of s.events is.stands) unread one.seen.read)
+      let it = item_refused g (stored a before) (stored mid after) s is id n one.attempt (message one.seen.message_is) left_of one.found one.seen.first why one.here (prepared clean s.events is.stands.kept n frame (live_of s.events is.stands) one.seen.read)
       (store_still s.events (state g a) (state g mid) (λ _. ⊥) looks.crash looks.kept is.stands.kept) (lies_in_frame why) refl ends in
       (it.0, it.1, inr it.2)
 
@@ -223,8 +258,8 @@ module _ {S : Type 0} (g : Ghosts S) (a mid b : Held S) (before after : Attempts
   pub seen_taken : (made : PreparedFrame) (result : Result (Option FrameReply) Refusal) → Looks g a mid → Writes g made.writes.items mid b result
       → IsPrepared (Ok made)
       → IfOk result (λ reply. reply ≡ Some made.reply)
-      → OnOk result (IsNow id (passed (does_end made.reply) it.len (attempt_of before.attempts id)) before.attempts after.attempts)
-      → OnErr result (after.attempts ≡ before.attempts)
+      → OnOk result (IsNow id (option_map (after_answer made.answer) (passed (does_end made.reply) it.len (attempt_of before.attempts id))) before.attempts after.attempts)
+      → OnErr result (AreAsBefore before.attempts after.attempts)
       → Leads g (StepsBy result) (stored a before) (stored b after)
   seen_taken made (Ok None) looks wrote prepared replied now same clean s is = cc
   seen_taken made (Ok (Some reply)) looks wrote prepared told now same clean s is =
@@ -236,13 +271,14 @@ module _ {S : Type 0} (g : Ghosts S) (a mid b : Held S) (before after : Attempts
       (wrote.done clean) in
       let agrees : Agrees s.events id (Some one.attempt) = subst (Agrees s.events id) one.found (is.stands.live id) in
       let is_reply : IsReply s.events id frame reply = subst (IsReply s.events id frame) (sym replied) ready.1.reply in
-      let is_now : IsNow id (attempt_left (does_end reply) left_of one.attempt) before.attempts after.attempts =
-      subst (λ (o : Option LiveAttempt). IsNow id o before.attempts after.attempts)
+      let left_live = option_map (after_answer made.answer) (attempt_left (does_end reply) left_of one.attempt) in
+      let is_now : IsNow id left_live before.attempts after.attempts =
+      subst (λ (o : Option LiveAttempt). IsNow id (option_map (after_answer made.answer) o) before.attempts after.attempts)
       (ap (λ (r : FrameReply). passed (does_end r) it.len (attempt_of before.attempts id)) (sym replied) ∙ passed_left (does_end reply) it.len (attempt_of before.attempts id) one.attempt one.found) now in
-      let then = stands_after s.events event id (attempt_left (does_end reply) left_of one.attempt) (state g b) before.attempts after.attempts refl refl all
-      (agrees_left s.events id n frame it.frame reply one.attempt left_of unread one.seen.read is_reply agrees (does_end reply) refl) is_now is.stands.live in
-      let waits = subst (λ (output : Option Bytes). WaitsNow id output before.attempts after.attempts) (left_alike (does_end reply) left_of one.attempt)
-      (now_waits id (attempt_left (does_end reply) left_of one.attempt) before.attempts after.attempts is_now) in
+      let then = stands_after s.events event id left_live (state g b) before.attempts after.attempts refl refl all
+      (agrees_left s.events id n frame it.frame reply made.answer one.attempt left_of is.stands.kept.accepted ready.0 ready.1.answer one.seen.read is_reply agrees (does_end reply) refl) is_now is.stands.live in
+      let waits = subst (λ (output : Option Bytes). WaitsNow id output before.attempts after.attempts) (left_alike made.answer (does_end reply) left_of one.attempt)
+      (now_waits id left_live before.attempts after.attempts is_now) in
       let to = leaves g s (stored a before) (stored b after) is event id (rest_after (does_end reply) left_of) then waits in (
         to.0,
         to.1,
@@ -259,8 +295,9 @@ module _ {S : Type 0} (g : Ghosts S) (a mid b : Held S) (before after : Attempts
       )
   seen_taken made (Err why) looks wrote prepared replied now same clean s is =
       let store = store_still s.events (state g a) (state g mid) (λ _. ⊥) looks.crash looks.kept is.stands.kept in
-      let it = item_refused g (stored a before) (stored b after) s is id n one.attempt (message one.seen.message_is) left_of one.found one.seen.first why one.here (inr wrote.why)
-      (store_still s.events (state g mid) (state g b) (Lands made.writes.items (state g mid)) wrote.crash wrote.undone store) false (not_in_frame why wrote.why) same in
+      let between : Stands s.events (state g mid) before.attempts = record { kept = store; live = is.stands.live } in
+      let it = item_waits g (stored a before) (stored b after) s is id n one.attempt (message one.seen.message_is) left_of one.found one.seen.first why one.here (inr wrote.why) (not_in_frame why wrote.why)
+      (stands_still s.events (state g mid) (state g b) (Lands made.writes.items (state g mid)) before.attempts after.attempts wrote.crash wrote.undone same between) same in
       (it.0, it.1, (inr it.2, tt))
 
   pub steps_so : (result : Result (Option FrameReply) Refusal) → Leads g (StepsBy result) (stored a before) (stored b after) → Leads g (Steps id n result) (stored a before) (stored b after)

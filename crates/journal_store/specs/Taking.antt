@@ -11,8 +11,10 @@ use Rattle.store_frames.specs.Answer.{IsFrame}
 use Rattle.store_frames.specs.Meaning.{frame_of}
 use Rattle.store_refusals.specs.declared.refusal.Refusal.{Refusal}
 use Rattle.store_steps.specs.declared.frame.FrameReply.{FrameReply}
+use Rattle.store_steps.specs.declared.frame.HandedAnswer.{HandedAnswer}
 use Rattle.store_live.specs.declared.attempt.LiveAttempt.{LiveAttempt}
-use Rattle.store_live.specs.Attempts.{ByInvocation, IsNow, after_take}
+use Rattle.store_live.specs.Input.{one_frame}
+use Rattle.store_live.specs.Attempts.{ByInvocation, IsNow, after_put, after_take}
 use Rattle.store_calls.specs.Frames.{TakesFrame}
 use Rattle.journal_store.specs.Stored.{Stored}
 use Rattle.journal_store.specs.Stands.{Settles}
@@ -59,6 +61,15 @@ IsSeenOf (Some attempt) it = IsSeen attempt it
 abbrev pub passed : Bool → ℕ → Option LiveAttempt → Option LiveAttempt
 passed true len found = None
 passed false len found = option_map (after_take len) found
+
+-- what the store answers to a frame is put behind, and room is made for it before
+abbrev pub after_answer : Option HandedAnswer → LiveAttempt → LiveAttempt
+after_answer None attempt = attempt
+after_answer (Some answer) attempt = after_put answer.place answer.frame attempt
+
+abbrev pub HasRoomFor : Option HandedAnswer → LiveAttempt → Type 0
+HasRoomFor None attempt = Unit {0}
+HasRoomFor (Some answer) attempt = attempt.input.reserved ≡ Some (one_frame (length answer.frame))
 
 -- an attempt is over where the cause of a refusal lies in its frame
 abbrev pub IsEndedBy : Bool → Text → ByInvocation → ByInvocation → Type 0

@@ -1,12 +1,12 @@
 // Frames of an attempt are taken one by one: what a frame asks for is recorded, and then it is passed.
-ghost use Rattle.std.specs.Prelude.{◌≡◌, ◌≤◌, true, length, Some, IfOk, OnErr, OnOk};
+ghost use Rattle.std.specs.Prelude.{◌≡◌, ◌≤◌, ◌<◌, ◌+◌, ◌^◌, true, length, option_map, Some, IfOk, IfSome, OnErr, OnOk};
 ghost use Rattle.std.specs.Option.{ForSome};
 ghost use Rattle.store_steps.specs.Taken.{does_end, lies_in_frame};
-ghost use Rattle.store_live.specs.Attempts.{IsNow};
+ghost use Rattle.store_live.specs.Attempts.{Changes, IsNow};
 ghost use Rattle.store_calls.specs.Frames.{Steps, TakesOne};
 ghost use Rattle.journal_store.specs.Stands.{Endures, Leads};
-ghost use Rattle.journal_store.specs.Taking.{HasMessage, HasMessageOf, IsEndedBy, IsFirstOf, IsFirstSeen, IsSeenOf, SettlesStep, passed};
-ghost use Rattle.journal_store.specs.Words.{state, IsKept, attempt_of, has_number};
+ghost use Rattle.journal_store.specs.Taking.{HasMessage, HasMessageOf, HasRoomFor, IsEndedBy, IsFirstOf, IsFirstSeen, IsSeenOf, SettlesStep, after_answer, passed};
+ghost use Rattle.journal_store.specs.Words.{state, IsKept, AreAsBefore, attempt_of, has_number};
 ghost use Rattle.journal_store.specs.Writing.{Writes};
 
 use crate::attempt::{is_live, stale_refusal};
@@ -18,7 +18,9 @@ use std::alloc::{AllocError, Global};
 use store_frames::{AttemptFrame, read_frame_at};
 use store_live::{FirstItem, HEADER_LEN, LiveAttempt, LiveAttempts};
 use store_refusals::Refusal;
-use store_steps::{FrameReply, LiveFacts, PreparedFrame, prepare_frame, refusal_ends_attempt};
+use store_steps::{
+    FrameReply, HandedAnswer, LiveFacts, PreparedFrame, prepare_frame, refusal_ends_attempt,
+};
 
 /// A whole frame that stands first.
 #[derive(Debug, Drop)]
@@ -85,6 +87,33 @@ fn pass_frame(live: &mut LiveAttempts, id: &ByteStr, len: usize, reply: FrameRep
     }
 }
 
+/// Makes room in the input of an attempt for what the store answers to its frame.
+fn room_for_answer(
+    live: &mut LiveAttempts,
+    id: &ByteStr,
+    answer: &Option<HandedAnswer>,
+) -> Result<(), AllocError>
+    ensures kept { AreAsBefore live.old.attempts live.new.attempts }
+    ensures room { OnOk result (ForSome (attempt_of live.new.attempts id.now) (HasRoomFor answer.now)) }
+{
+    match answer {
+        Some(answer) => live.reserve(id, answer.frame.len()),
+        None => Ok(()),
+    }
+}
+
+/// Puts what the store answers to a frame behind the input of its attempt. Room was made for it.
+fn hand_answer(live: &mut LiveAttempts, id: &ByteStr, answer: Option<HandedAnswer>)
+    requires room { ForSome (attempt_of live.old.attempts id.now) (HasRoomFor answer) }
+    requires place { IfSome answer (λ answer. answer.place + 1 < 2 ^ 32) }
+    ensures { Changes id.now (after_answer answer) live.old.attempts live.new.attempts }
+{
+    if let Some(answer) = answer {
+        live.put(id, answer.place, answer.frame.as_slice(), &[]);
+        drop(answer);
+    }
+}
+
 /// Ends the attempt whose frame was refused, where the cause lies in the frame.
 fn end_refused(live: &mut LiveAttempts, id: &ByteStr, why: Refusal)
     ensures { IsEndedBy (lies_in_frame why) id.now live.old.attempts live.new.attempts }
@@ -95,7 +124,8 @@ fn end_refused(live: &mut LiveAttempts, id: &ByteStr, why: Refusal)
 }
 
 impl<S: Alter + Drop> Store<S> {
-    /// Writes what was made ready of a frame of so many bytes, and passes the frame.
+    /// Writes what was made ready of a frame of so many bytes, passes the frame, and puts what the store answers to it behind the
+    /// input of its attempt: the answer is recorded before a byte of it is handed out.
     fn take_prepared(
         &mut self,
         id: &ByteStr,
@@ -103,20 +133,33 @@ impl<S: Alter + Drop> Store<S> {
         made: PreparedFrame,
     ) -> Result<Option<FrameReply>, Refusal>
         requires len { ForSome (attempt_of self.old.live.attempts id.now) (λ attempt. len ≤ length attempt.output) }
+        requires place { IfSome made.answer (λ answer. answer.place + 1 < 2 ^ 32) }
         ensures reply { IfOk result (λ reply. reply ≡ Some made.reply) }
         ensures made { Writes S.Store made.writes.items self.old.connection self.new.connection result }
-        ensures left { OnOk result (IsNow id.now (passed (does_end made.reply) len (attempt_of self.old.live.attempts id.now)) self.old.live.attempts self.new.live.attempts) }
-        ensures stays { OnErr result (self.new.live.attempts ≡ self.old.live.attempts) }
+        ensures left { OnOk result (IsNow id.now (option_map (after_answer made.answer) (passed (does_end made.reply) len (attempt_of self.old.live.attempts id.now))) self.old.live.attempts self.new.live.attempts) }
+        ensures stays { OnErr result (AreAsBefore self.old.live.attempts self.new.live.attempts) }
     {
-        let reply = made.reply;
-        let done = commit(&mut self.tables, made.writes.as_slice());
-        drop(made);
+        let PreparedFrame {
+            writes,
+            reply,
+            answer,
+        } = made;
+        let room = room_for_answer(&mut self.live, id, &answer);
+        let done = match room {
+            Ok(()) => commit(&mut self.tables, writes.as_slice()),
+            Err(_) => Err(Refusal::OutOfMemory),
+        };
+        drop(writes);
         match done {
             Ok(()) => {
                 pass_frame(&mut self.live, id, len, reply);
+                hand_answer(&mut self.live, id, answer);
                 Ok(Some(reply))
             }
-            Err(why) => Err(why),
+            Err(why) => {
+                drop(answer);
+                Err(why)
+            }
         }
     }
 

@@ -21,10 +21,9 @@ use Rattle.store_refusals.specs.declared.refusal.Refusal.TheVariants as refusal
 use Rattle.store_refusals.specs.Refused.{refusal_of, is_circumstance, IsRefused}
 use Rattle.store_steps.specs.declared.frame.LiveFacts.{LiveFacts}
 use Rattle.store_steps.specs.declared.frame.PreparedFrame.{PreparedFrame}
-use Rattle.store_steps.specs.LazyReads.{IsNoLazyRead}
 use Rattle.store_steps.specs.Taken.{IsLive, Takes, lies_in_frame}
 use Rattle.sending_laws.specs.Sent.{Sent, Asks, Awaits, Suspends, Fails, Ends, is_recorded, frame_meant}
-use Rattle.sending_laws.specs.Taking.{IsOfStore, IsSentOfRun, NoneLieInFrames}
+use Rattle.sending_laws.specs.Taking.{IsSentOfRun, NoneLieInFrames}
 
 -- ---- tests
 
@@ -54,17 +53,6 @@ command_none : (events : List Event) (id : Text) (number : ℕ) (request : Reque
 command_none events id number request text ascends =
     none_of (tests_of events (Event.Take id number (Frame.Command request)))
     (inr refl, (inr refl, (inr refl, (inl (not_true (do_ascend (last_completion (recorded_requests events id)) (completions_asked request)) ascends), (inl (not_true (list_all is_utf8 (keys_of request)) text), (inr refl, (inr refl, tt)))))))
-
--- no request that a store records so far is a read that it has to answer
-no_lazy_read : (version : Version) (sent : Sent) → IsOfStore sent → IsNoLazyRead (frame_meant version sent)
-no_lazy_read version (Asks (Request.GetLazyState key n name)) is = tt
-no_lazy_read version (Asks (Request.GetLazyStateKeys n name)) is = tt
-no_lazy_read version (Asks (Request.Run n name)) is = tt
-no_lazy_read version (Asks _) is = refl
-no_lazy_read version (Awaits tree) is = tt
-no_lazy_read version (Suspends tree) is = tt
-no_lazy_read version (Fails error) is = tt
-no_lazy_read version Ends is = tt
 
 meant_command : (version : Version) (request : Request) → is_recorded request ≡ true → frame_meant version (Asks request) ≡ Frame.Command request
 meant_command version request is = ap (λ (b : Bool). if b then Frame.Command request else Frame.NotAccepted) is
@@ -130,13 +118,13 @@ refused_elsewhere (c ∷ causes) why none (inl first) =
 refused_elsewhere causes why none (inr met) = circumstance why met
 
 refusals_none : (events : List Event) (id : Text) (number : ℕ) (attempt : LiveFacts) (read : AttemptFrame) (frame : Frame) (result : Result PreparedFrame Refusal)
-    → list_any is_of_frame (causes_of events (Event.Take id number frame)) ≡ false → IsNoLazyRead frame → IsLive events id number attempt → IsFrame frame read → Takes events id attempt read result
+    → list_any is_of_frame (causes_of events (Event.Take id number frame)) ≡ false → IsLive events id number attempt → IsFrame frame read → Takes events id attempt read result
     → IfErr result (λ why. lies_in_frame why ≡ false)
-refusals_none events id number attempt read frame (Ok made) none unread live is takes = tt
-refusals_none events id number attempt read frame (Err why) none unread live is takes = refused_elsewhere (causes_of events (Event.Take id number frame)) why none (takes number frame live unread is)
+refusals_none events id number attempt read frame (Ok made) none live is takes = tt
+refusals_none events id number attempt read frame (Err why) none live is takes = refused_elsewhere (causes_of events (Event.Take id number frame)) why none (takes number frame live is)
 
 pub none_lie_in_frames : NoneLieInFrames
 none_lie_in_frames next given arrivals version sent id events h = record {
   causes = causes_none next given arrivals version sent id events h;
-  refusals = λ number attempt read result live is takes. refusals_none events id number attempt read (frame_meant version sent) result (causes_none next given arrivals version sent id events h number) (no_lazy_read version sent h.of_store) live is takes;
+  refusals = λ number attempt read result live is takes. refusals_none events id number attempt read (frame_meant version sent) result (causes_none next given arrivals version sent id events h number) live is takes;
 }

@@ -7,9 +7,11 @@ use Rattle.protocol_types.specs.declared.message_type.MessageType.TheVariants as
 use Rattle.store_frames.specs.declared.kind.FrameKind.{FrameKind}
 use Rattle.store_frames.specs.declared.kind.FrameKind.TheVariants as kinds
 
--- Reads of the state that the store has to answer, and commands whose outcome an attempt proposes, are not accepted so far.
+-- Commands whose outcome an attempt proposes are not accepted so far.
 abbrev pub kind_of : MessageType → FrameKind
 kind_of types.OutputCommand = kinds.Command
+kind_of types.GetLazyStateCommand = kinds.Command
+kind_of types.GetLazyStateKeysCommand = kinds.Command
 kind_of types.SetStateCommand = kinds.Command
 kind_of types.ClearStateCommand = kinds.Command
 kind_of types.ClearAllStateCommand = kinds.Command

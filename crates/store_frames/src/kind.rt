@@ -16,13 +16,14 @@ pub enum FrameKind {
     Other,
 }
 
-/// What messages of this type are for. Reads of the state that the store has to answer, and commands whose outcome an attempt
-/// proposes, are not accepted so far.
+/// What messages of this type are for. Commands whose outcome an attempt proposes are not accepted so far.
 pub(crate) fn kind_of(ty: MessageType) -> FrameKind
     ensures { result ≡ the_kind_of ty }
 {
     match ty {
         MessageType::OutputCommand
+        | MessageType::GetLazyStateCommand
+        | MessageType::GetLazyStateKeysCommand
         | MessageType::SetStateCommand
         | MessageType::ClearStateCommand
         | MessageType::ClearAllStateCommand

@@ -1,4 +1,5 @@
 pub mod LazyReads
+pub mod Reads
 pub mod Lists
 pub mod Live
 pub mod Taking

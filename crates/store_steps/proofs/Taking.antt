@@ -1,14 +1,15 @@
 -- What is decided by the row of an invocation is what the events say.
-use Rattle.std.proofs.Common.{◌≡◌, refl, sym, ap, subst, subst₂, ◌∙◌, inl, inr, ℕ, Bool, true, false, List, filter_map, Option, Some, None, is_some, option_map, unwrap_or, bytes_eq, Result, Ok, Err}
+use Rattle.std.proofs.Common.{◌≡◌, refl, sym, ap, subst, subst₂, ◌∙◌, inl, inr, ℕ, ◌+◌, Bool, true, false, List, [], ◌∷◌, length, map, filter_map, Option, Some, None, is_some, option_map, unwrap_or, bytes_eq, Result, Ok, Err}
 use Rattle.std.specs.Prelude.{IfOk, IfErr, OnOk}
 use Rattle.std.proofs.lemmas.Slice.Eq.{bytes_eq-Decides}
 use Rattle.sqlite.specs.State.{State}
 use Rattle.sql_tables.specs.declared.read.ReadError.{ReadError}
 use Rattle.sql_tables.specs.declared.read.ReadError.TheVariants as reading
-use Rattle.journal_model.specs.Notification.{Text}
+use Rattle.journal_model.specs.Notification.{Text, Arrival}
+use Rattle.journal_model.specs.State.{state_after}
 use Rattle.journal_model.specs.declared.invocation.NewInvocation.{NewInvocation}
 use Rattle.journal_model.specs.Event.{Frame, Event}
-use Rattle.journal_model.specs.Journal.{invoked_by, invocation_begun, version_of, is_open}
+use Rattle.journal_model.specs.Journal.{Recorded, Arrived, invoked_by, invocation_begun, version_of, is_open, starting_state, requests_in, entries_of}
 use Rattle.journal_model.specs.Cause.{causes_of, those_that_hold}
 use Rattle.journal_laws.proofs.ObjectState.{find-passes}
 use Rattle.protocol_types.specs.Version.{version_number}
@@ -20,6 +21,7 @@ use Rattle.store_tables.specs.declared.row.Progress.{Progress}
 use Rattle.store_model.specs.Progress.{progress_of}
 use Rattle.store_model.specs.Kept.{invocation_row}
 use Rattle.store_model.proofs.Versions.{begun_number}
+use Rattle.store_lookups.specs.Lookups.{rows_of_arrivals}
 use Rattle.store_lookups.proofs.Only.{only_found, only_one}
 use Rattle.store_lookups.proofs.Finding.{all_found}
 use Rattle.store_refusals.specs.declared.refusal.Refusal.{Refusal}
@@ -30,11 +32,25 @@ use Rattle.store_refusals.proofs.First.{first_holds, none_holds}
 use Rattle.store_steps.specs.declared.frame.LiveFacts.{LiveFacts}
 use Rattle.store_steps.specs.declared.frame.PreparedFrame.{PreparedFrame}
 use Rattle.store_steps.specs.LazyReads.{IsNoLazyRead}
+use Rattle.store_steps.specs.Reads.{IsHanded, answer_rows}
 use Rattle.store_steps.specs.Told.{tests_of_told, writes_of_told}
 use Rattle.store_steps.specs.Taken.{IsLive, IsReply, IsTaken, Takes, IsMade, IsWhy}
+use Rattle.store_steps.proofs.LazyReads.{no_answer}
 use Rattle.store_steps.proofs.Live.{begun_open, live_open}
 use Rattle.store_steps.proofs.Tests.{tests_left, causes_left, tests_same}
 use Rattle.store_steps.proofs.Writes.{written, replied}
+
+-- whatever frame this is read of, it is no read that the store answers
+abbrev pub IsUnread : AttemptFrame → Type 0
+IsUnread read = (frame : Frame) → IsFrame frame read → IsNoLazyRead frame
+
+-- a frame that is no such read brings nothing with it
+none_answered : (events : List Event) (id : Text) (frame : Frame) (read : AttemptFrame) → IsNoLazyRead frame → IsFrame frame read → answer_rows events id frame ≡ []
+none_answered events id (Frame.Command request) read unread h =
+    ap (λ (answers : List Arrival). rows_of_arrivals id (entries_of events id) (1 + length (entries_of events id)) (Recorded request ∷ map Arrived answers))
+    (no_answer (state_after (requests_in (entries_of events id)) (starting_state events id)) request unread)
+none_answered events id (Frame.RunOutcome n value is_acknowledged) read unread h = absurd h
+none_answered events id _ read unread h = refl
 
 -- ---- a frame of a live attempt of an invocation that was begun so
 
@@ -59,6 +75,7 @@ module _ (events : List Event) (id : Text) (number : ℕ) (new : NewInvocation) 
           ∙ (λ i. writes_of_told id new.object (version_is i) (live.handed i) (progress_of events id) read)
           ∙ sym (written events id number new.object attempt.is_input_closed frame read (ap (option_map (λ (begun : NewInvocation). begun.object)) is) unread h ok.accepted);
       reply = subst (IsReply events id frame) (sym ok.reply) (replied events id number attempt.is_input_closed frame read h ok.accepted);
+      answer = subst₂ IsHanded (sym (none_answered events id frame read unread h)) (sym ok.answer) tt;
     },
   )
   prepared (Err why) ok err = by_first (refusal_by (tests_of_told (progress_of events id) attempt.is_input_closed read)) refl
@@ -102,9 +119,9 @@ module _ (events : List Event) (s : State) (keeps : Keeps events s) (id : Text) 
       → IfErr result (IsWhy p attempt read) → IfErr result (IsWhy progress attempt read)
   why_as attempt read result p progress same_progress err = subst (λ (p : Progress). IfErr result (IsWhy p attempt read)) same_progress err
 
-  pub taken_by_row : (row : InvocationRow) → IsFound (λ r. r.invocations) (has_id id) s.now.trees (Some row) → (attempt : LiveFacts) (read : AttemptFrame) (result : Result PreparedFrame Refusal)
+  pub taken_by_row : (row : InvocationRow) → IsFound (λ r. r.invocations) (has_id id) s.now.trees (Some row) → (attempt : LiveFacts) (read : AttemptFrame) (result : Result PreparedFrame Refusal) → IsUnread read
       → IfOk result (IsMade id row.object (version_number row.version) row.progress attempt read) → IfErr result (IsWhy row.progress attempt read) → Takes events id attempt read result
-  taken_by_row row found attempt read result ok err number frame live unread h = by_begun (invocation_begun events id) refl
+  taken_by_row row found attempt read result unread ok err number frame live h = by_begun (invocation_begun events id) refl
     where
       by_begun : (o : Option NewInvocation) → invocation_begun events id ≡ o → Prepares events (Event.Take id number frame) (IsTaken events id number frame) result
       by_begun None e = let no : Some row ≡ None = row_found (Some row) found ∙ ap (option_map (invocation_row events)) e in absurd cc
@@ -113,12 +130,12 @@ module _ (events : List Event) (s : State) (keeps : Keeps events s) (id : Text) 
           let named : new.id ≡ id = (bytes_eq-Decides new.id id).0 (find-passes (λ other. bytes_eq other.id id) (filter_map invoked_by events) new e) in
           let progress_is : row.progress ≡ progress_of events id = ap (λ (r : InvocationRow). r.progress) is_row ∙ ap (progress_of events) named in
           let version_is : version_number row.version ≡ new.version = ap (λ (r : InvocationRow). version_number r.version) is_row ∙ begun_number events id new keeps.accepted e in
-          prepared events id number new e (opened_live number attempt live) attempt live frame read unread h result
+          prepared events id number new e (opened_live number attempt live) attempt live frame read (unread frame h) h result
           (made_as attempt read result row.object new.object (version_number row.version) new.version row.progress (progress_of events id) (ap (λ (r : InvocationRow). r.object) is_row) version_is progress_is ok)
           (why_as attempt read result row.progress (progress_of events id) progress_is err)
 
   pub never_missing : IsFound (λ r. r.invocations) (has_id id) s.now.trees None → (attempt : LiveFacts) (read : AttemptFrame) (result : Result PreparedFrame Refusal) → Takes events id attempt read result
-  never_missing found attempt read result number frame live unread h = absurd (by_begun (invocation_begun events id) refl)
+  never_missing found attempt read result number frame live h = absurd (by_begun (invocation_begun events id) refl)
     where
       by_begun : (o : Option NewInvocation) → invocation_begun events id ≡ o → ⊥
       by_begun None e =
@@ -135,6 +152,6 @@ was_asked (Err why) it = tt
 -- a row that could not be read, and is no foreign one
 pub read_failed : (events : List Event) (id : Text) (error : ReadError) → (error ≡ reading.Foreign → ⊥) → (attempt : LiveFacts) (read : AttemptFrame)
     → Takes events id attempt read (Err (reading_refusal error))
-read_failed events id (reading.Refused cause) foreign attempt read number frame live unread h = inr refl
-read_failed events id reading.Foreign foreign attempt read number frame live unread h = absurd (foreign refl)
-read_failed events id reading.OutOfMemory foreign attempt read number frame live unread h = inr refl
+read_failed events id (reading.Refused cause) foreign attempt read number frame live h = inr refl
+read_failed events id reading.Foreign foreign attempt read number frame live h = absurd (foreign refl)
+read_failed events id reading.OutOfMemory foreign attempt read number frame live h = inr refl

@@ -1,5 +1,5 @@
 -- The tests of a frame, by what is kept of its invocation and of the frame, are those by the events.
-use Rattle.std.proofs.Common.{◌≡◌, refl, sym, ap₂, ◌∙◌, arith, ℕ, ◌+◌, ◌-◌, ◌^◌, nat_lt, Bool, true, false, not, ◌&&◌, ◌||◌, List, [], ◌∷◌, ◌++◌, length, map, Some, None, is_some}
+use Rattle.std.proofs.Common.{◌≡◌, refl, sym, ap, ap₂, ◌∙◌, arith, ℕ, ◌+◌, ◌-◌, ◌^◌, nat_lt, Bool, true, false, not, ◌&&◌, ◌||◌, List, [], ◌∷◌, ◌++◌, length, map, Some, None, is_some}
 use Rattle.std.specs.List.{list_any, list_all}
 use Rattle.std.specs.Str.{is_utf8}
 use Rattle.journal_model.specs.Notification.{Bytes, Text, Arrival}
@@ -17,8 +17,8 @@ use Rattle.store_frames.specs.Commands.{first_asked, second_asked}
 use Rattle.store_frames.specs.Answer.{IsCommand, IsFrame}
 use Rattle.store_model.specs.Progress.{progress_of}
 use Rattle.store_steps.specs.LazyReads.{is_lazy_read, IsNoLazyRead}
-use Rattle.store_steps.specs.Told.{asked, asked_by, tests_of_told}
-use Rattle.store_steps.proofs.LazyReads.{no_answer}
+use Rattle.store_steps.specs.Told.{answers_told, asked, asked_by, tests_of_told}
+use Rattle.store_steps.proofs.LazyReads.{no_answer, none_told}
 
 -- ---- completions
 
@@ -50,7 +50,7 @@ causes_left events id number frame begun opened live =
 -- ---- commands
 
 -- the tests of a command with keys that are text or are not, and with these answers at once, completions and payload
-abbrev command_tests : List Entry → Request → ℕ → ℕ → Bool → List Arrival → List ℕ → Bytes → Tests
+abbrev pub command_tests : List Entry → Request → ℕ → ℕ → Bool → List Arrival → List ℕ → Bytes → Tests
 command_tests entries request last count is_text answers completions payload =
     (not (do_ascend last completions), BadCompletion) ∷ (not is_text, KeyNotText)
     ∷ (nat_lt (2 ^ 32 - 2) (count + length (Recorded request ∷ map Arrived answers)), NumbersUsedUp)
@@ -73,9 +73,10 @@ module _ (events : List Event) (id : Text) (number : ℕ) where
       let told_tests = tests_of_told (progress_of events id) (is_input_closed events id) (told.Command command) in
       let left : refusal_by (tests_left events id number (Frame.Command request)) ≡ refusal_by (command_tests entries request last (length entries) command.are_keys_text [] (asked_by command) command.payload) =
       (λ i. refusal_by (command_tests entries request last (length entries) (sym h.text i) (no_answer state request unread i) (asked_same request command h i) (sym h.payload i))) in
+      let alone : answers_told command.state ≡ 0 = ap answers_told h.state ∙ none_told request unread in
       let right : refusal_by (command_tests entries request last (length entries) command.are_keys_text [] (asked_by command) command.payload) ≡ refusal_by told_tests =
       (λ i. refusal_by ((not (do_ascend last (asked_by command)), BadCompletion) ∷ (not command.are_keys_text, KeyNotText)
-      ∷ (nat_lt (2 ^ 32 - 2) (one_more (length entries) i), NumbersUsedUp) ∷ (or_false (is_too_long command.payload) i, PayloadTooLong) ∷ [])) in
+      ∷ (nat_lt (2 ^ 32 - 2) ((one_more (length entries) ∙ ap (λ (k : ℕ). k + (1 + length entries)) (sym alone)) i), NumbersUsedUp) ∷ (or_false (is_too_long command.payload) i, PayloadTooLong) ∷ [])) in
       left ∙ right
 
   pub tests_same : (frame : Frame) (read : AttemptFrame) → IsNoLazyRead frame → IsFrame frame read

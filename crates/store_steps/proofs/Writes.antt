@@ -53,7 +53,7 @@ moment_same : (request : Request) → moment_of (sleep_in request) ≡ moment_to
 moment_same (Request.Sleep moment n name) = refl
 moment_same _ = refl
 
-row_same : (id : Text) (before : List Entry) (place : ℕ) (request : Request) (command : RecordedCommand) → IsCommand request command
+pub row_same : (id : Text) (before : List Entry) (place : ℕ) (request : Request) (command : RecordedCommand) → IsCommand request command
     → entry_row id before place (Recorded request) ≡ command_row id place command
 row_same id before place request command h = λ i. record {
   invocation = id;
@@ -98,20 +98,20 @@ output_same : (request : Request) → output_payload request ≡ (if puts_out (f
 output_same (Request.Output value name) = refl
 output_same _ = refl
 
+pub put_out_same : (request : Request) (command : RecordedCommand) → IsCommand request command → output_payload request ≡ value_put_out command
+put_out_same request command h = output_same request ∙ (λ i. if puts_out (facts_of (sym h.kind i)) then Some (sym h.payload i) else None)
+
 command_progress : (request : Request) (command : RecordedCommand) (p : Progress) → is_lazy_read request ≡ false → IsCommand request command
     → after_command request p ≡ after_recorded command p
 command_progress request command p unread h =
     (λ i. record (grown (1 + none_at_once request unread i) (none_at_once request unread i) p) {
       last_completion = max p.last_completion (greatest (asked_same request command h i));
-      answer = payload_or (put_out i) p.answer;
+      answer = payload_or (put_out_same request command h i) p.answer;
     })
     ∙ (λ i. record (after_recorded command p) { arrivals = no_more p.arrivals i })
   where
     no_more : (n : ℕ) → n + 0 ≡ n
     no_more n = omega arith
-
-    put_out : output_payload request ≡ value_put_out command
-    put_out = output_same request ∙ (λ i. if puts_out (facts_of (sym h.kind i)) then Some (sym h.payload i) else None)
 
 -- what a request writes of the state of its object
 state_same : (object : Text) (found : Option Text) (request : Request) (command : RecordedCommand) → IsCommand request command → found ≡ Some object

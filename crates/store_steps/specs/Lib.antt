@@ -1,4 +1,5 @@
 pub mod LazyReads
 pub mod Live
 pub mod Told
+pub mod Reads
 pub mod Taken

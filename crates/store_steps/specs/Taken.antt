@@ -18,7 +18,7 @@ use Rattle.store_steps.specs.declared.frame.FrameReply.{FrameReply}
 use Rattle.store_steps.specs.declared.frame.FrameReply.TheVariants as replies
 use Rattle.store_steps.specs.declared.frame.LiveFacts.{LiveFacts}
 use Rattle.store_steps.specs.declared.frame.PreparedFrame.{PreparedFrame}
-use Rattle.store_steps.specs.LazyReads.{IsNoLazyRead}
+use Rattle.store_steps.specs.Reads.{IsHanded, answer_rows}
 use Rattle.store_steps.specs.Told.{tests_of_told, writes_of_told, reply_to_told}
 
 -- ---- by the events
@@ -42,10 +42,11 @@ IsReply events id _ _ = ⊥
 pub record IsTaken (events : List Event) (id : Text) (number : ℕ) (frame : Frame) (made : PreparedFrame) : Type 0 where
   pub writes : made.writes.items ≡ writes_of events (Event.Take id number frame)
   pub reply : IsReply events id frame made.reply
+  pub answer : IsHanded (answer_rows events id frame) made.answer
 
 -- whichever frame this is, and whatever number the live attempt has
 abbrev pub Takes : List Event → Text → LiveFacts → AttemptFrame → Result PreparedFrame Refusal → Type 0
-Takes events id attempt read result = (number : ℕ) (frame : Frame) → IsLive events id number attempt → IsNoLazyRead frame → IsFrame frame read
+Takes events id attempt read result = (number : ℕ) (frame : Frame) → IsLive events id number attempt → IsFrame frame read
     → Prepares events (Event.Take id number frame) (IsTaken events id number frame) result
 
 -- ---- by what is kept of the invocation
@@ -54,6 +55,7 @@ pub record IsMade (id object : Text) (version : ℕ) (p : Progress) (attempt : L
   pub accepted : refusal_by (tests_of_told p attempt.is_input_closed read) ≡ None
   pub writes : made.writes.items ≡ writes_of_told id object version attempt.handed p read
   pub reply : made.reply ≡ reply_to_told p read
+  pub answer : made.answer ≡ None
 
 -- the refusal of the first test that holds; where none does, memory was refused
 abbrev pub IsWhy : Progress → LiveFacts → AttemptFrame → Refusal → Type 0

@@ -70,6 +70,12 @@ sleep_if false id moment completion = []
 abbrev pub sleep_told : Text → RecordedCommand → List SleepRow
 sleep_told id command = sleep_if (keeps_moment (facts_of command.kind) && nat_lt command.moment (2 ^ 63)) id command.moment command.completion
 
+-- how many answers the store gives to a command at once
+abbrev pub answers_told : StateUse → ℕ
+answers_told (uses.ReadValue key) = 1
+answers_told uses.ReadKeys = 1
+answers_told _ = 0
+
 -- what it writes of the state of the object
 abbrev pub state_told : Text → StateUse → List Write
 state_told object (uses.Put key value) = PutState (record { object = object; key = key; value = value }) ∷ []
@@ -122,7 +128,7 @@ abbrev pub tests_of_told : Progress → Bool → AttemptFrame → Tests
 tests_of_told p is_closed (told.Command command) =
     (not (do_ascend p.last_completion (asked_by command)), BadCompletion)
     ∷ (not command.are_keys_text, KeyNotText)
-    ∷ (nat_lt (2 ^ 32 - 2) p.entries, NumbersUsedUp)
+    ∷ (nat_lt (2 ^ 32 - 2) (answers_told command.state + p.entries), NumbersUsedUp)
     ∷ (is_too_long command.payload, PayloadTooLong) ∷ []
 tests_of_told p is_closed (told.Suspension payload) = (not is_closed, InputNotClosed) ∷ []
 tests_of_told p is_closed told.Broken = (true, BrokenPayload) ∷ []

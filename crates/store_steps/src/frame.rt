@@ -1,4 +1,5 @@
 // What is known of a live attempt, and what is made ready of its frame.
+use bytes::Bytes;
 use store_tables::Write;
 
 /// What only memory knows of a live attempt.
@@ -24,9 +25,20 @@ pub enum FrameReply {
     Ended,
 }
 
+/// The answer to a read, as its attempt is handed it.
+#[derive(Debug, Drop)]
+pub struct HandedAnswer {
+    /// The place of its entry.
+    pub place: u32,
+    /// Its frame, which comes behind the input of the attempt.
+    pub frame: Bytes,
+}
+
 /// What is written of an accepted frame, in one transaction, and its answer.
 #[derive(Debug, Drop)]
 pub struct PreparedFrame {
     pub writes: Vec<Write>,
     pub reply: FrameReply,
+    /// Of a read of the state that the store answers.
+    pub answer: Option<HandedAnswer>,
 }

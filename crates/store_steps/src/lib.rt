@@ -8,10 +8,11 @@ mod end;
 mod frame;
 mod laws;
 mod prepare;
+mod reads;
 mod refuse;
 mod write;
 
 pub use end::refusal_ends_attempt;
-pub use frame::{FrameReply, LiveFacts, PreparedFrame};
-pub use laws::{frames_are_no_lazy_reads, live_are_open};
+pub use frame::{FrameReply, HandedAnswer, LiveFacts, PreparedFrame};
+pub use laws::live_are_open;
 pub use prepare::prepare_frame;

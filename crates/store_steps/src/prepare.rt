@@ -1,21 +1,22 @@
 // Taking a frame of a live attempt: what is asked of the database, and what is decided by it.
-ghost use Rattle.std.specs.Prelude.{◌≡◌, List, IfErr, IfOk, IsTrue, OnOk};
+ghost use Rattle.std.specs.Prelude.{◌≡◌, ◌+◌, ◌<◌, ◌^◌, List, IfErr, IfOk, IfSome, IsTrue, OnOk};
 ghost use Rattle.sqlite.specs.Held.{state};
 ghost use Rattle.sqlite.specs.State.{HasCleanDisk};
 ghost use Rattle.protocol_types.specs.Version.{version_number};
 ghost use Rattle.store_tables.specs.Looks.{Looks};
 ghost use Rattle.journal_model.specs.Event.{Event};
-ghost use Rattle.store_invocations.specs.Rows.{IsStoreOf};
+ghost use Rattle.store_invocations.specs.Rows.{IsRowOf, IsStoreOf};
 ghost use Rattle.store_steps.specs.Taken.{IsMade, IsWhy, Takes};
 
 use crate::frame::{LiveFacts, PreparedFrame};
-use crate::refuse::frame_refusal;
+use crate::reads::{answer_to, read_with};
+use crate::refuse::{command_refusal, frame_refusal};
 use crate::write::{frame_writes, reply_to};
 use bytes::ByteStr;
 use protocol_stream::Version;
 use sqlite::Alter;
 use std::alloc::Global;
-use store_frames::AttemptFrame;
+use store_frames::{AttemptFrame, RecordedCommand};
 use store_refusals::Refusal;
 use store_tables::{InvocationRow, Progress, StoreTables, invocation_by_id};
 
@@ -42,7 +43,11 @@ fn decide(
         None => {
             let reply = reply_to(&progress, &frame);
             let writes = frame_writes(alloc, id, object, version, attempt.handed, progress, frame)?;
-            Ok(PreparedFrame { writes, reply })
+            Ok(PreparedFrame {
+                writes,
+                reply,
+                answer: None,
+            })
         }
     }
 }
@@ -68,8 +73,38 @@ fn decide_by_row(
     )
 }
 
+/// Decides on a command, by the row of its invocation. A read that the store answers is answered from the state of the object.
+fn command_by_row<S: Alter>(
+    tables: &mut StoreTables<S>,
+    id: &ByteStr,
+    row: InvocationRow,
+    attempt: LiveFacts,
+    command: RecordedCommand,
+) -> Result<PreparedFrame, Refusal>
+    ensures prepared { HasCleanDisk (state S.Store tables.new) → (events : List Event) → IsStoreOf events (state S.Store tables.old) → IsRowOf events id.now row → Takes events id.now attempt (AttemptFrame.Command command) result }
+    ensures looks { Looks S.Store tables.old tables.new }
+    ensures place { IfOk result (λ made. IfSome made.answer (λ answer. answer.place + 1 < 2 ^ 32)) }
+{
+    let asked = match command_refusal(&row.progress, &command) {
+        Some(refusal) => Err(refusal),
+        None => answer_to(tables, &row.object, &command),
+    };
+    match asked {
+        Ok(Some(answer)) => read_with(tables.alloc(), row, command, answer),
+        Ok(None) => {
+            let frame = AttemptFrame::Command(command);
+            decide_by_row(tables.alloc(), id, row, attempt, frame)
+        }
+        Err(why) => {
+            drop(row);
+            drop(command);
+            Err(why)
+        }
+    }
+}
+
 /// Decides on a frame that the live attempt of the invocation has written, and makes ready what is written of it. The row of the
-/// invocation is all that is read. Whether the attempt is live is the caller's to know.
+/// invocation is read, and of a read that the store answers what the object has. Whether the attempt is live is the caller's to know.
 pub fn prepare_frame<S: Alter>(
     tables: &mut StoreTables<S>,
     id: &ByteStr,
@@ -79,9 +114,13 @@ pub fn prepare_frame<S: Alter>(
     ensures prepared { HasCleanDisk (state S.Store tables.new) → (events : List Event) → IsStoreOf events (state S.Store tables.old) → Takes events id.now attempt frame result }
     ensures asked { HasCleanDisk (state S.Store tables.new) → OnOk result (IsTrue (state S.Store tables.old).is_open) }
     ensures looks { Looks S.Store tables.old tables.new }
+    ensures place { IfOk result (λ made. IfSome made.answer (λ answer. answer.place + 1 < 2 ^ 32)) }
 {
     match invocation_by_id(tables, id) {
-        Ok(Some(row)) => decide_by_row(tables.alloc(), id, row, attempt, frame),
+        Ok(Some(row)) => match frame {
+            AttemptFrame::Command(command) => command_by_row(tables, id, row, attempt, command),
+            frame => decide_by_row(tables.alloc(), id, row, attempt, frame),
+        },
         Ok(None) => {
             drop(frame);
             Err(Refusal::UnknownInvocation)

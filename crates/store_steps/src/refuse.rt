@@ -1,16 +1,34 @@
 // Why a frame is refused.
-ghost use Rattle.std.specs.Prelude.{◌≡◌, true};
+ghost use Rattle.std.specs.Prelude.{◌≡◌, ◌+◌, ◌-◌, ◌^◌, nat_lt, not, true};
 ghost use Rattle.journal_model.specs.Cause.{do_ascend};
 ghost use Rattle.store_refusals.specs.Refused.{refusal_by};
-ghost use Rattle.store_steps.specs.Told.{asked, tests_of_told};
+ghost use Rattle.store_steps.specs.Told.{answers_told, asked, tests_of_told};
 
 use crate::frame::LiveFacts;
-use store_frames::{AttemptFrame, RecordedCommand};
+use store_frames::{AttemptFrame, RecordedCommand, StateUse};
 use store_refusals::Refusal;
 use store_tables::Progress;
 
 /// The greatest place.
 const LAST_PLACE: u32 = 0xFFFF_FFFE;
+
+/// How many answers the store gives to a command at once.
+fn answers_to(state: &StateUse) -> u32
+    ensures { result ≡ answers_told state.now }
+{
+    match state {
+        StateUse::ReadValue { .. } | StateUse::ReadKeys => 1,
+        StateUse::Nothing | StateUse::Put { .. } | StateUse::Remove { .. } | StateUse::RemoveAll =>
+            0,
+    }
+}
+
+/// Whether an invocation has places for a command and what the store answers to it.
+fn has_places(progress: &Progress, command: &RecordedCommand) -> bool
+    ensures { result ≡ not (nat_lt (2 ^ 32 - 2) (answers_told command.now.state + progress.now.entries)) }
+{
+    progress.entries <= LAST_PLACE - answers_to(&command.state)
+}
 
 /// Whether the completions that a command asks for ascend from above every earlier one.
 fn do_completions_ascend(last: u32, first: Option<u32>, second: Option<u32>) -> bool
@@ -23,7 +41,7 @@ fn do_completions_ascend(last: u32, first: Option<u32>, second: Option<u32>) -> 
     }
 }
 
-fn command_refusal(progress: &Progress, command: &RecordedCommand) -> Option<Refusal>
+pub(crate) fn command_refusal(progress: &Progress, command: &RecordedCommand) -> Option<Refusal>
     ensures { result ≡ refusal_by (tests_of_told progress.now true (AttemptFrame.Command command.now)) }
 {
     let last = progress.last_completion;
@@ -31,7 +49,7 @@ fn command_refusal(progress: &Progress, command: &RecordedCommand) -> Option<Ref
         Some(Refusal::BadCompletion)
     } else if !command.are_keys_text {
         Some(Refusal::KeyNotText)
-    } else if progress.entries > LAST_PLACE {
+    } else if !has_places(progress, command) {
         Some(Refusal::NumbersUsedUp)
     } else if command.payload.len() > u32::MAX as usize {
         Some(Refusal::PayloadTooLong)

@@ -65,7 +65,10 @@ fn note_answer(answer: &mut Option<Bytes>, command: &RecordedCommand) -> Result<
     Ok(())
 }
 
-fn note_command(progress: &mut Progress, command: &RecordedCommand) -> Result<(), AllocError>
+pub(crate) fn note_command(
+    progress: &mut Progress,
+    command: &RecordedCommand,
+) -> Result<(), AllocError>
     requires { progress.old.entries < 2 ^ 32 - 1 }
     ensures { OnOk result (progress.new ≡ after_recorded command.now progress.old) }
 {
@@ -82,7 +85,7 @@ fn note_command(progress: &mut Progress, command: &RecordedCommand) -> Result<()
 }
 
 /// The entry of a command at a place.
-fn entry_of(id: ByteStr, place: u32, command: RecordedCommand) -> EntryRow
+pub(crate) fn entry_of(id: ByteStr, place: u32, command: RecordedCommand) -> EntryRow
     ensures { result ≡ command_row id place command }
 {
     EntryRow {
