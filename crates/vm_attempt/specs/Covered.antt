@@ -9,13 +9,8 @@ use Rattle.journal_model.specs.declared.options.ImplicitCancellationOption.TheVa
 
 -- ---- what it asks for
 
--- what a store records so far, or nothing: an object's state and runs are to come
+-- what a store records so far, or nothing: runs are to come
 abbrev pub asks_of_store : Call → Bool
-asks_of_store (Call.StateGet key name options) = false
-asks_of_store (Call.StateGetKeys name) = false
-asks_of_store (Call.StateSet key value name options) = false
-asks_of_store (Call.StateClear key name) = false
-asks_of_store (Call.StateClearAll name) = false
 asks_of_store (Call.Run name) = false
 asks_of_store _ = true
 

@@ -51,19 +51,11 @@ fn can_be_told(cancellation: ImplicitCancellationOption, future: &AwaitedFuture)
     is_within(future, levels_left(cancellation))
 }
 
-// Whether a call asks for what a store records, or for nothing. What is to come are an object's state and runs.
+// Whether a call asks for what a store records, or for nothing. What is to come are runs.
 fn asks_of_store(call: &Call) -> bool
     ensures { result ≡ asks_of_store call.now }
 {
-    !matches!(
-        call,
-        Call::StateGet { .. }
-            | Call::StateGetKeys { .. }
-            | Call::StateSet { .. }
-            | Call::StateClear { .. }
-            | Call::StateClearAll { .. }
-            | Call::Run { .. }
-    )
+    !matches!(call, Call::Run { .. })
 }
 
 /// Whether a call is carried out.
