@@ -1,5 +1,5 @@
 -- Requests that the store does not have to answer.
-use Rattle.std.proofs.Common.{◌≡◌, refl, true, false, [], ◌∷◌}
+use Rattle.std.proofs.Common.{◌≡◌, refl, false, []}
 use Rattle.journal_model.specs.State.{StateMap}
 use Rattle.journal_model.specs.Request.{Request}
 use Rattle.journal_model.specs.Journal.{read_answer}

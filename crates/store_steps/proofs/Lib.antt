@@ -1,7 +1,9 @@
+pub mod Commands
 pub mod LazyReads
-pub mod Reads
+pub mod Answered
 pub mod Lists
 pub mod Live
 pub mod Taking
 pub mod Tests
+pub mod Values
 pub mod Writes

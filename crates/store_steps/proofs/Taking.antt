@@ -10,7 +10,7 @@ use Rattle.journal_model.specs.State.{state_after}
 use Rattle.journal_model.specs.declared.invocation.NewInvocation.{NewInvocation}
 use Rattle.journal_model.specs.Event.{Frame, Event}
 use Rattle.journal_model.specs.Journal.{Recorded, Arrived, invoked_by, invocation_begun, version_of, is_open, starting_state, requests_in, entries_of}
-use Rattle.journal_model.specs.Cause.{causes_of, those_that_hold}
+use Rattle.journal_model.specs.Cause.{IsAccepted, causes_of, those_that_hold}
 use Rattle.journal_laws.proofs.ObjectState.{find-passes}
 use Rattle.protocol_types.specs.Version.{version_number}
 use Rattle.store_frames.specs.declared.frame.AttemptFrame.{AttemptFrame}
@@ -24,6 +24,7 @@ use Rattle.store_model.proofs.Versions.{begun_number}
 use Rattle.store_lookups.specs.Lookups.{rows_of_arrivals}
 use Rattle.store_lookups.proofs.Only.{only_found, only_one}
 use Rattle.store_lookups.proofs.Finding.{all_found}
+use Rattle.store_invocations.specs.Rows.{IsRowOf}
 use Rattle.store_refusals.specs.declared.refusal.Refusal.{Refusal}
 use Rattle.store_refusals.specs.declared.refusal.Refusal.TheVariants.{OutOfMemory}
 use Rattle.store_refusals.specs.Refused.{IsRefused, first_of, is_circumstance, refusal_by, reading_refusal}
@@ -87,6 +88,28 @@ module _ (events : List Event) (id : Text) (number : ℕ) (new : NewInvocation) 
           inl (ap first_of causes_are ∙ first_holds (tests_left events id number frame) ∙ same ∙ e
           ∙ ap Some (sym (err ∙ ap (λ (o : Option Refusal). unwrap_or o OutOfMemory) e)))
 
+-- ---- by the row of its invocation
+
+module _ (events : List Event) (accepted : IsAccepted events) (id : Text) where
+  made_as : (attempt : LiveFacts) (read : AttemptFrame) (result : Result PreparedFrame Refusal) (o object : Text) (v version : ℕ) (p progress : Progress) → o ≡ object → v ≡ version → p ≡ progress
+      → IfOk result (IsMade id o v p attempt read) → IfOk result (IsMade id object version progress attempt read)
+  made_as attempt read result o object v version p progress same_object same_version same_progress ok =
+      subst (λ (o : Text). IfOk result (IsMade id o version progress attempt read)) same_object
+      (subst₂ (λ (v : ℕ) (p : Progress). IfOk result (IsMade id o v p attempt read)) same_version same_progress ok)
+
+  why_as : (attempt : LiveFacts) (read : AttemptFrame) (result : Result PreparedFrame Refusal) (p progress : Progress) → p ≡ progress
+      → IfErr result (IsWhy p attempt read) → IfErr result (IsWhy progress attempt read)
+  why_as attempt read result p progress same_progress err = subst (λ (p : Progress). IfErr result (IsWhy p attempt read)) same_progress err
+
+  pub taken_by_row : (row : InvocationRow) → IsRowOf events id row → (attempt : LiveFacts) (read : AttemptFrame) (result : Result PreparedFrame Refusal) → IsUnread read
+      → IfOk result (IsMade id row.object (version_number row.version) row.progress attempt read) → IfErr result (IsWhy row.progress attempt read) → Takes events id attempt read result
+  taken_by_row row of attempt read result unread ok err number frame live h =
+      let progress_is : row.progress ≡ progress_of events id = ap (λ (r : InvocationRow). r.progress) of.is ∙ ap (progress_of events) of.named in
+      let version_is : version_number row.version ≡ of.new.version = ap (λ (r : InvocationRow). version_number r.version) of.is ∙ begun_number events id of.new accepted of.begun in
+      prepared events id number of.new of.begun (live_open events id number accepted live.live) attempt live frame read (unread frame h) h result
+      (made_as attempt read result row.object of.new.object (version_number row.version) of.new.version row.progress (progress_of events id) (ap (λ (r : InvocationRow). r.object) of.is) version_is progress_is ok)
+      (why_as attempt read result row.progress (progress_of events id) progress_is err)
+
 -- ---- by the row that was found
 
 module _ (events : List Event) (s : State) (keeps : Keeps events s) (id : Text) where
@@ -103,43 +126,27 @@ module _ (events : List Event) (s : State) (keeps : Keeps events s) (id : Text) 
       (only_one (has_id id) keeps.records.invocations (option_map (invocation_row events) (invocation_begun events id))
       ((all_found events keeps.records keeps.accepted keeps.kept).invocation id))
 
-  opened_live : (number : ℕ) (attempt : LiveFacts) → IsLive events id number attempt → is_open events id ≡ true
-  opened_live number attempt live = live_open events id number keeps.accepted live.live
-
-  same_row : (row : InvocationRow) (new : NewInvocation) → Some row ≡ Some (invocation_row events new) → row ≡ invocation_row events new
-  same_row row new e = cc
-
-  made_as : (attempt : LiveFacts) (read : AttemptFrame) (result : Result PreparedFrame Refusal) (o object : Text) (v version : ℕ) (p progress : Progress) → o ≡ object → v ≡ version → p ≡ progress
-      → IfOk result (IsMade id o v p attempt read) → IfOk result (IsMade id object version progress attempt read)
-  made_as attempt read result o object v version p progress same_object same_version same_progress ok =
-      subst (λ (o : Text). IfOk result (IsMade id o version progress attempt read)) same_object
-      (subst₂ (λ (v : ℕ) (p : Progress). IfOk result (IsMade id o v p attempt read)) same_version same_progress ok)
-
-  why_as : (attempt : LiveFacts) (read : AttemptFrame) (result : Result PreparedFrame Refusal) (p progress : Progress) → p ≡ progress
-      → IfErr result (IsWhy p attempt read) → IfErr result (IsWhy progress attempt read)
-  why_as attempt read result p progress same_progress err = subst (λ (p : Progress). IfErr result (IsWhy p attempt read)) same_progress err
-
-  pub taken_by_row : (row : InvocationRow) → IsFound (λ r. r.invocations) (has_id id) s.now.trees (Some row) → (attempt : LiveFacts) (read : AttemptFrame) (result : Result PreparedFrame Refusal) → IsUnread read
-      → IfOk result (IsMade id row.object (version_number row.version) row.progress attempt read) → IfErr result (IsWhy row.progress attempt read) → Takes events id attempt read result
-  taken_by_row row found attempt read result unread ok err number frame live h = by_begun (invocation_begun events id) refl
+  pub row_of : (row : InvocationRow) → IsFound (λ r. r.invocations) (has_id id) s.now.trees (Some row) → IsRowOf events id row
+  row_of row found = by_begun (invocation_begun events id) refl
     where
-      by_begun : (o : Option NewInvocation) → invocation_begun events id ≡ o → Prepares events (Event.Take id number frame) (IsTaken events id number frame) result
+      same_row : (one other : InvocationRow) → Some one ≡ Some other → one ≡ other
+      same_row one other e = cc
+
+      by_begun : (o : Option NewInvocation) → invocation_begun events id ≡ o → IsRowOf events id row
       by_begun None e = let no : Some row ≡ None = row_found (Some row) found ∙ ap (option_map (invocation_row events)) e in absurd cc
-      by_begun (Some new) e =
-          let is_row : row ≡ invocation_row events new = same_row row new (row_found (Some row) found ∙ ap (option_map (invocation_row events)) e) in
-          let named : new.id ≡ id = (bytes_eq-Decides new.id id).0 (find-passes (λ other. bytes_eq other.id id) (filter_map invoked_by events) new e) in
-          let progress_is : row.progress ≡ progress_of events id = ap (λ (r : InvocationRow). r.progress) is_row ∙ ap (progress_of events) named in
-          let version_is : version_number row.version ≡ new.version = ap (λ (r : InvocationRow). version_number r.version) is_row ∙ begun_number events id new keeps.accepted e in
-          prepared events id number new e (opened_live number attempt live) attempt live frame read (unread frame h) h result
-          (made_as attempt read result row.object new.object (version_number row.version) new.version row.progress (progress_of events id) (ap (λ (r : InvocationRow). r.object) is_row) version_is progress_is ok)
-          (why_as attempt read result row.progress (progress_of events id) progress_is err)
+      by_begun (Some new) e = record {
+        new = new;
+        begun = e;
+        named = (bytes_eq-Decides new.id id).0 (find-passes (λ other. bytes_eq other.id id) (filter_map invoked_by events) new e);
+        is = same_row row (invocation_row events new) (row_found (Some row) found ∙ ap (option_map (invocation_row events)) e);
+      }
 
   pub never_missing : IsFound (λ r. r.invocations) (has_id id) s.now.trees None → (attempt : LiveFacts) (read : AttemptFrame) (result : Result PreparedFrame Refusal) → Takes events id attempt read result
   never_missing found attempt read result number frame live h = absurd (by_begun (invocation_begun events id) refl)
     where
       by_begun : (o : Option NewInvocation) → invocation_begun events id ≡ o → ⊥
       by_begun None e =
-          let begun : is_some (invocation_begun events id) ≡ true = begun_open events id (opened_live number attempt live) in
+          let begun : is_some (invocation_begun events id) ≡ true = begun_open events id (live_open events id number keeps.accepted live.live) in
           let no : false ≡ true = sym (ap (λ (o : Option NewInvocation). is_some o) e) ∙ begun in
           cc
       by_begun (Some new) e = let no : None ≡ Some (invocation_row events new) = row_found None found ∙ ap (option_map (invocation_row events)) e in cc

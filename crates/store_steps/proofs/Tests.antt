@@ -1,7 +1,6 @@
 -- The tests of a frame, by what is kept of its invocation and of the frame, are those by the events.
 use Rattle.std.proofs.Common.{◌≡◌, refl, sym, ap, ap₂, ◌∙◌, arith, ℕ, ◌+◌, ◌-◌, ◌^◌, nat_lt, Bool, true, false, not, ◌&&◌, ◌||◌, List, [], ◌∷◌, ◌++◌, length, map, Some, None, is_some}
-use Rattle.std.specs.List.{list_any, list_all}
-use Rattle.std.specs.Str.{is_utf8}
+use Rattle.std.specs.List.{list_any}
 use Rattle.journal_model.specs.Notification.{Bytes, Text, Arrival}
 use Rattle.journal_model.specs.State.{state_after}
 use Rattle.journal_model.specs.Request.{Request, completions_asked}
@@ -60,7 +59,7 @@ or_false : (b : Bool) → (b || false) ≡ b
 or_false true = refl
 or_false false = refl
 
-one_more : (n : ℕ) → n + 1 ≡ 1 + n
+one_more : (n : ℕ) → n + 1 ≡ 0 + (1 + n)
 one_more n = omega arith
 
 module _ (events : List Event) (id : Text) (number : ℕ) where

@@ -21,7 +21,7 @@ use Rattle.store_tables.specs.declared.row.Progress.{Progress}
 use Rattle.store_tables.specs.declared.row.EntryRow.{EntryRow}
 use Rattle.store_tables.specs.declared.row.SleepRow.{SleepRow}
 use Rattle.store_tables.specs.declared.row.Write.{Write}
-use Rattle.store_tables.specs.declared.row.Write.TheVariants.{SetProgress, AddEntry, OpenSleep, CloseSleeps}
+use Rattle.store_tables.specs.declared.row.Write.TheVariants.{SetProgress, AddEntry, OpenSleep}
 use Rattle.store_model.specs.Places.{handed_place}
 use Rattle.store_model.specs.Progress.{first_of, second_of, output_payload, behavior_number, progress_of}
 use Rattle.store_model.specs.Kept.{moment_of, entry_row, rows_from}
@@ -31,8 +31,6 @@ use Rattle.store_model.specs.Steps.{grown, payload_or, after_command, after_fram
 use Rattle.store_model.proofs.Following.{follows}
 use Rattle.store_steps.specs.LazyReads.{is_lazy_read, IsNoLazyRead}
 use Rattle.store_steps.specs.Taken.{IsReply}
-use Rattle.protocol_types.specs.MessageType.{number_of}
-use Rattle.protocol_types.specs.declared.message_type.MessageType.{MessageType}
 use Rattle.protocol_stream.specs.CommandFacts.{facts_of}
 use Rattle.store_steps.specs.Told.{puts_out, value_put_out, command_row, keeps_moment, sleep_if, sleep_told, state_told, closing_writes, tests_of_told, reply_to_told, after_recorded, number_of_behavior, does_fail, after_suspension, after_error, after_end, error_told, writes_of_told}
 use Rattle.store_steps.proofs.LazyReads.{no_answer, none_at_once}

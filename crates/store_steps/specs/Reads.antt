@@ -1,6 +1,6 @@
 -- What the store answers to a read of an object's state, and what is made ready of the read.
 use Rattle.std.specs.Prelude.{◌≡◌, ℕ, ◌+◌, List, [], ◌∷◌, length, Option, Some, None}
-use Rattle.journal_model.specs.Notification.{Bytes, Text}
+use Rattle.journal_model.specs.Notification.{Text}
 use Rattle.journal_model.specs.declared.notification.NotificationResult.{NotificationResult}
 use Rattle.journal_model.specs.Delivery.{value_or_void}
 use Rattle.journal_model.specs.State.{StateMap, value_at, state_keys}
@@ -52,10 +52,10 @@ abbrev pub with_read : RecordedCommand → InvocationRow → InvocationRow
 with_read command row = record row { progress = after_recorded command row.progress }
 
 -- the read and its answer behind it are written, and how far the invocation is with both
-pub record IsReadMade (row : InvocationRow) (command : RecordedCommand) (answer : ReadAnswer) (made : PreparedFrame) : Type 0 where
+pub record IsReadMade (row : InvocationRow) (command : RecordedCommand) (told : ReadAnswer) (made : PreparedFrame) : Type 0 where
   pub writes : HasFewArrivals row.progress → made.writes.items
       ≡ AddEntry (command_row row.id row.progress.entries command)
-      ∷ AddEntry (entry_of_arrival (with_read command row) answer.ty (answered_by answer.arrival.id) (notification_payload answer.arrival))
+      ∷ AddEntry (entry_of_arrival (with_read command row) told.ty (answered_by told.arrival.id) (notification_payload told.arrival))
       ∷ SetProgress row.id (grown 1 1 (after_recorded command row.progress)) ∷ []
   pub reply : made.reply ≡ replies.Recorded row.progress.entries
-  pub answer : made.answer ≡ Some (record { place = row.progress.entries + 1; frame = frame_bytes answer.ty (notification_payload answer.arrival) })
+  pub answer : made.answer ≡ Some (record { place = row.progress.entries + 1; frame = frame_bytes told.ty (notification_payload told.arrival) })

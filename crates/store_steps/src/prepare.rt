@@ -1,15 +1,18 @@
 // Taking a frame of a live attempt: what is asked of the database, and what is decided by it.
-ghost use Rattle.std.specs.Prelude.{◌≡◌, ◌+◌, ◌<◌, ◌^◌, List, IfErr, IfOk, IfSome, IsTrue, OnOk};
+ghost use Rattle.std.specs.Prelude.{true, ◌≡◌, ◌+◌, ◌-◌, ◌<◌, ◌^◌, List, IfErr, IfOk, IfSome, IsTrue, OnOk};
 ghost use Rattle.sqlite.specs.Held.{state};
 ghost use Rattle.sqlite.specs.State.{HasCleanDisk};
 ghost use Rattle.protocol_types.specs.Version.{version_number};
 ghost use Rattle.store_tables.specs.Looks.{Looks};
 ghost use Rattle.journal_model.specs.Event.{Event};
-ghost use Rattle.store_invocations.specs.Rows.{IsRowOf, IsStoreOf};
+ghost use Rattle.journal_model.specs.Journal.{object_state};
+ghost use Rattle.store_invocations.specs.Rows.{Decides, IsRowOf, IsStoreOf};
+ghost use Rattle.store_steps.specs.Reads.{answer_told};
+ghost use Rattle.store_steps.specs.Told.{tests_of_told};
 ghost use Rattle.store_steps.specs.Taken.{IsMade, IsWhy, Takes};
 
 use crate::frame::{LiveFacts, PreparedFrame};
-use crate::reads::{answer_to, read_with};
+use crate::reads::{ReadAnswer, answer_to, read_with};
 use crate::refuse::{command_refusal, frame_refusal};
 use crate::write::{frame_writes, reply_to};
 use bytes::ByteStr;
@@ -73,6 +76,23 @@ fn decide_by_row(
     )
 }
 
+/// What the store answers to a command at once, if nothing but its answer can refuse it.
+fn answer_at_once<S: Alter>(
+    tables: &mut StoreTables<S>,
+    row: &InvocationRow,
+    command: &RecordedCommand,
+) -> Result<Option<ReadAnswer>, Refusal>
+    ensures decided { HasCleanDisk (state S.Store tables.new) → (events : List Event) → IsStoreOf events (state S.Store tables.old)
+        → Decides (tests_of_told row.now.progress true (AttemptFrame.Command command.now)) (λ answer. answer ≡ answer_told (object_state events row.now.object) command.now.state command.now.completion) result }
+    ensures room { IfOk result (λ answer. IfSome answer (λ _. row.now.progress.entries + 1 < 2 ^ 32 - 1)) }
+    ensures looks { Looks S.Store tables.old tables.new }
+{
+    match command_refusal(&row.progress, command) {
+        Some(refusal) => Err(refusal),
+        None => answer_to(tables, &row.object, command),
+    }
+}
+
 /// Decides on a command, by the row of its invocation. A read that the store answers is answered from the state of the object.
 fn command_by_row<S: Alter>(
     tables: &mut StoreTables<S>,
@@ -85,11 +105,7 @@ fn command_by_row<S: Alter>(
     ensures looks { Looks S.Store tables.old tables.new }
     ensures place { IfOk result (λ made. IfSome made.answer (λ answer. answer.place + 1 < 2 ^ 32)) }
 {
-    let asked = match command_refusal(&row.progress, &command) {
-        Some(refusal) => Err(refusal),
-        None => answer_to(tables, &row.object, &command),
-    };
-    match asked {
+    match answer_at_once(tables, &row, &command) {
         Ok(Some(answer)) => read_with(tables.alloc(), row, command, answer),
         Ok(None) => {
             let frame = AttemptFrame::Command(command);

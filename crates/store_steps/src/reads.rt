@@ -15,7 +15,7 @@ ghost use Rattle.store_tables.specs.declared.row.Write.{Write as RowWrite};
 ghost use Rattle.store_refusals.specs.Prepared.{Tells};
 ghost use Rattle.store_invocations.specs.Rows.{Decides, IsStoreOf, payload_tests};
 ghost use Rattle.store_steps.specs.Reads.{IsReadMade, answer_told, with_read};
-ghost use Rattle.store_steps.specs.Told.{command_row};
+ghost use Rattle.store_steps.specs.Told.{answers_told, command_row};
 
 use crate::frame::{FrameReply, HandedAnswer, PreparedFrame};
 use crate::write::{entry_of, note_command};
@@ -106,6 +106,7 @@ pub(crate) fn answer_to<S: Alter>(
 ) -> Result<Option<ReadAnswer>, Refusal>
     ensures told { HasCleanDisk (state S.Store tables.new) → (events : List Event) → IsStoreOf events (state S.Store tables.old)
         → Tells (λ answer. answer ≡ answer_told (object_state events object.now) command.now.state command.now.completion) result }
+    ensures counted { IfOk result (λ answer. IfSome answer (λ _. answers_told command.now.state ≡ 1)) }
     ensures looks { Looks S.Store tables.old tables.new }
 {
     match (&command.state, command.completion) {
@@ -144,13 +145,11 @@ fn record_read(
 }
 
 /// The write of an entry, and these behind it.
-fn with_entry(alloc: Global, entry: EntryRow, behind: Vec<Write>) -> Result<Vec<Write>, AllocError>
+fn with_entry(entry: EntryRow, mut behind: Vec<Write>) -> Result<Vec<Write>, AllocError>
     ensures { IfOk result (λ writes. writes.items ≡ RowWrite.AddEntry entry ∷ behind.items) }
 {
-    let mut writes = Vec::new(alloc);
-    writes.push(Write::AddEntry(entry))?;
-    writes.extend(behind)?;
-    Ok(writes)
+    behind.insert(0, Write::AddEntry(entry))?;
+    Ok(behind)
 }
 
 /// What is made ready of a read that has this answer.
@@ -175,7 +174,7 @@ pub(crate) fn read_with(
                     frame,
                 },
             ) => Ok(PreparedFrame {
-                writes: with_entry(alloc, entry, writes)?,
+                writes: with_entry(entry, writes)?,
                 reply: FrameReply::Recorded { place },
                 answer: Some(HandedAnswer {
                     place: behind,

@@ -1,18 +1,17 @@
 -- A read that the store answers: what is made ready of it and of its answer is what its event writes.
-use Rattle.std.proofs.Common.{◌≡◌, refl, sym, ap, ◌∙◌, subst, subst₂, arith, ◌==◌, ℕ, ◌+◌, ◌-◌, ◌^◌, ◌≤◌, max, nat_lt, eq-eqb, Bool, true, false, not, ◌||◌, if◌then◌else◌, List, [], ◌∷◌, ◌++◌, append-nil, length, map, Option, Some, None, Result, Ok, Err}
-use Rattle.std.specs.List.{find, list_any, list_all}
-use Rattle.std.specs.Str.{is_utf8}
-use Rattle.journal_model.specs.Notification.{Bytes, Text, Arrival}
+use Rattle.std.proofs.Common.{◌≡◌, refl, sym, ap, ◌∙◌, subst, subst₂, arith, ◌==◌, ℕ, ◌+◌, ◌-◌, ◌^◌, ◌<◌, max, nat_lt, eq-eqb, ltb-true, Bool, true, false, not, ◌&&◌, ◌||◌, if◌then◌else◌, List, [], ◌∷◌, ◌++◌, append-nil, length, map, Option, Some, None, Result, Ok, Err}
+use Rattle.std.specs.List.{find, list_any}
+use Rattle.journal_model.specs.Notification.{Text, Arrival}
 use Rattle.journal_model.specs.declared.notification.NotificationResult.{NotificationResult}
 use Rattle.journal_model.specs.declared.notification.NotificationId.TheVariants.{CompletionId}
 use Rattle.journal_model.specs.Delivery.{value_or_void}
 use Rattle.journal_model.specs.State.{StateMap, value_at, state_keys, state_after}
 use Rattle.journal_model.specs.Request.{Request, completions_asked}
-use Rattle.journal_model.specs.Spelling.{frame_bytes, notification_payload}
+use Rattle.journal_model.specs.Spelling.{completion_type, notification_payload}
 use Rattle.journal_model.specs.Event.{Frame, Event}
 use Rattle.journal_model.specs.Journal.{Entry, Recorded, Arrived, asks_for, arrivals_in, completion, entries_of, object_of, read_answer, recorded_requests, requests_in, starting_state}
-use Rattle.journal_model.specs.Attempt.{completion_type, notification_type, type_of_completion}
-use Rattle.journal_model.specs.Cause.{Cause, BadCompletion, KeyNotText, NumbersUsedUp, PayloadTooLong, Tests, do_ascend, greatest, is_too_long, keys_of, last_completion, those_that_hold, causes_of}
+use Rattle.journal_model.specs.Attempt.{notification_type, type_of_completion}
+use Rattle.journal_model.specs.Cause.{Cause, BadCompletion, KeyNotText, NumbersUsedUp, PayloadTooLong, do_ascend, greatest, is_too_long, last_completion, those_that_hold, causes_of}
 use Rattle.journal_laws.proofs.ObjectState.{requests_in-append}
 use Rattle.protocol_types.specs.declared.message_type.MessageType.{MessageType}
 use Rattle.protocol_types.specs.declared.message_type.MessageType.TheVariants as types
@@ -23,18 +22,16 @@ use Rattle.store_frames.specs.Answer.{IsCommand}
 use Rattle.store_tables.specs.declared.row.EntryRow.{EntryRow}
 use Rattle.store_tables.specs.declared.row.InvocationRow.{InvocationRow}
 use Rattle.store_tables.specs.declared.row.Progress.{Progress}
-use Rattle.store_tables.specs.declared.row.SleepRow.{SleepRow}
-use Rattle.store_tables.specs.declared.row.Write.{Write}
 use Rattle.store_tables.specs.declared.row.Write.TheVariants.{SetProgress, AddEntry, OpenSleep}
-use Rattle.store_model.specs.Progress.{output_payload, progress_of}
+use Rattle.store_model.specs.Progress.{progress_of}
 use Rattle.store_model.specs.Kept.{answered_by, entry_row, rows_from}
 use Rattle.store_model.specs.Sleeps.{sleeps_opened}
 use Rattle.store_model.specs.Writes.{state_writes, writes_of}
-use Rattle.store_model.specs.Steps.{answers_at_once, grown, payload_or, after_command}
+use Rattle.store_model.specs.Steps.{answers_at_once, grown, payload_or}
 use Rattle.store_model.proofs.Following.{follows}
 use Rattle.store_lookups.specs.Lookups.{rows_of_arrivals}
 use Rattle.store_lookups.proofs.Answering.{asked_below, arrivals_in-append}
-use Rattle.store_invocations.specs.Rows.{Decides, IsRowOf, payload_tests}
+use Rattle.store_invocations.specs.Rows.{Decides, payload_tests}
 use Rattle.store_refusals.specs.declared.refusal.Refusal.{Refusal}
 use Rattle.store_refusals.specs.Refused.{refusal_by, IsRefused}
 use Rattle.store_refusals.specs.Prepared.{Prepares}
@@ -113,22 +110,26 @@ answer_of state _ answer e = no_answer_told answer e
 
 find_last : {A : Type 0} (p : A → Bool) (xs : List A) (x : A) → list_any p xs ≡ false → p x ≡ true → find p (xs ++ x ∷ []) ≡ Some x
 find_last p [] x none here = ap (λ (b : Bool). if b then Some x else None) here
-find_last {A} p (y ∷ xs) x none here = by_test (p y) refl none
+find_last {A} p (y ∷ xs) x none here = by_test (p y) none (λ later. find_last p xs x later here)
   where
-    by_test : (b : Bool) → p y ≡ b → (b || list_any p xs) ≡ false → (if b then Some y else find p (xs ++ x ∷ [])) ≡ Some x
+    by_test : (b : Bool) → (b || list_any p xs) ≡ false → (list_any p xs ≡ false → find p (xs ++ x ∷ []) ≡ Some x) → (if b then Some y else find p (xs ++ x ∷ [])) ≡ Some x
     by_test true e later = cc
-    by_test false e later = find_last p xs x later here
+    by_test false e later = later e
+
+ascends : (last n : ℕ) → do_ascend last (n ∷ []) ≡ true → last < n
+ascends last n up = ltb-true last n (by_test (nat_lt last n) up)
+  where
+    by_test : (b : Bool) → (b && true) ≡ true → b ≡ true
+    by_test true e = refl
+    by_test false e = cc
 
 -- no earlier request asks for a completion above all of theirs
 not_asked : (entries : List Entry) (n : ℕ) → do_ascend (last_completion (requests_in entries)) (n ∷ []) ≡ true → list_any (asks_for n) (requests_in entries) ≡ false
 not_asked entries n up = by_any (list_any (asks_for n) (requests_in entries)) refl
   where
     by_any : (b : Bool) → list_any (asks_for n) (requests_in entries) ≡ b → b ≡ false
-    by_any true e = let under = asked_below n (requests_in entries) e in let above = ascends (last_completion (requests_in entries)) n up in absurd (omega arith)
+    by_any true e = let under = asked_below n (requests_in entries) e in let above = ascends (last_completion (requests_in entries)) n up in absurd (omega (arith, under, above))
     by_any false e = refl
-
-    ascends : (last n : ℕ) → do_ascend last (n ∷ []) ≡ true → 1 + last ≤ n
-    ascends last n up = omega (arith, up)
 
 typed_last : (entries : List Entry) (request : Request) (n : ℕ) (ty : MessageType) → completions_asked request ≡ n ∷ []
     → do_ascend (last_completion (requests_in entries)) (n ∷ []) ≡ true → completion_type request n ≡ ty
