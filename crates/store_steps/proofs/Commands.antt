@@ -29,7 +29,7 @@ use Rattle.store_refusals.proofs.First.{first_holds, none_holds}
 use Rattle.store_steps.specs.declared.frame.LiveFacts.{LiveFacts}
 use Rattle.store_steps.specs.declared.frame.PreparedFrame.{PreparedFrame}
 use Rattle.store_steps.specs.declared.reads.ReadAnswer.{ReadAnswer}
-use Rattle.store_steps.specs.LazyReads.{is_lazy_read}
+use Rattle.store_steps.proofs.LazyReads.{is_lazy_read}
 use Rattle.store_steps.specs.Reads.{IsReadMade, answer_told}
 use Rattle.store_steps.specs.Taken.{IsLive, Takes}
 use Rattle.store_steps.specs.Told.{HasRoom, answers_told, asked_by, tests_of_told}

@@ -1,12 +1,22 @@
--- Requests that the store does not have to answer.
-use Rattle.std.proofs.Common.{◌≡◌, refl, false, []}
+-- Reads of the state of an object that the store has to answer, and all other requests.
+use Rattle.std.proofs.Common.{◌≡◌, refl, Bool, true, false, []}
 use Rattle.journal_model.specs.State.{StateMap}
 use Rattle.journal_model.specs.Request.{Request}
+use Rattle.journal_model.specs.Event.{Frame}
 use Rattle.journal_model.specs.Journal.{read_answer}
 use Rattle.store_frames.specs.Commands.{state_use}
 use Rattle.store_model.specs.Steps.{answers_at_once}
-use Rattle.store_steps.specs.LazyReads.{is_lazy_read}
 use Rattle.store_steps.specs.Told.{answers_told}
+
+-- whether the store has to answer a request from the state of its object
+abbrev pub is_lazy_read : Request → Bool
+is_lazy_read (Request.GetLazyState key n name) = true
+is_lazy_read (Request.GetLazyStateKeys n name) = true
+is_lazy_read _ = false
+
+abbrev pub IsNoLazyRead : Frame → Type 0
+IsNoLazyRead (Frame.Command request) = is_lazy_read request ≡ false
+IsNoLazyRead _ = Unit {0}
 
 pub no_answer : (state : StateMap) (request : Request) → is_lazy_read request ≡ false → read_answer state request ≡ []
 no_answer state (Request.GetLazyState key n name) e = cc

@@ -32,11 +32,10 @@ use Rattle.store_refusals.specs.Prepared.{Keeps, Prepares}
 use Rattle.store_refusals.proofs.First.{first_holds, none_holds}
 use Rattle.store_steps.specs.declared.frame.LiveFacts.{LiveFacts}
 use Rattle.store_steps.specs.declared.frame.PreparedFrame.{PreparedFrame}
-use Rattle.store_steps.specs.LazyReads.{IsNoLazyRead}
 use Rattle.store_steps.specs.Reads.{IsHanded, answer_rows}
 use Rattle.store_steps.specs.Told.{tests_of_told, writes_of_told}
 use Rattle.store_steps.specs.Taken.{IsLive, IsReply, IsTaken, Takes, IsMade, IsWhy}
-use Rattle.store_steps.proofs.LazyReads.{no_answer}
+use Rattle.store_steps.proofs.LazyReads.{IsNoLazyRead, no_answer}
 use Rattle.store_steps.proofs.Live.{begun_open, live_open}
 use Rattle.store_steps.proofs.Tests.{tests_left, causes_left, tests_same}
 use Rattle.store_steps.proofs.Writes.{written, replied}

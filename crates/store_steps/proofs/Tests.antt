@@ -15,9 +15,8 @@ use Rattle.store_frames.specs.declared.frame.AttemptFrame.TheVariants as told
 use Rattle.store_frames.specs.Commands.{first_asked, second_asked}
 use Rattle.store_frames.specs.Answer.{IsCommand, IsFrame}
 use Rattle.store_model.specs.Progress.{progress_of}
-use Rattle.store_steps.specs.LazyReads.{is_lazy_read, IsNoLazyRead}
 use Rattle.store_steps.specs.Told.{answers_told, asked, asked_by, tests_of_told}
-use Rattle.store_steps.proofs.LazyReads.{no_answer, none_told}
+use Rattle.store_steps.proofs.LazyReads.{is_lazy_read, IsNoLazyRead, no_answer, none_told}
 
 -- ---- completions
 

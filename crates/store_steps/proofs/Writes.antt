@@ -29,11 +29,10 @@ use Rattle.store_model.specs.Sleeps.{sleep_row, sleeps_opened}
 use Rattle.store_model.specs.Writes.{state_write, state_writes, writes_of}
 use Rattle.store_model.specs.Steps.{grown, payload_or, after_command, after_frame}
 use Rattle.store_model.proofs.Following.{follows}
-use Rattle.store_steps.specs.LazyReads.{is_lazy_read, IsNoLazyRead}
 use Rattle.store_steps.specs.Taken.{IsReply}
 use Rattle.protocol_stream.specs.CommandFacts.{facts_of}
 use Rattle.store_steps.specs.Told.{puts_out, value_put_out, command_row, keeps_moment, sleep_if, sleep_told, state_told, closing_writes, tests_of_told, reply_to_told, after_recorded, number_of_behavior, does_fail, after_suspension, after_error, after_end, error_told, writes_of_told}
-use Rattle.store_steps.proofs.LazyReads.{no_answer, none_at_once}
+use Rattle.store_steps.proofs.LazyReads.{is_lazy_read, IsNoLazyRead, no_answer, none_at_once}
 use Rattle.store_steps.proofs.Tests.{asked_same}
 use Rattle.store_steps.proofs.Lists.{payload_kept}
 

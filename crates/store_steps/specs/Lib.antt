@@ -1,4 +1,3 @@
-pub mod LazyReads
 pub mod Live
 pub mod Told
 pub mod Reads
