@@ -11,6 +11,7 @@ pub mod Arriving
 pub mod Ticking
 pub mod Beginning
 pub mod Calls
+pub mod Answering
 pub mod Taking
 pub mod Accepting
 pub mod Opening

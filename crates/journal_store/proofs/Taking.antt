@@ -275,11 +275,11 @@ module _ {S : Type 0} (g : Ghosts S) (a mid b : Held S) (before after : Attempts
       let is_now : IsNow id left_live before.attempts after.attempts =
       subst (λ (o : Option LiveAttempt). IsNow id (option_map (after_answer made.answer) o) before.attempts after.attempts)
       (ap (λ (r : FrameReply). passed (does_end r) it.len (attempt_of before.attempts id)) (sym replied) ∙ passed_left (does_end reply) it.len (attempt_of before.attempts id) one.attempt one.found) now in
-      let then = stands_after s.events event id left_live (state g b) before.attempts after.attempts refl refl all
+      let stood_after = stands_after s.events event id left_live (state g b) before.attempts after.attempts refl refl all
       (agrees_left s.events id n frame it.frame reply made.answer one.attempt left_of is.stands.kept.accepted ready.0 ready.1.answer one.seen.read is_reply agrees (does_end reply) refl) is_now is.stands.live in
       let waits = subst (λ (output : Option Bytes). WaitsNow id output before.attempts after.attempts) (left_alike made.answer (does_end reply) left_of one.attempt)
       (now_waits id left_live before.attempts after.attempts is_now) in
-      let to = leaves g s (stored a before) (stored b after) is event id (rest_after (does_end reply) left_of) then waits in (
+      let to = leaves g s (stored a before) (stored b after) is event id (rest_after (does_end reply) left_of) stood_after waits in (
         to.0,
         to.1,
         (

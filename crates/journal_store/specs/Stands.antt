@@ -1,5 +1,5 @@
 -- When a store stands for a list of accepted events, and what a call makes of that.
-use Rattle.std.specs.Prelude.{◌≡◌, false, bytes_eq, List, Option, Some, None, option_map, Result, Ok, Err}
+use Rattle.std.specs.Prelude.{◌≡◌, false, bytes_eq, List, Option, option_map, Result, Ok, Err}
 use Rattle.sqlite_trees.specs.declared.store.Store.{Ghosts}
 use Rattle.sqlite_trees.specs.Tree.{Trees}
 use Rattle.sqlite.specs.Held.{state}

@@ -14,7 +14,7 @@ use Rattle.store_steps.specs.declared.frame.FrameReply.{FrameReply}
 use Rattle.store_steps.specs.declared.frame.HandedAnswer.{HandedAnswer}
 use Rattle.store_live.specs.declared.attempt.LiveAttempt.{LiveAttempt}
 use Rattle.store_live.specs.Input.{one_frame}
-use Rattle.store_live.specs.Attempts.{ByInvocation, IsNow, after_put, after_take}
+use Rattle.store_live.specs.Attempts.{ByInvocation, IsNow, after_put, after_reserve, after_take}
 use Rattle.store_calls.specs.Frames.{TakesFrame}
 use Rattle.journal_store.specs.Stored.{Stored}
 use Rattle.journal_store.specs.Stands.{Settles}
@@ -62,10 +62,14 @@ abbrev pub passed : Bool → ℕ → Option LiveAttempt → Option LiveAttempt
 passed true len found = None
 passed false len found = option_map (after_take len) found
 
--- what the store answers to a frame is put behind, and room is made for it before
+-- what the store answers to a frame is put behind, in room that was made for it before
 abbrev pub after_answer : Option HandedAnswer → LiveAttempt → LiveAttempt
 after_answer None attempt = attempt
 after_answer (Some answer) attempt = after_put answer.place answer.frame attempt
+
+abbrev pub after_room : Option HandedAnswer → LiveAttempt → LiveAttempt
+after_room None attempt = attempt
+after_room (Some answer) attempt = after_reserve (length answer.frame) attempt
 
 abbrev pub HasRoomFor : Option HandedAnswer → LiveAttempt → Type 0
 HasRoomFor None attempt = Unit {0}

@@ -5,7 +5,7 @@ ghost use Rattle.store_steps.specs.Taken.{does_end, lies_in_frame};
 ghost use Rattle.store_live.specs.Attempts.{Changes, IsNow};
 ghost use Rattle.store_calls.specs.Frames.{Steps, TakesOne};
 ghost use Rattle.journal_store.specs.Stands.{Endures, Leads};
-ghost use Rattle.journal_store.specs.Taking.{HasMessage, HasMessageOf, HasRoomFor, IsEndedBy, IsFirstOf, IsFirstSeen, IsSeenOf, SettlesStep, after_answer, passed};
+ghost use Rattle.journal_store.specs.Taking.{HasMessage, HasMessageOf, HasRoomFor, IsEndedBy, IsFirstOf, IsFirstSeen, IsSeenOf, SettlesStep, after_answer, after_room, passed};
 ghost use Rattle.journal_store.specs.Words.{state, IsKept, AreAsBefore, attempt_of, has_number};
 ghost use Rattle.journal_store.specs.Writing.{Writes};
 
@@ -93,8 +93,8 @@ fn room_for_answer(
     id: &ByteStr,
     answer: &Option<HandedAnswer>,
 ) -> Result<(), AllocError>
-    ensures kept { AreAsBefore live.old.attempts live.new.attempts }
-    ensures room { OnOk result (ForSome (attempt_of live.new.attempts id.now) (HasRoomFor answer.now)) }
+    ensures ok { OnOk result (Changes id.now (after_room answer.now) live.old.attempts live.new.attempts) }
+    ensures err { OnErr result (live.new ≡ live.old) }
 {
     match answer {
         Some(answer) => live.reserve(id, answer.frame.len()),
@@ -112,6 +112,23 @@ fn hand_answer(live: &mut LiveAttempts, id: &ByteStr, answer: Option<HandedAnswe
         live.put(id, answer.place, answer.frame.as_slice(), &[]);
         drop(answer);
     }
+}
+
+/// Passes a frame that was taken, and hands its attempt what the store answers to it. Room was made for the answer.
+fn pass_answered(
+    live: &mut LiveAttempts,
+    id: &ByteStr,
+    len: usize,
+    reply: FrameReply,
+    answer: Option<HandedAnswer>,
+)
+    requires len { ForSome (attempt_of live.old.attempts id.now) (λ attempt. len ≤ length attempt.output) }
+    requires room { ForSome (attempt_of live.old.attempts id.now) (HasRoomFor answer) }
+    requires place { IfSome answer (λ answer. answer.place + 1 < 2 ^ 32) }
+    ensures { IsNow id.now (option_map (after_answer answer) (passed (does_end reply) len (attempt_of live.old.attempts id.now))) live.old.attempts live.new.attempts }
+{
+    pass_frame(live, id, len, reply);
+    hand_answer(live, id, answer);
 }
 
 /// Ends the attempt whose frame was refused, where the cause lies in the frame.
@@ -144,16 +161,16 @@ impl<S: Alter + Drop> Store<S> {
             reply,
             answer,
         } = made;
-        let room = room_for_answer(&mut self.live, id, &answer);
-        let done = match room {
-            Ok(()) => commit(&mut self.tables, writes.as_slice()),
-            Err(_) => Err(Refusal::OutOfMemory),
+        let Ok(()) = room_for_answer(&mut self.live, id, &answer) else {
+            drop(writes);
+            drop(answer);
+            return Err(Refusal::OutOfMemory);
         };
+        let done = commit(&mut self.tables, writes.as_slice());
         drop(writes);
         match done {
             Ok(()) => {
-                pass_frame(&mut self.live, id, len, reply);
-                hand_answer(&mut self.live, id, answer);
+                pass_answered(&mut self.live, id, len, reply, answer);
                 Ok(Some(reply))
             }
             Err(why) => {
