@@ -22,6 +22,12 @@ abbrev pub invocation : AttachInvocationTarget
 invocation = AttachInvocationTarget.InvocationId (codes "i")
 
 abbrev pub call_of : Step → Call
+call_of Step.Get = Call.StateGet (codes "k") None stable
+call_of Step.GetKeys = Call.StateGetKeys None
+call_of Step.Set = Call.StateSet (codes "k") (codes "1") None stable
+call_of Step.Clear = Call.StateClear (codes "k") None
+call_of Step.ClearAll = Call.StateClearAll None
+call_of Step.Run = Call.Run (codes "n")
 call_of Step.Send = Call.Send service [] None None stable
 call_of Step.CompleteAwakeable = Call.CompleteAwakeable (codes "a") one stable
 call_of Step.CompleteSignal = Call.CompleteSignal (codes "i") (codes "n") one
@@ -32,7 +38,6 @@ call_of Step.Cancel = Call.Cancel (codes "i")
 call_of Step.Attach = Call.Attach invocation
 call_of Step.GetOutput = Call.GetOutput invocation
 call_of Step.Output = Call.Output one stable
-call_of Step.ClearAll = Call.StateClearAll None
 
 -- behind the last one it ends
 abbrev pub call_or_end : Option Step → Call

@@ -12,6 +12,12 @@ use std::alloc::{AllocError, Global};
 /// A call of the handler.
 #[derive(Clone, Copy, Debug)]
 pub enum Step {
+    Get,
+    GetKeys,
+    Set,
+    Clear,
+    ClearAll,
+    Run,
     Send,
     CompleteAwakeable,
     CompleteSignal,
@@ -22,12 +28,17 @@ pub enum Step {
     Attach,
     GetOutput,
     Output,
-    ClearAll,
 }
 
 /// The step of a name.
 pub fn step_named(name: &str) -> Option<Step> {
     Some(match name {
+        "get" => Step::Get,
+        "get_keys" => Step::GetKeys,
+        "set" => Step::Set,
+        "clear" => Step::Clear,
+        "clear_all" => Step::ClearAll,
+        "run" => Step::Run,
         "send" => Step::Send,
         "complete_awakeable" => Step::CompleteAwakeable,
         "complete_signal" => Step::CompleteSignal,
@@ -38,7 +49,6 @@ pub fn step_named(name: &str) -> Option<Step> {
         "attach" => Step::Attach,
         "get_output" => Step::GetOutput,
         "output" => Step::Output,
-        "clear_all" => Step::ClearAll,
         _ => return None,
     })
 }
@@ -69,17 +79,55 @@ fn invocation() -> AttachInvocationTarget
     AttachInvocationTarget::InvocationId(ByteStr::from_static("i"))
 }
 
+fn get() -> Call
+    ensures { result ≡ stepping.call_of stepping.Step.Get }
+{
+    Call::StateGet {
+        key: ByteStr::from_static("k"),
+        name: None,
+        options: PayloadOptions::stable_serialization(),
+    }
+}
+
+fn set() -> Call
+    ensures { result ≡ stepping.call_of stepping.Step.Set }
+{
+    Call::StateSet {
+        key: ByteStr::from_static("k"),
+        value: Bytes::from_static(b"1"),
+        name: None,
+        options: PayloadOptions::stable_serialization(),
+    }
+}
+
+fn send(alloc: Global) -> Call
+    ensures { result ≡ stepping.call_of stepping.Step.Send }
+{
+    Call::Send {
+        target: service(alloc),
+        input: Bytes::new(),
+        execution_time: None,
+        name: None,
+        options: PayloadOptions::stable_serialization(),
+    }
+}
+
 fn call_of(alloc: Global, step: Step) -> Call
     ensures { result ≡ stepping.call_of step }
 {
     match step {
-        Step::Send => Call::Send {
-            target: service(alloc),
-            input: Bytes::new(),
-            execution_time: None,
+        Step::Get => get(),
+        Step::GetKeys => Call::StateGetKeys { name: None },
+        Step::Set => set(),
+        Step::Clear => Call::StateClear {
+            key: ByteStr::from_static("k"),
             name: None,
-            options: PayloadOptions::stable_serialization(),
         },
+        Step::ClearAll => Call::StateClearAll { name: None },
+        Step::Run => Call::Run {
+            name: ByteStr::from_static("n"),
+        },
+        Step::Send => send(alloc),
         Step::CompleteAwakeable => Call::CompleteAwakeable {
             id: ByteStr::from_static("a"),
             value: one(),
@@ -110,7 +158,6 @@ fn call_of(alloc: Global, step: Step) -> Call
             value: one(),
             options: PayloadOptions::stable_serialization(),
         },
-        Step::ClearAll => Call::StateClearAll { name: None },
     }
 }
 
