@@ -12,17 +12,17 @@ use Rattle.std.proofs.lemmas.List.Splits.{slice_split_at, slice_split_none, join
 use Rattle.script_lines.specs.declared.word.StateMode.{StateMode}
 use Rattle.script_lines.specs.declared.word.StateMode.TheVariants.{Whole, Hidden}
 use Rattle.script_lines.specs.declared.word.HandlerName.{HandlerName}
-use Rattle.script_lines.specs.declared.word.HandlerName.TheVariants.{Nap, Nap99, Race, Both, Ask, Pair}
+use Rattle.script_lines.specs.declared.word.HandlerName.TheVariants.{Nap, Nap99, Race, Both, Ask, Pair, Twice, Keys, Read}
 use Rattle.script_lines.specs.declared.word.Command.{Command}
-use Rattle.script_lines.specs.declared.word.Command.TheVariants.{Invoke as InvokeCommand, Result as ResultCommand, Tick as TickCommand, Begin as BeginCommand, Feed as FeedCommand, Close as CloseCommand, Turn as TurnCommand, Move as MoveCommand, Stop as StopCommand, Show as ShowCommand}
+use Rattle.script_lines.specs.declared.word.Command.TheVariants.{Invoke as InvokeCommand, Result as ResultCommand, Tick as TickCommand, Begin as BeginCommand, Feed as FeedCommand, Close as CloseCommand, Turn as TurnCommand, Move as MoveCommand, Stop as StopCommand, Show as ShowCommand, State as StateCommand}
 use Rattle.script_lines.specs.declared.value.LineValue.{LineValue}
 use Rattle.script_lines.specs.declared.value.LineValue.TheVariants.{Void, Value, Failure, InvocationId}
 use Rattle.script_lines.specs.declared.line.Line.{Line}
-use Rattle.script_lines.specs.declared.line.Line.TheVariants.{Invoke, Result as ResultLine, Tick, Begin, Feed, Close, Turn, Move, Stop, Show}
-use Rattle.script_lines.specs.Word.{text_word, IsText, IsWordByte, state_word, handler_word, value_word, IsValue}
+use Rattle.script_lines.specs.declared.line.Line.TheVariants.{Invoke, Result as ResultLine, Tick, Begin, Feed, Close, Turn, Move, Stop, Show, State}
+use Rattle.script_lines.specs.Word.{text_word, IsText, IsWordByte, mode_word, handler_word, value_word, IsValue}
 use Rattle.script_lines.specs.Line.{words_of, spelled, IsLine}
-use Rattle.script_lines.specs.Reading.{then_read, text_of, invoke_of, result_of, tick_of, begin_of, feed_of, close_of, turn_of, move_of, stop_of, show_of, of_one, of_two, of_three, of_six, command_of, arguments_of, line_of}
-use Rattle.script_lines.proofs.WordLaws.{number_32, number_64, text_reading, state_reading, handler_reading, read_step, chosen, tested}
+use Rattle.script_lines.specs.Reading.{then_read, text_of, invoke_of, result_of, tick_of, begin_of, feed_of, close_of, turn_of, move_of, stop_of, show_of, state_of, of_one, of_two, of_three, of_six, command_of, arguments_of, line_of}
+use Rattle.script_lines.proofs.WordLaws.{number_32, number_64, text_reading, mode_reading, handler_reading, read_step, chosen, tested}
 use Rattle.script_lines.proofs.ValueLaws.{value_reading}
 
 -- the words are those of the line
@@ -45,7 +45,7 @@ invoke_takes id object version state seed input line e =
     let it = text_reading.takes id i.0 i.1 in
     let ot = text_reading.takes object o.0 o.1 in
     let vt = number_32.takes version v.0 v.1 in
-    let st = state_reading.takes state s.0 s.1 in
+    let st = mode_reading.takes state s.0 s.1 in
     let rt = number_64.takes seed r.0 r.1 in
     let pt = text_reading.takes input p.0 p.1 in
     made _ (Invoke i.0 o.0 v.0 s.0 r.0 p.0) line p.2 (record { is_line = (it.0, ot.0, vt.0, rt.0, pt.0); same = next refl (next it.1 (next ot.1 (next vt.1 (next st.1 (next rt.1 (next pt.1 refl)))))) })
@@ -131,6 +131,13 @@ show_takes id line e =
     let it = text_reading.takes id i.0 i.1 in
     made _ (Show i.0) line i.2 (record { is_line = it.0; same = next refl (next it.1 refl) })
 
+state_takes : (object : List ℕ) (line : Line) → state_of object ≡ Some line → Spells (codes "state" ∷ object ∷ []) line
+unfolding state_of
+state_takes object line e =
+    let o = read_step e in
+    let ot = text_reading.takes object o.0 o.1 in
+    made _ (State o.0) line o.2 (record { is_line = ot.0; same = next refl (next ot.1 refl) })
+
 -- so many words were read
 one_words : (read : List ℕ → Option Line) (words : List (List ℕ)) (line : Line) → of_one read words ≡ Some line → (a : List ℕ) × (words ≡ a ∷ []) × (read a ≡ Some line)
 unfolding of_one
@@ -175,13 +182,15 @@ command_word TurnCommand = codes "turn"
 command_word MoveCommand = codes "move"
 command_word StopCommand = codes "stop"
 command_word ShowCommand = codes "show"
+command_word StateCommand = codes "state"
 
 command_takes : (word : List ℕ) (command : Command) → command_of word ≡ Some command → word ≡ command_word command
 unfolding command_of
 command_takes word command =
     let test = tested command_word word in
     test InvokeCommand _ command (test ResultCommand _ command (test TickCommand _ command (test BeginCommand _ command (test FeedCommand _ command
-    (test CloseCommand _ command (test TurnCommand _ command (test MoveCommand _ command (test StopCommand _ command (test ShowCommand _ command (λ e. absurd (none-some command e)))))))))))
+    (test CloseCommand _ command (test TurnCommand _ command (test MoveCommand _ command (test StopCommand _ command (test ShowCommand _ command
+    (test StateCommand _ command (λ e. absurd (none-some command e))))))))))))
 
 retold : (name : List ℕ) (words others : List (List ℕ)) (line : Line) → words ≡ others → Spells (name ∷ others) line → Spells (name ∷ words) line
 retold name words others line e h = record { is_line = h.is_line; same = ap (λ (ws : List (List ℕ)). name ∷ ws) e ∙ h.same }
@@ -198,6 +207,7 @@ arguments_take TurnCommand words line e = let w = three_words turn_of words line
 arguments_take MoveCommand words line e = let w = three_words move_of words line e in retold _ words _ line w.3 (move_takes w.0 w.1 w.2 line w.4)
 arguments_take StopCommand words line e = let w = two_words stop_of words line e in retold _ words _ line w.2 (stop_takes w.0 w.1 line w.3)
 arguments_take ShowCommand words line e = let w = one_words show_of words line e in retold _ words _ line w.1 (show_takes w.0 line w.2)
+arguments_take StateCommand words line e = let w = one_words state_of words line e in retold _ words _ line w.1 (state_takes w.0 line w.2)
 
 line_takes : (words : List (List ℕ)) (line : Line) → line_of words ≡ Some line → Spells words line
 unfolding line_of
@@ -210,9 +220,9 @@ line_takes (word ∷ words) line e =
 -- ---- what is spelled so is read
 
 line_again : (line : Line) → IsLine line → line_of (words_of line) ≡ Some line
-unfolding line_of then_read command_of arguments_of of_one of_two of_three of_six invoke_of result_of tick_of begin_of feed_of close_of turn_of move_of stop_of show_of
+unfolding line_of then_read command_of arguments_of of_one of_two of_three of_six invoke_of result_of tick_of begin_of feed_of close_of turn_of move_of stop_of show_of state_of
 line_again (Invoke id object version state seed input) h =
-    rw (text_reading.again id h.0, text_reading.again object h.1, number_32.again version h.2, state_reading.again state tt, number_64.again seed h.3, text_reading.again input h.4) refl
+    rw (text_reading.again id h.0, text_reading.again object h.1, number_32.again version h.2, mode_reading.again state tt, number_64.again seed h.3, text_reading.again input h.4) refl
 line_again (ResultLine id completion value) h = rw (text_reading.again id h.0, number_32.again completion h.1, value_reading.again value h.2) refl
 line_again (Tick now) h = rw (number_64.again now h) refl
 line_again (Begin id handler now) h = rw (text_reading.again id h.0, handler_reading.again handler tt, number_64.again now h.1) refl
@@ -224,6 +234,7 @@ line_again (Turn id attempt count) h =
 line_again (Move id attempt count) h = rw (text_reading.again id h.0, number_32.again attempt h.1, number_32.again count h.2) refl
 line_again (Stop id attempt) h = rw (text_reading.again id h.0, number_32.again attempt h.1) refl
 line_again (Show id) h = rw (text_reading.again id h) refl
+line_again (State object) h = rw (text_reading.again object h) refl
 
 -- ---- words and spaces
 
@@ -255,9 +266,9 @@ letters (byte ∷ word) e =
     let above : 32 < byte = ltb-true 32 byte tests.0 in
     (ne_eqb byte 32 (λ same. omega arith), letters word tests.1)
 
-state-no_space : (state : StateMode) → NoSpace (state_word state)
-state-no_space Whole = letters (codes "whole") refl
-state-no_space Hidden = letters (codes "none") refl
+mode-no_space : (state : StateMode) → NoSpace (mode_word state)
+mode-no_space Whole = letters (codes "whole") refl
+mode-no_space Hidden = letters (codes "none") refl
 
 handler-no_space : (handler : HandlerName) → NoSpace (handler_word handler)
 handler-no_space Nap = letters (codes "nap") refl
@@ -266,6 +277,9 @@ handler-no_space Race = letters (codes "race") refl
 handler-no_space Both = letters (codes "both") refl
 handler-no_space Ask = letters (codes "ask") refl
 handler-no_space Pair = letters (codes "pair") refl
+handler-no_space Twice = letters (codes "twice") refl
+handler-no_space Keys = letters (codes "keys") refl
+handler-no_space Read = letters (codes "read") refl
 
 joined-no_space : (front back : List ℕ) → NoSpace front → NoSpace back → NoSpace (front ++ back)
 joined-no_space [] back f b = b
@@ -285,7 +299,7 @@ counted-no_space command id attempt count h text a c = (h, (text-no_space id tex
 words-no_space : (line : Line) → IsLine line → AllByRecursion NoSpace (words_of line)
 words-no_space (Invoke id object version state seed input) h =
     let v = h.2 in let s = h.3 in
-    (letters (codes "invoke") refl, (text-no_space id h.0, (text-no_space object h.1, (decimal-no_space version (omega arith), (state-no_space state, (decimal-no_space seed (omega arith), (text-no_space input h.4, tt)))))))
+    (letters (codes "invoke") refl, (text-no_space id h.0, (text-no_space object h.1, (decimal-no_space version (omega arith), (mode-no_space state, (decimal-no_space seed (omega arith), (text-no_space input h.4, tt)))))))
 words-no_space (ResultLine id completion value) h =
     let c = h.1 in
     (letters (codes "result") refl, (text-no_space id h.0, (decimal-no_space completion (omega arith), (value-no_space value h.2, tt))))
@@ -299,6 +313,7 @@ words-no_space (Turn id attempt count) h = counted-no_space (codes "turn") id at
 words-no_space (Move id attempt count) h = counted-no_space (codes "move") id attempt count (letters (codes "move") refl) h.0 h.1 h.2
 words-no_space (Stop id attempt) h = let a = h.1 in (letters (codes "stop") refl, (text-no_space id h.0, (decimal-no_space attempt (omega arith), tt)))
 words-no_space (Show id) h = (letters (codes "show") refl, (text-no_space id h, tt))
+words-no_space (State object) h = (letters (codes "state") refl, (text-no_space object h, tt))
 
 split_again : (word : List ℕ) (words : List (List ℕ)) → AllByRecursion NoSpace (word ∷ words) → slice_split (λ byte. eqb byte 32) (join_with_byte 32 (word ∷ words)) ≡ word ∷ words
 split_again word [] h = slice_split_none (λ byte. eqb byte 32) word (All-from_recursion (λ byte. eqb byte 32 ≡ false) word h.0)
@@ -316,6 +331,7 @@ words_again (Turn id attempt count) h = split_again _ _ (words-no_space (Turn id
 words_again (Move id attempt count) h = split_again _ _ (words-no_space (Move id attempt count) h)
 words_again (Stop id attempt) h = split_again _ _ (words-no_space (Stop id attempt) h)
 words_again (Show id) h = split_again _ _ (words-no_space (Show id) h)
+words_again (State object) h = split_again _ _ (words-no_space (State object) h)
 
 -- ---- the reader of a line
 

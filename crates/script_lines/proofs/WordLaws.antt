@@ -14,9 +14,9 @@ use Rattle.std.proofs.lemmas.List.Elements.{All-from_recursion, recursion_from_A
 use Rattle.script_lines.specs.declared.word.StateMode.{StateMode}
 use Rattle.script_lines.specs.declared.word.StateMode.TheVariants.{Whole, Hidden}
 use Rattle.script_lines.specs.declared.word.HandlerName.{HandlerName}
-use Rattle.script_lines.specs.declared.word.HandlerName.TheVariants.{Nap, Nap99, Race, Both, Ask, Pair}
-use Rattle.script_lines.specs.Word.{text_word, IsWordByte, IsText, state_word, handler_word}
-use Rattle.script_lines.specs.Reading.{then_read, is_word_byte, number_below, printable_of, text_of, state_of, handler_of}
+use Rattle.script_lines.specs.declared.word.HandlerName.TheVariants.{Nap, Nap99, Race, Both, Ask, Pair, Twice, Keys, Read}
+use Rattle.script_lines.specs.Word.{text_word, IsWordByte, IsText, mode_word, handler_word}
+use Rattle.script_lines.specs.Reading.{then_read, is_word_byte, number_below, printable_of, text_of, mode_of, handler_of}
 
 -- reading is the other way round from spelling
 pub record IsReading {A : Type 0} (read : List ℕ → Option A) (spelled : A → List ℕ) (IsValue : A → Type 0) : Type 0 where
@@ -216,23 +216,23 @@ printable-IsAscii bytes e = ascii bytes (printable_from bytes e)
 
 -- ---- names
 
-state_takes : (word : List ℕ) (state : StateMode) → state_of word ≡ Some state → Unit {0} × (word ≡ state_word state)
-unfolding state_of
-state_takes word state e =
+mode_takes : (word : List ℕ) (state : StateMode) → mode_of word ≡ Some state → Unit {0} × (word ≡ mode_word state)
+unfolding mode_of
+mode_takes word state e =
     elim (chosen (bytes_eq word (codes "whole")) (Some Whole) (cond (bytes_eq word (codes "none")) (Some Hidden) None) (Some state) e) [
-      | inl whole ↦ (tt, (bytes_eq-Decides word (codes "whole")).0 whole.0 ∙ ap state_word (same_Some Whole state whole.1))
+      | inl whole ↦ (tt, (bytes_eq-Decides word (codes "whole")).0 whole.0 ∙ ap mode_word (same_Some Whole state whole.1))
       | inr other ↦
           let found = cond_some (bytes_eq word (codes "none")) Hidden state other.1 in
-          (tt, (bytes_eq-Decides word (codes "none")).0 found.0 ∙ ap state_word found.1)
+          (tt, (bytes_eq-Decides word (codes "none")).0 found.0 ∙ ap mode_word found.1)
     ]
 
-state_again : (state : StateMode) → Unit {0} → state_of (state_word state) ≡ Some state
-unfolding state_of
-state_again Whole h = refl
-state_again Hidden h = refl
+mode_again : (state : StateMode) → Unit {0} → mode_of (mode_word state) ≡ Some state
+unfolding mode_of
+mode_again Whole h = refl
+mode_again Hidden h = refl
 
-pub state_reading : IsReading state_of state_word (λ _. Unit {0})
-state_reading = record { takes = state_takes; again = state_again }
+pub mode_reading : IsReading mode_of mode_word (λ _. Unit {0})
+mode_reading = record { takes = mode_takes; again = mode_again }
 
 -- a name that was tested for, and those behind it
 pub tested : {A : Type 0} (spelled : A → List ℕ) (word : List ℕ) (name : A) (rest : Option A) (value : A) → (rest ≡ Some value → word ≡ spelled value) → cond (bytes_eq word (spelled name)) (Some name) rest ≡ Some value → word ≡ spelled value
@@ -245,8 +245,11 @@ tested spelled word name rest value behind e =
 handler_takes : (word : List ℕ) (handler : HandlerName) → handler_of word ≡ Some handler → Unit {0} × (word ≡ handler_word handler)
 unfolding handler_of
 handler_takes word handler e =
-    let test = tested handler_word word in
-    (tt, test Nap _ handler (test Nap99 _ handler (test Race _ handler (test Both _ handler (test Ask _ handler (test Pair _ handler (λ none. absurd (none-some handler none))))))) e)
+    let test = tested handler_word word in (
+      tt,
+      test Nap _ handler (test Nap99 _ handler (test Race _ handler (test Both _ handler (test Ask _ handler (test Pair _ handler
+          (test Twice _ handler (test Keys _ handler (test Read _ handler (λ none. absurd (none-some handler none)))))))))) e,
+    )
 
 handler_again : (handler : HandlerName) → Unit {0} → handler_of (handler_word handler) ≡ Some handler
 unfolding handler_of
@@ -256,6 +259,9 @@ handler_again Race h = refl
 handler_again Both h = refl
 handler_again Ask h = refl
 handler_again Pair h = refl
+handler_again Twice h = refl
+handler_again Keys h = refl
+handler_again Read h = refl
 
 pub handler_reading : IsReading handler_of handler_word (λ _. Unit {0})
 handler_reading = record { takes = handler_takes; again = handler_again }

@@ -2,13 +2,13 @@
 use Rattle.std.specs.Prelude.{ℕ, ◌<◌, ◌≤◌, ◌^◌, List, [], ◌∷◌, codes, decimal}
 use Rattle.std.specs.List.{join_with_byte}
 use Rattle.script_lines.specs.declared.line.Line.{Line}
-use Rattle.script_lines.specs.declared.line.Line.TheVariants.{Invoke, Result, Tick, Begin, Feed, Close, Turn, Move, Stop, Show}
-use Rattle.script_lines.specs.Word.{text_word, IsText, state_word, handler_word, value_word, IsValue}
+use Rattle.script_lines.specs.declared.line.Line.TheVariants.{Invoke, Result, Tick, Begin, Feed, Close, Turn, Move, Stop, Show, State}
+use Rattle.script_lines.specs.Word.{text_word, IsText, mode_word, handler_word, value_word, IsValue}
 
 -- the words of a line: a command, and what it is about; numbers are decimal
 abbrev pub words_of : Line → List (List ℕ)
 words_of (Invoke id object version state seed input) =
-    codes "invoke" ∷ text_word id ∷ text_word object ∷ decimal version ∷ state_word state ∷ decimal seed ∷ text_word input ∷ []
+    codes "invoke" ∷ text_word id ∷ text_word object ∷ decimal version ∷ mode_word state ∷ decimal seed ∷ text_word input ∷ []
 words_of (Result id completion value) = codes "result" ∷ text_word id ∷ decimal completion ∷ value_word value ∷ []
 words_of (Tick now) = codes "tick" ∷ decimal now ∷ []
 words_of (Begin id handler now) = codes "begin" ∷ text_word id ∷ handler_word handler ∷ decimal now ∷ []
@@ -18,6 +18,7 @@ words_of (Turn id attempt count) = codes "turn" ∷ text_word id ∷ decimal att
 words_of (Move id attempt count) = codes "move" ∷ text_word id ∷ decimal attempt ∷ decimal count ∷ []
 words_of (Stop id attempt) = codes "stop" ∷ text_word id ∷ decimal attempt ∷ []
 words_of (Show id) = codes "show" ∷ text_word id ∷ []
+words_of (State object) = codes "state" ∷ text_word object ∷ []
 
 -- the spelling of a line: its words, with one space between two
 abbrev pub spelled : Line → List ℕ
@@ -36,3 +37,4 @@ IsLine (Turn id attempt count) = IsText id × (attempt < 2 ^ 32) × (1 ≤ count
 IsLine (Move id attempt count) = IsText id × (attempt < 2 ^ 32) × (count < 2 ^ 32)
 IsLine (Stop id attempt) = IsText id × (attempt < 2 ^ 32)
 IsLine (Show id) = IsText id
+IsLine (State object) = IsText object

@@ -6,16 +6,16 @@ use Rattle.std.specs.Str.Parse.{digits_value}
 use Rattle.script_lines.specs.declared.word.StateMode.{StateMode}
 use Rattle.script_lines.specs.declared.word.StateMode.TheVariants.{Whole, Hidden}
 use Rattle.script_lines.specs.declared.word.HandlerName.{HandlerName}
-use Rattle.script_lines.specs.declared.word.HandlerName.TheVariants.{Nap, Nap99, Race, Both, Ask, Pair}
+use Rattle.script_lines.specs.declared.word.HandlerName.TheVariants.{Nap, Nap99, Race, Both, Ask, Pair, Twice, Keys, Read}
 use Rattle.script_lines.specs.Word.{handler_word}
 use Rattle.script_lines.specs.declared.word.LineError.{LineError}
 use Rattle.script_lines.specs.declared.word.LineError.TheVariants.{NotUnderstood, Memory}
 use Rattle.script_lines.specs.declared.word.Command.{Command}
-use Rattle.script_lines.specs.declared.word.Command.TheVariants.{Invoke as InvokeCommand, Result as ResultCommand, Tick as TickCommand, Begin as BeginCommand, Feed as FeedCommand, Close as CloseCommand, Turn as TurnCommand, Move as MoveCommand, Stop as StopCommand, Show as ShowCommand}
+use Rattle.script_lines.specs.declared.word.Command.TheVariants.{Invoke as InvokeCommand, Result as ResultCommand, Tick as TickCommand, Begin as BeginCommand, Feed as FeedCommand, Close as CloseCommand, Turn as TurnCommand, Move as MoveCommand, Stop as StopCommand, Show as ShowCommand, State as StateCommand}
 use Rattle.script_lines.specs.declared.value.LineValue.{LineValue}
 use Rattle.script_lines.specs.declared.value.LineValue.TheVariants.{Void, Value, Failure, InvocationId}
 use Rattle.script_lines.specs.declared.line.Line.{Line}
-use Rattle.script_lines.specs.declared.line.Line.TheVariants.{Invoke, Result as ResultLine, Tick, Begin, Feed, Close, Turn, Move, Stop, Show}
+use Rattle.script_lines.specs.declared.line.Line.TheVariants.{Invoke, Result as ResultLine, Tick, Begin, Feed, Close, Turn, Move, Stop, Show, State}
 
 -- the next step of a reading, where there was a value so far
 unfoldable pub then_read : {A B : Type 0} → Option A → (A → Option B) → Option B
@@ -46,8 +46,8 @@ unfoldable pub text_of : List ℕ → Option (List ℕ)
 text_of word = if bytes_eq word (codes "-") then Some [] else
     (if nat_lt 0 (length word) then printable_of word else None)
 
-unfoldable pub state_of : List ℕ → Option StateMode
-state_of word = if bytes_eq word (codes "whole") then Some Whole else
+unfoldable pub mode_of : List ℕ → Option StateMode
+mode_of word = if bytes_eq word (codes "whole") then Some Whole else
     (if bytes_eq word (codes "none") then Some Hidden else None)
 
 unfoldable pub handler_of : List ℕ → Option HandlerName
@@ -57,7 +57,10 @@ handler_of word =
     (if bytes_eq word (handler_word Race) then Some Race else
     (if bytes_eq word (handler_word Both) then Some Both else
     (if bytes_eq word (handler_word Ask) then Some Ask else
-    (if bytes_eq word (handler_word Pair) then Some Pair else None)))))
+    (if bytes_eq word (handler_word Pair) then Some Pair else
+    (if bytes_eq word (handler_word Twice) then Some Twice else
+    (if bytes_eq word (handler_word Keys) then Some Keys else
+    (if bytes_eq word (handler_word Read) then Some Read else None))))))))
 
 -- what stands before the first colon, and behind it
 unfoldable pub at_colon : List ℕ → Option (List ℕ × List ℕ)
@@ -89,7 +92,7 @@ value_of word = if bytes_eq word (codes "void") then Some Void else (do
 unfoldable pub invoke_of : List ℕ → List ℕ → List ℕ → List ℕ → List ℕ → List ℕ → Option Line
 invoke_of id object version state seed input = do
   version ← number_below (2 ^ 32) version
-  state ← state_of state
+  state ← mode_of state
   seed ← number_below (2 ^ 64) seed
   id ← text_of id
   object ← text_of object
@@ -154,6 +157,11 @@ show_of id = do
   id ← text_of id
   Some (Show id)
 
+unfoldable pub state_of : List ℕ → Option Line
+state_of object = do
+  object ← text_of object
+  Some (State object)
+
 -- what is read from just so many words
 unfoldable pub of_one : (List ℕ → Option Line) → List (List ℕ) → Option Line
 of_one read (a ∷ []) = read a
@@ -182,7 +190,8 @@ command_of word =
     (if bytes_eq word (codes "turn") then Some TurnCommand else
     (if bytes_eq word (codes "move") then Some MoveCommand else
     (if bytes_eq word (codes "stop") then Some StopCommand else
-    (if bytes_eq word (codes "show") then Some ShowCommand else None)))))))))
+    (if bytes_eq word (codes "show") then Some ShowCommand else
+    (if bytes_eq word (codes "state") then Some StateCommand else None))))))))))
 
 unfoldable pub arguments_of : Command → List (List ℕ) → Option Line
 arguments_of InvokeCommand = of_six invoke_of
@@ -195,6 +204,7 @@ arguments_of TurnCommand = of_three turn_of
 arguments_of MoveCommand = of_three move_of
 arguments_of StopCommand = of_two stop_of
 arguments_of ShowCommand = of_one show_of
+arguments_of StateCommand = of_one state_of
 
 -- the line that the words spell
 unfoldable pub line_of : List (List ℕ) → Option Line

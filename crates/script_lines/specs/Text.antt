@@ -9,6 +9,7 @@ use Rattle.script_lines.specs.declared.text.LineReply.{LineReply}
 use Rattle.script_lines.specs.declared.text.LineReply.TheVariants.{Done, Placed, Ticked, Begun, Fed, Turned, Moved, Refused}
 use Rattle.script_lines.specs.declared.text.ShownRequest.{ShownRequest}
 use Rattle.script_lines.specs.declared.text.ShownAnswer.{ShownAnswer}
+use Rattle.script_lines.specs.declared.text.ShownState.{ShownState}
 use Rattle.script_lines.specs.declared.text.ShownAnswer.TheVariants.{Missing, Value, Failure}
 
 -- bytes as digits, and a dash for none
@@ -64,3 +65,10 @@ answer_text (Failure code message) = failure_line code message.now
 abbrev pub open_text : Bool → List ℕ
 open_text true = codes "open"
 open_text false = codes "closed"
+
+-- a value of an object's state behind its key
+abbrev pub state_line : List ℕ → List ℕ → List ℕ
+state_line key value = codes "state " ++ hex_text key ++ codes " " ++ hex_text value
+
+abbrev pub state_text : ShownState → List ℕ
+state_text state = state_line state.key.now state.value.now

@@ -3,7 +3,7 @@ use Rattle.std.specs.Prelude.{◌≡◌, ◌≢◌, ℕ, ◌^◌, ◌<◌, ◌�
 use Rattle.script_lines.specs.declared.word.StateMode.{StateMode}
 use Rattle.script_lines.specs.declared.word.StateMode.TheVariants.{Whole, Hidden}
 use Rattle.script_lines.specs.declared.word.HandlerName.{HandlerName}
-use Rattle.script_lines.specs.declared.word.HandlerName.TheVariants.{Nap, Nap99, Race, Both, Ask, Pair}
+use Rattle.script_lines.specs.declared.word.HandlerName.TheVariants.{Nap, Nap99, Race, Both, Ask, Pair, Twice, Keys, Read}
 use Rattle.script_lines.specs.declared.value.LineValue.{LineValue}
 use Rattle.script_lines.specs.declared.value.LineValue.TheVariants.{Void, Value, Failure, InvocationId}
 
@@ -26,9 +26,9 @@ pub record IsText (text : List ℕ) : Type 0 where
   pub bytes : All IsWordByte text
   pub no_dash : text ≢ codes "-"
 
-abbrev pub state_word : StateMode → List ℕ
-state_word Whole = codes "whole"
-state_word Hidden = codes "none"
+abbrev pub mode_word : StateMode → List ℕ
+mode_word Whole = codes "whole"
+mode_word Hidden = codes "none"
 
 abbrev pub handler_word : HandlerName → List ℕ
 handler_word Nap = codes "nap"
@@ -37,6 +37,9 @@ handler_word Race = codes "race"
 handler_word Both = codes "both"
 handler_word Ask = codes "ask"
 handler_word Pair = codes "pair"
+handler_word Twice = codes "twice"
+handler_word Keys = codes "keys"
+handler_word Read = codes "read"
 
 -- a value's word; the text behind a colon (58) is as it is, and may be empty
 abbrev pub value_word : LineValue → List ℕ

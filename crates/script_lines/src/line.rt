@@ -1,15 +1,15 @@
 //! The lines of a script.
-#![tactic(auto, unfolding(crate::specs::Reading::then_read, crate::specs::Reading::invoke_of, crate::specs::Reading::result_of, crate::specs::Reading::tick_of, crate::specs::Reading::begin_of, crate::specs::Reading::feed_of, crate::specs::Reading::close_of, crate::specs::Reading::turn_of, crate::specs::Reading::move_of, crate::specs::Reading::stop_of, crate::specs::Reading::show_of, crate::specs::Reading::of_one, crate::specs::Reading::of_two, crate::specs::Reading::of_three, crate::specs::Reading::of_six))]
+#![tactic(auto, unfolding(crate::specs::Reading::then_read, crate::specs::Reading::invoke_of, crate::specs::Reading::result_of, crate::specs::Reading::tick_of, crate::specs::Reading::begin_of, crate::specs::Reading::feed_of, crate::specs::Reading::close_of, crate::specs::Reading::turn_of, crate::specs::Reading::move_of, crate::specs::Reading::stop_of, crate::specs::Reading::show_of, crate::specs::Reading::state_of, crate::specs::Reading::of_one, crate::specs::Reading::of_two, crate::specs::Reading::of_three, crate::specs::Reading::of_six))]
 
 ghost use Rattle.std.specs.Prelude.{◌≡◌, ◌==◌, map, IfOk};
 ghost use Rattle.std.specs.List.{slice_split};
 ghost use Rattle.script_lines.specs.Word.{Reads};
 ghost use Rattle.script_lines.specs.Line.{spelled, IsLine};
-ghost use Rattle.script_lines.specs.Reading.{Gives, invoke_of, result_of, tick_of, begin_of, feed_of, close_of, turn_of, move_of, stop_of, show_of, of_one, of_two, of_three, of_six, line_of};
+ghost use Rattle.script_lines.specs.Reading.{Gives, invoke_of, result_of, tick_of, begin_of, feed_of, close_of, turn_of, move_of, stop_of, show_of, state_of, of_one, of_two, of_three, of_six, line_of};
 
 use crate::value::{LineValue, parse_value};
 use crate::word::{
-    Command, HandlerName, LineError, StateMode, parse_command, parse_handler, parse_state,
+    Command, HandlerName, LineError, StateMode, parse_command, parse_handler, parse_mode,
     parse_text, parse_u32, parse_u64,
 };
 use bstr::ByteSlice;
@@ -76,6 +76,10 @@ pub enum Line {
     Show {
         id: ByteStr,
     },
+    /// Prints the state of an object.
+    State {
+        object: ByteStr,
+    },
 }
 
 fn parse_invoke(alloc: Global, arguments: &[&[u8]]) -> Result<Line, LineError>
@@ -99,7 +103,7 @@ fn parse_invocation(
     ensures { Gives result (invoke_of id.now object.now version.now state.now seed.now input.now) }
 {
     let version = parse_u32(version).ok_or(LineError::NotUnderstood)?;
-    let state = parse_state(state).ok_or(LineError::NotUnderstood)?;
+    let state = parse_mode(state).ok_or(LineError::NotUnderstood)?;
     let seed = parse_u64(seed).ok_or(LineError::NotUnderstood)?;
     let id = parse_text(alloc, id)?;
     let object = parse_text(alloc, object)?;
@@ -223,6 +227,16 @@ fn parse_show(alloc: Global, arguments: &[&[u8]]) -> Result<Line, LineError>
     Ok(Line::Show { id })
 }
 
+fn parse_state(alloc: Global, arguments: &[&[u8]]) -> Result<Line, LineError>
+    ensures { Gives result (of_one state_of (map (λ word. word.now) arguments.now)) }
+{
+    let [object] = arguments else {
+        return Err(LineError::NotUnderstood);
+    };
+    let object = parse_text(alloc, object)?;
+    Ok(Line::State { object })
+}
+
 /// The words between single spaces.
 fn words_between<'a>(alloc: Global, bytes: &'a [u8]) -> Result<Vec<&'a [u8]>, AllocError>
     ensures { IfOk result (λ words. map (λ word. word.now) words.items ≡ slice_split (λ byte. byte == 32) bytes.now) }
@@ -248,6 +262,7 @@ fn parse_words(alloc: Global, words: &[&[u8]]) -> Result<Line, LineError>
         Command::Move => parse_move(alloc, arguments),
         Command::Stop => parse_stop(alloc, arguments),
         Command::Show => parse_show(alloc, arguments),
+        Command::State => parse_state(alloc, arguments),
     }
 }
 

@@ -58,7 +58,7 @@ impl fmt::Display for LastTurn {
     }
 }
 
-/// What a line came to, but for `show`. A refusal goes by its printed name, as `S9`.
+/// What a line came to, but for `show` and `state`. A refusal goes by its printed name, as `S9`.
 #[derive(Clone, Copy)]
 pub enum LineReply {
     /// An invocation was made, an input closed, or an attempt stopped.
@@ -188,5 +188,24 @@ impl fmt::Display for ShownOpenness {
         } else {
             write!(f, "closed")
         }
+    }
+}
+
+/// A value of an object's state.
+#[derive(Clone, Copy)]
+pub struct ShownState<'a> {
+    pub key: &'a [u8],
+    pub value: &'a [u8],
+}
+
+impl fmt::Display for ShownState<'_> {
+    ghost use Rattle.script_lines.specs.Text.{state_text};
+
+    ghost output = { λ state. Some (state_text state) };
+
+    fn fmt<W: fmt::Write>(&self, f: &mut fmt::Formatter<W>) -> fmt::Result {
+        let key = Hex(self.key);
+        let value = Hex(self.value);
+        write!(f, "state {key} {value}")
     }
 }

@@ -4,7 +4,7 @@ ghost use Rattle.std.specs.Prelude.{◌≡◌, ◌^◌};
 ghost use Rattle.std.specs.List.{list_all};
 ghost use Rattle.script_lines.specs.declared.word.LineError.TheVariants.{Memory};
 ghost use Rattle.script_lines.specs.Word.{handler_word};
-ghost use Rattle.script_lines.specs.Reading.{Gives, is_word_byte, number_below, printable_of, text_of, state_of, handler_of, command_of};
+ghost use Rattle.script_lines.specs.Reading.{Gives, is_word_byte, number_below, printable_of, text_of, mode_of, handler_of, command_of};
 
 use bytes::{ByteStr, Bytes};
 use itoa::Buffer;
@@ -41,6 +41,7 @@ pub enum Command {
     Move,
     Stop,
     Show,
+    State,
 }
 
 /// How much of its object's state an invocation is begun with.
@@ -67,6 +68,12 @@ pub enum HandlerName {
     Ask,
     /// Makes two calls, waits for both, and answers `ok`.
     Pair,
+    /// Sets the key `x` of its object to `1` and to `2`, and answers `ok`.
+    Twice,
+    /// Sets the key `x` and clears it, and answers the keys that there are.
+    Keys,
+    /// Reads the key `x`, and answers its value.
+    Read,
 }
 
 impl HandlerName {
@@ -81,6 +88,9 @@ impl HandlerName {
             HandlerName::Both => b"both".as_slice(),
             HandlerName::Ask => b"ask".as_slice(),
             HandlerName::Pair => b"pair".as_slice(),
+            HandlerName::Twice => b"twice".as_slice(),
+            HandlerName::Keys => b"keys".as_slice(),
+            HandlerName::Read => b"read".as_slice(),
         }
     }
 }
@@ -142,9 +152,9 @@ pub fn parse_text(alloc: Global, word: &[u8]) -> Result<ByteStr, LineError>
 }
 
 /// The mode that a word names.
-#[tactic(auto, unfolding(crate::specs::Reading::state_of))]
-pub fn parse_state(word: &[u8]) -> Option<StateMode>
-    ensures { result ≡ state_of word.now }
+#[tactic(auto, unfolding(crate::specs::Reading::mode_of))]
+pub fn parse_mode(word: &[u8]) -> Option<StateMode>
+    ensures { result ≡ mode_of word.now }
 {
     match word {
         b"whole" => Some(StateMode::Whole),
@@ -170,6 +180,12 @@ pub fn parse_handler(word: &[u8]) -> Option<HandlerName>
         Some(HandlerName::Ask)
     } else if word == HandlerName::Pair.word() {
         Some(HandlerName::Pair)
+    } else if word == HandlerName::Twice.word() {
+        Some(HandlerName::Twice)
+    } else if word == HandlerName::Keys.word() {
+        Some(HandlerName::Keys)
+    } else if word == HandlerName::Read.word() {
+        Some(HandlerName::Read)
     } else {
         None
     }
@@ -200,6 +216,8 @@ pub fn parse_command(word: &[u8]) -> Option<Command>
         Some(Command::Stop)
     } else if word == b"show".as_slice() {
         Some(Command::Show)
+    } else if word == b"state".as_slice() {
+        Some(Command::State)
     } else {
         None
     }
