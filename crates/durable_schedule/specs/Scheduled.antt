@@ -9,6 +9,7 @@ use Rattle.journal_model.specs.Run.{Handler}
 use Rattle.vm_types.specs.declared.options.VMOptions.{VMOptions}
 use Rattle.store_refusals.specs.declared.refusal.Refusal.{Refusal}
 use Rattle.store_refusals.specs.declared.refusal.Refusal.TheVariants.{OutOfMemory}
+use Rattle.store_refusals.specs.Prepared.{Tells}
 use Rattle.store_invocations.specs.Rows.{Decides, known_tests}
 use Rattle.journal_store.specs.Accepting.{OutlastsFrames}
 use Rattle.journal_store.specs.Stored.{Stored}
@@ -167,6 +168,12 @@ module _ {H S : Type 0} (g : Ghosts S) where
   pub record IsScheduled (s : Scheduled H) (scheduler : Scheduler H S) : Type 0 where
     pub standing : IsStanding g s.standing scheduler.store
     pub held : s.held ≡ scheduler.held
+
+  -- Of whatever it stood for a scheduler tells this, and it stands for that then.
+  abbrev pub TellsAlways : {A : Type 0} → (List Event → A → Type 0) → Result A Refusal → Scheduler H S → Scheduler H S → Type 0
+  TellsAlways IsTold result old new =
+      HasCleanDisk (state g new.store.connection) → (s : Scheduled H) → IsScheduled s old
+      → Tells (IsTold s.standing.events) result × IsScheduled s new
 
   -- Of whatever it stood for a scheduler tells this where its accepted events know the invocation, and is refused where they do not; and
   -- it stands for that then.

@@ -7,3 +7,6 @@ pub use Rattle.schedule_model.specs.declared.event.Reply.TheVariants as reply
 pub use Rattle.schedule_model.specs.declared.event.Reply.TheVariants.{Turned}
 pub use Rattle.schedule_model.specs.declared.event.Reply.{Reply}
 pub use Rattle.schedule_model.specs.declared.held.HeldAttempt.{HeldAttempt}
+-- the rows in which the state of an object is told
+pub use Rattle.store_tables.specs.declared.row.StateRow.{StateRow}
+pub use Rattle.store_model.specs.Kept.{state_row}

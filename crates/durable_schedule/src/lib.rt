@@ -11,6 +11,10 @@ pub use schedule_model::{
 };
 pub use scheduler::Scheduler;
 
+// What a scheduler tells of an invocation, and of an object.
+pub use store_invocations::{EntryKind, RecordedEntry};
+pub use store_tables::{LastError, StateRow};
+
 // What a handler is, what it calls and is answered, and what a schedule is told besides.
 pub use journal_model::{
     Answer, AttachInvocationTarget, AwaitedFuture, Call, Failure, Handler, Header, Input, Moment,

@@ -1,8 +1,9 @@
 //! The scheduler: a store, and the attempts that were begun.
-ghost use Rattle.std.specs.Prelude.{◌≡◌, ◌<◌, ◌^◌, []};
+ghost use Rattle.std.specs.Prelude.{◌≡◌, ◌<◌, ◌^◌, [], map};
 ghost use Rattle.sqlite.specs.Held.{state};
 ghost use Rattle.sqlite.specs.State.{HasCleanDisk};
-ghost use Rattle.journal_model.specs.Journal.{is_open as is_open_after};
+ghost use Rattle.journal_model.specs.Journal.{is_open as is_open_after, object_state};
+ghost use Rattle.store_model.specs.Kept.{state_row};
 ghost use Rattle.store_model.specs.Progress.{last_error_of};
 ghost use Rattle.store_invocations.specs.Told.{entries_told};
 ghost use Rattle.store_invocations.specs.Answered.{answer_told};
@@ -10,7 +11,7 @@ ghost use Rattle.journal_store.specs.Attempts.{BeginsSome};
 ghost use Rattle.journal_store.specs.Stands.{Endures, EnduresAlways, IsQuiet, Leads, Settles};
 ghost use Rattle.schedule_model.specs.Schedule.{BeginDoes, Applies, Scheduled};
 ghost use Rattle.schedule_model.specs.Fitting.{FitsEvent};
-ghost use Rattle.durable_schedule.specs.Scheduled.{AppliesWith, HasBegun, IsOfHeld, IsScheduled, IsWritten, OutlastsEvent, Performs, Spares, SparesUnheld, TakesLive, TellsOf};
+ghost use Rattle.durable_schedule.specs.Scheduled.{AppliesWith, HasBegun, IsOfHeld, IsScheduled, IsWritten, OutlastsEvent, Performs, Spares, SparesUnheld, TakesLive, TellsAlways, TellsOf};
 
 use crate::held::{make, take_in};
 use crate::replies::{done, placed, ticked};
@@ -24,7 +25,7 @@ use sqlite::Alter;
 use std::alloc::Global;
 use store_calls::BegunAttempt;
 use store_invocations::RecordedEntry;
-use store_tables::LastError;
+use store_tables::{LastError, StateRow};
 use vm_types::VMOptions;
 
 /// A store, and the attempts that were begun: one that was stopped or overtaken can still make turns, and its bytes are refused.
@@ -278,6 +279,15 @@ impl<H: Handler + Drop, S: Alter + Drop> Scheduler<H, S> {
         ensures crash { IsQuiet S.Store self.old.store self.new.store }
     {
         self.store.is_open(id)
+    }
+
+    /// The values of an object's state, by ascending keys: what the requests of its invocations, closed ones too, have made of it.
+    pub fn state(&mut self, object: &ByteStr) -> Result<Vec<StateRow>, store_refusals::Refusal>
+        ensures told { TellsAlways S.Store (λ events states. states.items ≡ map (state_row object.now) (object_state events object.now)) result self.old self.new }
+        ensures kept { self.new ≡ record self.old { store = self.new.store } }
+        ensures crash { IsQuiet S.Store self.old.store self.new.store }
+    {
+        self.store.state(object)
     }
 
     /// The store, whose attempts nobody holds any more.

@@ -6,5 +6,6 @@ pub mod Printing
 pub mod Entries
 pub mod EntriesShown
 pub mod Showing
+pub mod States
 pub mod Doing
 pub mod Turning

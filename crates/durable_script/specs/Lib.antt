@@ -2,6 +2,7 @@ pub mod Reaching
 pub mod Printed
 pub mod Entries
 pub mod EntriesShown
+pub mod Rows
 pub mod Shown
 pub mod Line
 pub mod Runner

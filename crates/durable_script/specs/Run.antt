@@ -16,7 +16,7 @@ use Rattle.schedule_runs.specs.Passed.{HoldsOf}
 use Rattle.schedule_runs.specs.Runs.{Leaves, at_first}
 use Rattle.schedule_runs.specs.Schedules.{AppliesAll, Brings, Event, HeldAttempt, Reply, Scheduled}
 use Rattle.built_in_handlers.specs.BuiltIn.{function_of}
-use Rattle.built_in_handlers.specs.Handlers.{nap, nap99, race, both, ask, pair}
+use Rattle.built_in_handlers.specs.Handlers.{nap, nap99, race, both, ask, pair, twice, keys, read}
 use Rattle.script_lines.specs.declared.word.HandlerName.{HandlerName}
 use Rattle.script_lines.specs.declared.word.HandlerName.TheVariants as name
 use Rattle.script_lines.specs.declared.line.Line.{Line}
@@ -197,6 +197,9 @@ named_function name.Race = race
 named_function name.Both = both
 named_function name.Ask = ask
 named_function name.Pair = pair
+named_function name.Twice = twice
+named_function name.Keys = keys
+named_function name.Read = read
 
 -- Each name stands for its function.
 abbrev pub HandlersAreNamed : Type 0

@@ -1,12 +1,13 @@
--- What a line that shows an invocation prints.
+-- What a line that shows an invocation, or the state of an object, prints.
 use Rattle.std.specs.Prelude.{◌≡◌, ◌⊎◌, ℕ, Bool, List, [], ◌∷◌, ◌++◌, Option, Some, None, codes}
 use Rattle.std.specs.List.{flat_map}
 use Rattle.built_in_handlers.specs.declared.built_in.BuiltIn.{BuiltIn}
-use Rattle.journal_model.specs.Notification.{Text}
+use Rattle.journal_model.specs.Notification.{Text, Bytes}
 use Rattle.journal_model.specs.declared.value.NonEmptyValue.{NonEmptyValue}
 use Rattle.journal_model.specs.declared.value.NonEmptyValue.TheVariants.{Success, Failure}
 use Rattle.journal_model.specs.Event.{Event}
-use Rattle.journal_model.specs.Journal.{is_open}
+use Rattle.journal_model.specs.State.{StateMap}
+use Rattle.journal_model.specs.Journal.{is_open, object_state}
 use Rattle.journal_model.specs.Cause.{those_that_hold}
 use Rattle.store_refusals.specs.declared.refusal.Refusal.{Refusal}
 use Rattle.store_refusals.specs.Names.{name_of}
@@ -15,7 +16,7 @@ use Rattle.store_invocations.specs.Rows.{known_tests}
 use Rattle.store_invocations.specs.Told.{entries_told}
 use Rattle.store_invocations.specs.Answered.{answer_told}
 use Rattle.schedule_runs.specs.Schedules.{Scheduled}
-use Rattle.script_lines.specs.Text.{value_line, failure_line, open_text, refused_text}
+use Rattle.script_lines.specs.Text.{value_line, failure_line, open_text, refused_text, state_line}
 use Rattle.durable_script.specs.declared.entry.ShownEntry.{ShownEntry}
 use Rattle.durable_script.specs.Entries.{AreShown, SomeUnread, entry_text}
 
@@ -59,6 +60,21 @@ pub record ShowsRefusal (id : Text) (text : List ℕ) (events : List Event) : Ty
 
 abbrev pub Shows : Text → List ℕ → List Event → Type 0
 Shows id text events = ShowsRecords id text events ⊎ ShowsRefusal id text events
+
+-- ---- the state of an object
+
+-- the line of a value, behind its key
+abbrev pub state_entry : Bytes × Bytes → List ℕ
+state_entry entry = state_line entry.0 entry.1 ++ 10 ∷ []
+
+-- those of all, and the end
+abbrev pub states_text : StateMap → List ℕ
+states_text states = flat_map state_entry states ++ (codes "end" ++ 10 ∷ [])
+
+-- the state is told, or it is not, for a circumstance: an object of which nothing is recorded has none
+abbrev pub ShowsState : Text → List ℕ → List Event → Type 0
+ShowsState object text events =
+    (text ≡ states_text (object_state events object)) ⊎ ((refusal : Refusal) × IsRefused [] refusal × (text ≡ refused_text (name_of refusal) ++ 10 ∷ []))
 
 -- what is told of the accepted events, and nothing changes
 abbrev pub Looks : (List Event → Type 0) → Scheduled BuiltIn → Scheduled BuiltIn → Type 0

@@ -7,6 +7,7 @@ mod reply;
 mod run;
 mod runner;
 mod show;
+mod state;
 
 pub use entry::{ShownEntry, read_entries};
 pub use run::{ScriptEnd, run_script};

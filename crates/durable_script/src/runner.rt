@@ -9,6 +9,7 @@ ghost use Rattle.durable_script.specs.Runner.{DoesNext, StopsAt};
 
 use crate::reply::{line_reply, reply_line};
 use crate::show::show;
+use crate::state::show_state;
 use built_in_handlers::BuiltIn;
 use bytes::{ByteStr, Bytes};
 use journal_model::{Failure, NewInvocation, NotificationResult};
@@ -217,6 +218,7 @@ fn carry_out<S: Alter + Drop>(
             },
         ),
         Line::Show { id } => show(scheduler, &id),
+        Line::State { object } => show_state(scheduler, &object),
     }
 }
 

@@ -1,1 +1,2 @@
 pub mod Reminder
+pub mod Stamp

@@ -1,13 +1,16 @@
 //! `example_schedule`: a handler of one's own, stopped while it sleeps, by the schedule whose contract is the headline, and gone on with by
-//! a loop over the scheduler that this leaves.
+//! a loop over the scheduler that this leaves; and one that keeps something in its object's state.
 #![tactic(auto)]
 
 mod attempt;
+mod orders;
 mod reminder;
+mod stamp;
 
 use anyhow::{Result, bail};
 use attempt::go_on;
 use bytes::{ByteStr, Bytes};
+use orders::take_orders;
 use reminder::Reminder;
 use schedule_runs::{
     Event, NewInvocation, NoRoom, Reply, Scheduler, Sequence, StateMode, Store, VMOptions,
@@ -151,6 +154,18 @@ fn run<R: Print>(rt: &R, alloc: Global) -> Result<()> {
     Ok(kept?)
 }
 
+// Two orders, over a store of their own.
+fn run_orders<R: Print>(rt: &R, alloc: Global) -> Result<()> {
+    let Ok(store) = open_in_memory(alloc) else {
+        bail!("no store was made");
+    };
+    let mut scheduler = Scheduler::new(alloc, store, VMOptions::default());
+    let printed = take_orders(rt, &mut scheduler);
+    close(scheduler.into_store());
+    Ok(printed?)
+}
+
 fn main(rt: HostRuntime) -> Result<()> {
-    run(&rt, rt.alloc())
+    run(&rt, rt.alloc())?;
+    run_orders(&rt, rt.alloc())
 }

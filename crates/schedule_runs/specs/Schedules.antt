@@ -1,5 +1,5 @@
 -- Schedules and their events, passed on, so that crates above name this one alone.
 pub use Rattle.durable_schedule.specs.Schedules.event
 pub use Rattle.durable_schedule.specs.Schedules.reply
-pub use Rattle.durable_schedule.specs.Schedules.{Event, Reply, Turned, Scheduled, AppliesAll, Brings, HeldAttempt, Does, Applies, name_of}
+pub use Rattle.durable_schedule.specs.Schedules.{Event, Reply, Turned, Scheduled, AppliesAll, Brings, HeldAttempt, Does, Applies, StateRow, name_of, state_row}
 pub use Rattle.schedule_laws.specs.Schedules.{FitsEvent}

@@ -15,10 +15,11 @@ mod front;
 mod laws;
 
 pub use durable_schedule::{
-    Answer, AttachInvocationTarget, AwaitedFuture, Call, Event, Failure, Handler, Header,
-    HeldAttempt, Input, Moment, NewInvocation, NonEmptyValue, NotificationHandle,
-    NotificationResult, PayloadOptions, Refusal, Reply, Scheduler, Sequence, StateMode, Target,
-    TerminalFailure, Turn, UnresolvedFuture, VMOptions, Value,
+    Answer, AttachInvocationTarget, AwaitedFuture, Call, EntryKind, Event, Failure, Handler,
+    Header, HeldAttempt, Input, LastError, Moment, NewInvocation, NonEmptyValue,
+    NotificationHandle, NotificationResult, PayloadOptions, RecordedEntry, Refusal, Reply,
+    Scheduler, Sequence, StateMode, StateRow, Target, TerminalFailure, Turn, UnresolvedFuture,
+    VMOptions, Value,
 };
 pub use front::run_new_schedule;
 pub use journal_store::Store;

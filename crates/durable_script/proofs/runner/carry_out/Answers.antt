@@ -49,3 +49,7 @@ returns-in-Stop g c = rw c.in-Stop.is c.do_event-in-Stop.ensures
 
 pub returns-in-Show : goal.returns-in-Show
 returns-in-Show g c = makes_quiet string_bytes c.show.result g.S.Store c.args.scheduler.now c.show.new.scheduler c.args.line (line.Show c.in-Show.id) c.in-Show.is c.show.ensures
+
+pub returns-in-State : goal.returns-in-State
+returns-in-State g c =
+    makes_quiet string_bytes c.show_state.result g.S.Store c.args.scheduler.now c.show_state.new.scheduler c.args.line (line.State c.in-State.object) c.in-State.is c.show_state.ensures
