@@ -19,7 +19,7 @@ use Rattle.schedule_runs.specs.Schedules.{Scheduled, StateRow, state_row}
 use Rattle.script_lines.specs.Text.{refused_text}
 use Rattle.durable_script.specs.Reaching.{Reaches, Nowhere}
 use Rattle.durable_script.specs.Rows.{row_text, rows_text}
-use Rattle.durable_script.specs.Shown.{state_entry, states_text, Looks, ShowsState}
+use Rattle.durable_script.specs.Shown.{state_entry, Looks, ShowsState}
 use Rattle.durable_script.proofs.Reaching.{reaches_so, reaches_told}
 
 -- rows of an object are shown as its values are
