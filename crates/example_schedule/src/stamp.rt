@@ -38,7 +38,7 @@ fn stamped(alloc: Global, taken: &Answer) -> Result<Bytes, AllocError>
         card.extend_from_slice(before.as_slice())?;
     }
     card.push(b'*')?;
-    Bytes::from_vec(card)
+    Ok(Bytes::from_vec(card)?)
 }
 
 impl Handler for Stamp {
