@@ -18,6 +18,8 @@ $1 == "file" { put($2 ", " $3 " of them, on a file", $5) }
 
 $1 == "journal" { for (i = 3; i < NF; i += 2) put($i ", journal of " $2, $(i + 1)) }
 
+$1 == "state" { for (i = 3; i < NF; i += 2) put($i ", " $2 " keys", $(i + 1)) }
+
 END {
     format = "%-36s %12s %14s %8s\n"
     printf format, "microseconds an event", "here", "stock SQLite", "times"

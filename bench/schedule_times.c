@@ -5,7 +5,7 @@
  * Brings COUNT invocations of the handler race from invoke to end, and COUNT of ask, whose first attempt is stopped where it waits and
  * whose second goes on, and prints the microseconds of an event: in memory, of the processor, there with a log too, as the library has
  * it, and in a new file of that name, by the clock. Then an invocation whose journal grows to 10,000 entries, resumed at each tenth of
- * them. To hand bytes out, to make a turn and to stop an attempt are events without a statement. */
+ * them, and objects of 10 and of 10,000 keys. To hand bytes out, to make a turn and to stop an attempt are events without a statement. */
 #include "store_statements.h"
 
 /* How many events each invocation has: each is made, begun twice, fed three times, stopped once, its output is moved three times, and
@@ -75,6 +75,43 @@ static void time_journal(void) {
     close_database();
 }
 
+/* How many keys of an object are timed, or all of them where these are fewer. */
+enum { TIMED = 100 };
+
+/* An object gets so many keys by one invocation; another one, which is handed all of it, reads some of them, and one more, which is not.
+ * What is printed is of a turn with the move of its frame, of which the move alone has statements. */
+static void time_states(uint32_t keys) {
+    open_database(":memory:");
+    struct progress p;
+    uint32_t timed = keys < TIMED ? keys : TIMED;
+    invoke(&p, 0);
+    begin(&p);
+    double start = 0;
+    for (uint32_t key = 0; key < keys; key++) {
+        if (key == keys - timed) start = now();
+        step_set(&p, key);
+    }
+    double set = (now() - start) / timed;
+    step_end(&p);
+    double took[3];
+    for (uint64_t which = 1; which <= 2; which++) {
+        invoke(&p, which);
+        snprintf(p.object, sizeof p.object, "o-0");
+        start = now();
+        begin(&p);
+        if (which == 1) took[0] = now() - start;
+        start = now();
+        for (uint32_t key = 0; key < timed; key++) {
+            if (which == 1) step_eager_read(&p);
+            else step_lazy_read(&p, key);
+        }
+        took[which] = (now() - start) / timed;
+        step_end(&p);
+    }
+    printf("state %u set %.2f begin %.2f eager %.2f lazy %.2f\n", keys, set, took[0], took[1], took[2]);
+    close_database();
+}
+
 int main(int count, char **words) {
     if (count < 2) return 0;
     uint64_t invocations = strtoull(words[1], NULL, 10);
@@ -82,5 +119,7 @@ int main(int count, char **words) {
     time_handlers("log", "file:/schedule?vfs=memdb", CLOCK_PROCESS_CPUTIME_ID, invocations);
     if (count > 2) time_handlers("file", words[2], CLOCK_MONOTONIC, invocations);
     time_journal();
+    time_states(10);
+    time_states(10000);
     return seen == 1 ? 2 : 0;
 }

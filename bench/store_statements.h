@@ -12,7 +12,8 @@
 
 enum statement {
     BEGIN, COMMIT, INVOCATION_BY_ID, OPEN_INVOCATION, ENTRY_BY_ANSWERED, ENTRY_BY_COMPLETION, ENTRY_BY_SECOND_COMPLETION,
-    JOURNAL, STATES, SLEEPS_UNTIL, ADD_INVOCATION, SET_PROGRESS, ADD_ENTRY, OPEN_SLEEP, CLOSE_SLEEPS, CLOSE_SLEEPS_UNTIL, STATEMENTS
+    JOURNAL, STATES, SLEEPS_UNTIL, ADD_INVOCATION, SET_PROGRESS, ADD_ENTRY, OPEN_SLEEP, CLOSE_SLEEPS, CLOSE_SLEEPS_UNTIL, STATE, DROP_STATE,
+    ADD_STATE, STATEMENTS
 };
 
 static const char *const TEXTS[STATEMENTS] = {
@@ -32,6 +33,9 @@ static const char *const TEXTS[STATEMENTS] = {
     "INSERT INTO sleep VALUES (?1, ?2, ?3)",
     "DELETE FROM sleep WHERE invocation = ?1",
     "DELETE FROM sleep WHERE moment <= ?1",
+    "SELECT * FROM state WHERE object = ?1 AND key = ?2",
+    "DELETE FROM state WHERE object = ?1 AND key = ?2",
+    "INSERT INTO state VALUES (?1, ?2, ?3)",
 };
 
 static const char *const SCHEMA[] = {
@@ -71,6 +75,13 @@ static const unsigned char CALL[] = "\x0a\x03svc\x12\x01h\x50\x01\x58\x02";
 static const unsigned char ANSWER[] = "\x08\x01\x2a\x04\x0a\x02ok";
 static const unsigned char SLEEP_END[] = "\x08\x01\x22\x00";
 static const unsigned char OUTPUT[] = "\x72\x04\x0a\x02ok";
+
+/* Of a set, of a read that is known, of one that is asked for and of its answer, each of a key of four digits; and a value. */
+static const unsigned char SET[] = "\x0a\x04" "1234" "\x1a\x12\x0a\x10sixteen bytes...";
+static const unsigned char EAGER_READ[] = "\x0a\x04" "1234" "\x72\x12\x0a\x10sixteen bytes...";
+static const unsigned char LAZY_READ[] = "\x0a\x04" "1234" "\x58\x01";
+static const unsigned char READ_ANSWER[] = "\x08\x01\x2a\x12\x0a\x10sixteen bytes...";
+static const unsigned char VALUE[] = "sixteen bytes...";
 
 /* When sleeps are over, in milliseconds. */
 enum { MOMENT = 1000 };
@@ -290,6 +301,50 @@ static void step_output(struct progress *p) {
     by_id(INVOCATION_BY_ID, p->id);
     p->has_answer = 1;
     record(p, 0x0401, OUTPUT, sizeof OUTPUT - 1, 0, 0, 0);
+}
+
+/* A statement of a key of an object's state. */
+static void by_key(enum statement which, const struct progress *p, uint32_t key) {
+    char digits[16];
+    int len = snprintf(digits, sizeof digits, "%u", key);
+    text(which, 1, p->object);
+    sqlite3_bind_blob(statements[which], 2, digits, len, SQLITE_TRANSIENT);
+    run(which);
+}
+
+static void step_set(struct progress *p, uint32_t key) {
+    by_id(INVOCATION_BY_ID, p->id);
+    run(BEGIN);
+    add_entry(p, p->entries, 0x0403, SET, sizeof SET - 1, 0, 0, 0, 0);
+    p->entries++;
+    p->since_entry = 0;
+    p->first_moment = 0;
+    set_progress(p);
+    by_key(DROP_STATE, p, key);
+    sqlite3_bind_blob(statements[ADD_STATE], 3, VALUE, sizeof VALUE - 1, SQLITE_STATIC);
+    by_key(ADD_STATE, p, key);
+    run(COMMIT);
+}
+
+static void step_eager_read(struct progress *p) {
+    by_id(INVOCATION_BY_ID, p->id);
+    record(p, 0x0407, EAGER_READ, sizeof EAGER_READ - 1, 0, 0, 0);
+}
+
+/* Its answer is recorded with it. */
+static void step_lazy_read(struct progress *p, uint32_t key) {
+    by_id(INVOCATION_BY_ID, p->id);
+    by_key(STATE, p, key);
+    run(BEGIN);
+    p->last_completion++;
+    p->arrivals++;
+    add_entry(p, p->entries, 0x0402, LAZY_READ, sizeof LAZY_READ - 1, p->last_completion, 0, 0, 0);
+    add_entry(p, p->entries + 1, 0x8002, READ_ANSWER, sizeof READ_ANSWER - 1, 0, 0, p->last_completion, p->arrivals);
+    p->entries += 2;
+    p->since_entry = 0;
+    p->first_moment = 0;
+    set_progress(p);
+    run(COMMIT);
 }
 
 static void step_end(struct progress *p) {

@@ -2,6 +2,7 @@
 mod events;
 mod growth;
 mod handlers;
+mod states;
 mod timed;
 
 use crate::fault::Fault;
@@ -11,6 +12,7 @@ use growth::tell_growth;
 use handlers::{Numbers, Told, tell_both};
 use journal_store::{NotOpened, Store};
 use sqlite::{Alter, Unknown};
+use states::tell_states;
 use std::rt::HostRuntime;
 use store_files::{NotTaken, open_file, open_in_memory};
 use timed::Timed;
@@ -23,6 +25,8 @@ enum Work {
     Invocations(Numbers, u32),
     /// One whose journal grows by so many entries, so many times.
     Growth(u32, u32),
+    /// An object of so many keys.
+    States(u32),
 }
 
 /// A journal that grows to 10,000 entries.
@@ -52,6 +56,7 @@ fn tell<S: Alter + Drop, L: Drop>(
         Work::Growth(entries, times) => {
             tell_growth(rt, &mut scheduler, &mut place, told, entries, times)
         }
+        Work::States(keys) => tell_states(rt, &mut scheduler, &mut place, told, keys),
     };
     drop(place);
     // Each library lets go of its own, so that nothing is proved here of how that is done.
@@ -75,7 +80,8 @@ fn tell_in_file(rt: &HostRuntime, path: &str, work: Work) -> Result<(), Fault> {
 pub fn run_schedule(rt: &HostRuntime, words: &[String]) -> Result<(), Fault> {
     let Some(first) = words.get(2) else {
         tell_in_memory(rt, Told::Count, Work::Invocations(Numbers::Counted, 2))?;
-        return tell_in_memory(rt, Told::Count, Work::Growth(20, 1));
+        tell_in_memory(rt, Told::Count, Work::Growth(20, 1))?;
+        return tell_in_memory(rt, Told::Count, Work::States(3));
     };
     let is_memory = first.as_str() == "memory";
     let second = words.get(3);
@@ -91,5 +97,7 @@ pub fn run_schedule(rt: &HostRuntime, words: &[String]) -> Result<(), Fault> {
     } else if let Some(path) = second {
         tell_in_file(rt, path.as_str(), counted)?;
     }
-    tell_in_memory(rt, Told::Memory, GROWTH)
+    tell_in_memory(rt, Told::Memory, GROWTH)?;
+    tell_in_memory(rt, Told::Memory, Work::States(10))?;
+    tell_in_memory(rt, Told::Memory, Work::States(10_000))
 }

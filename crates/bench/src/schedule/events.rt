@@ -32,6 +32,8 @@ pub enum Step {
 pub struct Place {
     pub alloc: Global,
     pub id: ByteStr,
+    pub object: ByteStr,
+    pub state: StateMode,
     pub handler: Timed,
     pub attempt: u32,
     pub events: u32,
@@ -43,14 +45,23 @@ impl Place {
         Place {
             alloc,
             id: ByteStr::new(),
+            object: ByteStr::new(),
+            state: StateMode::Whole,
             handler: Timed::Sleeps,
             attempt: 0,
             events: 0,
         }
     }
 
-    /// From here on it is that of the invocation of this number, of which nothing has happened.
+    /// From here on it is that of the invocation of this number, of which nothing has happened, of an object of its own.
     pub fn go_on(&mut self, which: u32, handler: Timed) -> Result<(), Fault> {
+        self.go_on_with(which, handler)?;
+        drop(replace(&mut self.object, self.id.clone()?));
+        Ok(())
+    }
+
+    /// The same, of the object that it has.
+    pub fn go_on_with(&mut self, which: u32, handler: Timed) -> Result<(), Fault> {
         let name = format!(in self.alloc; "inv-{which}")?;
         let id = ByteStr::copy_from_str(self.alloc, name.as_str());
         drop(name);
@@ -60,9 +71,9 @@ impl Place {
         Ok(())
     }
 
-    /// The invocation, of an object of its own, with this id.
+    /// The invocation with this id.
     fn new_invocation(&self, id: ByteStr) -> Result<NewInvocation, Fault> {
-        match self.id.clone() {
+        match self.object.clone() {
             Ok(object) => Ok(NewInvocation {
                 id,
                 object,
@@ -70,7 +81,7 @@ impl Place {
                 headers: Sequence::new(self.alloc),
                 version: 7,
                 seed: 42,
-                state: StateMode::Whole,
+                state: self.state,
             }),
             Err(_error) => {
                 drop(id);

@@ -8,7 +8,7 @@ use std::rt::HostRuntime;
 use std::time::Duration;
 
 // What so many times these steps take.
-fn time_each<E: Events>(
+pub fn time_each<E: Events>(
     rt: &HostRuntime,
     scheduler: &mut E,
     place: &mut Place,

@@ -1,7 +1,11 @@
 // The handlers of the invocations whose events are timed.
+ghost use Rattle.std.specs.Prelude.{◌≡◌, decimal, IfOk};
+ghost use Rattle.bench.specs.Timed.{get_of, set_of};
+
 use built_in_handlers::handlers::{Ask, Race};
-use bytes::ByteStr;
-use journal_model::{Answer, Call, Handler, Input, Moment};
+use bytes::{ByteStr, Bytes};
+use itoa::Buffer;
+use journal_model::{Answer, Call, Handler, Input, Moment, PayloadOptions};
 use std::alloc::{AllocError, Global};
 
 /// A handler whose events are timed. All are of one type, since there is a scheduler for each type of handlers.
@@ -11,6 +15,38 @@ pub enum Timed {
     Ask(Global),
     /// Sleeps until 1000 ms, again and again, and waits for none of them.
     Sleeps,
+    /// Sets so many keys, the numbers from 0 on, and ends.
+    Sets(Global, usize),
+    /// Reads so many keys, the numbers from 0 on, waits for none of them, and ends.
+    Reads(Global, usize),
+}
+
+/// The key of this number.
+fn key(alloc: Global, number: usize) -> Result<ByteStr, AllocError>
+    ensures { IfOk result (λ key. key ≡ decimal number) }
+{
+    ByteStr::copy_from_str(alloc, Buffer::new().format(number))
+}
+
+fn set(alloc: Global, number: usize) -> Result<Call, AllocError>
+    ensures { IfOk result (λ call. call ≡ set_of number) }
+{
+    Ok(Call::StateSet {
+        key: key(alloc, number)?,
+        value: Bytes::from_static(b"sixteen bytes..."),
+        name: None,
+        options: PayloadOptions::stable_serialization(),
+    })
+}
+
+fn get(alloc: Global, number: usize) -> Result<Call, AllocError>
+    ensures { IfOk result (λ call. call ≡ get_of number) }
+{
+    Ok(Call::StateGet {
+        key: key(alloc, number)?,
+        name: None,
+        options: PayloadOptions::stable_serialization(),
+    })
 }
 
 impl Handler for Timed {
@@ -27,6 +63,9 @@ impl Handler for Timed {
                 wake_up: Moment::from_millis(1000),
                 now: None,
             }),
+            Timed::Sets(alloc, count) if answers.len() < count => set(alloc, answers.len()),
+            Timed::Reads(alloc, count) if answers.len() < count => get(alloc, answers.len()),
+            _ => Ok(Call::End),
         }
     }
 }
