@@ -1,5 +1,5 @@
 -- The handlers whose events are timed.
-use Rattle.std.specs.Prelude.{ℕ, ◌<?◌, if◌then◌else◌, length, None, codes, decimal}
+use Rattle.std.specs.Prelude.{ℕ, nat_lt, if◌then◌else◌, length, None, codes, decimal}
 use Rattle.journal_model.specs.declared.call.Call.{Call}
 use Rattle.journal_model.specs.Run.{Handler}
 use Rattle.built_in_handlers.specs.Handlers.{race, ask, sleep_until, default_options}
@@ -17,5 +17,5 @@ abbrev pub function_of : Timed → Handler
 function_of (timed.Race alloc) = race
 function_of (timed.Ask alloc) = ask
 function_of timed.Sleeps = λ input answers. sleep_until 1000 answers
-function_of (timed.Sets alloc count) = λ input answers. if length answers <? count then set_of (length answers) else Call.End
-function_of (timed.Reads alloc count) = λ input answers. if length answers <? count then get_of (length answers) else Call.End
+function_of (timed.Sets alloc count) = λ input answers. if nat_lt (length answers) count then set_of (length answers) else Call.End
+function_of (timed.Reads alloc count) = λ input answers. if nat_lt (length answers) count then get_of (length answers) else Call.End
