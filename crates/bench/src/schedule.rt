@@ -29,8 +29,19 @@ enum Work {
     States(u32),
 }
 
-/// A journal that grows to 10,000 entries.
-const GROWTH: Work = Work::Growth(1_000, 10);
+/// A little of each.
+const LITTLE: [Work; 3] = [
+    Work::Invocations(Numbers::Counted, 2),
+    Work::Growth(20, 1),
+    Work::States(3),
+];
+
+/// A journal that grows to 10,000 entries, and objects of 10 and of 10,000 keys.
+const AT_SIZES: [Work; 3] = [
+    Work::Growth(1_000, 10),
+    Work::States(10),
+    Work::States(10_000),
+];
 
 /// Over a store that was opened, unless it was not.
 fn tell<S: Alter + Drop, L: Drop>(
@@ -70,6 +81,14 @@ fn tell_in_memory(rt: &HostRuntime, told: Told, work: Work) -> Result<(), Fault>
     tell::<_, ()>(rt, Ok(store), told, work)
 }
 
+/// One behind the other, each over a database of its own in memory.
+fn tell_each(rt: &HostRuntime, told: Told, all: &[Work]) -> Result<(), Fault> {
+    for work in all {
+        tell_in_memory(rt, told, *work)?;
+    }
+    Ok(())
+}
+
 /// Over a store in a new file. Each commit is on the disk. The parts of a store's type are compared where `tell` is called, and where
 /// what is left of one is let go of, at no small cost: so `tell` does that.
 fn tell_in_file(rt: &HostRuntime, path: &str, work: Work) -> Result<(), Fault> {
@@ -79,9 +98,7 @@ fn tell_in_file(rt: &HostRuntime, path: &str, work: Work) -> Result<(), Fault> {
 /// Does what the words say behind the part's name, or, where there are none, a little of it.
 pub fn run_schedule(rt: &HostRuntime, words: &[String]) -> Result<(), Fault> {
     let Some(first) = words.get(2) else {
-        tell_in_memory(rt, Told::Count, Work::Invocations(Numbers::Counted, 2))?;
-        tell_in_memory(rt, Told::Count, Work::Growth(20, 1))?;
-        return tell_in_memory(rt, Told::Count, Work::States(3));
+        return tell_each(rt, Told::Count, &LITTLE);
     };
     let is_memory = first.as_str() == "memory";
     let second = words.get(3);
@@ -97,7 +114,5 @@ pub fn run_schedule(rt: &HostRuntime, words: &[String]) -> Result<(), Fault> {
     } else if let Some(path) = second {
         tell_in_file(rt, path.as_str(), counted)?;
     }
-    tell_in_memory(rt, Told::Memory, GROWTH)?;
-    tell_in_memory(rt, Told::Memory, Work::States(10))?;
-    tell_in_memory(rt, Told::Memory, Work::States(10_000))
+    tell_each(rt, Told::Memory, &AT_SIZES)
 }
