@@ -21,14 +21,23 @@ one = NonEmptyValue.Success (codes "1")
 abbrev pub invocation : AttachInvocationTarget
 invocation = AttachInvocationTarget.InvocationId (codes "i")
 
+abbrev pub get : Call
+get = Call.StateGet (codes "k") None stable
+
+abbrev pub set : Call
+set = Call.StateSet (codes "k") (codes "1") None stable
+
+abbrev pub send : Call
+send = Call.Send service [] None None stable
+
 abbrev pub call_of : Step → Call
-call_of Step.Get = Call.StateGet (codes "k") None stable
+call_of Step.Get = get
 call_of Step.GetKeys = Call.StateGetKeys None
-call_of Step.Set = Call.StateSet (codes "k") (codes "1") None stable
+call_of Step.Set = set
 call_of Step.Clear = Call.StateClear (codes "k") None
 call_of Step.ClearAll = Call.StateClearAll None
 call_of Step.Run = Call.Run (codes "n")
-call_of Step.Send = Call.Send service [] None None stable
+call_of Step.Send = send
 call_of Step.CompleteAwakeable = Call.CompleteAwakeable (codes "a") one stable
 call_of Step.CompleteSignal = Call.CompleteSignal (codes "i") (codes "n") one
 call_of Step.GetPromise = Call.GetPromise (codes "k")

@@ -80,7 +80,7 @@ fn invocation() -> AttachInvocationTarget
 }
 
 fn get() -> Call
-    ensures { result ≡ stepping.call_of stepping.Step.Get }
+    ensures { result ≡ stepping.get }
 {
     Call::StateGet {
         key: ByteStr::from_static("k"),
@@ -90,7 +90,7 @@ fn get() -> Call
 }
 
 fn set() -> Call
-    ensures { result ≡ stepping.call_of stepping.Step.Set }
+    ensures { result ≡ stepping.set }
 {
     Call::StateSet {
         key: ByteStr::from_static("k"),
@@ -101,7 +101,7 @@ fn set() -> Call
 }
 
 fn send(alloc: Global) -> Call
-    ensures { result ≡ stepping.call_of stepping.Step.Send }
+    ensures { result ≡ stepping.send }
 {
     Call::Send {
         target: service(alloc),
