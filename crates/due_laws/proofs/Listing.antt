@@ -11,10 +11,10 @@ use Rattle.journal_model.specs.State.{StateMap, bytes_cmp, state_keys}
 use Rattle.journal_model.specs.declared.invocation.NewInvocation.{NewInvocation}
 use Rattle.journal_model.specs.Event.{Event}
 use Rattle.journal_model.specs.Journal.{invoked_by, invocation_begun, closes, frames_of, version_of, is_open}
-use Rattle.journal_model.specs.Attempt.{is_none, live_attempt, suspension_of, is_woken, is_due, ids_in_order}
+use Rattle.journal_model.specs.Attempt.{is_none, live_attempt, arrivals_not_handed, suspension_of, is_woken, is_due, ids_in_order}
 use Rattle.journal_laws.proofs.Applying.{same_bytes}
 use Rattle.due_laws.specs.Awake.{not_heard, is_awake_kept}
-use Rattle.due_laws.specs.Listing.{ids_begun, DoRise, DueListed, AwakeFound}
+use Rattle.due_laws.specs.Listing.{ids_begun, DoRise, DueListed, DueTells, AwakeFound}
 use Rattle.due_laws.proofs.Heard.{awake_is_due}
 
 -- ---- ids as the keys of a map
@@ -196,3 +196,40 @@ awake_found events ids rise permuted = record {
     as_flag : (a b : Bool) → (a ≡ true → b ≡ true) → (a && b) ≡ a
     as_flag true b h = h refl
     as_flag false b h = refl
+
+-- ---- an id among those that are due
+
+any_of_keys : (q : Text) (es : StateMap) → is_some (find bytes_cmp q es) ≡ list_any (bytes_eq q) (state_keys es)
+any_of_keys q [] = refl
+any_of_keys q (e ∷ es) = ap (λ (b : Bool). is_some (if b then Some e.1 else find bytes_cmp q es)) (is_eq-slice_cmp q e.0) ∙ by_test (bytes_eq q e.0) (any_of_keys q es)
+  where
+    by_test : (b : Bool) → is_some (find bytes_cmp q es) ≡ list_any (bytes_eq q) (state_keys es)
+        → is_some (if b then Some e.1 else find bytes_cmp q es) ≡ (b || list_any (bytes_eq q) (state_keys es))
+    by_test true later = refl
+    by_test false later = later
+
+some_marked : (b : Bool) → is_some {T = Bytes} (if b then Some [] else None) ≡ b
+some_marked true = refl
+some_marked false = refl
+
+pub due_tells : DueTells
+due_tells events id =
+    any_filter (is_due events) id (state_keys (ids_in_order (filter_map invoked_by events)))
+    ∙ ap (λ (b : Bool). is_due events id && b) among
+    ∙ as_due (is_due events id) (list_any (bytes_eq id) (ids_begun events)) begun
+  where
+    among : list_any (bytes_eq id) (state_keys (ids_in_order (filter_map invoked_by events))) ≡ list_any (bytes_eq id) (ids_begun events)
+    among =
+        sym (any_of_keys id (ids_in_order (filter_map invoked_by events)))
+        ∙ ap (λ (o : Option Bytes). is_some o) (find_in_order id (filter_map invoked_by events))
+        ∙ some_marked (list_any (bytes_eq id) (ids_begun events))
+
+    begun : is_due events id ≡ true → list_any (bytes_eq id) (ids_begun events) ≡ true
+    begun e =
+        begun_among id (filter_map invoked_by events)
+        (and_first (is_some (invocation_begun events id)) (not (list_any (closes (version_of events id)) (frames_of events id)))
+        (and_first (is_open events id) (is_none (live_attempt events id) && is_woken (arrivals_not_handed events id) (suspension_of events id)) e))
+
+    as_due : (a b : Bool) → (a ≡ true → b ≡ true) → (a && b) ≡ a
+    as_due true b h = h refl
+    as_due false b h = refl

@@ -7,7 +7,7 @@ use Rattle.journal_model.specs.State.{bytes_cmp}
 use Rattle.journal_model.specs.declared.invocation.NewInvocation.{NewInvocation}
 use Rattle.journal_model.specs.Event.{Event}
 use Rattle.journal_model.specs.Journal.{invoked_by}
-use Rattle.journal_model.specs.Attempt.{is_none, live_attempt, due}
+use Rattle.journal_model.specs.Attempt.{is_none, live_attempt, is_due, due}
 use Rattle.journal_model.specs.Cause.{IsAccepted}
 use Rattle.due_laws.specs.Awake.{is_awake_kept}
 
@@ -29,6 +29,10 @@ pub record AreAwake (events : List Event) (ids : List Text) : Type 0 where
 -- those of them without a live attempt are due
 abbrev pub DueListed : Type 0
 DueListed = (events : List Event) (ids : List Text) → IsAccepted events → AreAwake events ids → due events ≡ filter (λ id. is_none (live_attempt events id)) ids
+
+-- an invocation is among these where it is due
+abbrev pub DueTells : Type 0
+DueTells = (events : List Event) (id : Text) → list_any (bytes_eq id) (due events) ≡ is_due events id
 
 -- the invocations that have the flag, in byte order, are these
 abbrev pub AwakeFound : Type 0

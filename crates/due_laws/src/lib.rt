@@ -6,7 +6,7 @@
 ghost use Rattle.due_laws.specs.Awake.{AwakeGrows, AwakeIsDue, HeardIsWithin, LiveIsAwake, NotedElsewhere, NotedFollows, NotedInvoked, NotedOpened, NotedRefused, NotedStill, NotedTicks, NotedUnticked};
 ghost use Rattle.due_laws.specs.Leaves.{OnlyAwaitedWake};
 ghost use Rattle.due_laws.specs.Told.{ChainGoesOn, ChainIsHandedOut};
-ghost use Rattle.due_laws.specs.Listing.{AwakeFound, DueListed};
+ghost use Rattle.due_laws.specs.Listing.{AwakeFound, DueListed, DueTells};
 ghost use Rattle.due_laws.specs.Rows.{AllKnownStays, OutcomesAreRead, PiecesAreRows};
 ghost use Rattle.due_laws.specs.Handing.{ChainsAreOne, CountIsUnseen, GivenIsAsked, PartIsHanded, PartIsTaken, RowsAreRead, RowsTell, TakenIsPart};
 
@@ -35,6 +35,7 @@ pub fn noted_follows()
 pub fn due_listed()
     ensures listed { DueListed }
     ensures found { AwakeFound }
+    ensures tells { DueTells }
 {}
 
 /// A frame of an attempt's input is that of an entry known at its begin, or of a later arrival; and which of these are acknowledgements.

@@ -1,8 +1,9 @@
 -- Which frames are left when bytes are handed out in two parts, and when a frame is put behind.
-use Rattle.std.proofs.Common.{ℕ, ◌+◌, ◌-◌, ◌≤◌, ◌<◌, nat_le, arith, ◌≡◌, refl, ap, ◌∙◌, Bool, true, false, if◌then◌else◌, List, [], ◌∷◌, ◌++◌}
+use Rattle.std.proofs.Common.{ℕ, suc, ◌+◌, ◌-◌, ◌≤◌, ◌<◌, nat_le, arith, ◌≡◌, refl, ap, ◌∙◌, Bool, true, false, if◌then◌else◌, List, [], ◌∷◌, ◌++◌, length, length-append, map, filter}
+use Rattle.std.proofs.lemmas.List.Elements.{filter-append}
 use Rattle.std.proofs.lemmas.Bool.{leb-true, leb-false, le-leb, lt-leb}
 use Rattle.store_live.specs.declared.input.PieceLeft.{PieceLeft}
-use Rattle.store_live.specs.Input.{pieces_after, place_after}
+use Rattle.store_live.specs.Input.{arrivals_left, arrived_frame, pieces_after, pieces_from, place_after}
 
 -- how many bytes these frames have
 abbrev pub count_of : List PieceLeft → ℕ
@@ -142,3 +143,25 @@ place_more count (piece ∷ pieces) more handed h full =
         let below = leb-true piece.len count e in
         later (omega arith)
     by_test false e later = refl
+
+-- ---- arrivals
+
+pub arrivals_few : (pieces : List PieceLeft) → arrivals_left pieces ≤ length pieces
+arrivals_few [] = omega arith
+arrivals_few (piece ∷ pieces) = by_flag piece.is_arrival (arrivals_few pieces)
+  where
+    by_flag : (b : Bool) → arrivals_left pieces ≤ length pieces
+        → length (if b then piece ∷ filter (λ (p : PieceLeft). p.is_arrival) pieces else filter (λ (p : PieceLeft). p.is_arrival) pieces) ≤ suc (length pieces)
+    by_flag true few = omega (arith, few)
+    by_flag false few = omega (arith, few)
+
+arrivals_put : (place : ℕ) (frames : List (List ℕ)) → arrivals_left (pieces_from place (map arrived_frame frames)) ≡ length frames
+arrivals_put place [] = refl
+arrivals_put place (frame ∷ frames) = ap suc (arrivals_put (place + 1) frames)
+
+pub arrivals_more : (pieces : List PieceLeft) (place : ℕ) (frames : List (List ℕ))
+    → arrivals_left (pieces ++ pieces_from place (map arrived_frame frames)) ≡ arrivals_left pieces + length frames
+arrivals_more pieces place frames =
+    ap length (filter-append (λ (p : PieceLeft). p.is_arrival) pieces (pieces_from place (map arrived_frame frames)))
+    ∙ length-append (filter (λ (p : PieceLeft). p.is_arrival) pieces) (filter (λ (p : PieceLeft). p.is_arrival) (pieces_from place (map arrived_frame frames)))
+    ∙ ap (λ (n : ℕ). arrivals_left pieces + n) (arrivals_put place frames)

@@ -1,5 +1,6 @@
 -- What is left of an attempt's input.
-use Rattle.std.specs.Prelude.{ℕ, ◌+◌, ◌-◌, ◌==◌, ◌&&◌, min, nat_le, Bool, false, if◌then◌else◌, List, [], ◌∷◌, ◌++◌, length, map, drop, Option, None, Some}
+use Rattle.std.specs.Prelude.{ℕ, ◌+◌, ◌-◌, ◌==◌, ◌&&◌, min, nat_le, Bool, true, false, if◌then◌else◌, List, [], ◌∷◌, ◌++◌, length, map, filter, drop, Option, None, Some}
+use Rattle.store_live.specs.declared.input.FrameKept.{FrameKept}
 use Rattle.store_live.specs.declared.input.PieceLeft.{PieceLeft}
 use Rattle.store_live.specs.declared.input.Room.{Room}
 
@@ -23,6 +24,10 @@ abbrev pub place_after : ℕ → List PieceLeft → ℕ → ℕ
 place_after count [] handed = handed
 place_after count (piece ∷ pieces) handed =
     if nat_le piece.len count then place_after (count - piece.len) pieces piece.behind else handed
+
+-- how many of these are frames of arrivals
+abbrev pub arrivals_left : List PieceLeft → ℕ
+arrivals_left pieces = length (filter (λ (piece : PieceLeft). piece.is_arrival) pieces)
 
 abbrev pub count_out : ℕ → InputLeft → ℕ
 count_out most input = min (length input.bytes) most
@@ -51,11 +56,11 @@ room_of frames = record { frames = length frames; bytes = length (all_bytes fram
 abbrev pub with_room : Room → InputLeft → InputLeft
 with_room room input = record input { reserved = Some room }
 
--- with the frame of the entry at this place behind
+-- with the frame of the arrival at this place behind
 abbrev pub with_frame : ℕ → List ℕ → InputLeft → InputLeft
 with_frame place frame input = record input {
   bytes = input.bytes ++ frame;
-  pieces = input.pieces ++ record { behind = place + 1; len = length frame } ∷ [];
+  pieces = input.pieces ++ record { behind = place + 1; len = length frame; is_arrival = true } ∷ [];
   reserved = None;
 }
 
@@ -63,20 +68,24 @@ with_frame place frame input = record input {
 abbrev pub no_input : InputLeft
 no_input = record { bytes = []; pieces = []; handed = 0; reserved = None }
 
--- the frames of a journal from a place on, by their lengths
-abbrev pub pieces_from : ℕ → List ℕ → List PieceLeft
+-- the frames of a journal from a place on
+abbrev pub pieces_from : ℕ → List FrameKept → List PieceLeft
 pieces_from place [] = []
-pieces_from place (len ∷ lengths) = record { behind = place + 1; len = len } ∷ pieces_from (place + 1) lengths
+pieces_from place (frame ∷ frames) = record { behind = place + 1; len = frame.len; is_arrival = frame.is_arrival } ∷ pieces_from (place + 1) frames
 
 -- all of a journal is left
-abbrev pub journal_left : List ℕ → List ℕ → InputLeft
-journal_left bytes lengths = record { bytes = bytes; pieces = pieces_from 0 lengths; handed = 0; reserved = None }
+abbrev pub journal_left : List ℕ → List FrameKept → InputLeft
+journal_left bytes frames = record { bytes = bytes; pieces = pieces_from 0 frames; handed = 0; reserved = None }
 
--- with the frames of entries behind, of which the first is at this place
+-- the frame of an arrival
+abbrev pub arrived_frame : List ℕ → FrameKept
+arrived_frame frame = record { len = length frame; is_arrival = true }
+
+-- with the frames of arrivals behind, of which the first is at this place
 abbrev pub with_frames : ℕ → List (List ℕ) → InputLeft → InputLeft
 with_frames place frames input = record input {
   bytes = input.bytes ++ all_bytes frames;
-  pieces = input.pieces ++ pieces_from place (map length frames);
+  pieces = input.pieces ++ pieces_from place (map arrived_frame frames);
   reserved = None;
 }
 

@@ -1,12 +1,20 @@
 // The bytes that an attempt has still to be handed.
 ghost use Rattle.std.specs.Prelude.{◌≡◌, ℕ, ◌+◌, ◌==◌, ◌^◌, ◌<◌, ◌≤◌, ◌++◌, length, map, take, Some, IfOk, OnOk, OnErr};
 ghost use Rattle.std.specs.VecDeque.{deque_len, deque_capacity};
-ghost use Rattle.store_live.specs.Input.{all_bytes, does_fit, handed_out, is_reserved, journal_left, no_input, one_frame, pieces_after, pieces_from, place_after, put_in_room, room_of, with_frame, with_room};
+ghost use Rattle.store_live.specs.Input.{all_bytes, arrivals_left, arrived_frame, does_fit, handed_out, is_reserved, journal_left, no_input, one_frame, pieces_after, pieces_from, place_after, put_in_room, room_of, with_frame, with_room};
 
 use bytes::{Bytes, BytesMut};
 use std::alloc::{AllocError, Global};
 use std::collections::VecDeque;
 use std::marker::Model;
+
+/// A frame of a journal.
+#[derive(Clone, Copy, Debug, PartialEq, Eq)]
+pub struct FrameKept {
+    pub len: usize,
+    /// Whether it is that of an arrival, and not of a request or the input.
+    pub is_arrival: bool,
+}
 
 /// A frame that an attempt was not handed whole.
 #[derive(Clone, Copy, Debug, PartialEq, Eq)]
@@ -15,6 +23,8 @@ pub struct PieceLeft {
     pub behind: u32,
     /// How many of its bytes are left.
     pub len: usize,
+    /// Whether it is that of an arrival.
+    pub is_arrival: bool,
 }
 
 /// Room for frames.
@@ -34,6 +44,8 @@ pub struct AttemptInput {
     bytes: BytesMut,
     pieces: VecDeque<PieceLeft>,
     handed: u32,
+    /// How many of the frames are those of arrivals.
+    waiting: usize,
     reserved: Option<Room>,
 }
 
@@ -41,19 +53,25 @@ impl Model for AttemptInput {
     ghost use Rattle.std.specs.Prelude.{◌≤◌, ◌+◌};
     ghost use Rattle.std.specs.Option.{ForSome};
     ghost use Rattle.std.specs.VecDeque.{deque_len, deque_capacity};
-    ghost use Rattle.store_live.specs.Input.{InputLeft};
+    ghost use Rattle.store_live.specs.Input.{InputLeft, arrivals_left};
+    ghost use Rattle.std.specs.Prelude.{◌≡◌};
 
     ghost Value = { InputLeft };
 
     ghost view = { λ input. record { bytes = input.bytes.items; pieces = input.pieces.items; handed = input.handed; reserved = input.reserved } };
 
-    ghost invariant = { λ input. ForSome input.reserved (λ room. (room.bytes ≤ input.bytes.spare) × (deque_len input.pieces + room.frames ≤ deque_capacity input.pieces)) };
+    ghost invariant = { λ input. record {
+      waiting : input.waiting ≡ arrivals_left input.pieces.items;
+      room : ForSome input.reserved (λ room. (room.bytes ≤ input.bytes.spare) × (deque_len input.pieces + room.frames ≤ deque_capacity input.pieces));
+    } };
 }
 
 /// Counts bytes as handed out: drops the frames that are then handed whole, and shortens the next one.
-fn pass(pieces: &mut VecDeque<PieceLeft>, handed: &mut u32, count: usize)
+fn pass(pieces: &mut VecDeque<PieceLeft>, handed: &mut u32, waiting: &mut usize, count: usize)
+    requires { waiting.old ≡ arrivals_left pieces.old.items }
     ensures pieces { pieces.new.items ≡ pieces_after count pieces.old.items }
     ensures handed { handed.new ≡ place_after count pieces.old.items handed.old }
+    ensures waiting { waiting.new ≡ arrivals_left pieces.new.items }
 {
     let mut left = count;
     while let Some(first) = pieces.front_mut() {
@@ -63,21 +81,35 @@ fn pass(pieces: &mut VecDeque<PieceLeft>, handed: &mut u32, count: usize)
         }
         left -= first.len;
         *handed = first.behind;
+        if first.is_arrival {
+            *waiting -= 1;
+        }
         pieces.pop_front();
     }
 }
 
 /// The frames of a journal, of which the first has place 0, as what is left of them: all.
-fn all_pieces(alloc: Global, lengths: &[usize]) -> Result<VecDeque<PieceLeft>, AllocError>
-    ensures { IfOk result (λ pieces. length lengths.now < 2 ^ 32 → pieces.items ≡ pieces_from 0 lengths.now) }
+fn all_pieces(alloc: Global, frames: &[FrameKept]) -> Result<VecDeque<PieceLeft>, AllocError>
+    ensures { IfOk result (λ pieces. length frames.now < 2 ^ 32 → pieces.items ≡ pieces_from 0 frames.now) }
 {
     let mut pieces = VecDeque::new(alloc);
     let mut behind = 0u32;
-    for len in lengths {
+    for frame in frames {
         behind = behind.saturating_add(1);
-        pieces.push_back(PieceLeft { behind, len: *len })?;
+        pieces.push_back(PieceLeft {
+            behind,
+            len: frame.len,
+            is_arrival: frame.is_arrival,
+        })?;
     }
     Ok(pieces)
+}
+
+/// How many of these frames are those of arrivals.
+fn count_arrivals(pieces: &VecDeque<PieceLeft>) -> usize
+    ensures { result ≡ arrivals_left pieces.now.items }
+{
+    pieces.iter().filter(|piece| piece.is_arrival).count()
 }
 
 /// How many bytes frames are together.
@@ -130,7 +162,7 @@ fn append_all(bytes: &mut BytesMut, pieces: &mut VecDeque<PieceLeft>, place: u32
     requires capacity { deque_len pieces.old + length frames.now ≤ deque_capacity pieces.old }
     requires places { place + length frames.now < 2 ^ 32 }
     ensures bytes { bytes.new.items ≡ bytes.old.items ++ all_bytes frames.now }
-    ensures pieces { pieces.new.items ≡ pieces.old.items ++ pieces_from place (map length frames.now) }
+    ensures pieces { pieces.new.items ≡ pieces.old.items ++ pieces_from place (map arrived_frame frames.now) }
 {
     let mut behind = place;
     for frame in frames {
@@ -139,26 +171,31 @@ fn append_all(bytes: &mut BytesMut, pieces: &mut VecDeque<PieceLeft>, place: u32
         let _room = pieces.push_back(PieceLeft {
             behind,
             len: frame.len(),
+            is_arrival: true,
         });
     }
 }
 
 impl AttemptInput {
-    /// The frames of a journal, one behind the other, of which the first has place 0, and how long each is: fewer than 2^32.
+    /// The frames of a journal, one behind the other, of which the first has place 0: fewer than 2^32.
     pub fn of_journal(
         alloc: Global,
         bytes: BytesMut,
-        lengths: &[usize],
+        frames: &[FrameKept],
     ) -> Result<AttemptInput, AllocError>
-        ensures { IfOk result (λ input. length lengths.now < 2 ^ 32 → input ≡ journal_left bytes.items lengths.now) }
+        ensures { IfOk result (λ input. length frames.now < 2 ^ 32 → input ≡ journal_left bytes.items frames.now) }
     {
-        match all_pieces(alloc, lengths) {
-            Ok(pieces) => Ok(AttemptInput {
-                bytes,
-                pieces,
-                handed: 0,
-                reserved: None,
-            }),
+        match all_pieces(alloc, frames) {
+            Ok(pieces) => {
+                let waiting = count_arrivals(&pieces);
+                Ok(AttemptInput {
+                    bytes,
+                    pieces,
+                    handed: 0,
+                    waiting,
+                    reserved: None,
+                })
+            }
             Err(refused) => {
                 drop(bytes);
                 Err(refused)
@@ -174,6 +211,7 @@ impl AttemptInput {
             bytes: BytesMut::new(alloc),
             pieces: VecDeque::new(alloc),
             handed: 0,
+            waiting: 0,
             reserved: None,
         }
     }
@@ -199,6 +237,13 @@ impl AttemptInput {
         self.handed
     }
 
+    /// How many arrivals are left that were not handed out whole.
+    pub fn waiting(&self) -> usize
+        ensures { result ≡ arrivals_left self.now.pieces }
+    {
+        self.waiting
+    }
+
     /// Hands out the next bytes: as many as are left, and at most so many.
     pub fn hand_out(&mut self, most: usize) -> Result<Bytes, AllocError>
         ensures bytes { IfOk result (λ bytes. bytes ≡ take most self.old.bytes) }
@@ -208,7 +253,7 @@ impl AttemptInput {
         let count = self.bytes.len().min(most);
         let bytes = self.bytes.freeze_to(count)?;
         self.reserved = None;
-        pass(&mut self.pieces, &mut self.handed, count);
+        pass(&mut self.pieces, &mut self.handed, &mut self.waiting, count);
         Ok(bytes)
     }
 
@@ -245,7 +290,7 @@ impl AttemptInput {
         })
     }
 
-    /// Puts the frame of the entry at this place behind. Room was made for it.
+    /// Puts the frame of the arrival at this place behind. Room was made for it.
     pub fn put(&mut self, place: u32, header: &[u8], payload: &[u8])
         requires room { self.old.reserved ≡ Some (one_frame (length header.now + length payload.now)) }
         requires place { place + 1 < 2 ^ 32 }
@@ -258,10 +303,12 @@ impl AttemptInput {
         let _room = self.pieces.push_back(PieceLeft {
             behind: place + 1,
             len,
+            is_arrival: true,
         });
+        self.waiting += 1;
     }
 
-    /// Puts frames behind, of which that of the first entry is at this place, where room was made for them.
+    /// Puts the frames of arrivals behind, of which the first is at this place, where room was made for them.
     pub fn put_all(&mut self, place: u32, frames: &[Bytes])
         requires { place + length frames.now < 2 ^ 32 }
         ensures { self.new ≡ put_in_room place frames.now self.old }
@@ -270,10 +317,11 @@ impl AttemptInput {
         if has_room {
             self.reserved = None;
             append_all(&mut self.bytes, &mut self.pieces, place, frames);
+            self.waiting += frames.len();
         }
     }
 
-    /// Puts a frame behind, with room made for it.
+    /// Puts the frame of an arrival behind, with room made for it.
     pub fn push(&mut self, place: u32, header: &[u8], payload: &[u8]) -> Result<(), AllocError>
         requires len { length header.now + length payload.now < 2 ^ 64 }
         requires place { place + 1 < 2 ^ 32 }

@@ -11,6 +11,6 @@ mod output;
 pub use added::{AddedFrames, put_each, reserve_each};
 pub use attempt::LiveAttempt;
 pub use attempts::LiveAttempts;
-pub use input::{AttemptInput, PieceLeft, Room};
+pub use input::{AttemptInput, FrameKept, PieceLeft, Room};
 pub use output::AttemptOutput;
 pub use protocol_stream::{FirstItem, HEADER_LEN};

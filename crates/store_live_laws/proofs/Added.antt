@@ -1,5 +1,6 @@
 -- The arrivals that an event adds are put behind what is left of the input.
-use Rattle.std.proofs.Common.{ℕ, ◌+◌, ◌≡◌, refl, sym, ap, ap₂, subst, ◌∙◌, Bool, false, ◌&&◌, ◌||◌, List, [], ◌∷◌, ◌++◌, append-nil, append_assoc, length, map, flat_map, Option, Some, None, option_map, bytes_eq}
+use Rattle.std.proofs.Common.{ℕ, ◌+◌, ◌≡◌, refl, sym, ap, ap₂, subst, ◌∙◌, Bool, true, false, ◌&&◌, ◌||◌, List, [], ◌∷◌, ◌++◌, append-nil, append_assoc, length, map, flat_map, Option, Some, None, option_map, is_some, bytes_eq}
+use Rattle.std.specs.List.{AllByRecursion}
 use Rattle.journal_model.specs.Notification.{Text, Arrival}
 use Rattle.journal_model.specs.Spelling.{frame_bytes, notification_payload}
 use Rattle.journal_model.specs.Event.{Frame, Event}
@@ -33,10 +34,21 @@ bytes_behind [] attempt = sym (append-nil attempt.input.bytes)
 bytes_behind (row ∷ rows) attempt =
     bytes_behind rows (after_put row.place (row_frame row) attempt) ∙ append_assoc attempt.input.bytes (row_frame row) (flat_map row_frame rows)
 
-pub pieces_behind : (rows : List EntryRow) (attempt : LiveAttempt) → (after_rows rows attempt).input.pieces ≡ attempt.input.pieces ++ map row_piece rows
-pieces_behind [] attempt = sym (append-nil attempt.input.pieces)
-pieces_behind (row ∷ rows) attempt =
-    pieces_behind rows (after_put row.place (row_frame row) attempt) ∙ append_assoc attempt.input.pieces (row_piece row ∷ []) (map row_piece rows)
+-- these are rows of arrivals
+abbrev pub AreArrived : List EntryRow → Type 0
+AreArrived rows = AllByRecursion (λ (row : EntryRow). is_some row.arrival ≡ true) rows
+
+pub all_arrived : (id : Text) (before : List Entry) (place : ℕ) (entries : List Entry) → AreArrived (rows_of_arrivals id before place entries)
+all_arrived id before place [] = tt
+all_arrived id before place (Recorded request ∷ entries) = all_arrived id (before ++ Recorded request ∷ []) (place + 1) entries
+all_arrived id before place (Arrived arrival ∷ entries) = (refl, all_arrived id (before ++ Arrived arrival ∷ []) (place + 1) entries)
+
+pub pieces_behind : (rows : List EntryRow) (attempt : LiveAttempt) → AreArrived rows → (after_rows rows attempt).input.pieces ≡ attempt.input.pieces ++ map row_piece rows
+pieces_behind [] attempt are = sym (append-nil attempt.input.pieces)
+pieces_behind (row ∷ rows) attempt are =
+    pieces_behind rows (after_put row.place (row_frame row) attempt) are.1
+    ∙ append_assoc attempt.input.pieces (record { behind = row.place + 1; len = length (row_frame row); is_arrival = true } ∷ []) (map row_piece rows)
+    ∙ ap (λ (b : Bool). attempt.input.pieces ++ record { behind = row.place + 1; len = length (row_frame row); is_arrival = b } ∷ map row_piece rows) (sym are.0)
 
 -- ---- the rows of arrivals are their frames
 
@@ -56,7 +68,7 @@ pieces_of_arrivals id before place [] all h e = refl
 pieces_of_arrivals id before place (Recorded request ∷ entries) all h e =
     pieces_of_arrivals id (before ++ Recorded request ∷ []) (place + 1) entries all h.1 (append_assoc before (Recorded request ∷ []) entries ∙ e)
 pieces_of_arrivals id before place (Arrived arrival ∷ entries) all h e =
-    ap₂ (λ (kind : MessageType) (rest : List PieceLeft). record { behind = place + 1; len = length (frame_bytes kind (notification_payload arrival)) } ∷ rest)
+    ap₂ (λ (kind : MessageType) (rest : List PieceLeft). record { behind = place + 1; len = length (frame_bytes kind (notification_payload arrival)); is_arrival = true } ∷ rest)
     (kind_stays before (Arrived arrival ∷ entries) arrival.id h.0 ∙ ap (λ (some : List Entry). notification_type some arrival.id) e)
     (pieces_of_arrivals id (before ++ Arrived arrival ∷ []) (place + 1) entries all h.1 (append_assoc before (Arrived arrival ∷ []) entries ∙ e))
 
@@ -95,7 +107,7 @@ added events event id new old going asks ends closes plain (Some attempt) accept
     (kept_by (λ (a : LiveAttempt). a.number) (λ place frame a. refl) rows attempt)
     (kept_by (λ (a : LiveAttempt). a.version) (λ place frame a. refl) rows attempt)
     (bytes_behind rows attempt ∙ ap (λ (bytes : List ℕ). attempt.input.bytes ++ bytes) (bytes_of_arrivals id entries place more (entries ++ more) asked refl))
-    (pieces_behind rows attempt ∙ ap (λ (some : List PieceLeft). attempt.input.pieces ++ some) (pieces_of_arrivals id entries place more (entries ++ more) asked refl))
+    (pieces_behind rows attempt (all_arrived id entries place more) ∙ ap (λ (some : List PieceLeft). attempt.input.pieces ++ some) (pieces_of_arrivals id entries place more (entries ++ more) asked refl))
     (kept_by (λ (a : LiveAttempt). a.input.handed) (λ place frame a. refl) rows attempt)
     (kept_by (λ (a : LiveAttempt). a.is_input_closed) (λ place frame a. refl) rows attempt ∙ sym (ap (λ (b : Bool). b || attempt.is_input_closed) closes))
     kept

@@ -1,5 +1,5 @@
 -- A new invocation has no live attempt; one that is begun is handed the rows of its journal.
-use Rattle.std.proofs.Common.{ℕ, ◌+◌, ◌≡◌, refl, sym, ap, ap₂, ◌∙◌, Bool, false, if◌then◌else◌, List, [], ◌∷◌, ◌++◌, append_assoc, length, map, drop, Option, Some, None, bytes_eq}
+use Rattle.std.proofs.Common.{ℕ, ◌+◌, ◌≡◌, refl, sym, ap, ap₂, ◌∙◌, Bool, true, false, if◌then◌else◌, List, [], ◌∷◌, ◌++◌, append_assoc, length, map, drop, Option, Some, None, bytes_eq}
 use Rattle.journal_model.specs.Notification.{Text}
 use Rattle.journal_model.specs.declared.invocation.NewInvocation.{NewInvocation}
 use Rattle.journal_model.specs.Spelling.{frame_bytes, request_frame, input_frame, notification_payload}
@@ -31,10 +31,10 @@ pieces_of_rows : (id : Text) (before : List Entry) (place : ℕ) (entries all : 
     → whole_pieces (map (entry_piece all) entries) (places_of place entries) ≡ map row_piece (rows_from id before place entries)
 pieces_of_rows id before place [] all h e = refl
 pieces_of_rows id before place (Recorded request ∷ entries) all h e =
-    ap (λ (rest : List PieceLeft). record { behind = place + 1; len = length (request_frame request) } ∷ rest)
+    ap (λ (rest : List PieceLeft). record { behind = place + 1; len = length (request_frame request); is_arrival = false } ∷ rest)
     (pieces_of_rows id (before ++ Recorded request ∷ []) (place + 1) entries all h.1 (append_assoc before (Recorded request ∷ []) entries ∙ e))
 pieces_of_rows id before place (Arrived arrival ∷ entries) all h e =
-    ap₂ (λ (kind : MessageType) (rest : List PieceLeft). record { behind = place + 1; len = length (frame_bytes kind (notification_payload arrival)) } ∷ rest)
+    ap₂ (λ (kind : MessageType) (rest : List PieceLeft). record { behind = place + 1; len = length (frame_bytes kind (notification_payload arrival)); is_arrival = true } ∷ rest)
     (sym (kind_stays before (Arrived arrival ∷ entries) arrival.id h.0 ∙ ap (λ (some : List Entry). notification_type some arrival.id) e))
     (pieces_of_rows id (before ++ Arrived arrival ∷ []) (place + 1) entries all h.1 (append_assoc before (Arrived arrival ∷ []) entries ∙ e))
 
@@ -47,7 +47,7 @@ pieces_of_journal events id accepted = by_begun (invocation_begun events id)
         ≡ map row_piece (rows_of_journal o id (entries_of events id))
     by_begun None = refl
     by_begun (Some new) =
-        ap (λ (rest : List PieceLeft). record { behind = 0 + 1; len = length (input_frame new.headers new.input) } ∷ rest)
+        ap (λ (rest : List PieceLeft). record { behind = 0 + 1; len = length (input_frame new.headers new.input); is_arrival = false } ∷ rest)
         (pieces_of_rows id [] 1 (entries_of events id) (entries_of events id) (all_asked_before id events accepted) refl)
 
 -- ---- the attempt that is begun

@@ -7,3 +7,4 @@ pub mod Ticked
 pub mod Steps
 pub mod Begun
 pub mod Tests
+pub mod Waiting

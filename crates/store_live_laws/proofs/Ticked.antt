@@ -1,21 +1,20 @@
 -- What a tick adds to an open invocation is put behind at once.
-use Rattle.std.proofs.Common.{ℕ, ◌+◌, ◌≡◌, refl, sym, ap, ap₂, subst, ◌∙◌, Bool, true, false, if◌then◌else◌, List, [], ◌∷◌, ◌++◌, length, map, flat_map, Option, Some, None, option_map}
+use Rattle.std.proofs.Common.{ℕ, ◌+◌, ◌≡◌, refl, sym, ap, ap₂, subst, ◌∙◌, Bool, true, if◌then◌else◌, List, [], ◌∷◌, ◌++◌, length, map, flat_map, Option, Some, None, option_map}
 use Rattle.journal_model.specs.Notification.{Bytes, Text, Arrival}
 use Rattle.journal_model.specs.Event.{Event}
 use Rattle.journal_model.specs.Journal.{Entry, Arrived, is_open, slept, entries_of}
-use Rattle.journal_model.specs.Cause.{causes_of, IsAccepted}
 use Rattle.protocol_types.specs.Version.{version_number}
 use Rattle.store_tables.specs.declared.row.EntryRow.{EntryRow}
 use Rattle.store_model.specs.Kept.{entry_row, rows_from}
-use Rattle.store_model.specs.Writes.{ends_sleep, rows_added}
+use Rattle.store_model.specs.Writes.{ends_sleep}
 use Rattle.store_model.proofs.Journals.{rows_slept}
 use Rattle.store_lookups.specs.Lookups.{row_frame, rows_of_arrivals}
 use Rattle.store_live.specs.declared.input.PieceLeft.{PieceLeft}
 use Rattle.store_live.specs.declared.attempt.LiveAttempt.{LiveAttempt}
-use Rattle.store_live.specs.Input.{all_bytes, pieces_from}
+use Rattle.store_live.specs.Input.{all_bytes, arrived_frame, pieces_from}
 use Rattle.store_live.specs.Attempts.{after_put_all}
 use Rattle.store_live_laws.specs.Agrees.{Agrees, AgreesTickedAtOnce, AgreesUnticked, IsKeptLive, after_rows, row_piece, rows_arrived}
-use Rattle.store_live_laws.proofs.Added.{bytes_behind, kept_by, pieces_behind, ticked}
+use Rattle.store_live_laws.proofs.Added.{AreArrived, all_arrived, bytes_behind, kept_by, pieces_behind, ticked}
 
 -- ---- nothing is added
 
@@ -50,7 +49,7 @@ bytes_at_once [] = refl
 bytes_at_once (row ∷ rows) = ap (λ (bytes : Bytes). row_frame row ++ bytes) (bytes_at_once rows)
 
 pieces_at_once : (id : Text) (before : List Entry) (place : ℕ) (arrivals : List Arrival)
-    → pieces_from place (map length (map row_frame (rows_from id before place (map Arrived arrivals)))) ≡ map row_piece (rows_from id before place (map Arrived arrivals))
+    → pieces_from place (map arrived_frame (map row_frame (rows_from id before place (map Arrived arrivals)))) ≡ map row_piece (rows_from id before place (map Arrived arrivals))
 pieces_at_once id before place [] = refl
 pieces_at_once id before place (arrival ∷ arrivals) =
     ap (λ (pieces : List PieceLeft). row_piece (entry_row id before place (Arrived arrival)) ∷ pieces) (pieces_at_once id (before ++ Arrived arrival ∷ []) (place + 1) arrivals)
@@ -58,12 +57,12 @@ pieces_at_once id before place (arrival ∷ arrivals) =
 -- ---- put behind at once
 
 put_at_once : (events : List Event) (id : Text) (place : ℕ) (frames : List Bytes) (rows : List EntryRow) (attempt : LiveAttempt) → all_bytes frames ≡ flat_map row_frame rows
-    → pieces_from place (map length frames) ≡ map row_piece rows → IsKeptLive events id (after_rows rows attempt) → IsKeptLive events id (after_put_all place frames attempt)
-put_at_once events id place frames rows attempt bytes pieces kept = record {
+    → pieces_from place (map arrived_frame frames) ≡ map row_piece rows → AreArrived rows → IsKeptLive events id (after_rows rows attempt) → IsKeptLive events id (after_put_all place frames attempt)
+put_at_once events id place frames rows attempt bytes pieces are kept = record {
   number = kept.number ∙ ap Some (kept_by (λ (a : LiveAttempt). a.number) (λ at frame a. refl) rows attempt);
   version = sym (kept_by (λ (a : LiveAttempt). version_number a.version) (λ at frame a. refl) rows attempt) ∙ kept.version;
   bytes = ap (λ (more : Bytes). attempt.input.bytes ++ more) bytes ∙ sym (bytes_behind rows attempt) ∙ kept.bytes;
-  pieces = ap (λ (more : List PieceLeft). attempt.input.pieces ++ more) pieces ∙ sym (pieces_behind rows attempt) ∙ kept.pieces;
+  pieces = ap (λ (more : List PieceLeft). attempt.input.pieces ++ more) pieces ∙ sym (pieces_behind rows attempt are) ∙ kept.pieces;
   handed = sym (kept_by (λ (a : LiveAttempt). a.input.handed) (λ at frame a. refl) rows attempt) ∙ kept.handed;
   closed = sym (kept_by (λ (a : LiveAttempt). a.is_input_closed) (λ at frame a. refl) rows attempt) ∙ kept.closed;
 }
@@ -78,5 +77,6 @@ ticked_at_once events now id place frames (Some attempt) accepted none opened at
     ap (λ (b : Bool). rows_of_arrivals id entries (1 + length entries) (if b then map Arrived arrivals else [])) opened ∙ arrivals_alone id entries (1 + length entries) arrivals in
     put_at_once (Event.Tick now ∷ events) id place frames added attempt
     (ap all_bytes are ∙ bytes_at_once added)
-    (ap₂ (λ (n : ℕ) (fs : List Bytes). pieces_from n (map length fs)) at are ∙ pieces_at_once id entries (1 + length entries) arrivals)
+    (ap₂ (λ (n : ℕ) (fs : List Bytes). pieces_from n (map arrived_frame fs)) at are ∙ pieces_at_once id entries (1 + length entries) arrivals)
+    (subst AreArrived (arrivals_alone id entries (1 + length entries) arrivals) (all_arrived id entries (1 + length entries) (map Arrived arrivals)))
     (subst (λ (rows : List EntryRow). IsKeptLive (Event.Tick now ∷ events) id (after_rows rows attempt)) same (ticked events now id (Some attempt) accepted none agrees))

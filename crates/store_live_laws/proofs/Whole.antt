@@ -17,7 +17,7 @@ whole_more [] more [] others e = refl
 whole_more [] more (place ∷ places) others e = absurd (omega arith)
 whole_more (piece ∷ pieces) more [] others e = absurd (omega arith)
 whole_more (piece ∷ pieces) more (place ∷ places) others e =
-    ap (λ (rest : List PieceLeft). record { behind = place + 1; len = length piece.bytes } ∷ rest) (whole_more pieces more places others (omega arith))
+    ap (λ (rest : List PieceLeft). record { behind = place + 1; len = length piece.bytes; is_arrival = piece.is_arrival } ∷ rest) (whole_more pieces more places others (omega arith))
 
 pub whole_count : (pieces : List Piece) (places : List ℕ) → length pieces ≡ length places → count_of (whole_pieces pieces places) ≡ length (input_bytes pieces)
 whole_count [] [] e = refl

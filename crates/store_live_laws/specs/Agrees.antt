@@ -1,5 +1,5 @@
 -- What is kept of the live attempts is what the accepted events say.
-use Rattle.std.specs.Prelude.{◌≡◌, ℕ, ◌+◌, ◌==◌, Bool, true, false, not, if◌then◌else◌, List, [], ◌∷◌, ◌++◌, length, map, flat_map, Option, Some, None, is_some, option_map}
+use Rattle.std.specs.Prelude.{◌≡◌, ℕ, ◌+◌, ◌==◌, Bool, true, false, not, if◌then◌else◌, List, [], ◌∷◌, length, map, flat_map, Option, Some, None, is_some, option_map}
 use Rattle.journal_model.specs.Notification.{Bytes, Text, Arrival, cancel_id}
 use Rattle.journal_model.specs.declared.notification.NotificationResult.{NotificationResult}
 use Rattle.journal_model.specs.declared.value.NonEmptyValue.{NonEmptyValue}
@@ -8,8 +8,8 @@ use Rattle.journal_model.specs.declared.invocation.NewInvocation.{NewInvocation}
 use Rattle.journal_model.specs.Request.{Request, SignalKey}
 use Rattle.journal_model.specs.Spelling.{frame_bytes, notification_payload, acknowledgement_payload}
 use Rattle.journal_model.specs.Event.{Frame, Event}
-use Rattle.journal_model.specs.Journal.{Entry, Recorded, Arrived, starting_state, entries_added, is_of, is_tick, id_of_signal, completion, version_of, invocation_begun, is_open, entries_of, ends_attempt}
-use Rattle.journal_model.specs.Attempt.{Piece, attempts_begun, live_attempt, is_live, is_input_closed, input_pieces, bytes_handed, input_left, notification_type, acknowledged}
+use Rattle.journal_model.specs.Journal.{starting_state, entries_added, is_of, is_tick, id_of_signal, completion, version_of, invocation_begun, is_open, entries_of, ends_attempt}
+use Rattle.journal_model.specs.Attempt.{Piece, attempts_begun, live_attempt, is_live, is_input_closed, input_pieces, bytes_handed, input_left, arrivals_not_handed, notification_type, acknowledged}
 use Rattle.journal_model.specs.Cause.{Cause, UnknownInvocation, InvocationClosed, AttemptNotLive, InputRemains, InputAlreadyClosed, is_empty, those_that_hold, causes_of, IsAccepted}
 use Rattle.protocol_types.specs.declared.message_type.MessageType.{MessageType}
 use Rattle.protocol_types.specs.Feature.{has_feature}
@@ -22,14 +22,14 @@ use Rattle.store_model.specs.Writes.{ends_sleep, rows_added}
 use Rattle.store_lookups.specs.Lookups.{row_frame, rows_of_arrivals}
 use Rattle.store_live.specs.declared.input.PieceLeft.{PieceLeft}
 use Rattle.store_live.specs.declared.attempt.LiveAttempt.{LiveAttempt}
-use Rattle.store_live.specs.Input.{pieces_after}
+use Rattle.store_live.specs.Input.{arrivals_left, pieces_after}
 use Rattle.store_live.specs.Attempts.{after_hand_out, after_put, after_put_all, after_close}
 
 -- the frames of an input with their places, before any of it is handed out
 abbrev pub whole_pieces : List Piece → List ℕ → List PieceLeft
 whole_pieces [] places = []
 whole_pieces (piece ∷ pieces) [] = []
-whole_pieces (piece ∷ pieces) (place ∷ places) = record { behind = place + 1; len = length piece.bytes } ∷ whole_pieces pieces places
+whole_pieces (piece ∷ pieces) (place ∷ places) = record { behind = place + 1; len = length piece.bytes; is_arrival = piece.is_arrival } ∷ whole_pieces pieces places
 
 -- those that the last attempt was not handed whole
 abbrev pub pieces_left : List Event → Text → List PieceLeft
@@ -65,7 +65,7 @@ AgreesInvoked = (events : List Event) (new : NewInvocation) → IsAccepted event
 
 -- an attempt that is begun is handed the rows of its journal
 abbrev pub row_piece : EntryRow → PieceLeft
-row_piece row = record { behind = row.place + 1; len = length (row_frame row) }
+row_piece row = record { behind = row.place + 1; len = length (row_frame row); is_arrival = is_some row.arrival }
 
 pub record IsBegunAs (events : List Event) (id : Text) (attempt : LiveAttempt) : Type 0 where
   pub number : attempt.number ≡ 1 + attempts_begun events id
@@ -184,6 +184,11 @@ pub record KeepsTaken : Type 0 where
 abbrev pub has_number : ℕ → Option LiveAttempt → Bool
 has_number number None = false
 has_number number (Some attempt) = attempt.number == number
+
+-- how many arrivals have come that the attempt was not handed whole
+abbrev pub WaitingIsTold : Type 0
+WaitingIsTold = (events : List Event) (id : Text) (attempt : LiveAttempt) → IsAccepted events
+    → Agrees events id (Some attempt) → arrivals_left attempt.input.pieces ≡ length (arrivals_not_handed events id)
 
 abbrev pub LiveIsTold : Type 0
 LiveIsTold = (events : List Event) (id : Text) (number : ℕ) (attempt : Option LiveAttempt)

@@ -2,7 +2,7 @@
 //! events is refused. Each function does nothing: its contract is the law.
 #![tactic(auto)]
 
-ghost use Rattle.store_live_laws.specs.Agrees.{AgreesAtFirst, AgreesElsewhere, AgreesInvoked, AgreesBegun, LiveIsTold, LiveIsOpen, CausesAreTold, StaleIsTold, KeepsInput, KeepsAdded, KeepsTaken};
+ghost use Rattle.store_live_laws.specs.Agrees.{AgreesAtFirst, AgreesElsewhere, AgreesInvoked, AgreesBegun, LiveIsTold, LiveIsOpen, WaitingIsTold, CausesAreTold, StaleIsTold, KeepsInput, KeepsAdded, KeepsTaken};
 
 /// Before any event no attempt is live; and an event of another invocation, that is no tick, changes nothing.
 pub fn elsewhere_kept()
@@ -31,10 +31,12 @@ pub fn taken_kept()
     ensures { KeepsTaken }
 {}
 
-/// Which attempt is live is told by its number, and then the invocation is open.
+/// Which attempt is live is told by its number, and then the invocation is open; and how many arrivals it was not handed whole, by what
+/// is left of its input.
 pub fn live_told()
     ensures live { LiveIsTold }
     ensures is_open { LiveIsOpen }
+    ensures waiting { WaitingIsTold }
 {}
 
 /// Why an event of an attempt is refused is told by whether it is live, what is left of its input, and whether that is closed.

@@ -22,14 +22,15 @@ use Rattle.store_tables.specs.declared.row.Closing.{Closing}
 use Rattle.store_tables.specs.declared.row.LastError.{LastError}
 use Rattle.store_tables.specs.declared.row.Progress.{Progress}
 use Rattle.store_tables.specs.declared.row.Closing.TheVariants.{Ended, Failed}
-use Rattle.store_model.specs.Places.{handed_place, or_kept, handed_of}
-use Rattle.store_model.specs.Progress.{first_of, is_unsuspended, or_last, last_of, number_or_zero, payload_of_suspension, way_closed, output_payload, last_output, progress_of}
+use Rattle.due_model.specs.Noted.{or_kept, heard_of, is_awake_kept, Noted, noted_of}
+use Rattle.store_model.specs.Places.{handed_place, handed_of}
+use Rattle.store_model.specs.Progress.{first_of, or_last, last_of, number_or_zero, payload_of_suspension, way_closed, output_payload, last_output, progress_of}
 use Rattle.store_model.proofs.Same.{both_same, is_still, opened, closed_by, error_of, same_progress, nothing_added}
-use Rattle.store_model.specs.Steps.{grown, answers_at_once, payload_or, after_command, after_begin, awake_unless, suspended_or, after_frame, after_event, ProgressFollows, ProgressTicks}
+use Rattle.store_model.specs.Steps.{noted_into, grown, answers_at_once, payload_or, after_command, after_begin, suspended_or, after_frame, after_event, ProgressFollows, ProgressTicks}
 
 -- a progress by what it is read off
-abbrev progress_with : Option Text → Option Closing → Option LastError → Option Bytes → Option ℕ → ℕ → List ℕ → List Entry → Progress
-progress_with object closing error suspension handed attempts moments entries = record {
+abbrev progress_with : Noted → Option Text → Option Closing → Option LastError → Option Bytes → Option ℕ → ℕ → List ℕ → List Entry → Progress
+progress_with noted object closing error suspension handed attempts moments entries = record {
   open_object = object;
   suspension = suspension;
   handed = handed;
@@ -41,9 +42,9 @@ progress_with object closing error suspension handed attempts moments entries = 
   first_moment = number_or_zero (first_of moments);
   last_completion = last_completion (requests_in entries);
   entries = 1 + length entries;
-  heard = None;
+  heard = noted.heard;
   arrivals = length (arrivals_in entries);
-  is_awake = is_unsuspended object suspension;
+  is_awake = noted.is_awake;
 }
 
 begins_none : (event : Event) (id : Text) → invoked_by event ≡ None → begins id event ≡ false
@@ -77,11 +78,11 @@ module _ (events : List Event) (event : Event) (id : Text) (e : invoked_by event
       ∙ ap (λ (some : List Entry). if is_some_entry some then [] else attempts_since_entry events id ++ (if is_of id event then moment_begun event else [])) added
 
   progress_now : progress_of (event ∷ events) id
-      ≡ progress_with (object_if (invocation_begun events id) frames) (way (invocation_begun events id) frames) (error_of frames)
+      ≡ progress_with (noted_of (event ∷ events) id) (object_if (invocation_begun events id) frames) (way (invocation_begun events id) frames) (error_of frames)
       (option_map payload_of_suspension (suspension_of (event ∷ events) id)) (handed_of (event ∷ events) id) (attempts_begun (event ∷ events) id)
       (if is_some_entry more then [] else attempts_since_entry events id ++ (if is_of id event then moment_begun event else []))
       (entries_of events id ++ more)
-  progress_now = λ i. progress_with (object_if (begun_now i) (are i)) (way (begun_now i) (are i)) (error_of (are i))
+  progress_now = λ i. progress_with (noted_of (event ∷ events) id) (object_if (begun_now i) (are i)) (way (begun_now i) (are i)) (error_of (are i))
       (option_map payload_of_suspension (suspension_of (event ∷ events) id)) (handed_of (event ∷ events) id) (attempts_begun (event ∷ events) id)
       (moments_now i) (entries_now i)
 
@@ -119,11 +120,11 @@ all_arrived (Recorded request ∷ entries) none = absurd cc
 all_arrived (Arrived arrival ∷ entries) none = ap suc (all_arrived entries none)
 
 -- arrivals alone
-only_arrivals : (object : Option Text) (closing : Option Closing) (error : Option LastError) (suspension : Option Bytes) (handed : Option ℕ) (attempts : ℕ) (moments : List ℕ)
+only_arrivals : (noted : Noted) (object : Option Text) (closing : Option Closing) (error : Option LastError) (suspension : Option Bytes) (handed : Option ℕ) (attempts : ℕ) (moments : List ℕ)
     (entries more : List Entry) → requests_in more ≡ []
-    → progress_with object closing error suspension handed attempts [] (entries ++ more)
-    ≡ grown (length more) (length more) (progress_with object closing error suspension handed attempts moments entries)
-only_arrivals object closing error suspension handed attempts moments entries more none =
+    → progress_with noted object closing error suspension handed attempts [] (entries ++ more)
+    ≡ grown (length more) (length more) (progress_with noted object closing error suspension handed attempts moments entries)
+only_arrivals noted object closing error suspension handed attempts moments entries more none =
     let same : requests_in (entries ++ more) ≡ requests_in entries =
     requests_in-append entries more ∙ ap (λ (rest : List Request). requests_in entries ++ rest) none ∙ append-nil (requests_in entries) in
     let arrived_now : length (arrivals_in (entries ++ more)) ≡ length (arrivals_in entries) + length more =
@@ -140,17 +141,17 @@ only_arrivals object closing error suspension handed attempts moments entries mo
       first_moment = 0;
       last_completion = last_completion (same i);
       entries = longer entries more i;
-      heard = None;
+      heard = noted.heard;
       arrivals = arrived_now i;
-      is_awake = is_unsuspended object suspension;
+      is_awake = noted.is_awake;
     }
 
 -- a request, with what answers it at once
-with_request : (object : Option Text) (closing : Option Closing) (error : Option LastError) (suspension : Option Bytes) (handed : Option ℕ) (attempts : ℕ) (moments : List ℕ)
+with_request : (noted : Noted) (object : Option Text) (closing : Option Closing) (error : Option LastError) (suspension : Option Bytes) (handed : Option ℕ) (attempts : ℕ) (moments : List ℕ)
     (entries more : List Entry) (request : Request) → requests_in more ≡ request ∷ [] → length more ≡ 1 + answers_at_once request → length (arrivals_in more) ≡ answers_at_once request
-    → progress_with object closing error suspension handed attempts [] (entries ++ more)
-    ≡ after_command request (progress_with object closing error suspension handed attempts moments entries)
-with_request object closing error suspension handed attempts moments entries more request one count arrived =
+    → progress_with noted object closing error suspension handed attempts [] (entries ++ more)
+    ≡ after_command request (progress_with noted object closing error suspension handed attempts moments entries)
+with_request noted object closing error suspension handed attempts moments entries more request one count arrived =
     let same : requests_in (entries ++ more) ≡ requests_in entries ++ request ∷ [] =
     requests_in-append entries more ∙ ap (λ (rest : List Request). requests_in entries ++ rest) one in
     let answer_now : last_output (requests_in (entries ++ more)) ≡ payload_or (output_payload request) (last_output (requests_in entries)) =
@@ -173,9 +174,9 @@ with_request object closing error suspension handed attempts moments entries mor
       first_moment = 0;
       last_completion = greatest_now i;
       entries = entries_now i;
-      heard = None;
+      heard = noted.heard;
       arrivals = arrived_now i;
-      is_awake = is_unsuspended object suspension;
+      is_awake = noted.is_awake;
     }
   where
     max_zero : (n : ℕ) → max n 0 ≡ n
@@ -211,23 +212,24 @@ follows_arrival : (events : List Event) (event : Event) (id : Text) (arrival : A
     → error_of (cons_option (frame_of event) (frames_of events id)) ≡ error_of (frames_of events id)
     → entries_of_event (starting_state events id) (entries_of events id) event ≡ Arrived arrival ∷ []
     → attempts_begun (event ∷ events) id ≡ attempts_begun events id → suspension_of (event ∷ events) id ≡ suspension_of events id → handed_of (event ∷ events) id ≡ handed_of events id
-    → progress_of (event ∷ events) id ≡ grown 1 1 (progress_of events id)
+    → progress_of (event ∷ events) id ≡ grown 1 1 (noted_into (noted_of (event ∷ events) id) (progress_of events id))
 follows_arrival events event id arrival e mine object closing error adds attempts suspension handed =
     progress_now events event id e (cons_option (frame_of event) (frames_of events id)) (mine_frames events event id mine) (Arrived arrival ∷ []) (mine_added events event id mine ∙ adds)
-    ∙ (λ i. progress_with (object i) (closing i) (error i)
+    ∙ (λ i. progress_with (noted_of (event ∷ events) id) (object i) (closing i) (error i)
     (option_map payload_of_suspension (suspension i)) (handed i) (attempts i) [] (entries_of events id ++ Arrived arrival ∷ []))
-    ∙ only_arrivals (object_if (invocation_begun events id) (frames_of events id)) (way (invocation_begun events id) (frames_of events id)) (error_of (frames_of events id))
+    ∙ only_arrivals (noted_of (event ∷ events) id) (object_if (invocation_begun events id) (frames_of events id)) (way (invocation_begun events id) (frames_of events id)) (error_of (frames_of events id))
     (option_map payload_of_suspension (suspension_of events id)) (handed_of events id) (attempts_begun events id) (attempts_since_entry events id) (entries_of events id) (Arrived arrival ∷ []) refl
 
 follows_command : (events : List Event) (id : Text) (attempt : ℕ) (request : Request)
-    → progress_of (Event.Take id attempt (Frame.Command request) ∷ events) id ≡ after_command request (progress_of events id)
+    → progress_of (Event.Take id attempt (Frame.Command request) ∷ events) id
+    ≡ after_command request (noted_into (noted_of (Event.Take id attempt (Frame.Command request) ∷ events) id) (progress_of events id))
 follows_command events id attempt request =
     let event = Event.Take id attempt (Frame.Command request) in
     let more = entries_of_event (starting_state events id) (entries_of events id) event in
     progress_now events event id refl (Frame.Command request ∷ frames_of events id) (mine_frames events event id (itself id)) more (mine_added events event id (itself id))
-    ∙ (λ i. progress_with (object_if (invocation_begun events id) (frames_of events id)) (way (invocation_begun events id) (frames_of events id)) (error_of (frames_of events id))
+    ∙ (λ i. progress_with (noted_of (event ∷ events) id) (object_if (invocation_begun events id) (frames_of events id)) (way (invocation_begun events id) (frames_of events id)) (error_of (frames_of events id))
     (option_map payload_of_suspension (suspension_of events id)) (handed i) (zero-add (attempts_begun events id) i) [] (entries_of events id ++ more))
-    ∙ with_request (object_if (invocation_begun events id) (frames_of events id)) (way (invocation_begun events id) (frames_of events id)) (error_of (frames_of events id))
+    ∙ with_request (noted_of (event ∷ events) id) (object_if (invocation_begun events id) (frames_of events id)) (way (invocation_begun events id) (frames_of events id)) (error_of (frames_of events id))
     (option_map payload_of_suspension (suspension_of events id)) (handed_of events id) (attempts_begun events id) (attempts_since_entry events id) (entries_of events id) more request
     (ap (λ (rest : List Request). request ∷ rest) (no_requests (read_answer (state_after (requests_in (entries_of events id)) (starting_state events id)) request)))
     (answers_counted (state_after (requests_in (entries_of events id)) (starting_state events id)) request)
@@ -238,20 +240,24 @@ follows_command events id attempt request =
 
 -- a frame that ends the attempt, or the invocation: no entries are added
 follows_end : (events : List Event) (id : Text) (attempt : ℕ) (frame : Frame) (object : Option Text) (closing : Option Closing) (error : Option LastError)
-    (suspension : Option Bytes) (handed : Option ℕ) (awake : Bool)
+    (suspension : Option Bytes) (handed : Option ℕ)
     → entries_of_event (starting_state events id) (entries_of events id) (Event.Take id attempt frame) ≡ []
     → object_if (invocation_begun events id) (frame ∷ frames_of events id) ≡ object → way (invocation_begun events id) (frame ∷ frames_of events id) ≡ closing
     → error_of (frame ∷ frames_of events id) ≡ error
     → option_map payload_of_suspension (suspension_of (Event.Take id attempt frame ∷ events) id) ≡ suspension
     → handed_of (Event.Take id attempt frame ∷ events) id ≡ handed
-    → is_unsuspended object suspension ≡ awake
     → progress_of (Event.Take id attempt frame ∷ events) id
-    ≡ record (progress_of events id) { open_object = object; closing = closing; last_error = error; suspension = suspension; handed = handed; is_awake = awake }
-follows_end events id attempt frame object closing error suspension handed awake none a b c d f g =
+    ≡ record (noted_into (noted_of (Event.Take id attempt frame ∷ events) id) (progress_of events id)) {
+      open_object = object;
+      closing = closing;
+      last_error = error;
+      suspension = suspension;
+      handed = handed;
+    }
+follows_end events id attempt frame object closing error suspension handed none a b c d f =
     progress_now events (Event.Take id attempt frame) id refl (frame ∷ frames_of events id) (mine_frames events (Event.Take id attempt frame) id (itself id)) []
     (mine_added events (Event.Take id attempt frame) id (itself id) ∙ none)
-    ∙ (λ i. progress_with (a i) (b i) (c i) (d i) (f i) (zero-add (attempts_begun events id) i) (moments i) (append-nil (entries_of events id) i))
-    ∙ (λ i. record (progress_of events id) { open_object = object; closing = closing; last_error = error; suspension = suspension; handed = handed; is_awake = g i })
+    ∙ (λ i. progress_with (noted_of (Event.Take id attempt frame ∷ events) id) (a i) (b i) (c i) (d i) (f i) (zero-add (attempts_begun events id) i) (moments i) (append-nil (entries_of events id) i))
   where
     moments : (attempts_since_entry events id ++ (if is_of id (Event.Take id attempt frame) then [] else [])) ≡ attempts_since_entry events id
     moments = ap (λ (more : List ℕ). attempts_since_entry events id ++ more) (both_same (bytes_eq id id) []) ∙ append-nil (attempts_since_entry events id)
@@ -270,32 +276,19 @@ suspended_here events id None = ap (λ (o : Option Suspension). option_map paylo
 suspended_here events id (Some suspension) =
     ap (λ (b : Bool). option_map payload_of_suspension (or_before (if b then Some suspension else None) (suspension_of events id))) (itself id)
 
--- a closed one is not awake
-shut : (suspension : Option Bytes) → is_unsuspended None suspension ≡ false
-shut None = refl
-shut (Some payload) = refl
-
-slept_on : (object : Option Text) (suspension : Option Suspension) (before : Option Bytes)
-    → is_unsuspended object (suspended_or suspension before) ≡ awake_unless suspension (is_unsuspended object before)
-slept_on object None before = refl
-slept_on object (Some suspension) before = refl
-
 follows_failure : (events : List Event) (id : Text) (attempt code : ℕ) (message : Text) (delay : Option ℕ) (b : Bool) → has_feature (version_of events id) features.ErrorBehavior ≡ b
     → progress_of (Event.Take id attempt (Frame.Error code message Fail delay) ∷ events) id
-    ≡ record (progress_of events id) {
+    ≡ record (noted_into (noted_of (Event.Take id attempt (Frame.Error code message Fail delay) ∷ events) id) (progress_of events id)) {
       last_error = Some (record { code = code; behavior = 2; delay = delay; message = message });
       open_object = if b then None else (progress_of events id).open_object;
       closing = if b then Some Failed else (progress_of events id).closing;
-      is_awake = if b then false else (progress_of events id).is_awake;
     }
 follows_failure events id attempt code message delay b e =
     follows_end events id attempt (Frame.Error code message Fail delay)
     (if b then None else object_if (invocation_begun events id) (frames_of events id)) (if b then Some Failed else way (invocation_begun events id) (frames_of events id))
     (Some (record { code = code; behavior = 2; delay = delay; message = message }))
     (option_map payload_of_suspension (suspension_of events id)) (handed_of events id)
-    (if b then false else is_unsuspended (object_if (invocation_begun events id) (frames_of events id)) (option_map payload_of_suspension (suspension_of events id)))
     refl (object b e) (closing b e) refl refl (handed_here events id attempt None)
-    (awake_now b)
   where
     object : (b : Bool) → has_feature (version_of events id) features.ErrorBehavior ≡ b
         → object_if (invocation_begun events id) (Frame.Error code message Fail delay ∷ frames_of events id)
@@ -309,18 +302,21 @@ follows_failure events id attempt code message delay b e =
     closing true e = rw e refl
     closing false e = rw e refl
 
-    awake_now : (b : Bool)
-        → is_unsuspended (if b then None else object_if (invocation_begun events id) (frames_of events id)) (option_map payload_of_suspension (suspension_of events id))
-        ≡ (if b then false else is_unsuspended (object_if (invocation_begun events id) (frames_of events id)) (option_map payload_of_suspension (suspension_of events id)))
-    awake_now true = shut (option_map payload_of_suspension (suspension_of events id))
-    awake_now false = refl
+-- what is noted stays with the progress
+noted_stays : (events : List Event) (event : Event) (id : Text) → progress_of (event ∷ events) id ≡ progress_of events id
+    → progress_of (event ∷ events) id ≡ noted_into (noted_of (event ∷ events) id) (progress_of events id)
+noted_stays events event id e =
+    e ∙ (ap (λ (p : Progress). noted_into (record { heard = p.heard; arrivals = p.arrivals; is_awake = p.is_awake }) (progress_of events id)) (sym e))
 
-same_still : (events : List Event) (event : Event) (id : Text) → is_tick event ≡ false → is_still event ≡ true → progress_of (event ∷ events) id ≡ progress_of events id
+same_still : (events : List Event) (event : Event) (id : Text) → is_tick event ≡ false → is_still event ≡ true
+    → progress_of (event ∷ events) id ≡ noted_into (noted_of (event ∷ events) id) (progress_of events id)
 same_still events event id still quiet =
-    same_progress events event id (inr quiet) (nothing_added (starting_state events id) events event id (entries_of events id) still (inr quiet))
+    noted_stays events event id
+    (same_progress events event id (inr quiet) (nothing_added (starting_state events id) events event id (entries_of events id) still (inr quiet)))
 
 follows_frame : (events : List Event) (id : Text) (attempt : ℕ) (frame : Frame)
-    → progress_of (Event.Take id attempt frame ∷ events) id ≡ after_frame (version_of events id) (handed_place events id) frame (progress_of events id)
+    → progress_of (Event.Take id attempt frame ∷ events) id
+    ≡ after_frame (version_of events id) (handed_place events id) frame (noted_into (noted_of (Event.Take id attempt frame ∷ events) id) (progress_of events id))
 follows_frame events id attempt (Frame.Command request) = follows_command events id attempt request
 follows_frame events id attempt (Frame.RunOutcome n value is_acknowledged) =
     follows_arrival events (Event.Take id attempt (Frame.RunOutcome n value is_acknowledged)) id (completion n (result_of_value value)) refl (itself id) refl refl refl refl
@@ -328,22 +324,20 @@ follows_frame events id attempt (Frame.RunOutcome n value is_acknowledged) =
 follows_frame events id attempt (Frame.Suspend suspension) =
     follows_end events id attempt (Frame.Suspend suspension) (object_if (invocation_begun events id) (frames_of events id)) (way (invocation_begun events id) (frames_of events id))
     (error_of (frames_of events id)) (suspended_or suspension (option_map payload_of_suspension (suspension_of events id))) (Some (handed_place events id))
-    (awake_unless suspension (progress_of events id).is_awake)
     refl refl refl refl (suspended_here events id suspension) (handed_here events id attempt (Some (handed_place events id)))
-    (slept_on (object_if (invocation_begun events id) (frames_of events id)) suspension (option_map payload_of_suspension (suspension_of events id)))
 follows_frame events id attempt Frame.End =
-    follows_end events id attempt Frame.End None (Some Ended) (error_of (frames_of events id)) (option_map payload_of_suspension (suspension_of events id)) (Some (handed_place events id)) false
+    follows_end events id attempt Frame.End None (Some Ended) (error_of (frames_of events id)) (option_map payload_of_suspension (suspension_of events id)) (Some (handed_place events id))
     refl (and_false (is_some (invocation_begun events id)) (option_map (λ (new : NewInvocation). new.object) (invocation_begun events id))) refl refl refl
-    (handed_here events id attempt (Some (handed_place events id))) (shut (option_map payload_of_suspension (suspension_of events id)))
+    (handed_here events id attempt (Some (handed_place events id)))
 follows_frame events id attempt (Frame.Error code message Fail delay) = follows_failure events id attempt code message delay (has_feature (version_of events id) features.ErrorBehavior) refl
 follows_frame events id attempt (Frame.Error code message Retry delay) =
     follows_end events id attempt (Frame.Error code message Retry delay) (object_if (invocation_begun events id) (frames_of events id)) (way (invocation_begun events id) (frames_of events id))
-    (Some (record { code = code; behavior = 0; delay = delay; message = message })) (option_map payload_of_suspension (suspension_of events id)) (handed_of events id) (progress_of events id).is_awake
-    refl refl refl refl refl (handed_here events id attempt None) refl
+    (Some (record { code = code; behavior = 0; delay = delay; message = message })) (option_map payload_of_suspension (suspension_of events id)) (handed_of events id)
+    refl refl refl refl refl (handed_here events id attempt None)
 follows_frame events id attempt (Frame.Error code message Pause delay) =
     follows_end events id attempt (Frame.Error code message Pause delay) (object_if (invocation_begun events id) (frames_of events id)) (way (invocation_begun events id) (frames_of events id))
-    (Some (record { code = code; behavior = 1; delay = delay; message = message })) (option_map payload_of_suspension (suspension_of events id)) (handed_of events id) (progress_of events id).is_awake
-    refl refl refl refl refl (handed_here events id attempt None) refl
+    (Some (record { code = code; behavior = 1; delay = delay; message = message })) (option_map payload_of_suspension (suspension_of events id)) (handed_of events id)
+    refl refl refl refl refl (handed_here events id attempt None)
 follows_frame events id attempt Frame.AwaitingOn = same_still events (Event.Take id attempt Frame.AwaitingOn) id refl refl
 follows_frame events id attempt Frame.Broken = same_still events (Event.Take id attempt Frame.Broken) id refl refl
 follows_frame events id attempt Frame.TooDeep = same_still events (Event.Take id attempt Frame.TooDeep) id refl refl
@@ -357,10 +351,11 @@ first_push (n ∷ ns) now = sym (ap (λ (b : Bool). if b then now else n) (ne_eq
     apart : (n : ℕ) → suc n ≡ 0 → ⊥
     apart n e = omega arith
 
-follows_begin : (events : List Event) (id : Text) (now : ℕ) → progress_of (Event.Begin id now ∷ events) id ≡ after_begin now (progress_of events id)
+follows_begin : (events : List Event) (id : Text) (now : ℕ)
+    → progress_of (Event.Begin id now ∷ events) id ≡ after_begin now (noted_into (noted_of (Event.Begin id now ∷ events) id) (progress_of events id))
 follows_begin events id now =
     progress_now events (Event.Begin id now) id refl (frames_of events id) (mine_frames events (Event.Begin id now) id (itself id)) [] (mine_added events (Event.Begin id now) id (itself id))
-    ∙ (λ i. progress_with (object_if (invocation_begun events id) (frames_of events id)) (way (invocation_begun events id) (frames_of events id)) (error_of (frames_of events id))
+    ∙ (λ i. progress_with (noted_of (Event.Begin id now ∷ events) id) (object_if (invocation_begun events id) (frames_of events id)) (way (invocation_begun events id) (frames_of events id)) (error_of (frames_of events id))
     (suspension i) (handed i) (attempts i) (moments i) (append-nil (entries_of events id) i))
     ∙ (λ i. record {
       open_object = object_if (invocation_begun events id) (frames_of events id);
@@ -374,9 +369,9 @@ follows_begin events id now =
       first_moment = first_push (attempts_since_entry events id) now i;
       last_completion = last_completion (requests_in (entries_of events id));
       entries = 1 + length (entries_of events id);
-      heard = None;
+      heard = heard_of (Event.Begin id now ∷ events) id;
       arrivals = length (arrivals_in (entries_of events id));
-      is_awake = is_some (object_if (invocation_begun events id) (frames_of events id));
+      is_awake = is_awake_kept (Event.Begin id now ∷ events) id;
     })
   where
     suspension : option_map payload_of_suspension (suspension_of (Event.Begin id now ∷ events) id) ≡ None
@@ -395,7 +390,7 @@ same_text : (x y : Text) → Some x ≡ Some y → x ≡ y
 same_text x y e = cc
 
 abbrev FollowsAt : List Event → Event → Text → Type 0
-FollowsAt events event id = progress_of (event ∷ events) id ≡ after_event events event (progress_of events id)
+FollowsAt events event id = progress_of (event ∷ events) id ≡ after_event events event (noted_into (noted_of (event ∷ events) id) (progress_of events id))
 
 pub follows : ProgressFollows
 follows events (Event.Invoke new) id named e = cc
@@ -413,7 +408,9 @@ follows events (Event.Begin x now) id named e = subst (FollowsAt events (Event.B
 follows events (Event.HandOut x attempt most) id named e = same_still events (Event.HandOut x attempt most) id refl refl
 follows events (Event.CloseInput x attempt) id named e = same_still events (Event.CloseInput x attempt) id refl refl
 follows events (Event.Take x attempt frame) id named e =
-    subst (λ (y : Text). progress_of (Event.Take x attempt frame ∷ events) y ≡ after_frame (version_of events x) (handed_place events x) frame (progress_of events y)) (same_text x id named)
+    subst
+    (λ (y : Text). progress_of (Event.Take x attempt frame ∷ events) y
+    ≡ after_frame (version_of events x) (handed_place events x) frame (noted_into (noted_of (Event.Take x attempt frame ∷ events) y) (progress_of events y))) (same_text x id named)
     (follows_frame events x attempt frame)
 follows events (Event.Stop x attempt) id named e = same_still events (Event.Stop x attempt) id refl refl
 
@@ -438,10 +435,10 @@ ticks events now id e =
     let arrivals = slept (entries_of events id) now in
     let more = map Arrived (slept (entries_of events id) now) in
     progress_now events (Event.Tick now) id refl (frames_of events id) refl more (ap (λ (b : Bool). if b then map Arrived (slept (entries_of events id) now) else []) opened_now)
-    ∙ (λ i. progress_with (object_if (invocation_begun events id) (frames_of events id)) (way (invocation_begun events id) (frames_of events id)) (error_of (frames_of events id))
+    ∙ (λ i. progress_with (noted_of (Event.Tick now ∷ events) id) (object_if (invocation_begun events id) (frames_of events id)) (way (invocation_begun events id) (frames_of events id)) (error_of (frames_of events id))
     (option_map payload_of_suspension (suspension_of events id)) (handed_of events id) (zero-add (attempts_begun events id) i)
     (tick_moments arrivals (attempts_since_entry events id ++ []) some i) (entries_of events id ++ more))
-    ∙ only_arrivals (object_if (invocation_begun events id) (frames_of events id)) (way (invocation_begun events id) (frames_of events id)) (error_of (frames_of events id))
+    ∙ only_arrivals (noted_of (Event.Tick now ∷ events) id) (object_if (invocation_begun events id) (frames_of events id)) (way (invocation_begun events id) (frames_of events id)) (error_of (frames_of events id))
     (option_map payload_of_suspension (suspension_of events id)) (handed_of events id) (attempts_begun events id) (attempts_since_entry events id) (entries_of events id) more
     (no_requests arrivals)
-    ∙ ap (λ (n : ℕ). grown n n (progress_of events id)) (length-arrived arrivals)
+    ∙ ap (λ (n : ℕ). grown n n (noted_into (noted_of (Event.Tick now ∷ events) id) (progress_of events id))) (length-arrived arrivals)

@@ -70,7 +70,7 @@ at_sleep : writes_of handed_all (Event.Take (codes "nap") 1 (Frame.Command (Requ
 at_sleep = refl
 
 at_suspension : writes_of input_closed (Event.Take (codes "nap") 1 (Frame.Suspend (Some (ForAny (CompletionId 1 ∷ [])))))
-    ≡ SetProgress (codes "nap") (record start { attempts = 1; last_completion = 1; entries = 2; suspension = Some (0x0a ∷ 1 ∷ 1 ∷ []); handed = Some 1; is_awake = false }) ∷ []
+    ≡ SetProgress (codes "nap") (record start { attempts = 1; last_completion = 1; entries = 2; suspension = Some (0x0a ∷ 1 ∷ 1 ∷ []); handed = Some 1; heard = Some 0; is_awake = false }) ∷ []
 at_suspension = refl
 
 at_early_tick : writes_of suspended (Event.Tick 4999) ≡ CloseSleepsUntil 4999 ∷ []
@@ -78,7 +78,7 @@ at_early_tick = refl
 
 at_tick : writes_of suspended (Event.Tick 5000)
     ≡ AddEntry (record (row 2 MessageType.SleepCompletionNotification (8 ∷ 1 ∷ 0x22 ∷ 0 ∷ [])) { answered = Some 1; arrival = Some 1 })
-    ∷ SetProgress (codes "nap") (record start { attempts = 1; last_completion = 1; entries = 3; suspension = Some (0x0a ∷ 1 ∷ 1 ∷ []); handed = Some 1; arrivals = 1; is_awake = false })
+    ∷ SetProgress (codes "nap") (record start { attempts = 1; last_completion = 1; entries = 3; suspension = Some (0x0a ∷ 1 ∷ 1 ∷ []); handed = Some 1; heard = Some 0; arrivals = 1 })
     ∷ CloseSleepsUntil 5000 ∷ []
 at_tick = refl
 
@@ -89,6 +89,6 @@ at_state : writes_of (Event.Begin (codes "nap") 6000 ∷ woken) (Event.Take (cod
 at_state = refl
 
 at_end : writes_of sets_state (Event.Take (codes "nap") 2 Frame.End)
-    ≡ SetProgress (codes "nap") (record start { open_object = None; attempts = 2; last_completion = 1; entries = 4; handed = Some 0; closing = Some Ended; arrivals = 1; is_awake = false })
+    ≡ SetProgress (codes "nap") (record start { open_object = None; attempts = 2; last_completion = 1; entries = 4; handed = Some 0; closing = Some Ended; heard = Some 0; arrivals = 1; is_awake = false })
     ∷ CloseSleeps (codes "nap") ∷ []
 at_end = refl

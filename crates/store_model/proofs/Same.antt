@@ -1,18 +1,19 @@
 -- An event that is not an invocation's, and one by which nothing is told, changes nothing of the invocation's progress.
-use Rattle.std.proofs.Common.{ℕ, ◌+◌, zero-add, ◌≡◌, refl, ap, ap₂, ◌∙◌, Bool, true, false, ◌||◌, ◌&&◌, not, if◌then◌else◌, List, [], ◌∷◌, ◌++◌, append-nil, length, filter, filter_map, Option, Some, None, is_some, option_map, unwrap_or, option_and_then, bytes_eq, ◌⊎◌, inl, inr}
+use Rattle.std.proofs.Common.{ℕ, ◌+◌, zero-add, ◌≡◌, refl, ap, ap₂, ◌∙◌, Bool, true, false, ◌||◌, ◌&&◌, not, if◌then◌else◌, List, [], ◌∷◌, ◌++◌, append-nil, length, filter, filter_map, Option, Some, None, is_some, option_map, unwrap_or, option_and_then, bytes_eq, drop, ◌⊎◌, inl, inr}
 use Rattle.std.specs.List.{list_any, find, cons_option}
 use Rattle.journal_model.specs.Notification.{Text}
 use Rattle.journal_model.specs.State.{StateMap}
 use Rattle.journal_model.specs.declared.invocation.NewInvocation.{NewInvocation}
 use Rattle.journal_model.specs.Event.{Frame, Event}
 use Rattle.journal_model.specs.Journal.{Entry, Closing as Closed, is_of, is_tick, begins, invocation_begun, starting_state, closes, closing_frame, frame_of, frames_of, is_open, closing_of, requests_in, entries_of, entries_from, entries_of_event, entries_added, arrivals_in}
-use Rattle.journal_model.specs.Attempt.{begins_attempt, attempts_begun, suspension_in, suspension_of}
+use Rattle.journal_model.specs.Attempt.{begins_attempt, attempts_begun, suspension_in, suspension_of, is_woken}
 use Rattle.journal_model.specs.Start.{is_some_entry, moment_begun, begun_since_entry, attempts_since_entry}
 use Rattle.journal_model.specs.Cause.{last_completion}
 use Rattle.journal_laws.proofs.ObjectState.{begun_before}
 use Rattle.store_tables.specs.declared.row.LastError.{LastError}
+use Rattle.due_model.specs.Noted.{heard_in, heard_of, or_zero}
 use Rattle.store_model.specs.Places.{handed_in, handed_of}
-use Rattle.store_model.specs.Progress.{first_of, is_unsuspended, number_or_zero, payload_of_suspension, way_closed, error_in, last_error_of, last_output, progress_of}
+use Rattle.store_model.specs.Progress.{first_of, number_or_zero, payload_of_suspension, way_closed, error_in, last_error_of, last_output, progress_of}
 
 -- frames, and events, by which nothing is told of an invocation
 abbrev pub is_quiet : Option Frame → Bool
@@ -60,6 +61,13 @@ hands_not earlier (Event.Take other attempt (Frame.Suspend suspension)) id (inr 
 hands_not earlier (Event.Take other attempt Frame.End) id (inr e) = cc
 hands_not earlier (Event.Take other attempt _) id (inr e) = both_same (bytes_eq other id) None
 hands_not earlier _ id h = refl
+
+tells_not : (earlier : List Event) (event : Event) (id : Text) → Leaves event id → heard_in earlier id event ≡ None
+tells_not earlier (Event.Take other attempt frame) id (inl e) = rw e refl
+tells_not earlier (Event.Take other attempt (Frame.Suspend suspension)) id (inr e) = cc
+tells_not earlier (Event.Take other attempt Frame.End) id (inr e) = cc
+tells_not earlier (Event.Take other attempt _) id (inr e) = both_same (bytes_eq other id) None
+tells_not earlier _ id h = refl
 
 no_moment : (event : Event) (id : Text) → Leaves event id → (if is_of id event then moment_begun event else []) ≡ []
 no_moment (Event.Begin other now) id (inl e) = rw e refl
@@ -155,6 +163,9 @@ module _ (events : List Event) (event : Event) (id : Text) (leaves : Leaves even
   same_handed : handed_of (event ∷ events) id ≡ handed_of events id
   same_handed = rw (begins_no_attempt event id leaves, hands_not events event id leaves) refl
 
+  same_heard : heard_of (event ∷ events) id ≡ heard_of events id
+  same_heard = rw (begins_no_attempt event id leaves, tells_not events event id leaves) refl
+
   module _ (nothing : entries_added (starting_state events id) events id event (entries_of events id) ≡ []) where
     pub same_entries : entries_of (event ∷ events) id ≡ entries_of events id
     same_entries =
@@ -181,9 +192,9 @@ module _ (events : List Event) (event : Event) (id : Text) (leaves : Leaves even
       first_moment = number_or_zero (first_of (same_moments i));
       last_completion = last_completion (requests_in (same_entries i));
       entries = 1 + length (same_entries i);
-      heard = None;
+      heard = same_heard i;
       arrivals = length (arrivals_in (same_entries i));
-      is_awake = is_unsuspended (if same_open i then option_map (λ (new : NewInvocation). new.object) (same_begun i) else None) (option_map payload_of_suspension (same_suspension i));
+      is_awake = same_open i && is_woken (drop (or_zero (same_heard i)) (arrivals_in (same_entries i))) (same_suspension i);
     }
 
 -- ---- which events add nothing

@@ -6,6 +6,7 @@ use Rattle.journal_model.specs.declared.invocation.NewInvocation.{NewInvocation}
 use Rattle.journal_model.specs.Event.{Frame, Event}
 use Rattle.journal_model.specs.Journal.{Entry, Recorded, Arrived, invocation_begun, entries_from, entries_added, starting_state}
 use Rattle.journal_model.specs.Attempt.{Piece, begins_attempt, input_pieces, bytes_handed}
+use Rattle.due_model.specs.Noted.{or_kept}
 
 -- the places of entries that stand from this place on; and of the arrivals among them
 abbrev pub places_of : ℕ → List Entry → List ℕ
@@ -53,10 +54,6 @@ handed_at earlier id _ = None
 abbrev pub handed_in : List Event → Text → Event → Option ℕ
 handed_in earlier id (Event.Take other attempt frame) = if bytes_eq other id then handed_at earlier id frame else None
 handed_in earlier id _ = None
-
-abbrev pub or_kept : Option ℕ → Option ℕ → Option ℕ
-or_kept None kept = kept
-or_kept (Some place) kept = Some place
 
 -- of the last attempt, if it was suspended or ended its invocation
 abbrev pub handed_of : List Event → Text → Option ℕ

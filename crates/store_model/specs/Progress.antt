@@ -1,5 +1,5 @@
 -- What is kept of an invocation beside its journal, read off the accepted events.
-use Rattle.std.specs.Prelude.{ℕ, Bool, true, false, is_some, ◌+◌, if◌then◌else◌, List, [], ◌∷◌, ◌++◌, length, filter_map, Option, Some, None, option_map}
+use Rattle.std.specs.Prelude.{ℕ, true, ◌+◌, if◌then◌else◌, List, [], ◌∷◌, ◌++◌, length, filter_map, Option, Some, None, option_map}
 use Rattle.journal_model.specs.Notification.{Bytes, Text}
 use Rattle.journal_model.specs.declared.notification.NotificationId.{NotificationId}
 use Rattle.journal_model.specs.declared.notification.NotificationId.TheVariants.{CompletionId, SignalId, SignalName}
@@ -15,6 +15,7 @@ use Rattle.store_tables.specs.declared.row.Closing.{Closing}
 use Rattle.store_tables.specs.declared.row.LastError.{LastError}
 use Rattle.store_tables.specs.declared.row.Progress.{Progress}
 use Rattle.store_tables.specs.declared.row.Closing.TheVariants.{Ended, Failed}
+use Rattle.due_model.specs.Noted.{heard_of, is_awake_kept}
 use Rattle.store_model.specs.Places.{handed_of}
 
 abbrev pub first_of : {A : Type 0} → List A → Option A
@@ -88,11 +89,6 @@ error_in _ = None
 abbrev pub last_error_of : List Event → Text → Option LastError
 last_error_of events id = first_of (filter_map error_in (frames_of events id))
 
--- open, and not suspended: of an object where it is open, and of the payload of its suspension
-abbrev pub is_unsuspended : Option Text → Option Bytes → Bool
-is_unsuspended object (Some suspension) = false
-is_unsuspended object None = is_some object
-
 -- of an invocation of an object that was just begun: it is open, and its input is the one entry
 abbrev pub begun_progress : Text → Progress
 begun_progress object = record {
@@ -112,7 +108,6 @@ begun_progress object = record {
   is_awake = true;
 }
 
--- So far nothing is noted of what was handed, and an invocation counts as awake while it is open and not suspended.
 abbrev pub progress_of : List Event → Text → Progress
 progress_of events id = record {
   open_object = if is_open events id then object_of_invocation events id else None;
@@ -126,7 +121,7 @@ progress_of events id = record {
   first_moment = number_or_zero (first_of (attempts_since_entry events id));
   last_completion = last_completion (recorded_requests events id);
   entries = 1 + length (entries_of events id);
-  heard = None;
+  heard = heard_of events id;
   arrivals = length (recorded_arrivals events id);
-  is_awake = is_unsuspended (if is_open events id then object_of_invocation events id else None) (option_map payload_of_suspension (suspension_of events id));
+  is_awake = is_awake_kept events id;
 }

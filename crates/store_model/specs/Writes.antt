@@ -1,11 +1,12 @@
 -- What an accepted event writes, and that these writes lead from the records kept before it to those kept after it.
-use Rattle.std.specs.Prelude.{◌≡◌, ℕ, ◌+◌, Bool, not, ◌&&◌, if◌then◌else◌, List, [], ◌∷◌, ◌++◌, length, map, filter, flat_map, Option, Some, None, bytes_eq}
+pub use Rattle.due_model.specs.NextMoment.{ends_sleep}
+use Rattle.std.specs.Prelude.{◌≡◌, ℕ, ◌+◌, if◌then◌else◌, List, [], ◌∷◌, ◌++◌, length, map, filter, flat_map, Option, Some, None, bytes_eq}
 use Rattle.journal_model.specs.Notification.{Text}
 use Rattle.journal_model.specs.Request.{Request}
 use Rattle.journal_model.specs.declared.invocation.NewInvocation.{NewInvocation}
 use Rattle.journal_model.specs.Event.{Frame, Event}
-use Rattle.journal_model.specs.Journal.{version_of, closes, is_open, entries_of, entries_of_event, slept, starting_state, object_of, frame_of, request_of_frame}
-use Rattle.journal_model.specs.Cause.{is_empty, causes_of, IsAccepted}
+use Rattle.journal_model.specs.Journal.{version_of, closes, entries_of, entries_of_event, starting_state, object_of, frame_of, request_of_frame}
+use Rattle.journal_model.specs.Cause.{causes_of, IsAccepted}
 use Rattle.store_tables.specs.Records.{Records, no_records, applied_all}
 use Rattle.store_tables.specs.declared.row.EntryRow.{EntryRow}
 use Rattle.store_tables.specs.declared.row.Write.{Write}
@@ -27,10 +28,6 @@ rows_added events event id =
 -- what is written of one invocation: what is added to its journal, and how far it is then
 abbrev pub invocation_writes : List Event → Event → Text → List Write
 invocation_writes events event id = map AddEntry (rows_added events event id) ++ SetProgress id (progress_of (event ∷ events) id) ∷ []
-
--- whether a moment ends a sleep of an open invocation
-abbrev pub ends_sleep : List Event → ℕ → Text → Bool
-ends_sleep events now id = is_open events id && not (is_empty (slept (entries_of events id) now))
 
 -- a frame by which its attempt only tells that it waits, and one that is never accepted, leave the records as they are
 abbrev pub ids_of_frame : Text → Frame → List Text

@@ -2,3 +2,5 @@ pub mod Frames
 pub mod Places
 pub mod Kept
 pub mod Memory
+pub mod Awake
+pub mod NextSleep

@@ -1,5 +1,6 @@
--- What the rows tell of an invocation that waits, and of which invocations an event changes what is noted.
-use Rattle.std.specs.Prelude.{◌≡◌, false, List, ◌∷◌, map, filter, drop, bytes_eq, IsPermutation}
+-- What the rows tell of an invocation that waits, of which are due, of when the next sleep ends, and of which invocations an event
+-- changes what is noted.
+use Rattle.std.specs.Prelude.{◌≡◌, false, List, ◌∷◌, map, filter, drop, Option, option_map, bytes_eq, IsPermutation}
 use Rattle.std.specs.List.{list_any}
 use Rattle.journal_model.specs.Notification.{Text}
 use Rattle.journal_model.specs.Spelling.{notification_payload}
@@ -10,8 +11,13 @@ use Rattle.journal_model.specs.Attempt.{is_none, live_attempt, due}
 use Rattle.due_laws.specs.Awake.{heard_of, or_zero, not_heard, is_awake_kept, noted_of}
 use Rattle.store_tables.specs.declared.row.EntryRow.{EntryRow}
 use Rattle.store_tables.specs.declared.row.InvocationRow.{InvocationRow}
-use Rattle.store_tables.specs.Questions.{DoAscend}
-use Rattle.store_model.specs.Kept.{begun, invocation_row}
+use Rattle.due_model.specs.NextMoment.{IsNextMoment}
+use Rattle.sql_tables.specs.Statements.{IsFirst}
+use Rattle.store_tables.specs.Records.{Records, ends_from}
+use Rattle.store_tables.specs.Orders.{moment_cmp}
+use Rattle.store_tables.specs.Questions.{DoAscend, is_awake}
+use Rattle.store_tables.specs.declared.row.SleepRow.{SleepRow}
+use Rattle.store_model.specs.Kept.{begun, invocation_row, IsKept}
 use Rattle.store_model.specs.Writes.{changed_by}
 use Rattle.store_lookups.specs.Lookups.{arrival_rows}
 
@@ -30,3 +36,18 @@ abbrev pub DueFromRows : Type 0
 DueFromRows = (events : List Event) (rows : List InvocationRow) → IsAccepted events → DoAscend (λ (row : InvocationRow). row.id) rows
     → IsPermutation (filter (λ (row : InvocationRow). is_awake_kept events row.id) (map (invocation_row events) (begun events))) rows
     → due events ≡ filter (λ id. is_none (live_attempt events id)) (map (λ (row : InvocationRow). row.id) rows)
+
+-- these are those of the records that have the flag
+abbrev pub DueFromRecords : Type 0
+DueFromRecords = (events : List Event) (r : Records) (rows : List InvocationRow) → IsAccepted events → IsKept events r → DoAscend (λ (row : InvocationRow). row.id) rows
+    → IsPermutation (filter is_awake r.invocations) rows → due events ≡ filter (λ id. is_none (live_attempt events id)) (map (λ (row : InvocationRow). row.id) rows)
+
+-- and they have such an order
+abbrev pub AwakeAreArranged : Type 0
+AwakeAreArranged = (events : List Event) (r : Records) → IsAccepted events → IsKept events r
+    → (rows : List InvocationRow) × DoAscend (λ (row : InvocationRow). row.id) rows × IsPermutation (filter is_awake r.invocations) rows
+
+-- the first of the sleeps that are kept is the next one that a tick ends
+abbrev pub NextFromRecords : Type 0
+NextFromRecords = (events : List Event) (r : Records) (first : Option SleepRow) → IsAccepted events → IsKept events r → IsFirst moment_cmp (filter (ends_from 0) r.sleeps) first
+    → IsNextMoment events (option_map (λ (sleep : SleepRow). sleep.moment) first)

@@ -3,7 +3,7 @@
 //! events? Laws over the rows that `store_model` says are kept; the functions do nothing, and their contracts are the laws.
 #![tactic(auto)]
 
-ghost use Rattle.store_row_laws.specs.Kept.{ChangedCovers, DueFromRows, RowsAreNotHeard};
+ghost use Rattle.store_row_laws.specs.Kept.{AwakeAreArranged, ChangedCovers, DueFromRecords, DueFromRows, NextFromRecords, RowsAreNotHeard};
 ghost use Rattle.store_row_laws.specs.Memory.{AllArrivalsAreTold, InputAgrees};
 ghost use Rattle.store_row_laws.specs.Read.{AllFramesAreRead, HandedIsRead, KnownAtBegin};
 
@@ -23,6 +23,13 @@ pub fn kept_rows_tell()
     ensures not_heard { RowsAreNotHeard }
     ensures covers { ChangedCovers }
     ensures due { DueFromRows }
+{}
+
+/// The records tell which invocations are due, but for those with a live attempt, and when the next sleep ends.
+pub fn kept_records_tell()
+    ensures due { DueFromRecords }
+    ensures arranged { AwakeAreArranged }
+    ensures next { NextFromRecords }
 {}
 
 /// What is kept in memory of an input that is read by the row agrees with the accepted events.

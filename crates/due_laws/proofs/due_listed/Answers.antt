@@ -1,5 +1,5 @@
--- Both are proved in `Listing`.
-use Rattle.due_laws.proofs.Listing.{due_listed, awake_found}
+-- All are proved in `Listing`.
+use Rattle.due_laws.proofs.Listing.{due_listed, awake_found, due_tells}
 use Rattle.due_laws.proofs.due_listed.Goals as goal
 
 pub returns-clause-listed : goal.returns-clause-listed
@@ -7,3 +7,6 @@ returns-clause-listed c = due_listed
 
 pub returns-clause-found : goal.returns-clause-found
 returns-clause-found c = awake_found
+
+pub returns-clause-tells : goal.returns-clause-tells
+returns-clause-tells c = due_tells
