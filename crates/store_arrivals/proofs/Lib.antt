@@ -13,3 +13,8 @@ pub mod Using
 pub mod Rowed
 pub mod Whole
 pub mod Keeping
+pub mod Hearing
+pub mod HeardRows
+pub mod Lists
+pub mod Suspended
+pub mod Waking

@@ -2,7 +2,7 @@
 use Rattle.std.proofs.Common.{ℕ, suc, ◌+◌, ◌≡◌, refl, sym, ap, ap₂, subst, ◌∙◌, Bool, true, false, ◌&&◌, not, if◌then◌else◌, List, [], ◌∷◌, ◌++◌, length, map, filter, flat_map, bytes_eq}
 use Rattle.std.specs.List.{AllByRecursion}
 use Rattle.sqlite_keyed.proofs.ListLemmas.{map-map}
-use Rattle.journal_model.specs.Notification.{Bytes, Text}
+use Rattle.journal_model.specs.Notification.{Bytes, Text, Arrival}
 use Rattle.journal_model.specs.Event.{Event}
 use Rattle.journal_model.specs.Journal.{is_open, is_over, requests_in, sleeps_in, sorted_by_moment, slept, entries_of}
 use Rattle.journal_model.specs.Cause.{IsAccepted, is_empty}
@@ -15,12 +15,15 @@ use Rattle.store_tables.specs.declared.row.Write.TheVariants.{AddEntry, SetProgr
 use Rattle.store_model.specs.Kept.{IsKept}
 use Rattle.store_model.specs.Progress.{progress_of}
 use Rattle.store_model.specs.Sleeps.{due_until, sleep_row}
-use Rattle.store_model.specs.Steps.{grown}
+use Rattle.store_model.specs.Steps.{grown, noted_into}
 use Rattle.store_model.specs.Writes.{ends_sleep, invocation_writes, rows_added}
 use Rattle.store_model.proofs.Following.{ticks}
 use Rattle.store_model.proofs.States.{itself}
 use Rattle.store_lookups.specs.Lookups.{ended_sleeps, row_frame}
 use Rattle.store_lookups.proofs.Sleeping.{answer_of_sleep}
+use Rattle.due_model.specs.Noted.{Noted}
+use Rattle.due_laws.proofs.Noting.{noted_ticks}
+use Rattle.store_arrivals.specs.Woken.{ends_of, flagged}
 use Rattle.store_arrivals.specs.Groups.{Group, group_of, those_ended}
 use Rattle.store_arrivals.specs.Ended.{end_frame, end_rows}
 use Rattle.store_live.specs.declared.added.AddedFrames.{AddedFrames}
@@ -47,11 +50,16 @@ pub record IsGroupOf (events : List Event) (now : ℕ) (group : Group) : Type 0 
   pub opened : is_open events group.0 ≡ true
   pub completions : group.1 ≡ map (λ (sleep : ℕ × ℕ). sleep.1) (ended_sleeps events now group.0)
   pub many : length group.1 ≡ length (slept (entries_of events group.0) now)
+  pub arrivals : ends_of group.1 ≡ slept (entries_of events group.0) now
   pub ends : ends_sleep events now group.0 ≡ true
 
 as_many : (id : Text) (sleeps : List (ℕ × ℕ)) → length (map (λ (row : SleepRow). row.completion) (map (sleep_row id) sleeps)) ≡ length (map answer_of_sleep sleeps)
 as_many id [] = refl
 as_many id (sleep ∷ sleeps) = ap suc (as_many id sleeps)
+
+ends_slept : (id : Text) (sleeps : List (ℕ × ℕ)) → ends_of (map (λ (row : SleepRow). row.completion) (map (sleep_row id) sleeps)) ≡ map answer_of_sleep sleeps
+ends_slept id [] = refl
+ends_slept id (sleep ∷ sleeps) = ap (λ (rest : List Arrival). answer_of_sleep sleep ∷ rest) (ends_slept id sleeps)
 
 module _ (events : List Event) (now : ℕ) where
   abbrev over : Text → List (ℕ × ℕ)
@@ -67,6 +75,7 @@ module _ (events : List Event) (now : ℕ) where
       completions = map-map (λ (row : SleepRow). row.completion) (sleep_row id) (sleep ∷ sleeps)
           ∙ sym (ap₂ (λ (b : Bool) (xs : List (ℕ × ℕ)). map (λ (one : ℕ × ℕ). one.1) (if b then xs else [])) e f);
       many = as_many id (sleep ∷ sleeps) ∙ sym (ap (λ (xs : List (ℕ × ℕ)). length (map answer_of_sleep xs)) f);
+      arrivals = ends_slept id (sleep ∷ sleeps) ∙ sym (ap (map answer_of_sleep) f);
       ends = ap₂ (λ (b : Bool) (xs : List (ℕ × ℕ)). b && not (is_empty (map answer_of_sleep xs))) e f;
     },
     tt,
@@ -87,10 +96,19 @@ module _ (events : List Event) (now : ℕ) where
       → end_rows group.0 (next_place events group.0) (arrivals_before events group.0) group.1 ≡ rows_added events (Event.Tick now) group.0
   rows_are accepted group it = ap (end_rows group.0 (next_place events group.0) (arrivals_before events group.0)) it.completions ∙ sym (rows_of_tick events now group.0 accepted it.opened)
 
+  -- how far its invocation is then
+  far : IsAccepted events → (group : Group) → IsGroupOf events now group
+      → progress_of (Event.Tick now ∷ events) group.0
+      ≡ grown (length (slept (entries_of events group.0) now)) (length (slept (entries_of events group.0) now)) (flagged events group.0 (slept (entries_of events group.0) now) (progress_of events group.0))
+  far accepted group it =
+      let n = length (slept (entries_of events group.0) now) in
+      ticks events now group.0 it.ends
+      ∙ ap (λ (noted : Noted). grown n n (noted_into noted (progress_of events group.0))) (noted_ticks events now group.0 accepted it.opened)
+
   group_written : IsAccepted events → (group : Group) → IsGroupOf events now group → group_writes events group ≡ invocation_writes events (Event.Tick now) group.0
   group_written accepted group it =
       ap₂ (λ (rows : List EntryRow) (far : Progress). map AddEntry rows ++ SetProgress group.0 far ∷ []) (rows_are accepted group it)
-      (ap (λ (n : ℕ). grown n n (progress_of events group.0)) it.many ∙ sym (ticks events now group.0 it.ends))
+      (ap₂ (λ (n : ℕ) (new : List Arrival). grown n n (flagged events group.0 new (progress_of events group.0))) it.many it.arrivals ∙ sym (far accepted group it))
 
   groups_written : IsAccepted events → (groups : List Group) → AllByRecursion (IsGroupOf events now) groups
       → flat_map (group_writes events) groups ≡ flat_map (invocation_writes events (Event.Tick now)) (map id_of groups)

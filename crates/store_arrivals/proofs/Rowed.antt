@@ -6,8 +6,8 @@ use Rattle.sqlite_trees.specs.declared.store.Store.{Ghosts}
 use Rattle.sqlite.specs.Held.{Held}
 use Rattle.journal_model.specs.Notification.{Text}
 use Rattle.journal_model.specs.Event.{Event}
-use Rattle.journal_model.specs.Journal.{invocation_begun, is_open}
-use Rattle.journal_model.specs.Cause.{Cause, Tests, open_tests, those_that_hold}
+use Rattle.journal_model.specs.Journal.{is_open}
+use Rattle.journal_model.specs.Cause.{Tests, open_tests, those_that_hold}
 use Rattle.store_tables.specs.Looks.{Looks}
 use Rattle.store_tables.specs.declared.row.InvocationRow.{InvocationRow}
 use Rattle.store_tables.specs.declared.row.Progress.{Progress}
@@ -21,8 +21,9 @@ use Rattle.store_invocations.specs.Rows.{Decides, IsRowOf}
 use Rattle.store_invocations.proofs.Refusing.{none_of_both, refused_later, refused_more}
 use Rattle.store_arrivals.specs.Arrivals.{HasFewArrivals}
 use Rattle.store_arrivals.specs.Ended.{end_rows}
-use Rattle.store_arrivals.proofs.Written.{few_arrivals}
+use Rattle.store_arrivals.proofs.Written.{few_arrivals, none_against_open}
 use Rattle.store_arrivals.specs.Groups.{Group}
+use Rattle.store_arrivals.specs.Woken.{ends_of, flagged, row_then}
 use Rattle.store_live.specs.declared.added.AddedFrames.{AddedFrames}
 use Rattle.store_arrivals.proofs.Ends.{was_ended}
 use Rattle.store_arrivals.specs.Made.{AreEnds, AreEndsOf, AreGroupsEnded, AreOpen, AreToldOf, IsGroupEnded, closed_until, group_tests, group_writes, next_place, room_tests, row_writes, tests_of, until_writes}
@@ -36,7 +37,7 @@ row_far : (events : List Event) (id : Text) (row : InvocationRow) → IsRowOf ev
 row_far events id row of_it = ap (λ (r : InvocationRow). r.progress) of_it.is ∙ ap (progress_of events) of_it.named
 
 pub group_ended : (events : List Event) (group : Group) (row : InvocationRow) (before after : List Write) (r : Result AddedFrames Refusal) → IsRowOf events group.0 row
-    → Decides (room_tests row.progress.entries (length group.1)) (AreEndsOf row group.0 group.1 before after) r
+    → Decides (room_tests row.progress.entries (length group.1)) (AreEndsOf (row_then events group.0 (ends_of group.1) row) group.0 group.1 before after) r
     → Decides (group_tests events group) (IsGroupEnded events group before after) r
 group_ended events group row before after (Ok ended) of_it decided =
     let id = group.0 in
@@ -46,21 +47,16 @@ group_ended events group row before after (Ok ended) of_it decided =
       record {
         ends = subst (λ (p : Progress). AreEnds id p.entries group.1 ended) far decided.1.ends;
         written = decided.1.written (subst HasFewArrivals (sym far) (few_arrivals events id))
-            ∙ (λ i. before ++ (map AddEntry (end_rows (named i) (far i).entries (far i).arrivals group.1) ++ SetProgress (named i) (grown (length group.1) (length group.1) (far i)) ∷ []));
+            ∙ (λ i. before ++ (map AddEntry (end_rows (named i) (far i).entries (far i).arrivals group.1) ++ SetProgress (named i) (grown (length group.1) (length group.1) (flagged events id (ends_of group.1) (far i))) ∷ []));
       },
     )
 group_ended events group row before after (Err why) of_it refused =
     subst (λ (p : Progress). IsRefused (those_that_hold (room_tests p.entries (length group.1))) why) (row_far events group.0 row of_it) refused
 
 -- an open invocation is not refused for what it is
-none_closed : (known opened : Bool) → (known && opened) ≡ true → those_that_hold ((not known, Cause.UnknownInvocation) ∷ (known && not (known && opened), Cause.InvocationClosed) ∷ []) ≡ []
-none_closed true true e = refl
-none_closed true false e = cc
-none_closed false opened e = cc
-
 pub is_no_cause : (events : List Event) (id : Text) (tests : Tests) (why : Refusal) → is_open events id ≡ true
     → IsRefused (those_that_hold (open_tests events id)) why → IsRefused (those_that_hold tests) why
-is_no_cause events id tests why opened (inl e) = nothing (sym (ap first_of (none_closed (is_some (invocation_begun events id)) _ opened)) ∙ e)
+is_no_cause events id tests why opened (inl e) = nothing (sym (ap first_of (none_against_open events id opened)) ∙ e)
   where
     nothing : ◌≡◌ {A = Option Refusal} None (Some why) → IsRefused (those_that_hold tests) why
     nothing f = cc

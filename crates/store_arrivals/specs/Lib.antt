@@ -4,3 +4,4 @@ pub mod Ended
 pub mod Groups
 pub mod Grouped
 pub mod Made
+pub mod Woken

@@ -21,6 +21,7 @@ use Rattle.store_lookups.specs.Lookups.{row_frame}
 use Rattle.store_arrivals.specs.Arrivals.{HasFewArrivals}
 use Rattle.store_arrivals.specs.Ended.{end_frame, end_row, end_rows}
 use Rattle.store_arrivals.specs.Groups.{Group}
+use Rattle.store_arrivals.specs.Woken.{ends_of, flagged}
 use Rattle.store_arrivals.specs.declared.ended.SleepEnd.{SleepEnd}
 use Rattle.store_live.specs.declared.added.AddedFrames.{AddedFrames}
 use Rattle.store_arrivals.specs.declared.tick.PreparedTick.{PreparedTick}
@@ -69,7 +70,7 @@ arrivals_before events id = length (recorded_arrivals events id)
 
 abbrev pub group_writes : List Event → Group → List Write
 group_writes events group =
-    map AddEntry (end_rows group.0 (next_place events group.0) (arrivals_before events group.0) group.1) ++ SetProgress group.0 (grown (length group.1) (length group.1) (progress_of events group.0)) ∷ []
+    map AddEntry (end_rows group.0 (next_place events group.0) (arrivals_before events group.0) group.1) ++ SetProgress group.0 (grown (length group.1) (length group.1) (flagged events group.0 (ends_of group.1) (progress_of events group.0))) ∷ []
 
 abbrev pub group_tests : List Event → Group → Tests
 group_tests events group = room_tests (next_place events group.0) (length group.1)

@@ -10,9 +10,13 @@ mod laws;
 mod payload;
 mod result;
 mod tick;
+mod wake;
+mod woken;
 
 pub use arrival::{PreparedArrival, prepare_arrival};
 pub use groups::{SleepGroup, groups_of};
 pub use laws::{ended_grouped, ready_kept};
 pub use result::prepare_result;
 pub use tick::{PreparedTick, prepare_tick};
+pub use wake::is_woken;
+pub use woken::prepare_woken;

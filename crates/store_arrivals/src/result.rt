@@ -10,12 +10,13 @@ ghost use Rattle.journal_model.specs.Attempt.{notification_type};
 ghost use Rattle.journal_model.specs.Cause.{own_tests};
 ghost use Rattle.store_tables.specs.Looks.{Looks};
 ghost use Rattle.store_refusals.specs.Prepared.{Prepares};
-ghost use Rattle.store_invocations.specs.Rows.{Decides, IsRowOf, IsStoreOf};
+ghost use Rattle.store_invocations.specs.Rows.{Decides, IsOpenRow, IsStoreOf};
 ghost use Rattle.store_arrivals.specs.Arrivals.{IsMadeReady};
 ghost use Rattle.store_arrivals.specs.Asked.{completion_tests};
 
-use crate::arrival::{PreparedArrival, prepare_arrival};
+use crate::arrival::PreparedArrival;
 use crate::asking::open_request_of;
+use crate::woken::prepare_woken;
 use bytes::ByteStr;
 use journal_model::{Notification, NotificationId, NotificationResult};
 use protocol_stream::MessageType;
@@ -51,14 +52,14 @@ fn prepare_for<S: Alter>(
     completion: u32,
     brought: NotificationResult,
 ) -> Result<PreparedArrival, Refusal>
-    ensures decided { HasCleanDisk (state S.Store tables.new) → (events : List Event) → IsStoreOf events (state S.Store tables.old) → IsRowOf events id.now row
+    ensures decided { HasCleanDisk (state S.Store tables.new) → (events : List Event) → IsStoreOf events (state S.Store tables.old) → IsOpenRow events id.now row
         → Decides (own_tests events (Event.Complete id.now completion brought)) (IsMadeReady events (Event.Complete id.now completion brought) id.now (arrival_of completion brought)) result }
     ensures place { IfOk result (λ made. made.place + 1 < 2 ^ 32) }
     ensures looks { Looks S.Store tables.old tables.new }
 {
     match type_of_result(tables, id, completion, &brought) {
-        Ok(ty) => prepare_arrival(
-            tables.alloc(),
+        Ok(ty) => prepare_woken(
+            tables,
             row,
             ty,
             Notification {

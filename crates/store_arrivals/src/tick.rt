@@ -1,6 +1,6 @@
 //! What a tick makes ready.
 
-ghost use Rattle.std.specs.Prelude.{◌≡◌, List, map, true, IfOk, OnOk, IsTrue};
+ghost use Rattle.std.specs.Prelude.{◌≡◌, List, length, map, true, IfOk, OnOk, IsTrue};
 ghost use Rattle.std.specs.List.{AllByRecursion};
 ghost use Rattle.sqlite.specs.Held.{state};
 ghost use Rattle.sqlite.specs.State.{HasCleanDisk};
@@ -10,19 +10,23 @@ ghost use Rattle.store_tables.specs.Looks.{Looks};
 ghost use Rattle.store_model.specs.Sleeps.{due_until as the_last_due};
 ghost use Rattle.store_refusals.specs.Prepared.{Prepares};
 ghost use Rattle.store_arrivals.specs.Grouped.{as_group};
-ghost use Rattle.store_invocations.specs.Rows.{Decides, IsStoreOf};
+ghost use Rattle.store_invocations.specs.Rows.{Decides, IsRowOf, IsStoreOf};
+ghost use Rattle.store_arrivals.specs.Woken.{ends_of as the_ends_of, row_then};
 ghost use Rattle.store_live.specs.Added.{HasPlaces};
-ghost use Rattle.store_arrivals.specs.Made.{AreGroupsEnded, AreOpen, IsEndedUntil, IsGroupEnded, IsTickReady, closed_until, group_tests, tests_of};
+ghost use Rattle.store_arrivals.specs.Made.{AreEndsOf, AreGroupsEnded, AreOpen, IsEndedUntil, IsGroupEnded, IsTickReady, closed_until, group_tests, room_tests, tests_of};
 
 use crate::ended::end_sleeps;
 use crate::groups::{SleepGroup, groups_of};
+use crate::woken::woken_row;
+use bytes::ByteStr;
+use journal_model::{Notification, NotificationId, NotificationResult};
 use sqlite::Alter;
-use std::alloc::AllocError;
+use std::alloc::{AllocError, Global};
 use std::collections::VecDeque;
 use store_invocations::open_row;
 use store_live::AddedFrames;
 use store_refusals::Refusal;
-use store_tables::{StoreTables, Write, sleeps_until};
+use store_tables::{InvocationRow, StoreTables, Write, sleeps_until};
 
 /// What a tick writes, and what it adds to the input of live attempts.
 #[derive(Debug, Drop)]
@@ -40,6 +44,48 @@ fn due_until(now: u64) -> u64
     ensures { result ≡ the_last_due now }
 {
     now.min(i64::MAX as u64)
+}
+
+/// The ends of these sleeps, as they arrive.
+fn ends_of(alloc: Global, completions: &[u32]) -> Result<Vec<Notification>, AllocError>
+    ensures { IfOk result (λ ends. ends.items ≡ the_ends_of completions.now) }
+{
+    completions
+        .iter()
+        .map(|completion| Notification {
+            id: NotificationId::CompletionId(*completion),
+            result: NotificationResult::Void,
+        })
+        .collect(alloc)
+}
+
+/// Ends the sleeps of the open invocation that has this row.
+fn end_open<S: Alter>(
+    tables: &mut StoreTables<S>,
+    invocation: ByteStr,
+    row: InvocationRow,
+    completions: &[u32],
+    writes: &mut Vec<Write>,
+) -> Result<AddedFrames, Refusal>
+    ensures decided { HasCleanDisk (state S.Store tables.new) → (events : List Event) → IsStoreOf events (state S.Store tables.old) → IsRowOf events invocation row
+        → Decides (room_tests row.progress.entries (length completions.now)) (AreEndsOf (row_then events invocation (the_ends_of completions.now) row) invocation completions.now writes.old.items writes.new.items) result }
+    ensures places { IfOk result HasPlaces }
+    ensures looks { Looks S.Store tables.old tables.new }
+{
+    let Ok(ends) = ends_of(tables.alloc(), completions) else {
+        drop(invocation);
+        drop(row);
+        return Err(Refusal::OutOfMemory);
+    };
+    let woken = woken_row(tables, row, ends.as_slice());
+    drop(ends);
+    match woken {
+        Ok(row) => end_sleeps(tables.alloc(), invocation, row, completions, writes),
+        Err(why) => {
+            drop(invocation);
+            Err(why)
+        }
+    }
 }
 
 /// Ends the sleeps of one invocation.
@@ -60,13 +106,7 @@ fn end_group<S: Alter>(
     let completions = completions.into_vec();
     match open_row(tables, &invocation) {
         Ok(row) => {
-            let ended = end_sleeps(
-                tables.alloc(),
-                invocation,
-                row,
-                completions.as_slice(),
-                writes,
-            );
+            let ended = end_open(tables, invocation, row, completions.as_slice(), writes);
             drop(completions);
             ended
         }

@@ -12,23 +12,23 @@ use Rattle.protocol_trees.specs.Future.{shape_in, ids_in, future_tree}
 use Rattle.protocol_trees.specs.FutureShape.{future_tree_is}
 use Rattle.protocol_stream.proofs.Spellings.{plain_number-is, packed-is, repeated_bytes-is, spelled-cons, spelled-last, payload_is}
 
-abbrev Trees : Type 0
+abbrev pub Trees : Type 0
 Trees = AwaitTrees NotificationId
 
-abbrev Tree : Type 0
+abbrev pub Tree : Type 0
 Tree = AwaitTree NotificationId
 
 -- a forest of leaves, and trees behind them
-abbrev under : List NotificationId → List Tree → Trees
+abbrev pub under : List NotificationId → List Tree → Trees
 under leaves trees = forest (map (λ leaf. Single leaf) leaves ++ trees)
 
 -- leaves of a kind that is not picked
-skips : {A B : Type 0} (pick : Trees → List A) (made : B → NotificationId) → ((x : B) (rest : Trees) → pick (and_trees (Single (made x)) rest) ≡ pick rest)
+pub skips : {A B : Type 0} (pick : Trees → List A) (made : B → NotificationId) → ((x : B) (rest : Trees) → pick (and_trees (Single (made x)) rest) ≡ pick rest)
     → (xs : List B) (more : List NotificationId) (trees : List Tree) → pick (under (map made xs ++ more) trees) ≡ pick (under more trees)
 skips pick made h [] more trees = refl
 skips pick made h (x ∷ xs) more trees = h x (under (map made xs ++ more) trees) ∙ skips pick made h xs more trees
 
-skips_last : {A B : Type 0} (pick : Trees → List A) (made : B → NotificationId) → ((x : B) (rest : Trees) → pick (and_trees (Single (made x)) rest) ≡ pick rest)
+pub skips_last : {A B : Type 0} (pick : Trees → List A) (made : B → NotificationId) → ((x : B) (rest : Trees) → pick (and_trees (Single (made x)) rest) ≡ pick rest)
     → (xs : List B) (trees : List Tree) → pick (under (map made xs) trees) ≡ pick (forest trees)
 skips_last pick made h [] trees = refl
 skips_last pick made h (x ∷ xs) trees = h x (under (map made xs) trees) ∙ skips_last pick made h xs trees
@@ -54,10 +54,10 @@ none_in pick none h (f ∷ nested) =
 
 -- ---- what a node of ids and trees is spelled by
 
-abbrev all : List ℕ → List ℕ → List (List ℕ) → List Future → Trees
+abbrev pub all : List ℕ → List ℕ → List (List ℕ) → List Future → Trees
 all completions signals names nested = under (ids_in completions signals names) (map future_tree nested)
 
-completions_of_all : (completions signals : List ℕ) (names : List (List ℕ)) (nested : List Future) → model.completions_in (all completions signals names nested) ≡ completions
+pub completions_of_all : (completions signals : List ℕ) (names : List (List ℕ)) (nested : List Future) → model.completions_in (all completions signals names nested) ≡ completions
 completions_of_all completions signals names nested =
     takes model.completions_in ids.CompletionId (λ x rest. refl) completions (map ids.SignalId signals ++ map ids.SignalName names) (map future_tree nested)
     ∙ ap (λ (s : List ℕ). completions ++ s) (
@@ -66,7 +66,7 @@ completions_of_all completions signals names nested =
     ∙ none_in model.completions_in refl (λ k c rest. refl) nested)
     ∙ append-nil completions
 
-signals_of_all : (completions signals : List ℕ) (names : List (List ℕ)) (nested : List Future) → model.signals_in (all completions signals names nested) ≡ signals
+pub signals_of_all : (completions signals : List ℕ) (names : List (List ℕ)) (nested : List Future) → model.signals_in (all completions signals names nested) ≡ signals
 signals_of_all completions signals names nested =
     skips model.signals_in ids.CompletionId (λ x rest. refl) completions (map ids.SignalId signals ++ map ids.SignalName names) (map future_tree nested)
     ∙ takes model.signals_in ids.SignalId (λ x rest. refl) signals (map ids.SignalName names) (map future_tree nested)
@@ -75,7 +75,7 @@ signals_of_all completions signals names nested =
     ∙ none_in model.signals_in refl (λ k c rest. refl) nested)
     ∙ append-nil signals
 
-names_of_all : (completions signals : List ℕ) (names : List (List ℕ)) (nested : List Future) → model.names_in (all completions signals names nested) ≡ names
+pub names_of_all : (completions signals : List ℕ) (names : List (List ℕ)) (nested : List Future) → model.names_in (all completions signals names nested) ≡ names
 names_of_all completions signals names nested =
     skips model.names_in ids.CompletionId (λ x rest. refl) completions (map ids.SignalId signals ++ map ids.SignalName names) (map future_tree nested)
     ∙ skips model.names_in ids.SignalId (λ x rest. refl) signals (map ids.SignalName names) (map future_tree nested)

@@ -1,15 +1,24 @@
+use Rattle.std.proofs.Common.{arith}
+use Rattle.sqlite.specs.Held.{state}
+use Rattle.sqlite.specs.State.{State, HasCleanDisk}
 use Rattle.journal_model.specs.Event.{Event}
 use Rattle.journal_model.specs.Cause.{adding_tests}
 use Rattle.protocol_types.specs.MessageType.{number_of}
 use Rattle.store_invocations.proofs.Refusing.{refused_more}
+use Rattle.store_invocations.proofs.Standing.{store_kept}
 use Rattle.store_arrivals.specs.Asked.{completion_tests}
 use Rattle.store_arrivals.proofs.Written.{all_ready}
 use Rattle.store_arrivals.proofs.result.prepare_for.Goals as goal
 
 pub returns-in-Ok-clause-decided : goal.returns-in-Ok-clause-decided
 returns-in-Ok-clause-decided g c clean events store of =
-    let told = c.in-Ok.ensures.decided clean events store in
-    all_ready events c.args.id.now c.args.completion c.args.brought c.args.row c.in-Ok.ty of told.0 told.1 c.prepare_arrival.result c.prepare_arrival.ensures.decided
+    let old : State = state g.S.Store c.args.tables.now in
+    let mid : State = state g.S.Store c.type_of_result.new.tables in
+    let early : HasCleanDisk mid = omega (arith, c.prepare_woken.ensures.looks.crash.clean, clean) in
+    let told = c.in-Ok.ensures.decided early events store in
+    let now = store_kept events old mid c.type_of_result.ensures.looks.crash c.type_of_result.ensures.looks.kept store in
+    all_ready events c.args.id.now c.args.completion c.args.brought c.args.row c.in-Ok.ty store.accepted of told.0 told.1 c.prepare_woken.result
+    (c.prepare_woken.ensures.decided clean events c.args.id.now now of.0)
 
 pub returns-in-Err-clause-decided : goal.returns-in-Err-clause-decided
 returns-in-Err-clause-decided g c clean events store of =

@@ -1,6 +1,7 @@
 use Rattle.std.proofs.Common.{arith}
 use Rattle.sqlite.specs.Held.{state}
 use Rattle.sqlite.specs.State.{State, HasCleanDisk}
+use Rattle.store_invocations.proofs.Standing.{store_kept}
 use Rattle.store_arrivals.specs.Grouped.{as_group}
 use Rattle.store_arrivals.specs.Made.{group_tests}
 use Rattle.store_arrivals.proofs.Rowed.{group_ended, is_no_cause}
@@ -8,9 +9,13 @@ use Rattle.store_arrivals.proofs.tick.end_group.Goals as goal
 
 pub returns-in-Ok-clause-decided : goal.returns-in-Ok-clause-decided
 returns-in-Ok-clause-decided g c clean events store opened =
-    group_ended events (as_group c.args.group) c.in-Ok.row c.args.writes.now.items c.end_sleeps-ended.new.writes.items c.end_sleeps-ended.result
-    (c.in-Ok.ensures.decided clean events store).1.0
-    (rw (c.as_slice.ensures.value, c.into_vec-completions.ensures.items) at c.end_sleeps-ended.ensures.decided)
+    let old : State = state g.S.Store c.args.tables.now in
+    let mid : State = state g.S.Store c.open_row.new.tables in
+    let early : HasCleanDisk mid = omega (arith, c.end_open-ended.ensures.looks.crash.clean, clean) in
+    let of = (c.in-Ok.ensures.decided early events store).1.0 in
+    let now = store_kept events old mid c.open_row.ensures.looks.crash c.open_row.ensures.looks.kept store in
+    group_ended events (as_group c.args.group) c.in-Ok.row c.args.writes.now.items c.end_open-ended.new.writes.items c.end_open-ended.result of
+    (rw (c.as_slice.ensures.value, c.into_vec-completions.ensures.items) at (c.end_open-ended.ensures.decided clean events now of))
 
 pub returns-in-Err-clause-decided : goal.returns-in-Err-clause-decided
 returns-in-Err-clause-decided g c clean events store opened =

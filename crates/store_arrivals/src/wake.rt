@@ -1,0 +1,135 @@
+//! Whether arrivals wake what a suspended attempt waits for.
+
+ghost use Rattle.std.specs.Prelude.{◌≡◌, ◌++◌, List, Some, drop as without};
+ghost use Rattle.sqlite.specs.Held.{state};
+ghost use Rattle.sqlite.specs.State.{HasCleanDisk};
+ghost use Rattle.journal_model.specs.Notification.{Arrival};
+ghost use Rattle.journal_model.specs.Event.{Event, Frame, Suspension};
+ghost use Rattle.journal_model.specs.Journal.{recorded_arrivals};
+ghost use Rattle.journal_model.specs.Attempt.{is_woken as is_model_woken};
+ghost use Rattle.protocol_types.specs.Version.{version_number};
+ghost use Rattle.store_frames.specs.Answer.{KeepsSuspension};
+ghost use Rattle.store_frames.specs.Read.{IsFrameRead};
+ghost use Rattle.store_waking.specs.First.{AreFirst};
+ghost use Rattle.store_waking.specs.Kept.{Reads};
+ghost use Rattle.store_waking.specs.Awaited.{IsAwaited};
+ghost use Rattle.store_tables.specs.Looks.{Looks};
+ghost use Rattle.store_refusals.specs.Prepared.{Tells};
+ghost use Rattle.store_invocations.specs.Rows.{IsStoreOf};
+ghost use Rattle.store_arrivals.specs.Woken.{AreRowsOf, fault_refusal};
+
+use bytes::ByteStr;
+use journal_model::Notification;
+use protocol_records::Future;
+use protocol_types::Version;
+use sqlite::Alter;
+use std::alloc::Global;
+use store_refusals::Refusal;
+use store_tables::{EntryRow, StoreTables, arrivals_after};
+use store_waking::{FirstArrivals, KeptFault, awaited};
+
+/// What is kept and not read is a row that no store writes.
+fn refusal_of(fault: KeptFault) -> Refusal
+    ensures { result ≡ fault_refusal fault }
+{
+    match fault {
+        KeptFault::OutOfMemory => Refusal::OutOfMemory,
+        KeptFault::Foreign => Refusal::ForeignRow,
+    }
+}
+
+/// The arrivals of these rows.
+fn hear_rows(alloc: Global, rows: &[EntryRow]) -> Result<FirstArrivals, KeptFault>
+    ensures { (arrivals : List Arrival) → AreRowsOf arrivals rows.now → Reads (λ first. AreFirst first arrivals) result }
+{
+    let mut first = FirstArrivals::new(alloc);
+    for row in rows {
+        match first.hear_kept(alloc, row.answered, row.payload.as_slice()) {
+            Ok(()) => {}
+            Err(fault) => {
+                drop(first);
+                return Err(fault);
+            }
+        }
+    }
+    Ok(first)
+}
+
+/// These behind the others.
+fn with_new(
+    kept: Result<FirstArrivals, KeptFault>,
+    new: &[Notification],
+) -> Result<FirstArrivals, Refusal>
+    ensures { (arrivals : List Arrival) → Reads (λ first. AreFirst first arrivals) kept → Tells (λ first. AreFirst first (arrivals ++ new.now)) result }
+{
+    match kept {
+        Ok(mut first) => match first.hear_all(new) {
+            Ok(()) => Ok(first),
+            Err(_) => {
+                drop(first);
+                Err(Refusal::OutOfMemory)
+            }
+        },
+        Err(fault) => Err(refusal_of(fault)),
+    }
+}
+
+/// The recorded arrivals of an invocation behind so many, and these behind them.
+fn heard_after<S: Alter>(
+    tables: &mut StoreTables<S>,
+    id: &ByteStr,
+    heard: u32,
+    new: &[Notification],
+) -> Result<FirstArrivals, Refusal>
+    ensures told { HasCleanDisk (state S.Store tables.new) → (events : List Event) → IsStoreOf events (state S.Store tables.old)
+        → Tells (λ first. AreFirst first (without heard (recorded_arrivals events id.now) ++ new.now)) result }
+    ensures looks { Looks S.Store tables.old tables.new }
+{
+    let rows = arrivals_after(tables, id, heard)?;
+    let kept = hear_rows(tables.alloc(), rows.as_slice());
+    drop(rows);
+    with_new(kept, new)
+}
+
+/// Whether what was heard, if it was, wakes what is awaited.
+fn woken_by(awaited: Future, heard: Result<FirstArrivals, Refusal>) -> Result<bool, Refusal>
+    ensures { (suspension : Suspension) (arrivals : List Arrival) → IsAwaited suspension awaited → Tells (λ first. AreFirst first arrivals) heard
+        → Tells (λ woken. woken ≡ is_model_woken arrivals (Some suspension)) result }
+{
+    match heard {
+        Ok(first) => {
+            let woken = store_waking::is_woken(&awaited, &first);
+            drop(first);
+            drop(awaited);
+            Ok(woken)
+        }
+        Err(why) => {
+            drop(awaited);
+            Err(why)
+        }
+    }
+}
+
+/// Whether an attempt that was suspended, by the payload that is kept of it, is woken by the recorded arrivals behind so many, which it
+/// heard, and by these behind them. Its invocation speaks this version.
+pub fn is_woken<S: Alter>(
+    tables: &mut StoreTables<S>,
+    id: &ByteStr,
+    version: Version,
+    suspension: &[u8],
+    heard: u32,
+    new: &[Notification],
+) -> Result<bool, Refusal>
+    ensures told { HasCleanDisk (state S.Store tables.new) → (events : List Event) → IsStoreOf events (state S.Store tables.old)
+        → (waits : Suspension) → IsFrameRead (version_number version) (Frame.Suspend (Some waits)) → KeepsSuspension waits suspension.now
+        → Tells (λ woken. woken ≡ is_model_woken (without heard (recorded_arrivals events id.now) ++ new.now) (Some waits)) result }
+    ensures looks { Looks S.Store tables.old tables.new }
+{
+    match awaited(tables.alloc(), version, suspension) {
+        Ok(awaited) => {
+            let heard = heard_after(tables, id, heard, new);
+            woken_by(awaited, heard)
+        }
+        Err(fault) => Err(refusal_of(fault)),
+    }
+}
