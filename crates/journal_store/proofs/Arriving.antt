@@ -24,7 +24,7 @@ use Rattle.journal_store.proofs.Standing.{all_stored, store_still, stands_arrive
 -- what was made ready of an event that brings an arrival was written and put behind, or nothing was
 pub arrival_recorded : (events : List Event) (event : Event) (id : Text) (arrival : Arrival) (old mid new : State) (P Q : Trees → Type 0) (attempts left : ByInvocation)
     (made : PreparedArrival) (result : Result ℕ Refusal)
-    → invocation_of event ≡ Some id → is_tick event ≡ false → Brings id event arrival → acknowledged (version_of events id) id event ≡ None → IsReadIn event
+    → invocation_of event ≡ Some id → is_tick event ≡ false → Brings id event arrival → acknowledged (version_of events id) id event ≡ None → IsReadIn events event
     → Survives old mid P → Asked old mid → Survives mid new Q → HasCleanDisk new
     → (causes_of events event ≡ []) × IsMadeReady events event id arrival made
     → IfOk result (λ place. place ≡ made.place) → OnOk result (HasWritten made.writes.items mid new)

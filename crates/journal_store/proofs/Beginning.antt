@@ -26,6 +26,7 @@ use Rattle.store_refusals.specs.Prepared.{Keeps}
 use Rattle.store_invocations.proofs.Opened.{begun_named}
 use Rattle.store_invocations.specs.declared.attempt.PreparedAttempt.{PreparedAttempt}
 use Rattle.store_invocations.specs.Begun.{IsBegun}
+use Rattle.store_invocations.specs.Frames.{frame_kept}
 use Rattle.store_live.specs.declared.input.PieceLeft.{PieceLeft}
 use Rattle.store_live.specs.Input.{pieces_from}
 use Rattle.store_live.specs.Attempts.{ByInvocation, attempt_of}
@@ -69,16 +70,16 @@ journal_in_place : (new : Option NewInvocation) (id : Text) (entries : List Entr
 journal_in_place None id entries = tt
 journal_in_place (Some new) id entries = (refl, rows_in_place id [] 1 entries)
 
-pieces_are : (n : ℕ) (rows : List EntryRow) → AreInPlace n rows → pieces_from n (map (λ (row : EntryRow). length (row_frame row)) rows) ≡ map row_piece rows
+pieces_are : (n : ℕ) (rows : List EntryRow) → AreInPlace n rows → pieces_from n (map frame_kept rows) ≡ map row_piece rows
 pieces_are n [] at = refl
-pieces_are n (row ∷ []) at = ap (λ (place : ℕ). record { behind = place + 1; len = length (row_frame row) } ∷ []) (sym at.0)
+pieces_are n (row ∷ []) at = ap (λ (place : ℕ). record { behind = place + 1; len = length (row_frame row); is_arrival = is_some row.arrival } ∷ []) (sym at.0)
 pieces_are n (row ∷ next ∷ rows) at =
-    ap₂ (λ (place : ℕ) (others : List PieceLeft). record { behind = place + 1; len = length (row_frame row) } ∷ others) (sym at.0) (pieces_are (n + 1) (next ∷ rows) at.1)
+    ap₂ (λ (place : ℕ) (others : List PieceLeft). record { behind = place + 1; len = length (row_frame row); is_arrival = is_some row.arrival } ∷ others) (sym at.0) (pieces_are (n + 1) (next ∷ rows) at.1)
 
 -- ---- the attempt
 
 begun_as : (events : List Event) (id : Text) (now : ℕ) (made : PreparedAttempt) → IsBegun events id now made
-    → IsBegunAs events id (fresh made.number made.version made.frames.journal.bytes.items made.frames.journal.lengths.items)
+    → IsBegunAs events id (fresh made.number made.version made.frames.journal.bytes.items made.frames.journal.frames.items)
 begun_as events id now made is = record {
   number = is.number;
   version = is.version;
@@ -98,12 +99,12 @@ begun_some None more e = cc
 begun_some (Some new) more e = (new, refl)
 
 fits_here : (events : List Event) (id : Text) (now : ℕ) (s : State) (made : PreparedAttempt) (more : Tests) → Keeps events s
-    → those_that_hold ((not (is_some (invocation_begun events id)), UnknownInvocation) ∷ more) ≡ [] → IsBegun events id now made → length made.frames.journal.lengths.items < 2 ^ 32
+    → those_that_hold ((not (is_some (invocation_begun events id)), UnknownInvocation) ∷ more) ≡ [] → IsBegun events id now made → length made.frames.journal.frames.items < 2 ^ 32
 fits_here events id now s made more k accepted is =
     let some = begun_some (invocation_begun events id) more accepted in
     let rows = journal_rows events id in
-    let counted : length made.frames.journal.lengths.items ≡ suc (length (entries_of events id)) =
-    ap length is.journal.1 ∙ length-map rows (λ (row : EntryRow). length (row_frame row)) ∙ journal_counted events id some.0 some.1 in
+    let counted : length made.frames.journal.frames.items ≡ suc (length (entries_of events id)) =
+    ap length is.journal.1 ∙ length-map rows frame_kept ∙ journal_counted events id some.0 some.1 in
     let fits = rows_fit events id some.0 s k some.1 in
     omega (arith, counted, fits)
 

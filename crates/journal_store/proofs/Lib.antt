@@ -1,5 +1,6 @@
 pub mod Standing
 pub mod Asking
+pub mod Flagged
 pub mod Found
 pub mod Waiting
 pub mod Lasting

@@ -51,7 +51,7 @@ all_kept events event s writes trees k read accepted are turns = record {
 }
 
 -- what was made ready of an event was written
-pub written : (events : List Event) (event : Event) (old new : State) (writes : List Write) → IsStoreOf events old → IsReadIn event → HasCleanDisk old → causes_of events event ≡ []
+pub written : (events : List Event) (event : Event) (old new : State) (writes : List Write) → IsStoreOf events old → IsReadIn events event → HasCleanDisk old → causes_of events event ≡ []
     → writes ≡ writes_of events event → IsTrue old.is_open → Turns (applied_all writes) old.now.trees new.now.trees → IsStoreOf (event ∷ events) new
 written events event old new writes store read clean accepted are is_open turns =
     let k = store.keeps clean is_open in
@@ -63,12 +63,12 @@ written events event old new writes store read clean accepted are is_open turns 
     }
 
 -- and so it is where a crash comes
-pub landed : (events : List Event) (event : Event) (old : State) (writes : List Write) (trees : Trees) → IsStoreOf events old → IsReadIn event → HasCleanDisk old → causes_of events event ≡ []
+pub landed : (events : List Event) (event : Event) (old : State) (writes : List Write) (trees : Trees) → IsStoreOf events old → IsReadIn events event → HasCleanDisk old → causes_of events event ≡ []
     → writes ≡ writes_of events event → IsTrue old.is_open → Turns (applied_all writes) old.now.trees trees → KeepsAll (event ∷ events) trees
 landed events event old writes trees store read clean accepted are is_open turns = all_kept events event old writes trees (store.keeps clean is_open) (read, store.read) accepted are turns
 
 -- an event that writes nothing, of writes that keep what is recorded
-pub stored_still : (events : List Event) (event : Event) (s : State) (writes : List Write) → IsStoreOf events s → IsReadIn event → causes_of events event ≡ [] → writes ≡ []
+pub stored_still : (events : List Event) (event : Event) (s : State) (writes : List Write) → IsStoreOf events s → IsReadIn events event → causes_of events event ≡ [] → writes ≡ []
     → ((r : Records) → IsAccepted events → IsKept events r → IsKept (event ∷ events) (applied_all writes r)) → IsStoreOf (event ∷ events) s
 stored_still events event s writes store read accepted none keeps = record {
   accepted = (accepted, store.accepted);
@@ -83,7 +83,7 @@ stored_still events event s writes store read accepted none keeps = record {
       };
 }
 
-pub unwritten : (events : List Event) (event : Event) (s : State) → IsStoreOf events s → IsReadIn event → causes_of events event ≡ [] → writes_of events event ≡ [] → IsStoreOf (event ∷ events) s
+pub unwritten : (events : List Event) (event : Event) (s : State) → IsStoreOf events s → IsReadIn events event → causes_of events event ≡ [] → writes_of events event ≡ [] → IsStoreOf (event ∷ events) s
 unwritten events event s store read accepted none =
     stored_still events event s (writes_of events event) store read accepted none (λ r before kept. kept_after events event r before accepted kept)
 
@@ -160,7 +160,7 @@ store_still events old new P lives asked store = record {
 }
 
 -- what was made ready of an event was written, or there was nothing to write
-pub all_stored : (events : List Event) (event : Event) (mid new : State) (P : Trees → Type 0) (writes : List Write) → Survives mid new P → HasCleanDisk new → IsStoreOf events mid → IsReadIn event
+pub all_stored : (events : List Event) (event : Event) (mid new : State) (P : Trees → Type 0) (writes : List Write) → Survives mid new P → HasCleanDisk new → IsStoreOf events mid → IsReadIn events event
     → causes_of events event ≡ [] → writes ≡ writes_of events event → HasWritten writes mid new → IsStoreOf (event ∷ events) new
 all_stored events event mid new P writes lives clean store read accepted are (inl none) =
     unwritten events event new (store_still events mid new P lives none.1 store) read accepted (sym are ∙ none.0)
@@ -195,7 +195,7 @@ stands_invoked events new database attempts accepted before kept live =
 -- ---- crashes
 
 -- what one transaction of an event leaves where a crash comes, if what it writes was made ready before
-pub commits_after : (R : Standing → Standing → Type 0) (old mid new : State) (event : Event) (writes : List Write) → IsReadIn event
+pub commits_after : (R : Standing → Standing → Type 0) (old mid new : State) (event : Event) (writes : List Write) → ((events : List Event) → IsReadIn events event)
     → ((s : Standing) → causes_of s.events event ≡ [] → (t : Standing) × R s t) → ((s t : Standing) → R s t → t.events ≡ event ∷ s.events)
     → Survives old mid (λ _. ⊥) → Asked old mid → Survives mid new (Lands writes mid)
     → (HasCleanDisk mid → (events : List Event) → IsStoreOf events old → (causes_of events event ≡ []) × (writes ≡ writes_of events event))
@@ -206,7 +206,7 @@ commits_after R old mid new event writes read made adds before asked lives ready
     let early : HasCleanDisk mid = omega (arith, lives.clean, clean) in
     let is = ready early s.events kept in
     let store = store_kept s.events old mid before asked kept in
-    let all = landed s.events event mid writes db store read early is.0 is.1 lands.0 lands.1 in
+    let all = landed s.events event mid writes db store (read s.events) early is.0 is.1 lands.0 lands.1 in
     let to = made s is.0 in
     (to.0, to.1, subst (λ (events : List Event). KeepsAll events db) (sym (adds s to.0 to.1)) all))
     before lives

@@ -8,7 +8,7 @@ use Rattle.sqlite.proofs.StateLemmas.{survives_then}
 use Rattle.journal_model.specs.Notification.{Bytes, Text}
 use Rattle.journal_model.specs.Request.{Request}
 use Rattle.journal_model.specs.Event.{Event, Frame}
-use Rattle.journal_model.specs.Journal.{ends_attempt, entries_of, entries_of_frame, starting_state}
+use Rattle.journal_model.specs.Journal.{ends_attempt, version_of, entries_of, entries_of_frame, starting_state}
 use Rattle.journal_model.specs.Attempt.{is_live}
 use Rattle.journal_model.specs.Cause.{FrameNotAccepted, causes_of, those_that_hold, adding_tests, IsAccepted}
 use Rattle.protocol_stream.specs.declared.frame.TheConstants.{HEADER_LEN}
@@ -17,6 +17,7 @@ use Rattle.protocol_stream.specs.Item.{Item, unknown, message, item_at}
 use Rattle.store_frames.specs.declared.frame.AttemptFrame.{AttemptFrame}
 use Rattle.store_frames.specs.Answer.{IsFrame}
 use Rattle.store_frames.specs.Meaning.{frame_of}
+use Rattle.store_frames.specs.Read.{IsReadIn}
 use Rattle.store_tables.specs.declared.row.EntryRow.{EntryRow}
 use Rattle.store_tables.specs.declared.row.Write.{Write}
 use Rattle.store_model.proofs.States.{itself}
@@ -39,6 +40,7 @@ use Rattle.store_live.specs.declared.attempt.LiveAttempt.{LiveAttempt}
 use Rattle.store_live.specs.Attempts.{Attempts, ByInvocation, attempt_of, IsNow, after_put, after_take}
 use Rattle.store_live.specs.Before.{AreAsBefore}
 use Rattle.store_live_laws.specs.Agrees.{Agrees, IsKeptLive, after_rows, has_number, rows_arrived}
+use Rattle.store_live_laws.proofs.Waiting.{waiting_told}
 use Rattle.store_live_laws.proofs.Steps.{taken, ended}
 use Rattle.store_live_laws.proofs.Added.{commanded}
 use Rattle.store_live_laws.proofs.Tests.{live_is_open}
@@ -139,9 +141,14 @@ not_in_frame _ h = cc
 -- ---- a frame that was seen
 
 -- what the events say of its attempt
-pub is_live_here : (events : List Event) (id : Text) (number : ℕ) (attempt : LiveAttempt) (it : SeenFrame) → Agrees events id (Some attempt) → is_live events id number ≡ true → IsSeen attempt it
+pub is_live_here : (events : List Event) (id : Text) (number : ℕ) (attempt : LiveAttempt) (it : SeenFrame) → IsAccepted events → Agrees events id (Some attempt) → is_live events id number ≡ true → IsSeen attempt it
     → IsLive events id number it.facts
-is_live_here events id number attempt it agrees live seen = record { live = live; closed = seen.closed ∙ agrees.closed; handed = seen.handed ∙ agrees.handed }
+is_live_here events id number attempt it accepted agrees live seen = record {
+  live = live;
+  closed = seen.closed ∙ agrees.closed;
+  handed = seen.handed ∙ agrees.handed;
+  waiting = seen.waiting ∙ waiting_told events id attempt accepted agrees;
+}
 
 abbrev output_in : LiveAttempt → Bytes
 output_in attempt = attempt.output
@@ -235,22 +242,26 @@ module _ {S : Type 0} (g : Ghosts S) (a mid b : Held S) (before after : Attempts
   -- what the events say of its attempt
   live_of : (events : List Event) → Stands events (state g a) before.attempts → IsLive events id n it.facts
   live_of events stands =
-      is_live_here events id n one.attempt it (subst (Agrees events id) one.found (stands.live id)) (live_here events (state g a) before.attempts id n stands ∙ one.here) one.seen
+      is_live_here events id n one.attempt it stands.kept.accepted (subst (Agrees events id) one.found (stands.live id)) (live_here events (state g a) before.attempts id n stands ∙ one.here) one.seen
 
   -- what was made ready of it, if anything was
   abbrev pub IsPrepared : Result PreparedFrame Refusal → Type 0
   IsPrepared result = HasCleanDisk (state g mid) → (events : List Event) → IsStoreOf events (state g a) → Takes events id it.facts it.frame result
 
+  -- the frame is that of a message of its invocation's version
+  read_of : (events : List Event) → Stands events (state g a) before.attempts → IsReadIn events event
+  read_of events stands = (one.seen.message_is, ap (λ (version : ℕ). frame_of version one.seen.message_is) (subst (Agrees events id) one.found (stands.live id)).version)
+
   ready_of : (made : PreparedFrame) → IsPrepared (Ok made) → HasCleanDisk (state g mid) → (events : List Event) → Stands events (state g a) before.attempts
       → (causes_of events event ≡ []) × IsTaken events id n frame made
-  ready_of made prepared clean events stands = prepared clean events stands.kept n frame (live_of events stands) one.seen.read
+  ready_of made prepared clean events stands = prepared clean events stands.kept n frame (live_of events stands) (read_of events stands) one.seen.read
 
   -- it is refused, and with it its attempt where the cause lies in it
   pub seen_refused : (why : Refusal) → Looks g a mid → IsEndedBy (lies_in_frame why) id before.attempts after.attempts
       → IsPrepared (Err why)
       → Leads g (Steps id n (Err why)) (stored a before) (stored mid after)
   seen_refused why looks ends prepared clean s is =
-      let it = item_refused g (stored a before) (stored mid after) s is id n one.attempt (message one.seen.message_is) left_of one.found one.seen.first why one.here (prepared clean s.events is.stands.kept n frame (live_of s.events is.stands) one.seen.read)
+      let it = item_refused g (stored a before) (stored mid after) s is id n one.attempt (message one.seen.message_is) left_of one.found one.seen.first why one.here (prepared clean s.events is.stands.kept n frame (live_of s.events is.stands) (read_of s.events is.stands) one.seen.read)
       (store_still s.events (state g a) (state g mid) (λ _. ⊥) looks.crash looks.kept is.stands.kept) (lies_in_frame why) refl ends in
       (it.0, it.1, inr it.2)
 
@@ -267,7 +278,7 @@ module _ {S : Type 0} (g : Ghosts S) (a mid b : Held S) (before after : Attempts
       let early : HasCleanDisk (state g mid) = omega (arith, wrote.crash.clean, clean) in
       let ready = ready_of made prepared early s.events is.stands in
       let store = store_still s.events (state g a) (state g mid) (λ _. ⊥) looks.crash looks.kept is.stands.kept in
-      let all = all_stored s.events event (state g mid) (state g b) (Lands made.writes.items (state g mid)) made.writes.items wrote.crash clean store (version_number one.attempt.version, one.seen.message_is, refl) ready.0 ready.1.writes
+      let all = all_stored s.events event (state g mid) (state g b) (Lands made.writes.items (state g mid)) made.writes.items wrote.crash clean store (read_of s.events is.stands) ready.0 ready.1.writes
       (wrote.done clean) in
       let agrees : Agrees s.events id (Some one.attempt) = subst (Agrees s.events id) one.found (is.stands.live id) in
       let is_reply : IsReply s.events id frame reply = subst (IsReply s.events id frame) (sym replied) ready.1.reply in
@@ -325,7 +336,7 @@ module _ {S : Type 0} (g : Ghosts S) (a mid b : Held S) (before after : Attempts
               elim (looks.crash.crash early trees (subst (λ (held : Held S). (state g held).may_leave trees) none.1 may)) [ inl earlier ↦ earlier | inr never ↦ absurd never ] in
               let same : trees ≡ (state g a).now.trees = (idle (asked early)).left trees before_it in
               subst (λ (events : List Event). KeepsAll events trees) (sym t.2.1)
-              (landed s.events event (state g a) made.writes.items trees is.stands.kept (version_number one.attempt.version, one.seen.message_is, refl) first ready.0 ready.1.writes (asked early)
+              (landed s.events event (state g a) made.writes.items trees is.stands.kept (read_of s.events is.stands) first ready.0 ready.1.writes (asked early)
               (λ records held. subst (λ (writes : List Write). Holds trees (applied_all writes records)) (sym none.0) (subst (λ (db : Trees). Holds db records) (sym same) held)))
           | inr all ↦ outlasts_now t.0.events (state g b) after.attempts clean t.1.stands all
         ],
@@ -341,7 +352,7 @@ module _ {S : Type 0} (g : Ghosts S) (a mid b : Held S) (before after : Attempts
       let early : HasCleanDisk (state g mid) = omega (arith, lives.clean, clean) in
       let ready = ready_of made prepared early s.events is.stands in
       let store = store_still s.events (state g a) (state g mid) (λ _. ⊥) looks.crash looks.kept is.stands.kept in
-      let all = landed s.events event (state g mid) made.writes.items db store (version_number one.attempt.version, one.seen.message_is, refl) early ready.0 ready.1.writes lands.0 lands.1 in
+      let all = landed s.events event (state g mid) made.writes.items db store (read_of s.events is.stands) early ready.0 ready.1.writes lands.0 lands.1 in
       let next = next_item g (stored a before) (stored b after) s is id n one.attempt (message one.seen.message_is) left_of one.found one.seen.first in
       let to = frame_landed s id n frame left_of made.reply next ready.1.reply ready.0 in
       (to.0, (made.reply, to.2), subst (λ (events : List Event). KeepsAll events db) (sym to.1) all))

@@ -9,6 +9,7 @@ use Rattle.store_invocations.specs.declared.attempt.PreparedAttempt.{PreparedAtt
 use Rattle.store_invocations.specs.declared.frames.JournalFrames.{JournalFrames}
 use Rattle.store_live.specs.declared.attempt.LiveAttempt.{LiveAttempt}
 use Rattle.store_live.specs.declared.added.AddedFrames.{AddedFrames}
+use Rattle.store_live.specs.declared.input.FrameKept.{FrameKept}
 use Rattle.store_live.specs.Input.{journal_left}
 use Rattle.store_live.specs.Before.{AreAsBefore}
 use Rattle.store_live.specs.Added.{AreAlone, ArePut, HaveRoomFor}
@@ -45,11 +46,11 @@ abbrev pub BeginsSome : Text → ℕ → Standing → Standing → Type 0
 BeginsSome id now old new = (begun : BegunAttempt) × Begins id now begun old new
 
 -- the attempt as it is kept then: all of its journal is left, and it wrote nothing
-abbrev pub fresh : (number : ℕ) → Version → Bytes → List ℕ → LiveAttempt
-fresh number version bytes lengths = record {
+abbrev pub fresh : (number : ℕ) → Version → Bytes → List FrameKept → LiveAttempt
+fresh number version bytes frames = record {
   number = number;
   version = version;
-  input = journal_left bytes lengths;
+  input = journal_left bytes frames;
   is_input_closed = false;
   output = [];
 }
@@ -60,4 +61,4 @@ IsToldAs made begun = (begun.number ≡ made.number) × (begun.version ≡ made.
 
 abbrev pub TakesIn : Text → (number : ℕ) → Version → JournalFrames → ByInvocation → ByInvocation → Type 0
 TakesIn id number version journal old new =
-    length journal.lengths.items < 2 ^ 32 → IsNow id (Some (fresh number version journal.bytes.items journal.lengths.items)) old new
+    length journal.frames.items < 2 ^ 32 → IsNow id (Some (fresh number version journal.bytes.items journal.frames.items)) old new

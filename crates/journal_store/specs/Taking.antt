@@ -13,7 +13,7 @@ use Rattle.store_refusals.specs.declared.refusal.Refusal.{Refusal}
 use Rattle.store_steps.specs.declared.frame.FrameReply.{FrameReply}
 use Rattle.store_steps.specs.declared.frame.HandedAnswer.{HandedAnswer}
 use Rattle.store_live.specs.declared.attempt.LiveAttempt.{LiveAttempt}
-use Rattle.store_live.specs.Input.{one_frame}
+use Rattle.store_live.specs.Input.{arrivals_left, one_frame}
 use Rattle.store_live.specs.Attempts.{ByInvocation, IsNow, after_put, after_reserve, after_take}
 use Rattle.store_calls.specs.Frames.{TakesFrame}
 use Rattle.journal_store.specs.Stored.{Stored}
@@ -31,6 +31,7 @@ pub record IsSeen (attempt : LiveAttempt) (it : SeenFrame) : Type 0 where
   pub within : it.len ≤ length attempt.output
   pub read : IsFrame (frame_of (version_number attempt.version) message_is) it.frame
   pub handed : it.facts.handed ≡ attempt.input.handed
+  pub waiting : it.facts.waiting ≡ arrivals_left attempt.input.pieces
   pub closed : it.facts.is_input_closed ≡ attempt.is_input_closed
 
 abbrev pub IsFirstSeen : LiveAttempt → FirstSeen → Type 0

@@ -51,11 +51,11 @@ fn fresh_attempt(
     journal: JournalFrames,
 ) -> Result<LiveAttempt, AllocError>
     ensures output { IfOk result (λ attempt. attempt.output ≡ []) }
-    ensures fresh { IfOk result (λ attempt. length journal.lengths.items < 2 ^ 32 → attempt ≡ fresh number version journal.bytes.items journal.lengths.items) }
+    ensures fresh { IfOk result (λ attempt. length journal.frames.items < 2 ^ 32 → attempt ≡ fresh number version journal.bytes.items journal.frames.items) }
 {
-    let JournalFrames { bytes, lengths } = journal;
-    let input = AttemptInput::of_journal(alloc, bytes, lengths.as_slice());
-    drop(lengths);
+    let JournalFrames { bytes, frames } = journal;
+    let input = AttemptInput::of_journal(alloc, bytes, frames.as_slice());
+    drop(frames);
     Ok(LiveAttempt {
         number,
         version,

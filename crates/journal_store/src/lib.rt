@@ -6,6 +6,7 @@
 
 mod accept;
 mod attempt;
+mod due;
 mod events;
 mod open;
 pub mod parts;

@@ -57,6 +57,7 @@ fn first_seen(alloc: Global, attempt: &LiveAttempt) -> Result<FirstSeen, AllocEr
                 len: HEADER_LEN + payload.len(),
                 facts: LiveFacts {
                     handed: attempt.input.handed(),
+                    waiting: attempt.input.waiting(),
                     is_input_closed: attempt.is_input_closed,
                 },
             }))

@@ -1,17 +1,19 @@
 -- What is made ready of the row of an open invocation is what the definitions say of its events.
-use Rattle.std.proofs.Common.{◌≡◌, refl, sym, ap, ◌∙◌, ℕ, suc, arith, ◌+◌, ◌-◌, ◌==◌, Bool, if◌then◌else◌, List, [], ◌∷◌, ◌++◌, append-nil, length, map, Option, Some, None}
+use Rattle.std.proofs.Common.{◌≡◌, refl, sym, ap, ap₂, ◌∙◌, ℕ, suc, arith, ◌+◌, ◌-◌, ◌==◌, Bool, true, ◌&&◌, if◌then◌else◌, List, [], ◌∷◌, ◌++◌, append-nil, length, map, filter, filter_map, Option, Some, None}
 use Rattle.std.proofs.lemmas.Bool.{ne_eqb}
 use Rattle.journal_model.specs.Notification.{Bytes, Text}
 use Rattle.journal_model.specs.State.{StateMap}
 use Rattle.journal_model.specs.declared.invocation.NewInvocation.{NewInvocation}
 use Rattle.journal_model.specs.declared.invocation.StateMode.{StateMode}
 use Rattle.journal_model.specs.declared.invocation.StateMode.TheVariants as modes
-use Rattle.journal_model.specs.Event.{Event}
+use Rattle.journal_model.specs.Event.{Suspension, Event}
 use Rattle.journal_model.specs.Spelling.{plain_number, plain_bytes, repeated_bytes}
 use Rattle.journal_model.specs.Cause.{IsAccepted}
-use Rattle.journal_model.specs.Journal.{invocation_begun, version_of, object_of, object_state, entries_of}
-use Rattle.journal_model.specs.Attempt.{attempts_begun}
+use Rattle.journal_model.specs.Journal.{is_of, invocation_begun, version_of, object_of, object_state, frame_of, is_open, entries_of}
+use Rattle.journal_model.specs.Attempt.{attempts_begun, suspension_of, is_woken}
 use Rattle.journal_model.specs.Start.{attempts_since_entry, since_first as model_since_first, state_entry, state_fields, start_payload, start_payload_for, start_payload_of}
+use Rattle.journal_laws.proofs.ObjectState.{begun_before}
+use Rattle.due_model.specs.Noted.{heard_of, not_heard, is_awake_kept}
 use Rattle.protocol_types.specs.Version.{version_number}
 use Rattle.store_tables.specs.declared.row.InvocationRow.{InvocationRow}
 use Rattle.store_tables.specs.declared.row.Progress.{Progress}
@@ -23,8 +25,10 @@ use Rattle.store_model.proofs.Versions.{kept_number}
 use Rattle.store_model.specs.Writes.{invocation_writes, state_writes, writes_of}
 use Rattle.store_model.specs.Steps.{after_begin}
 use Rattle.store_model.proofs.Following.{follows}
+use Rattle.store_model.proofs.Same.{opened}
+use Rattle.store_model.proofs.States.{itself}
 use Rattle.store_invocations.specs.Rows.{IsRowOf}
-use Rattle.store_invocations.specs.Begun.{shown_states}
+use Rattle.store_invocations.specs.Begun.{begun_at, shown_states}
 use Rattle.store_invocations.specs.Start.{partial_number, start_of, state_bytes}
 
 -- ---- the start
@@ -102,10 +106,32 @@ writes_are events id now =
     ∙ append-nil (invocation_writes events (Event.Begin id now) id ++ [])
     ∙ append-nil (invocation_writes events (Event.Begin id now) id)
 
-pub begin_writes_are : (events : List Event) (id : Text) (now : ℕ) (row : InvocationRow) → IsRowOf events id row
-    → SetProgress row.id (after_begin now row.progress) ∷ [] ≡ writes_of events (Event.Begin id now)
-begin_writes_are events id now row it =
-    ap (λ (x : Text). SetProgress x (after_begin now row.progress) ∷ []) (row_named events id now row it)
-    ∙ ap (λ (p : Progress). SetProgress id (after_begin now p) ∷ []) (progress_is events id now row it)
-    ∙ sym (ap (λ (p : Progress). SetProgress id p ∷ []) (follows events (Event.Begin id now) id refl refl))
+-- what is noted of an open invocation then
+module _ (events : List Event) (id : Text) (now : ℕ) (opened_before : is_open events id ≡ true) where
+  heard_none : heard_of (Event.Begin id now ∷ events) id ≡ None
+  heard_none = rw (itself id) refl
+
+  suspended_none : suspension_of (Event.Begin id now ∷ events) id ≡ None
+  suspended_none = rw (itself id) refl
+
+  still_open : is_open (Event.Begin id now ∷ events) id ≡ true
+  still_open =
+      ap₂ opened (begun_before (Event.Begin id now) events id refl)
+      (ap (λ (b : Bool). filter_map frame_of (if b then Event.Begin id now ∷ filter (is_of id) events else filter (is_of id) events)) (itself id))
+      ∙ opened_before
+
+  awake : is_awake_kept (Event.Begin id now ∷ events) id ≡ true
+  awake = ap₂ (λ (b : Bool) (s : Option Suspension). b && is_woken (not_heard (Event.Begin id now ∷ events) id) s) still_open suspended_none
+
+  progress_then : begun_at now (progress_of events id) ≡ progress_of (Event.Begin id now ∷ events) id
+  progress_then =
+      (λ i. after_begin now (record (progress_of events id) { heard = sym heard_none i; is_awake = sym awake i }))
+      ∙ sym (follows events (Event.Begin id now) id refl refl)
+
+pub begin_writes_are : (events : List Event) (id : Text) (now : ℕ) (row : InvocationRow) → IsRowOf events id row → is_open events id ≡ true
+    → SetProgress row.id (begun_at now row.progress) ∷ [] ≡ writes_of events (Event.Begin id now)
+begin_writes_are events id now row it is_opened =
+    ap (λ (x : Text). SetProgress x (begun_at now row.progress) ∷ []) (row_named events id now row it)
+    ∙ ap (λ (p : Progress). SetProgress id (begun_at now p) ∷ []) (progress_is events id now row it)
+    ∙ ap (λ (p : Progress). SetProgress id p ∷ []) (progress_then events id now is_opened)
     ∙ sym (writes_are events id now)

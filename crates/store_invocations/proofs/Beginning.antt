@@ -1,5 +1,5 @@
 -- What is recorded of an invocation that is just begun.
-use Rattle.std.proofs.Common.{◌≡◌, refl, sym, ap, ◌∙◌, true≢false, arith, ℕ, ◌+◌, ◌==◌, Bool, true, false, not, ◌&&◌, ◌||◌, if◌then◌else◌, List, [], ◌∷◌, ◌++◌, append-nil, zero-add, length, filter, filter_map, Option, Some, None, is_some, option_map, option_and_then, unwrap_or, bytes_eq, Result, Ok, Err}
+use Rattle.std.proofs.Common.{◌≡◌, refl, sym, ap, ◌∙◌, true≢false, arith, ℕ, ◌+◌, ◌==◌, Bool, true, false, not, ◌&&◌, ◌||◌, if◌then◌else◌, List, [], ◌∷◌, ◌++◌, append-nil, zero-add, length, filter, filter_map, Option, Some, None, is_some, option_map, option_and_then, unwrap_or, bytes_eq, drop, Result, Ok, Err}
 use Rattle.std.specs.List.{AllByRecursion, list_any, find}
 use Rattle.std.proofs.lemmas.Bool.{ne_eqb}
 use Rattle.journal_model.specs.Notification.{Text}
@@ -7,7 +7,7 @@ use Rattle.journal_model.specs.State.{StateMap}
 use Rattle.journal_model.specs.declared.invocation.NewInvocation.{NewInvocation}
 use Rattle.journal_model.specs.Event.{Frame, Event}
 use Rattle.journal_model.specs.Journal.{Entry, is_of, closes, frame_of, frames_of, is_open, closing_frame, version_of, object_of, invocation_begun, entries_added, entries_from, entries_of, starting_state, arrivals_in, requests_in}
-use Rattle.journal_model.specs.Attempt.{begins_attempt, attempts_begun, suspension_in, suspension_of}
+use Rattle.journal_model.specs.Attempt.{begins_attempt, attempts_begun, suspension_in, suspension_of, is_woken}
 use Rattle.journal_model.specs.Start.{is_some_entry, moment_begun, begun_since_entry, attempts_since_entry}
 use Rattle.journal_model.specs.Cause.{causes_of, IsAccepted, is_empty, last_completion, those_that_hold}
 use Rattle.journal_laws.proofs.ObjectState.{begin_when_new, begun_before, no_entries, none_of, open_when_accepted}
@@ -16,8 +16,9 @@ use Rattle.protocol_types.specs.Version.{version_number}
 use Rattle.store_tables.specs.declared.row.InvocationRow.{InvocationRow}
 use Rattle.store_tables.specs.declared.row.Write.{Write}
 use Rattle.store_tables.specs.declared.row.Write.TheVariants.{AddInvocation, AddEntry}
+use Rattle.due_model.specs.Noted.{heard_in, heard_of, or_zero}
 use Rattle.store_model.specs.Places.{handed_in, handed_of}
-use Rattle.store_model.specs.Progress.{first_of, is_unsuspended, number_or_zero, payload_of_suspension, way_closed, error_in, last_output, progress_of}
+use Rattle.store_model.specs.Progress.{first_of, number_or_zero, payload_of_suspension, way_closed, error_in, last_output, progress_of}
 use Rattle.store_model.specs.Kept.{input_row, invocation_row, is_shown_whole, version_kept}
 use Rattle.store_model.proofs.Versions.{kept_of}
 use Rattle.store_model.specs.Writes.{begin_writes, state_writes, writes_of}
@@ -86,6 +87,14 @@ none_handed : (id : Text) (events : List Event) → AllOther id events → hande
 none_handed id [] all = refl
 none_handed id (event ∷ earlier) all = rw (begins_none event id all.0, hands_none earlier event id all.0) (none_handed id earlier all.1)
 
+tells_none : (earlier : List Event) (event : Event) (id : Text) → is_of id event ≡ false → heard_in earlier id event ≡ None
+tells_none earlier (Event.Take other attempt frame) id e = rw e refl
+tells_none earlier _ id e = refl
+
+none_heard : (id : Text) (events : List Event) → AllOther id events → heard_of events id ≡ None
+none_heard id [] all = refl
+none_heard id (event ∷ earlier) all = rw (begins_none event id all.0, tells_none earlier event id all.0) (none_heard id earlier all.1)
+
 no_moments : (start : StateMap) (id : Text) (events : List Event) → AllOther id events → begun_since_entry start events id ≡ []
 no_moments start id [] all = refl
 no_moments start id (event ∷ earlier) all =
@@ -149,9 +158,9 @@ module _ (events : List Event) (new : NewInvocation) (accepted : IsAccepted even
     first_moment = number_or_zero (first_of (no_moments_after i));
     last_completion = last_completion (requests_in (no_entries_after i));
     entries = 1 + length (no_entries_after i);
-    heard = None;
+    heard = none_heard new.id events others i;
     arrivals = length (arrivals_in (no_entries_after i));
-    is_awake = is_unsuspended (first_object i) (option_map payload_of_suspension (no_suspension new.id events others i));
+    is_awake = is_open_after i && is_woken (drop (or_zero (none_heard new.id events others i)) (arrivals_in (no_entries_after i))) (no_suspension new.id events others i);
   }
 
   pub first_row_is : invocation_row (Event.Invoke new ∷ events) new ≡ first_row (version_kept new.version) new

@@ -33,7 +33,7 @@ pub prepares_then : {A : Type 0} (IsMade : A → Type 0) (events : List Event) (
 prepares_then IsMade events id now (Ok made) none it = (none_of_both (open_tests events id) (own_tests events (Event.Begin id now)) none it.0, it.1)
 prepares_then IsMade events id now (Err why) none it = refused_later (open_tests events id) (own_tests events (Event.Begin id now)) why none it
 
-circumstance_unless : (e : ReadError) → (e ≡ Foreign → ⊥) → IsTrue (is_circumstance (reading_refusal e))
+pub circumstance_unless : (e : ReadError) → (e ≡ Foreign → ⊥) → IsTrue (is_circumstance (reading_refusal e))
 circumstance_unless (Refused cause) known = refl
 circumstance_unless OutOfMemory known = refl
 circumstance_unless Foreign known = absurd (known refl)

@@ -105,7 +105,7 @@ module _ (value : NonEmptyValue) (name : Text) where
   held_by version kinds.End ty payload e = absurd (never records.End payload Frame.End (λ is. cc) e)
   held_by version kinds.Other ty payload e = absurd (no_record (record_of ty) payload e)
 
-pub request_held : (request : Request) → IsFrameRead (Frame.Command request) → IsHeld request
-request_held (Request.Output value name) (version, m, e) =
+pub request_held : (version : ℕ) (request : Request) → IsFrameRead version (Frame.Command request) → IsHeld request
+request_held version (Request.Output value name) (m, e) =
     held_by value name version (kind_of (message_type m.header)) (message_type m.header) m.payload (sym e)
-request_held _ read = tt
+request_held version _ read = tt

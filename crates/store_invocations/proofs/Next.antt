@@ -1,9 +1,10 @@
 -- The next attempt of an open invocation, by its row.
-use Rattle.std.proofs.Common.{◌≡◌, refl, sym, ap, subst, ◌∙◌, inl, inr, ℕ, ◌+◌, ◌-◌, ◌<◌, ◌≤◌, ◌^◌, nat_le, List, [], ◌∷◌, arith}
+use Rattle.std.proofs.Common.{◌≡◌, refl, sym, ap, subst, ◌∙◌, inl, inr, ℕ, ◌+◌, ◌-◌, ◌<◌, ◌≤◌, ◌^◌, nat_le, true, List, [], ◌∷◌, arith}
 use Rattle.std.proofs.lemmas.Bool.{cases_Bool, leb-false}
 use Rattle.journal_model.specs.Notification.{Bytes, Text}
 use Rattle.journal_model.specs.Event.{Event}
 use Rattle.journal_model.specs.Spelling.{frame_bytes}
+use Rattle.journal_model.specs.Journal.{is_open}
 use Rattle.journal_model.specs.Attempt.{attempts_begun}
 use Rattle.journal_model.specs.Start.{start_payload}
 use Rattle.journal_model.specs.Cause.{Cause, IsAccepted, those_that_hold, own_tests}
@@ -13,14 +14,13 @@ use Rattle.store_tables.specs.declared.row.InvocationRow.{InvocationRow}
 use Rattle.store_tables.specs.declared.row.Progress.{Progress}
 use Rattle.store_tables.specs.declared.row.Write.TheVariants.{SetProgress}
 use Rattle.store_model.specs.Kept.{journal_rows}
-use Rattle.store_model.specs.Steps.{after_begin}
 use Rattle.store_refusals.specs.declared.refusal.Refusal.{Refusal}
 use Rattle.store_refusals.specs.declared.refusal.Refusal.TheVariants.{NumbersUsedUp}
 use Rattle.store_refusals.specs.Refused.{IsRefused}
 use Rattle.store_invocations.specs.Rows.{IsRowOf, payload_tests}
 use Rattle.store_invocations.proofs.Refusing.{none_of_both, refused_by, refused_later}
 use Rattle.store_invocations.specs.declared.attempt.PreparedAttempt.{PreparedAttempt}
-use Rattle.store_invocations.specs.Begun.{AreHanded, IsBegun, shown_states}
+use Rattle.store_invocations.specs.Begun.{AreHanded, IsBegun, begun_at, shown_states}
 use Rattle.store_invocations.specs.Frames.{AreFrames}
 use Rattle.store_invocations.specs.Start.{start_of}
 use Rattle.store_invocations.proofs.Attempts.{attempts_among}
@@ -58,11 +58,11 @@ module _ (events : List Event) (id : Text) (now : ℕ) (row : InvocationRow) (it
         | inr below_it ↦ absurd (let below = leb-false (2 ^ 32 - 1) (attempts_begun events id) below_it in omega arith)
       ]
 
-  pub next_made : IsAccepted events → (made : PreparedAttempt) → made.writes.items ≡ SetProgress row.id (after_begin now row.progress) ∷ [] → made.number ≡ row.progress.attempts + 1 → made.version ≡ row.version
+  pub next_made : IsAccepted events → is_open events id ≡ true → (made : PreparedAttempt) → made.writes.items ≡ SetProgress row.id (begun_at now row.progress) ∷ [] → made.number ≡ row.progress.attempts + 1 → made.version ≡ row.version
       → AreHanded events row now made.frames → IsBegun events id now made
-  next_made accepted made writes number version frames =
+  next_made accepted opened made writes number version frames =
       let same = attempts_is events id now row it in record {
-        writes = writes ∙ begin_writes_are events id now row it;
+        writes = writes ∙ begin_writes_are events id now row it opened;
         number = omega arith;
         version = ap version_number version ∙ version_is events id now row it accepted;
         start = frames.0 ∙ ap (frame_bytes MessageType.Start) (start_payload_is events id now row it);

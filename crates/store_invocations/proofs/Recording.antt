@@ -4,7 +4,7 @@ use Rattle.std.specs.List.{AllByRecursion}
 use Rattle.journal_model.specs.Notification.{Text, Arrival}
 use Rattle.journal_model.specs.State.{StateMap, state_after}
 use Rattle.journal_model.specs.Event.{Frame, Event}
-use Rattle.journal_model.specs.Journal.{Entry, Recorded, Arrived, adds_to, entries_added, entries_from, entries_of, entries_of_event, read_answer, recorded_requests, requests_in, slept, starting_state}
+use Rattle.journal_model.specs.Journal.{Entry, Recorded, Arrived, adds_to, entries_added, entries_from, entries_of, entries_of_event, read_answer, recorded_requests, requests_in, slept, starting_state, version_of}
 use Rattle.store_frames.specs.Read.{AreRead, IsReadIn}
 use Rattle.store_invocations.proofs.Holding.{IsHeld, request_held}
 
@@ -23,22 +23,22 @@ arrivals_held : (arrivals : List Arrival) → AreHeldEntries (map Arrived arriva
 arrivals_held [] = tt
 arrivals_held (arrival ∷ arrivals) = (tt, arrivals_held arrivals)
 
-event_held : (start : StateMap) (entries : List Entry) (event : Event) → IsReadIn event → AreHeldEntries (entries_of_event start entries event)
-event_held start entries (Event.Complete id n result) read = (tt, tt)
-event_held start entries (Event.Signal id key result) read = (tt, tt)
-event_held start entries (Event.Cancel id) read = (tt, tt)
-event_held start entries (Event.Tick now) read = arrivals_held (slept entries now)
-event_held start entries (Event.Take id attempt (Frame.Command request)) read =
-    (request_held request read, arrivals_held (read_answer (state_after (requests_in entries) start) request))
-event_held start entries (Event.Take id attempt (Frame.RunOutcome n value is_acknowledged)) read = (tt, tt)
-event_held start entries (Event.Take id attempt _) read = tt
-event_held start entries _ read = tt
+event_held : (earlier : List Event) (start : StateMap) (entries : List Entry) (event : Event) → IsReadIn earlier event → AreHeldEntries (entries_of_event start entries event)
+event_held earlier start entries (Event.Complete id n result) read = (tt, tt)
+event_held earlier start entries (Event.Signal id key result) read = (tt, tt)
+event_held earlier start entries (Event.Cancel id) read = (tt, tt)
+event_held earlier start entries (Event.Tick now) read = arrivals_held (slept entries now)
+event_held earlier start entries (Event.Take id attempt (Frame.Command request)) read =
+    (request_held (version_of earlier id) request read, arrivals_held (read_answer (state_after (requests_in entries) start) request))
+event_held earlier start entries (Event.Take id attempt (Frame.RunOutcome n value is_acknowledged)) read = (tt, tt)
+event_held earlier start entries (Event.Take id attempt _) read = tt
+event_held earlier start entries _ read = tt
 
-added_held : (start : StateMap) (earlier : List Event) (id : Text) (event : Event) (entries : List Entry) → IsReadIn event → AreHeldEntries (entries_added start earlier id event entries)
+added_held : (start : StateMap) (earlier : List Event) (id : Text) (event : Event) (entries : List Entry) → IsReadIn earlier event → AreHeldEntries (entries_added start earlier id event entries)
 added_held start earlier id event entries read = by_test (adds_to earlier id event)
   where
     by_test : (b : Bool) → AreHeldEntries (if b then entries_of_event start entries event else [])
-    by_test true = event_held start entries event read
+    by_test true = event_held earlier start entries event read
     by_test false = tt
 
 entries_held : (start : StateMap) (events : List Event) (id : Text) → AreRead events → AreHeldEntries (entries_from start events id)

@@ -1,5 +1,5 @@
 -- An attempt that is made ready.
-use Rattle.std.specs.Prelude.{◌≡◌, ℕ, ◌+◌, if◌then◌else◌, List, [], map}
+use Rattle.std.specs.Prelude.{◌≡◌, ℕ, ◌+◌, true, if◌then◌else◌, List, [], None, map}
 use Rattle.journal_model.specs.Notification.{Text}
 use Rattle.journal_model.specs.Spelling.{frame_bytes}
 use Rattle.journal_model.specs.Event.{Event}
@@ -9,8 +9,10 @@ use Rattle.journal_model.specs.Start.{start_payload}
 use Rattle.protocol_types.specs.declared.message_type.MessageType.{MessageType}
 use Rattle.protocol_types.specs.Version.{version_number}
 use Rattle.store_tables.specs.declared.row.InvocationRow.{InvocationRow}
+use Rattle.store_tables.specs.declared.row.Progress.{Progress}
 use Rattle.store_tables.specs.declared.row.StateRow.{StateRow}
 use Rattle.store_model.specs.Kept.{journal_rows, state_row}
+use Rattle.store_model.specs.Steps.{after_begin}
 use Rattle.store_model.specs.Writes.{writes_of}
 use Rattle.store_lookups.specs.Lookups.{row_frame}
 use Rattle.store_invocations.specs.declared.attempt.AttemptFrames.{AttemptFrames}
@@ -25,6 +27,10 @@ pub record IsBegun (events : List Event) (id : Text) (now : ℕ) (made : Prepare
   pub version : version_number made.version ≡ version_of events id
   pub start : made.frames.start ≡ frame_bytes MessageType.Start (start_payload events id now)
   pub journal : AreFrames (journal_rows events id) made.frames.journal
+
+-- how far an open invocation is then: nothing of its input was handed to the new attempt, and it may go on
+abbrev pub begun_at : ℕ → Progress → Progress
+begun_at now p = after_begin now (record p { heard = None; is_awake = true })
 
 -- the state that an attempt of this row's invocation is shown: all of its object's, or none
 abbrev pub shown_states : List Event → InvocationRow → List StateRow

@@ -1,16 +1,16 @@
 //! How far an invocation is once an attempt of it is begun.
 
 ghost use Rattle.std.specs.Prelude.{◌≡◌, [], ◌∷◌, ◌+◌, ◌<◌, ◌≤◌, ◌^◌, IfOk};
-ghost use Rattle.store_model.specs.Steps.{after_begin};
+ghost use Rattle.store_invocations.specs.Begun.{begun_at};
 ghost use Rattle.store_tables.specs.declared.row.Write.TheVariants.{SetProgress};
 
 use std::alloc::{AllocError, Global};
 use store_tables::{InvocationRow, Progress, Write};
 
-/// The progress with one attempt more, which was begun at this moment.
+/// The progress with one attempt more, which was begun at this moment: nothing of its input was handed to it yet, and it may go on.
 fn begun_progress(mut progress: Progress, now: u64) -> Progress
     requires room { progress.attempts + 1 < 2 ^ 32 }
-    ensures { progress.attempts_since_entry ≤ progress.attempts → result ≡ after_begin now progress }
+    ensures { progress.attempts_since_entry ≤ progress.attempts → result ≡ begun_at now progress }
 {
     if progress.attempts_since_entry == 0 {
         progress.first_moment = now;
@@ -18,7 +18,8 @@ fn begun_progress(mut progress: Progress, now: u64) -> Progress
     progress.attempts += 1;
     progress.attempts_since_entry = progress.attempts_since_entry.saturating_add(1);
     progress.handed = None;
-    progress.is_awake = progress.open_object.is_some();
+    progress.heard = None;
+    progress.is_awake = true;
     drop(progress.suspension.take());
     progress
 }
@@ -30,7 +31,7 @@ pub(crate) fn begun_writes(
     now: u64,
 ) -> Result<Vec<Write>, AllocError>
     requires room { row.progress.attempts + 1 < 2 ^ 32 }
-    ensures { row.progress.attempts_since_entry ≤ row.progress.attempts → IfOk result (λ writes. writes.items ≡ SetProgress row.id (after_begin now row.progress) ∷ []) }
+    ensures { row.progress.attempts_since_entry ≤ row.progress.attempts → IfOk result (λ writes. writes.items ≡ SetProgress row.id (begun_at now row.progress) ∷ []) }
 {
     let InvocationRow {
         id,

@@ -11,7 +11,7 @@ use Rattle.journal_model.specs.Spelling.{completion_type, notification_payload}
 use Rattle.journal_model.specs.Event.{Frame, Event}
 use Rattle.journal_model.specs.Journal.{Entry, Recorded, Arrived, asks_for, arrivals_in, completion, entries_of, object_of, read_answer, recorded_requests, requests_in, starting_state}
 use Rattle.journal_model.specs.Attempt.{notification_type, type_of_completion}
-use Rattle.journal_model.specs.Cause.{Cause, BadCompletion, KeyNotText, NumbersUsedUp, PayloadTooLong, do_ascend, greatest, is_too_long, last_completion, those_that_hold, causes_of}
+use Rattle.journal_model.specs.Cause.{Cause, BadCompletion, KeyNotText, NumbersUsedUp, PayloadTooLong, do_ascend, greatest, is_too_long, last_completion, those_that_hold, causes_of, IsAccepted}
 use Rattle.journal_laws.proofs.ObjectState.{requests_in-append}
 use Rattle.protocol_types.specs.declared.message_type.MessageType.{MessageType}
 use Rattle.protocol_types.specs.declared.message_type.MessageType.TheVariants as types
@@ -27,8 +27,11 @@ use Rattle.store_model.specs.Progress.{progress_of}
 use Rattle.store_model.specs.Kept.{answered_by, entry_row, rows_from}
 use Rattle.store_model.specs.Sleeps.{sleeps_opened}
 use Rattle.store_model.specs.Writes.{state_writes, writes_of}
-use Rattle.store_model.specs.Steps.{answers_at_once, grown, payload_or}
+use Rattle.store_model.specs.Steps.{after_command, answers_at_once, grown, noted_into, payload_or}
 use Rattle.store_model.proofs.Following.{follows}
+use Rattle.store_model.proofs.States.{itself}
+use Rattle.due_model.specs.Noted.{Noted}
+use Rattle.due_laws.proofs.Noting.{noted_follows}
 use Rattle.store_lookups.specs.Lookups.{rows_of_arrivals}
 use Rattle.store_lookups.proofs.Answering.{asked_below, arrivals_in-append}
 use Rattle.store_invocations.specs.Rows.{Decides, payload_tests}
@@ -158,7 +161,7 @@ behind_all n = omega arith
 
 -- ---- what is made ready
 
-module _ (events : List Event) (id : Text) (number : ℕ) (request : Request) (command : RecordedCommand) (h : IsCommand request command) (row : InvocationRow) (named : row.id ≡ id)
+module _ (events : List Event) (accepted : IsAccepted events) (id : Text) (number : ℕ) (request : Request) (command : RecordedCommand) (h : IsCommand request command) (row : InvocationRow) (named : row.id ≡ id)
     (far : row.progress ≡ progress_of events id) (answer : ReadAnswer) (is : IsAnswerOf (state_after (recorded_requests events id) (starting_state events id)) request answer) where
   abbrev event : Event
   event = Event.Take id number (Frame.Command request)
@@ -189,9 +192,10 @@ module _ (events : List Event) (id : Text) (number : ℕ) (request : Request) (c
       counted = ap (λ (arrivals : List Arrival). length arrivals) (arrivals_in-append entries (Recorded request ∷ []) ∙ append-nil (arrivals_in entries)) ∙ sym (ap (λ (p : Progress). p.arrivals) far)
 
   -- how far the invocation is with both
-  both_recorded : progress_of (event ∷ events) id ≡ grown 1 1 (after_recorded command row.progress)
-  both_recorded =
+  both_recorded : causes_of events event ≡ [] → progress_of (event ∷ events) id ≡ grown 1 1 (after_recorded command row.progress)
+  both_recorded taken =
       follows events event id refl refl
+      ∙ ap (λ (n : Noted). after_command request (noted_into n (progress_of events id))) (noted_follows events event id (taken, accepted) (itself id) refl)
       ∙ (λ i. record (grown (1 + is.at_once i) (is.at_once i) (progress_of events id)) {
         last_completion = max (progress_of events id).last_completion (greatest (asked_same request command h i));
         answer = payload_or (put_out_same request command h i) (progress_of events id).answer;
@@ -202,15 +206,15 @@ module _ (events : List Event) (id : Text) (number : ℕ) (request : Request) (c
       twice : (n : ℕ) → n + 2 ≡ (n + 1) + 1
       twice n = omega arith
 
-  read_written : do_ascend (last_completion (requests_in (entries_of events id))) (is.number ∷ []) ≡ true
+  read_written : causes_of events event ≡ [] → do_ascend (last_completion (requests_in (entries_of events id))) (is.number ∷ []) ≡ true
       → writes_of events event
       ≡ AddEntry (command_row row.id row.progress.entries command)
       ∷ AddEntry (entry_of_arrival (with_read command row) answer.ty (answered_by answer.arrival.id) (notification_payload answer.arrival))
       ∷ SetProgress row.id (grown 1 1 (after_recorded command row.progress)) ∷ []
-  read_written up =
+  read_written taken up =
       (λ i. ((AddEntry (entry_row id entries place (Recorded request)) ∷ map AddEntry (rows_from id (entries ++ Recorded request ∷ []) (place + 1) (map Arrived (is.answers i))))
       ++ SetProgress id (progress_of (event ∷ events) id) ∷ []) ++ [] ++ (map OpenSleep (is.no_sleeps id i) ++ is.no_writes (object_of events event) i))
-      ∙ (λ i. AddEntry (row_same id entries place request command h i) ∷ AddEntry (answer_row_is up i) ∷ SetProgress (sym named i) (both_recorded i) ∷ [])
+      ∙ (λ i. AddEntry (row_same id entries place request command h i) ∷ AddEntry (answer_row_is up i) ∷ SetProgress (sym named i) (both_recorded taken i) ∷ [])
       ∙ (λ i. AddEntry (command_row (sym named i) (sym (ap (λ (p : Progress). p.entries) far) i) command)
       ∷ AddEntry (entry_of_arrival (with_read command row) answer.ty (answered_by answer.arrival.id) (notification_payload answer.arrival))
       ∷ SetProgress row.id (grown 1 1 (after_recorded command row.progress)) ∷ [])
@@ -255,7 +259,7 @@ module _ (events : List Event) (id : Text) (number : ℕ) (request : Request) (c
   prepared_read causes none (Ok made) decided = (
     causes ∙ causes_left_over none ∙ decided.0,
     record {
-      writes = decided.1.writes (subst HasFewArrivals (sym far) (few_arrivals events id)) ∙ sym (read_written (up_then none));
+      writes = decided.1.writes (subst HasFewArrivals (sym far) (few_arrivals events id)) ∙ sym (read_written (causes ∙ causes_left_over none ∙ decided.0) (up_then none));
       reply = subst (IsReply events id (Frame.Command request)) (sym decided.1.reply) (ap (λ (p : Progress). p.entries) far);
       answer = handed_is (up_then none) made decided.1;
     },

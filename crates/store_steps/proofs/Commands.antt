@@ -87,12 +87,6 @@ unread_command state command none (Frame.Command request) h = by_request request
     by_request _ e = refl
 unread_command state command none _ h = tt
 
--- and neither is any other frame
-pub unread_other : (read : AttemptFrame) → ((command : RecordedCommand) → read ≡ told.Command command → ⊥) → IsUnread read
-unread_other (told.Command command) other frame h = absurd (other command refl)
-unread_other _ other (Frame.Command request) h = absurd h
-unread_other _ other _ h = tt
-
 -- ---- a command that is refused
 
 -- what refuses it without its answer refuses it with its answer too
@@ -154,24 +148,24 @@ module _ (events : List Event) (accepted : IsAccepted events) (id : Text) (row :
   state_is is = ap (λ (r : InvocationRow). object_state events r.object) of.is ∙ accepted_followed events accepted id of.new of.begun is
 
   pub command_refused : (why : Refusal) → IsRefused (those_that_hold (tests_of_told row.progress true (told.Command command))) why → Takes events id attempt (told.Command command) (Err why)
-  command_refused why refused number (Frame.Command request) live h =
+  command_refused why refused number (Frame.Command request) live from h =
       refused_so events id number request command h why (causes_are number (Frame.Command request) live)
       (subst (λ (p : Progress). IsRefused (those_that_hold (tests_of_told p true (told.Command command))) why) far refused)
-  command_refused why refused number (Frame.Suspend None) live h = absurd h
-  command_refused why refused number (Frame.Suspend (Some suspension)) live h = absurd h
-  command_refused why refused number _ live h = absurd h
+  command_refused why refused number (Frame.Suspend None) live from h = absurd h
+  command_refused why refused number (Frame.Suspend (Some suspension)) live from h = absurd h
+  command_refused why refused number _ live from h = absurd h
 
   pub command_answered : (answer : ReadAnswer) → Some answer ≡ answer_told (object_state events row.object) command.state command.completion
       → those_that_hold (tests_of_told row.progress true (told.Command command)) ≡ []
       → (result : Result PreparedFrame Refusal) → Decides (payload_tests (notification_payload answer.arrival)) (IsReadMade row command answer) result
       → Takes events id attempt (told.Command command) result
-  command_answered answer is none result decided number (Frame.Command request) live h =
-      prepared_read events id number request command h row named far answer
+  command_answered answer is none result decided number (Frame.Command request) live from h =
+      prepared_read events accepted id number request command h row named far answer
       (answer_of (state_after (recorded_requests events id) (starting_state events id)) request answer
       (sym (is ∙ (λ i. answer_told (state_is (opened number live) i) (h.state i) (h.completion i)))))
       (causes_are number (Frame.Command request) live)
       (subst (λ (p : Progress). refusal_by (tests_of_told p true (told.Command command)) ≡ None) far (none_refused (tests_of_told row.progress true (told.Command command)) none))
       result decided
-  command_answered answer is none result decided number (Frame.Suspend None) live h = absurd h
-  command_answered answer is none result decided number (Frame.Suspend (Some suspension)) live h = absurd h
-  command_answered answer is none result decided number _ live h = absurd h
+  command_answered answer is none result decided number (Frame.Suspend None) live from h = absurd h
+  command_answered answer is none result decided number (Frame.Suspend (Some suspension)) live from h = absurd h
+  command_answered answer is none result decided number _ live from h = absurd h

@@ -6,4 +6,5 @@ pub mod Live
 pub mod Taking
 pub mod Tests
 pub mod Values
+pub mod Waking
 pub mod Writes

@@ -34,7 +34,7 @@ use Rattle.store_steps.specs.declared.frame.LiveFacts.{LiveFacts}
 use Rattle.store_steps.specs.declared.frame.PreparedFrame.{PreparedFrame}
 use Rattle.store_steps.specs.Reads.{IsHanded, answer_rows}
 use Rattle.store_steps.specs.Told.{tests_of_told, writes_of_told}
-use Rattle.store_steps.specs.Taken.{IsLive, IsReply, IsTaken, Takes, IsMade, IsWhy}
+use Rattle.store_steps.specs.Taken.{IsAwakeAtOnce, IsLive, IsReply, IsTaken, Takes, IsMade, IsWhy, WakesAtOnce}
 use Rattle.store_steps.proofs.LazyReads.{IsNoLazyRead, no_answer}
 use Rattle.store_steps.proofs.Live.{begun_open, live_open}
 use Rattle.store_steps.proofs.Tests.{tests_left, causes_left, tests_same}
@@ -54,7 +54,7 @@ none_answered events id _ read unread h = refl
 
 -- ---- a frame of a live attempt of an invocation that was begun so
 
-module _ (events : List Event) (id : Text) (number : ℕ) (new : NewInvocation) (is : invocation_begun events id ≡ Some new) (opened : is_open events id ≡ true)
+module _ (events : List Event) (accepted : IsAccepted events) (id : Text) (number : ℕ) (new : NewInvocation) (is : invocation_begun events id ≡ Some new) (opened : is_open events id ≡ true)
     (attempt : LiveFacts) (live : IsLive events id number attempt) (frame : Frame) (read : AttemptFrame) (unread : IsNoLazyRead frame) (h : IsFrame frame read) where
   causes_are : causes_of events (Event.Take id number frame) ≡ those_that_hold (tests_left events id number frame)
   causes_are = causes_left events id number frame (ap (λ (o : Option NewInvocation). is_some o) is) opened live.live
@@ -65,20 +65,24 @@ module _ (events : List Event) (id : Text) (number : ℕ) (new : NewInvocation) 
   version_is : new.version ≡ version_of events id
   version_is = sym (ap (λ (o : Option NewInvocation). unwrap_or (option_map (λ (begun : NewInvocation). begun.version) o) 0) is)
 
-  pub prepared : (result : Result PreparedFrame Refusal) → IfOk result (IsMade id new.object new.version (progress_of events id) attempt read) → IfErr result (IsWhy (progress_of events id) attempt read)
+  none_of : (made : PreparedFrame) (is_awake : Bool) → IsMade id new.object new.version (progress_of events id) attempt is_awake read made → causes_of events (Event.Take id number frame) ≡ []
+  none_of made is_awake ok = causes_are ∙ none_holds (tests_left events id number frame) (same ∙ ok.accepted)
+
+  pub prepared : (is_awake : Bool) → IsAwakeAtOnce events id frame is_awake → (result : Result PreparedFrame Refusal) → IfOk result (IsMade id new.object new.version (progress_of events id) attempt is_awake read) → IfErr result (IsWhy (progress_of events id) attempt read)
       → Prepares events (Event.Take id number frame) (IsTaken events id number frame) result
-  prepared (Ok made) ok err = (
-    causes_are ∙ none_holds (tests_left events id number frame) (same ∙ ok.accepted),
+  prepared is_awake awake (Ok made) ok err = (
+    none_of made is_awake ok,
     record {
       writes =
           ok.writes
-          ∙ (λ i. writes_of_told id new.object (version_is i) (live.handed i) (progress_of events id) read)
-          ∙ sym (written events id number new.object attempt.is_input_closed frame read (ap (option_map (λ (begun : NewInvocation). begun.object)) is) unread h ok.accepted);
-      reply = subst (IsReply events id frame) (sym ok.reply) (replied events id number attempt.is_input_closed frame read h ok.accepted);
+          ∙ (λ i. writes_of_told id new.object (version_is i) attempt is_awake (progress_of events id) read)
+          ∙ sym (written events accepted id number new.object attempt is_awake frame read (ap (option_map (λ (begun : NewInvocation). begun.object)) is) live awake
+          (none_of made is_awake ok) unread h ok.accepted);
+      reply = subst (IsReply events id frame) (sym ok.reply) (replied events accepted id number attempt.is_input_closed frame read h ok.accepted);
       answer = subst₂ IsHanded (sym (none_answered events id frame read unread h)) (sym ok.answer) tt;
     },
   )
-  prepared (Err why) ok err = by_first (refusal_by (tests_of_told (progress_of events id) attempt.is_input_closed read)) refl
+  prepared is_awake awake (Err why) ok err = by_first (refusal_by (tests_of_told (progress_of events id) attempt.is_input_closed read)) refl
     where
       by_first : (first : Option Refusal) → refusal_by (tests_of_told (progress_of events id) attempt.is_input_closed read) ≡ first
           → IsRefused (causes_of events (Event.Take id number frame)) why
@@ -90,23 +94,24 @@ module _ (events : List Event) (id : Text) (number : ℕ) (new : NewInvocation) 
 -- ---- by the row of its invocation
 
 module _ (events : List Event) (accepted : IsAccepted events) (id : Text) where
-  made_as : (attempt : LiveFacts) (read : AttemptFrame) (result : Result PreparedFrame Refusal) (o object : Text) (v version : ℕ) (p progress : Progress) → o ≡ object → v ≡ version → p ≡ progress
-      → IfOk result (IsMade id o v p attempt read) → IfOk result (IsMade id object version progress attempt read)
-  made_as attempt read result o object v version p progress same_object same_version same_progress ok =
-      subst (λ (o : Text). IfOk result (IsMade id o version progress attempt read)) same_object
-      (subst₂ (λ (v : ℕ) (p : Progress). IfOk result (IsMade id o v p attempt read)) same_version same_progress ok)
+  made_as : (attempt : LiveFacts) (is_awake : Bool) (read : AttemptFrame) (result : Result PreparedFrame Refusal) (o object : Text) (v version : ℕ) (p progress : Progress) → o ≡ object → v ≡ version → p ≡ progress
+      → IfOk result (IsMade id o v p attempt is_awake read) → IfOk result (IsMade id object version progress attempt is_awake read)
+  made_as attempt is_awake read result o object v version p progress same_object same_version same_progress ok =
+      subst (λ (o : Text). IfOk result (IsMade id o version progress attempt is_awake read)) same_object
+      (subst₂ (λ (v : ℕ) (p : Progress). IfOk result (IsMade id o v p attempt is_awake read)) same_version same_progress ok)
 
   why_as : (attempt : LiveFacts) (read : AttemptFrame) (result : Result PreparedFrame Refusal) (p progress : Progress) → p ≡ progress
       → IfErr result (IsWhy p attempt read) → IfErr result (IsWhy progress attempt read)
   why_as attempt read result p progress same_progress err = subst (λ (p : Progress). IfErr result (IsWhy p attempt read)) same_progress err
 
-  pub taken_by_row : (row : InvocationRow) → IsRowOf events id row → (attempt : LiveFacts) (read : AttemptFrame) (result : Result PreparedFrame Refusal) → IsUnread read
-      → IfOk result (IsMade id row.object (version_number row.version) row.progress attempt read) → IfErr result (IsWhy row.progress attempt read) → Takes events id attempt read result
-  taken_by_row row of attempt read result unread ok err number frame live h =
+  pub taken_by_row : (row : InvocationRow) → IsRowOf events id row → (attempt : LiveFacts) (is_awake : Bool) (read : AttemptFrame) (result : Result PreparedFrame Refusal) → IsUnread read
+      → WakesAtOnce events id attempt read (Ok is_awake)
+      → IfOk result (IsMade id row.object (version_number row.version) row.progress attempt is_awake read) → IfErr result (IsWhy row.progress attempt read) → Takes events id attempt read result
+  taken_by_row row of attempt is_awake read result unread awake ok err number frame live from h =
       let progress_is : row.progress ≡ progress_of events id = ap (λ (r : InvocationRow). r.progress) of.is ∙ ap (progress_of events) of.named in
       let version_is : version_number row.version ≡ of.new.version = ap (λ (r : InvocationRow). version_number r.version) of.is ∙ begun_number events id of.new accepted of.begun in
-      prepared events id number of.new of.begun (live_open events id number accepted live.live) attempt live frame read (unread frame h) h result
-      (made_as attempt read result row.object of.new.object (version_number row.version) of.new.version row.progress (progress_of events id) (ap (λ (r : InvocationRow). r.object) of.is) version_is progress_is ok)
+      prepared events accepted id number of.new of.begun (live_open events id number accepted live.live) attempt live frame read (unread frame h) h is_awake (awake number frame live from h) result
+      (made_as attempt is_awake read result row.object of.new.object (version_number row.version) of.new.version row.progress (progress_of events id) (ap (λ (r : InvocationRow). r.object) of.is) version_is progress_is ok)
       (why_as attempt read result row.progress (progress_of events id) progress_is err)
 
 -- ---- by the row that was found
@@ -141,7 +146,7 @@ module _ (events : List Event) (s : State) (keeps : Keeps events s) (id : Text) 
       }
 
   pub never_missing : IsFound (λ r. r.invocations) (has_id id) s.now.trees None → (attempt : LiveFacts) (read : AttemptFrame) (result : Result PreparedFrame Refusal) → Takes events id attempt read result
-  never_missing found attempt read result number frame live h = absurd (by_begun (invocation_begun events id) refl)
+  never_missing found attempt read result number frame live from h = absurd (by_begun (invocation_begun events id) refl)
     where
       by_begun : (o : Option NewInvocation) → invocation_begun events id ≡ o → ⊥
       by_begun None e =
@@ -158,6 +163,6 @@ was_asked (Err why) it = tt
 -- a row that could not be read, and is no foreign one
 pub read_failed : (events : List Event) (id : Text) (error : ReadError) → (error ≡ reading.Foreign → ⊥) → (attempt : LiveFacts) (read : AttemptFrame)
     → Takes events id attempt read (Err (reading_refusal error))
-read_failed events id (reading.Refused cause) foreign attempt read number frame live h = inr refl
-read_failed events id reading.Foreign foreign attempt read number frame live h = absurd (foreign refl)
-read_failed events id reading.OutOfMemory foreign attempt read number frame live h = inr refl
+read_failed events id (reading.Refused cause) foreign attempt read number frame live from h = inr refl
+read_failed events id reading.Foreign foreign attempt read number frame live from h = absurd (foreign refl)
+read_failed events id reading.OutOfMemory foreign attempt read number frame live from h = inr refl

@@ -1,5 +1,5 @@
 -- What is found of an object's state is what a read of it is answered.
-use Rattle.std.proofs.Common.{◌≡◌, refl, sym, ap, subst, ℕ, ◌+◌, ◌<◌, ◌^◌, List, [], ◌∷◌, map, Option, Some, None, option_map, Result, Ok, Err}
+use Rattle.std.proofs.Common.{◌≡◌, refl, sym, ap, subst, ℕ, ◌+◌, ◌<◌, ◌^◌, Bool, List, [], ◌∷◌, map, Option, Some, None, option_map, Result, Ok, Err}
 use Rattle.std.specs.Prelude.{IfOk, IfSome}
 use Rattle.sqlite.specs.State.{State}
 use Rattle.journal_model.specs.Notification.{Bytes, Text}
@@ -64,7 +64,7 @@ keys_read object (entry ∷ state) = ap (λ (keys : List Bytes). entry.0 ∷ key
 
 -- ---- what has no answer has no place for one
 
-pub unanswered : (id object : Text) (version : ℕ) (p : Progress) (attempt : LiveFacts) (read : AttemptFrame) (result : Result PreparedFrame Refusal)
-    → IfOk result (IsMade id object version p attempt read) → IfOk result (λ made. IfSome made.answer (λ (answer : HandedAnswer). answer.place + 1 < 2 ^ 32))
-unanswered id object version p attempt read (Ok made) is = subst (λ (o : Option HandedAnswer). IfSome o (λ (answer : HandedAnswer). answer.place + 1 < 2 ^ 32)) (sym is.answer) tt
-unanswered id object version p attempt read (Err why) is = tt
+pub unanswered : (id object : Text) (version : ℕ) (p : Progress) (attempt : LiveFacts) (is_awake : Bool) (read : AttemptFrame) (result : Result PreparedFrame Refusal)
+    → IfOk result (IsMade id object version p attempt is_awake read) → IfOk result (λ made. IfSome made.answer (λ (answer : HandedAnswer). answer.place + 1 < 2 ^ 32))
+unanswered id object version p attempt is_awake read (Ok made) is = subst (λ (o : Option HandedAnswer). IfSome o (λ (answer : HandedAnswer). answer.place + 1 < 2 ^ 32)) (sym is.answer) tt
+unanswered id object version p attempt is_awake read (Err why) is = tt

@@ -1,13 +1,18 @@
 -- What is written of a frame, by what is kept of its invocation and of the frame, is what the event writes.
-use Rattle.std.proofs.Common.{arith, ◌≡◌, refl, sym, ap, ap₂, ◌∙◌, ℕ, ◌+◌, ◌^◌, max, nat_lt, Bool, true, false, ◌&&◌, if◌then◌else◌, List, [], ◌∷◌, ◌++◌, append-nil, length, map, Option, Some, None, option_map}
+use Rattle.std.proofs.lemmas.List.{length-drop}
+use Rattle.std.proofs.Common.{arith, ◌≡◌, refl, sym, ap, ap₂, ◌∙◌, ℕ, ◌+◌, ◌-◌, ◌^◌, max, nat_lt, Bool, true, false, ◌&&◌, if◌then◌else◌, List, [], ◌∷◌, ◌++◌, append-nil, length, map, Option, Some, None, option_map}
 use Rattle.journal_model.specs.Notification.{Bytes, Text, Arrival}
 use Rattle.journal_model.specs.State.{state_after}
 use Rattle.journal_model.specs.declared.invocation.NewInvocation.{NewInvocation}
 use Rattle.journal_model.specs.Request.{Request, completions_asked}
 use Rattle.journal_model.specs.Spelling.{request_type, request_payload}
 use Rattle.journal_model.specs.Event.{Behavior, Frame, Event}
-use Rattle.journal_model.specs.Journal.{Entry, Recorded, Arrived, invocation_begun, version_of, object_of, closes, sleep_in, starting_state, requests_in, entries_of}
-use Rattle.journal_model.specs.Cause.{greatest}
+use Rattle.journal_model.specs.Journal.{Entry, Recorded, Arrived, invocation_begun, version_of, object_of, closes, sleep_in, starting_state, requests_in, recorded_arrivals, entries_of}
+use Rattle.journal_model.specs.Cause.{greatest, causes_of, IsAccepted}
+use Rattle.due_model.specs.Noted.{Noted, noted_of, arrivals_heard}
+use Rattle.due_laws.specs.Awake.{after_frame as noted_after}
+use Rattle.due_laws.proofs.Heard.{heard_few}
+use Rattle.due_laws.proofs.Noting.{noted_follows}
 use Rattle.store_frames.specs.declared.frame.RecordedCommand.{RecordedCommand}
 use Rattle.store_frames.specs.declared.frame.ErrorBehavior.{ErrorBehavior}
 use Rattle.store_frames.specs.declared.frame.ErrorBehavior.TheVariants as behaviors
@@ -16,7 +21,7 @@ use Rattle.store_frames.specs.declared.frame.AttemptFrame.TheVariants as told
 use Rattle.store_frames.specs.Commands.{first_asked, second_asked, moment_of as moment_told, state_use}
 use Rattle.store_frames.specs.Answer.{behavior_meant, IsCommand, IsError, IsFrame}
 use Rattle.store_refusals.specs.Refused.{refusal_by}
-use Rattle.store_tables.specs.declared.row.Closing.TheVariants.{Failed}
+use Rattle.store_tables.specs.declared.row.Closing.TheVariants.{Ended, Failed}
 use Rattle.store_tables.specs.declared.row.Progress.{Progress}
 use Rattle.store_tables.specs.declared.row.EntryRow.{EntryRow}
 use Rattle.store_tables.specs.declared.row.SleepRow.{SleepRow}
@@ -27,11 +32,13 @@ use Rattle.store_model.specs.Progress.{first_of, second_of, output_payload, beha
 use Rattle.store_model.specs.Kept.{moment_of, entry_row, rows_from}
 use Rattle.store_model.specs.Sleeps.{sleep_row, sleeps_opened}
 use Rattle.store_model.specs.Writes.{state_write, state_writes, writes_of}
-use Rattle.store_model.specs.Steps.{grown, payload_or, after_command, after_frame}
+use Rattle.store_model.specs.Steps.{noted_into, grown, payload_or, after_command, after_frame}
 use Rattle.store_model.proofs.Following.{follows}
-use Rattle.store_steps.specs.Taken.{IsReply}
+use Rattle.store_model.proofs.States.{itself}
+use Rattle.store_steps.specs.declared.frame.LiveFacts.{LiveFacts}
+use Rattle.store_steps.specs.Taken.{IsAwakeAtOnce, IsLive, IsReply}
 use Rattle.protocol_stream.specs.CommandFacts.{facts_of}
-use Rattle.store_steps.specs.Told.{puts_out, value_put_out, command_row, keeps_moment, sleep_if, sleep_told, state_told, closing_writes, tests_of_told, reply_to_told, after_recorded, number_of_behavior, does_fail, after_suspension, after_error, after_end, error_told, writes_of_told}
+use Rattle.store_steps.specs.Told.{puts_out, value_put_out, command_row, keeps_moment, sleep_if, sleep_told, state_told, closing_writes, tests_of_told, reply_to_told, after_recorded, number_of_behavior, does_fail, after_suspension, after_error, after_end, error_told, heard_by, writes_of_told}
 use Rattle.store_steps.proofs.LazyReads.{is_lazy_read, IsNoLazyRead, no_answer, none_at_once}
 use Rattle.store_steps.proofs.Tests.{asked_same}
 use Rattle.store_steps.proofs.Lists.{payload_kept}
@@ -146,7 +153,8 @@ fails_same version code message behavior delay told_behavior meant =
 
 error_progress : (version place code : ℕ) (message : Text) (behavior : Behavior) (delay : Option ℕ) (told_code : ℕ) (told_message : Text) (told_behavior : ErrorBehavior) (told_delay : Option ℕ) (p : Progress)
     → IsError code message behavior delay told_code told_message told_behavior told_delay
-    → after_frame version place (Frame.Error code message behavior delay) p ≡ after_error (error_told told_code told_message told_behavior told_delay) (does_fail version told_behavior) p
+    → after_frame version place (Frame.Error code message behavior delay) (record p { is_awake = if closes version (Frame.Error code message behavior delay) then false else p.is_awake })
+    ≡ after_error (error_told told_code told_message told_behavior told_delay) (does_fail version told_behavior) p
 error_progress version place code message behavior delay told_code told_message told_behavior told_delay p h = λ i. record p {
   last_error = Some (record { code = sym h.code_is i; behavior = number i; delay = sym h.delay_is i; message = sym h.message_is i });
   open_object = if fails i then None else p.open_object;
@@ -162,30 +170,49 @@ error_progress version place code message behavior delay told_code told_message 
 
 -- ---- all frames
 
-module _ (events : List Event) (id : Text) (number : ℕ) where
+module _ (events : List Event) (accepted : IsAccepted events) (id : Text) (number : ℕ) where
   abbrev object : Frame → Option Text
   object frame = object_of events (Event.Take id number frame)
 
   abbrev after : Frame → Progress
   after frame = progress_of (Event.Take id number frame ∷ events) id
 
-  -- the progress after a frame, as it is told
-  progress_is : (frame : Frame) (p : Progress) → after_frame (version_of events id) (handed_place events id) frame (progress_of events id) ≡ p → after frame ≡ p
-  progress_is frame p e = follows events (Event.Take id number frame) id refl refl ∙ e
+  -- what is noted after a frame that is accepted
+  abbrev noted : Frame → Noted
+  noted frame = noted_after events id frame (noted_of events id)
 
-  only_progress : (frame : Frame) (p : Progress) (is_closed : Bool)
+  abbrev IsTakenIn : Frame → Type 0
+  IsTakenIn frame = causes_of events (Event.Take id number frame) ≡ []
+
+  -- the progress then, as it is told
+  progress_is : (frame : Frame) (p : Progress) → IsTakenIn frame
+      → after_frame (version_of events id) (handed_place events id) frame (noted_into (noted frame) (progress_of events id)) ≡ p → after frame ≡ p
+  progress_is frame p none e =
+      follows events (Event.Take id number frame) id refl refl
+      ∙ ap (λ (n : Noted). after_frame (version_of events id) (handed_place events id) frame (noted_into n (progress_of events id)))
+      (noted_follows events (Event.Take id number frame) id (none, accepted) (itself id) refl)
+      ∙ e
+
+  only_progress : (frame : Frame) (p : Progress) (is_closed : Bool) → IsTakenIn frame
       → writes_of events (Event.Take id number frame) ≡ SetProgress id (after frame) ∷ (closing_writes (closes (version_of events id) frame) id ++ state_writes (object frame) [])
-      → after_frame (version_of events id) (handed_place events id) frame (progress_of events id) ≡ p → closes (version_of events id) frame ≡ is_closed
+      → after_frame (version_of events id) (handed_place events id) frame (noted_into (noted frame) (progress_of events id)) ≡ p → closes (version_of events id) frame ≡ is_closed
       → writes_of events (Event.Take id number frame) ≡ SetProgress id p ∷ closing_writes is_closed id
-  only_progress frame p is_closed shape e f =
-      shape ∙ ap₂ (λ (q : Progress) (writes : List Write). SetProgress id q ∷ writes) (progress_is frame p e)
+  only_progress frame p is_closed none shape e f =
+      shape ∙ ap₂ (λ (q : Progress) (writes : List Write). SetProgress id q ∷ writes) (progress_is frame p none e)
       (ap₂ (λ (c : Bool) (writes : List Write). closing_writes c id ++ writes) f (nothing_written (object frame)) ∙ append-nil (closing_writes is_closed id))
 
-  command_written : (kept : Text) (request : Request) (command : RecordedCommand) → object (Frame.Command request) ≡ Some kept → is_lazy_read request ≡ false → IsCommand request command
+  -- how many arrivals the attempt was handed whole, by how many are left
+  pub heard_is : (attempt : LiveFacts) → IsLive events id number attempt → heard_by attempt (progress_of events id) ≡ arrivals_heard events id
+  heard_is attempt live =
+      let left = length-drop (arrivals_heard events id) (recorded_arrivals events id) in
+      let few = heard_few events id accepted in
+      omega (arith, live.waiting, left, few)
+
+  command_written : (kept : Text) (request : Request) (command : RecordedCommand) → object (Frame.Command request) ≡ Some kept → IsTakenIn (Frame.Command request) → is_lazy_read request ≡ false → IsCommand request command
       → writes_of events (Event.Take id number (Frame.Command request))
       ≡ AddEntry (command_row id (1 + length (entries_of events id)) command) ∷ SetProgress id (after_recorded command (progress_of events id))
       ∷ (map OpenSleep (sleep_told id command) ++ state_told kept command.state)
-  command_written kept request command is unread h =
+  command_written kept request command is none unread h =
       let entries = entries_of events id in
       let place = 1 + length (entries_of events id) in
       let state = state_after (requests_in (entries_of events id)) (starting_state events id) in
@@ -196,27 +223,43 @@ module _ (events : List Event) (id : Text) (number : ℕ) where
       ∙ ap (λ (sleeps : List SleepRow). AddEntry (entry_row id entries place (Recorded request)) ∷ SetProgress id (after (Frame.Command request)) ∷ (map OpenSleep sleeps ++ state_told kept command.state))
       (sleep_same id request command h)
       ∙ ap₂ (λ (row : EntryRow) (p : Progress). AddEntry row ∷ SetProgress id p ∷ (map OpenSleep (sleep_told id command) ++ state_told kept command.state)) (row_same id entries place request command h)
-      (progress_is (Frame.Command request) (after_recorded command (progress_of events id)) (command_progress request command (progress_of events id) unread h))
+      (progress_is (Frame.Command request) (after_recorded command (progress_of events id)) none (command_progress request command (progress_of events id) unread h))
 
-  -- of a frame that no test refuses
-  pub written : (kept : Text) (is_closed : Bool) (frame : Frame) (read : AttemptFrame) → option_map (λ (new : NewInvocation). new.object) (invocation_begun events id) ≡ Some kept → IsNoLazyRead frame → IsFrame frame read
-      → refusal_by (tests_of_told (progress_of events id) is_closed read) ≡ None
-      → writes_of events (Event.Take id number frame) ≡ writes_of_told id kept (version_of events id) (handed_place events id) (progress_of events id) read
-  written kept is_closed (Frame.Command request) (told.Command command) of unread h e = command_written kept request command of unread h
-  written kept is_closed Frame.AwaitingOn told.AwaitingOn of unread h e = nothing_written (object Frame.AwaitingOn)
-  written kept is_closed (Frame.Suspend None) told.Broken of unread h e = cc
-  written kept is_closed (Frame.Suspend (Some suspension)) (told.Suspension payload) of unread h e =
-      only_progress (Frame.Suspend (Some suspension)) (after_suspension payload (handed_place events id) (progress_of events id)) false refl
-      (ap (λ (bytes : Bytes). after_suspension bytes (handed_place events id) (progress_of events id)) (payload_kept suspension payload h)) refl
-  written kept is_closed (Frame.Error code message behavior delay) (told.Error told_code told_message told_behavior told_delay) of unread h e =
-      only_progress (Frame.Error code message behavior delay) (after_error (error_told told_code told_message told_behavior told_delay) (does_fail (version_of events id) told_behavior) (progress_of events id)) (does_fail (version_of events id) told_behavior) refl
+  -- of a frame that is accepted
+  pub written : (kept : Text) (attempt : LiveFacts) (is_awake : Bool) (frame : Frame) (read : AttemptFrame)
+      → option_map (λ (new : NewInvocation). new.object) (invocation_begun events id) ≡ Some kept → IsLive events id number attempt → IsAwakeAtOnce events id frame is_awake
+      → IsTakenIn frame → IsNoLazyRead frame → IsFrame frame read → refusal_by (tests_of_told (progress_of events id) attempt.is_input_closed read) ≡ None
+      → writes_of events (Event.Take id number frame) ≡ writes_of_told id kept (version_of events id) attempt is_awake (progress_of events id) read
+  written kept attempt is_awake (Frame.Command request) (told.Command command) of live awake none unread h e = command_written kept request command of none unread h
+  written kept attempt is_awake Frame.AwaitingOn told.AwaitingOn of live awake none unread h e = nothing_written (object Frame.AwaitingOn)
+  written kept attempt is_awake (Frame.Suspend None) told.Broken of live awake none unread h e = cc
+  written kept attempt is_awake (Frame.Suspend (Some suspension)) (told.Suspension payload) of live awake none unread h e =
+      only_progress (Frame.Suspend (Some suspension)) (after_suspension payload attempt is_awake (progress_of events id)) false none refl
+      (λ i. record (progress_of events id) {
+        suspension = Some (payload_kept suspension payload h i);
+        handed = Some (sym live.handed i);
+        heard = Some (sym (heard_is attempt live) i);
+        is_awake = sym awake i;
+      })
+      refl
+  written kept attempt is_awake (Frame.Error code message behavior delay) (told.Error told_code told_message told_behavior told_delay) of live awake none unread h e =
+      only_progress (Frame.Error code message behavior delay) (after_error (error_told told_code told_message told_behavior told_delay) (does_fail (version_of events id) told_behavior) (progress_of events id)) (does_fail (version_of events id) told_behavior) none refl
       (error_progress (version_of events id) (handed_place events id) code message behavior delay told_code told_message told_behavior told_delay (progress_of events id) h)
       (fails_same (version_of events id) code message behavior delay told_behavior h.behavior_is)
-  written kept is_closed Frame.End told.End of unread h e = only_progress Frame.End (after_end (handed_place events id) (progress_of events id)) true refl refl refl
-  written kept is_closed Frame.Broken told.Broken of unread h e = cc
-  written kept is_closed Frame.TooDeep told.TooDeep of unread h e = cc
-  written kept is_closed Frame.NotAccepted told.NotAccepted of unread h e = cc
-  written kept is_closed _ _ of unread h e = absurd h
+  written kept attempt is_awake Frame.End told.End of live awake none unread h e =
+      only_progress Frame.End (after_end attempt (progress_of events id)) true none refl
+      (λ i. record (progress_of events id) {
+        open_object = None;
+        closing = Some Ended;
+        handed = Some (sym live.handed i);
+        heard = Some (sym (heard_is attempt live) i);
+        is_awake = false;
+      })
+      refl
+  written kept attempt is_awake Frame.Broken told.Broken of live awake none unread h e = cc
+  written kept attempt is_awake Frame.TooDeep told.TooDeep of live awake none unread h e = cc
+  written kept attempt is_awake Frame.NotAccepted told.NotAccepted of live awake none unread h e = cc
+  written kept attempt is_awake _ _ of live awake none unread h e = absurd h
 
   pub replied : (is_closed : Bool) (frame : Frame) (read : AttemptFrame) → IsFrame frame read → refusal_by (tests_of_told (progress_of events id) is_closed read) ≡ None
       → IsReply events id frame (reply_to_told (progress_of events id) read)

@@ -1,16 +1,18 @@
 -- What is made ready of a frame that the live attempt of an invocation has written.
-use Rattle.std.specs.Prelude.{◌≡◌, ℕ, ◌+◌, Bool, true, false, List, length, None, Result, unwrap_or}
+use Rattle.std.specs.Prelude.{◌≡◌, ℕ, ◌+◌, Bool, true, false, List, length, Some, None, Result, unwrap_or}
 use Rattle.journal_model.specs.Notification.{Text}
 use Rattle.journal_model.specs.Event.{Frame, Event}
-use Rattle.journal_model.specs.Journal.{entries_of, ends_attempt}
-use Rattle.journal_model.specs.Attempt.{is_live, is_input_closed}
+use Rattle.journal_model.specs.Journal.{version_of, entries_of, ends_attempt}
+use Rattle.journal_model.specs.Attempt.{is_live, is_input_closed, arrivals_not_handed, is_woken}
 use Rattle.journal_model.specs.Cause.{Cause, is_of_frame}
 use Rattle.store_frames.specs.Answer.{IsFrame}
+use Rattle.store_frames.specs.Read.{IsFrameRead}
 use Rattle.store_frames.specs.declared.frame.AttemptFrame.{AttemptFrame}
+use Rattle.store_frames.specs.declared.frame.AttemptFrame.TheVariants as told
 use Rattle.store_tables.specs.declared.row.Progress.{Progress}
 use Rattle.store_model.specs.Places.{handed_place}
 use Rattle.store_model.specs.Writes.{writes_of}
-use Rattle.store_refusals.specs.Prepared.{Prepares}
+use Rattle.store_refusals.specs.Prepared.{Prepares, Tells}
 use Rattle.store_refusals.specs.Refused.{refusal_of, refusal_by}
 use Rattle.store_refusals.specs.declared.refusal.Refusal.{Refusal}
 use Rattle.store_refusals.specs.declared.refusal.Refusal.TheVariants as refusal
@@ -28,6 +30,12 @@ pub record IsLive (events : List Event) (id : Text) (number : ℕ) (attempt : Li
   pub live : is_live events id number ≡ true
   pub closed : attempt.is_input_closed ≡ is_input_closed events id
   pub handed : attempt.handed ≡ handed_place events id
+  pub waiting : attempt.waiting ≡ length (arrivals_not_handed events id)
+
+-- whether a suspension is awake at once, under what its attempt was not handed
+abbrev pub IsAwakeAtOnce : List Event → Text → Frame → Bool → Type 0
+IsAwakeAtOnce events id (Frame.Suspend (Some suspension)) is_awake = is_awake ≡ is_woken (arrivals_not_handed events id) (Some suspension)
+IsAwakeAtOnce events id _ is_awake = Unit {0}
 
 -- the answer to a frame; a request is told its place
 abbrev pub IsReply : List Event → Text → Frame → FrameReply → Type 0
@@ -46,14 +54,23 @@ pub record IsTaken (events : List Event) (id : Text) (number : ℕ) (frame : Fra
 
 -- whichever frame this is, and whatever number the live attempt has
 abbrev pub Takes : List Event → Text → LiveFacts → AttemptFrame → Result PreparedFrame Refusal → Type 0
-Takes events id attempt read result = (number : ℕ) (frame : Frame) → IsLive events id number attempt → IsFrame frame read
+Takes events id attempt read result = (number : ℕ) (frame : Frame) → IsLive events id number attempt → IsFrameRead (version_of events id) frame → IsFrame frame read
     → Prepares events (Event.Take id number frame) (IsTaken events id number frame) result
+
+-- whether it is awake at once is told, whichever suspension this is
+abbrev pub WakesAtOnce : List Event → Text → LiveFacts → AttemptFrame → Result Bool Refusal → Type 0
+WakesAtOnce events id attempt read result = (number : ℕ) (frame : Frame) → IsLive events id number attempt → IsFrameRead (version_of events id) frame → IsFrame frame read
+    → Tells (IsAwakeAtOnce events id frame) result
+
+abbrev pub IsNoCommand : AttemptFrame → Type 0
+IsNoCommand (told.Command command) = ⊥
+IsNoCommand _ = Unit {0}
 
 -- ---- by what is kept of the invocation
 
-pub record IsMade (id object : Text) (version : ℕ) (p : Progress) (attempt : LiveFacts) (read : AttemptFrame) (made : PreparedFrame) : Type 0 where
+pub record IsMade (id object : Text) (version : ℕ) (p : Progress) (attempt : LiveFacts) (is_awake : Bool) (read : AttemptFrame) (made : PreparedFrame) : Type 0 where
   pub accepted : refusal_by (tests_of_told p attempt.is_input_closed read) ≡ None
-  pub writes : made.writes.items ≡ writes_of_told id object version attempt.handed p read
+  pub writes : made.writes.items ≡ writes_of_told id object version attempt is_awake p read
   pub reply : made.reply ≡ reply_to_told p read
   pub answer : made.answer ≡ None
 

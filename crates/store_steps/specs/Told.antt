@@ -21,6 +21,7 @@ use Rattle.store_tables.specs.declared.row.SleepRow.{SleepRow}
 use Rattle.store_tables.specs.declared.row.Write.{Write}
 use Rattle.store_tables.specs.declared.row.Write.TheVariants.{SetProgress, AddEntry, PutState, DropState, DropStates, OpenSleep, CloseSleeps}
 use Rattle.store_model.specs.Steps.{payload_or}
+use Rattle.store_steps.specs.declared.frame.LiveFacts.{LiveFacts}
 use Rattle.store_steps.specs.declared.frame.FrameReply.{FrameReply}
 use Rattle.store_steps.specs.declared.frame.FrameReply.TheVariants as replies
 
@@ -104,8 +105,18 @@ abbrev pub does_fail : ℕ → ErrorBehavior → Bool
 does_fail version behaviors.Fail = has_feature version features.ErrorBehavior
 does_fail version _ = false
 
-abbrev pub after_suspension : Bytes → ℕ → Progress → Progress
-after_suspension payload place p = record p { suspension = Some payload; handed = Some place; is_awake = false }
+-- how many arrivals an attempt was handed whole, of those that have come
+abbrev pub heard_by : LiveFacts → Progress → ℕ
+heard_by attempt p = p.arrivals - attempt.waiting
+
+-- it is awake at once where what it was not handed wakes it
+abbrev pub after_suspension : Bytes → LiveFacts → Bool → Progress → Progress
+after_suspension payload attempt is_awake p = record p {
+  suspension = Some payload;
+  handed = Some attempt.handed;
+  heard = Some (heard_by attempt p);
+  is_awake = is_awake;
+}
 
 abbrev pub after_error : LastError → Bool → Progress → Progress
 after_error error fails p = record p {
@@ -115,8 +126,14 @@ after_error error fails p = record p {
   is_awake = if fails then false else p.is_awake;
 }
 
-abbrev pub after_end : ℕ → Progress → Progress
-after_end place p = record p { open_object = None; closing = Some Ended; handed = Some place; is_awake = false }
+abbrev pub after_end : LiveFacts → Progress → Progress
+after_end attempt p = record p {
+  open_object = None;
+  closing = Some Ended;
+  handed = Some attempt.handed;
+  heard = Some (heard_by attempt p);
+  is_awake = false;
+}
 
 abbrev pub error_told : ℕ → Text → ErrorBehavior → Option ℕ → LastError
 error_told code message behavior delay = record { code = code; behavior = number_of_behavior behavior; delay = delay; message = message }
@@ -140,16 +157,16 @@ tests_of_told p is_closed _ = []
 abbrev pub closing_writes : Bool → Text → List Write
 closing_writes is_closed id = if is_closed then CloseSleeps id ∷ [] else []
 
--- what is written of a frame: of an invocation of this object that speaks this version, whose attempt was handed what stands before
--- the place
-abbrev pub writes_of_told : Text → Text → ℕ → ℕ → Progress → AttemptFrame → List Write
-writes_of_told id object version place p (told.Command command) =
+-- what is written of a frame: of an invocation of this object that speaks this version, and where it is a suspension, by whether that
+-- is awake at once
+abbrev pub writes_of_told : Text → Text → ℕ → LiveFacts → Bool → Progress → AttemptFrame → List Write
+writes_of_told id object version attempt is_awake p (told.Command command) =
     AddEntry (command_row id p.entries command) ∷ SetProgress id (after_recorded command p) ∷ (map OpenSleep (sleep_told id command) ++ state_told object command.state)
-writes_of_told id object version place p (told.Suspension payload) = SetProgress id (after_suspension payload place p) ∷ []
-writes_of_told id object version place p (told.Error code message behavior delay) =
+writes_of_told id object version attempt is_awake p (told.Suspension payload) = SetProgress id (after_suspension payload attempt is_awake p) ∷ []
+writes_of_told id object version attempt is_awake p (told.Error code message behavior delay) =
     SetProgress id (after_error (error_told code message behavior delay) (does_fail version behavior) p) ∷ closing_writes (does_fail version behavior) id
-writes_of_told id object version place p told.End = SetProgress id (after_end place p) ∷ closing_writes true id
-writes_of_told id object version place p _ = []
+writes_of_told id object version attempt is_awake p told.End = SetProgress id (after_end attempt p) ∷ closing_writes true id
+writes_of_told id object version attempt is_awake p _ = []
 
 -- how a frame is answered; one that is always refused has no answer of its own
 abbrev pub reply_to_told : Progress → AttemptFrame → FrameReply

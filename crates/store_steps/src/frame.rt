@@ -7,6 +7,8 @@ use store_tables::Write;
 pub struct LiveFacts {
     /// The place behind the last entry that it was handed whole, 0 where there is none.
     pub handed: u32,
+    /// How many arrivals have come that it was not handed whole.
+    pub waiting: usize,
     pub is_input_closed: bool,
 }
 

@@ -9,21 +9,22 @@ ghost use Rattle.journal_model.specs.Journal.{object_state};
 ghost use Rattle.store_invocations.specs.Rows.{Decides, IsRowOf, IsStoreOf};
 ghost use Rattle.store_steps.specs.Reads.{answer_told};
 ghost use Rattle.store_steps.specs.Told.{tests_of_told};
-ghost use Rattle.store_steps.specs.Taken.{IsMade, IsWhy, Takes};
+ghost use Rattle.store_steps.specs.Taken.{IsMade, IsNoCommand, IsWhy, Takes, WakesAtOnce};
 
 use crate::frame::{LiveFacts, PreparedFrame};
 use crate::reads::{ReadAnswer, answer_to, read_with};
 use crate::refuse::{command_refusal, frame_refusal};
-use crate::write::{frame_writes, reply_to};
+use crate::write::{frame_writes, heard_so_far, reply_to};
 use bytes::ByteStr;
 use protocol_stream::Version;
 use sqlite::Alter;
 use std::alloc::Global;
+use store_arrivals::is_woken;
 use store_frames::{AttemptFrame, RecordedCommand};
 use store_refusals::Refusal;
 use store_tables::{InvocationRow, Progress, StoreTables, invocation_by_id};
 
-/// What is made ready of a frame, by how far its invocation is.
+/// What is made ready of a frame, by how far its invocation is, and of a suspension by whether it is awake at once.
 fn decide(
     alloc: Global,
     id: &ByteStr,
@@ -31,9 +32,10 @@ fn decide(
     version: Version,
     progress: Progress,
     attempt: LiveFacts,
+    is_awake: bool,
     frame: AttemptFrame,
 ) -> Result<PreparedFrame, Refusal>
-    ensures ok { IfOk result (IsMade id.now object (version_number version) progress attempt frame) }
+    ensures ok { IfOk result (IsMade id.now object (version_number version) progress attempt is_awake frame) }
     ensures err { IfErr result (IsWhy progress attempt frame) }
 {
     match frame_refusal(&progress, attempt, &frame) {
@@ -45,7 +47,9 @@ fn decide(
         }
         None => {
             let reply = reply_to(&progress, &frame);
-            let writes = frame_writes(alloc, id, object, version, attempt.handed, progress, frame)?;
+            let writes = frame_writes(
+                alloc, id, object, version, attempt, is_awake, progress, frame,
+            )?;
             Ok(PreparedFrame {
                 writes,
                 reply,
@@ -60,9 +64,10 @@ fn decide_by_row(
     id: &ByteStr,
     row: InvocationRow,
     attempt: LiveFacts,
+    is_awake: bool,
     frame: AttemptFrame,
 ) -> Result<PreparedFrame, Refusal>
-    ensures ok { IfOk result (IsMade id.now row.object (version_number row.version) row.progress attempt frame) }
+    ensures ok { IfOk result (IsMade id.now row.object (version_number row.version) row.progress attempt is_awake frame) }
     ensures err { IfErr result (IsWhy row.progress attempt frame) }
 {
     decide(
@@ -72,6 +77,7 @@ fn decide_by_row(
         row.version,
         row.progress,
         attempt,
+        is_awake,
         frame,
     )
 }
@@ -109,7 +115,7 @@ fn command_by_row<S: Alter>(
         Ok(Some(answer)) => read_with(tables.alloc(), row, command, answer),
         Ok(None) => {
             let frame = AttemptFrame::Command(command);
-            decide_by_row(tables.alloc(), id, row, attempt, frame)
+            decide_by_row(tables.alloc(), id, row, attempt, false, frame)
         }
         Err(why) => {
             drop(row);
@@ -119,8 +125,51 @@ fn command_by_row<S: Alter>(
     }
 }
 
+/// Whether an attempt that suspends so is awake at once, under what has come and was not handed to it.
+fn wakes_at_once<S: Alter>(
+    tables: &mut StoreTables<S>,
+    id: &ByteStr,
+    row: &InvocationRow,
+    attempt: LiveFacts,
+    frame: &AttemptFrame,
+) -> Result<bool, Refusal>
+    ensures told { HasCleanDisk (state S.Store tables.new) → (events : List Event) → IsStoreOf events (state S.Store tables.old) → IsRowOf events id.now row.now → WakesAtOnce events id.now attempt frame.now result }
+    ensures looks { Looks S.Store tables.old tables.new }
+{
+    match frame {
+        AttemptFrame::Suspension { payload } => {
+            let heard = heard_so_far(row.progress.arrivals, attempt.waiting);
+            is_woken(tables, id, row.version, payload.as_slice(), heard, &[])
+        }
+        _ => Ok(false),
+    }
+}
+
+/// Decides on a frame that is no command, by the row of its invocation.
+fn other_by_row<S: Alter>(
+    tables: &mut StoreTables<S>,
+    id: &ByteStr,
+    row: InvocationRow,
+    attempt: LiveFacts,
+    frame: AttemptFrame,
+) -> Result<PreparedFrame, Refusal>
+    ensures prepared { HasCleanDisk (state S.Store tables.new) → (events : List Event) → IsStoreOf events (state S.Store tables.old) → IsRowOf events id.now row → IsNoCommand frame → Takes events id.now attempt frame result }
+    ensures looks { Looks S.Store tables.old tables.new }
+    ensures place { IfOk result (λ made. IfSome made.answer (λ answer. answer.place + 1 < 2 ^ 32)) }
+{
+    match wakes_at_once(tables, id, &row, attempt, &frame) {
+        Ok(is_awake) => decide_by_row(tables.alloc(), id, row, attempt, is_awake, frame),
+        Err(why) => {
+            drop(row);
+            drop(frame);
+            Err(why)
+        }
+    }
+}
+
 /// Decides on a frame that the live attempt of the invocation has written, and makes ready what is written of it. The row of the
-/// invocation is read, and of a read that the store answers what the object has. Whether the attempt is live is the caller's to know.
+/// invocation is read; of a read that the store answers what the object has, and of a suspension what its attempt was not handed. Whether
+/// the attempt is live is the caller's to know.
 pub fn prepare_frame<S: Alter>(
     tables: &mut StoreTables<S>,
     id: &ByteStr,
@@ -135,7 +184,7 @@ pub fn prepare_frame<S: Alter>(
     match invocation_by_id(tables, id) {
         Ok(Some(row)) => match frame {
             AttemptFrame::Command(command) => command_by_row(tables, id, row, attempt, command),
-            frame => decide_by_row(tables.alloc(), id, row, attempt, frame),
+            frame => other_by_row(tables, id, row, attempt, frame),
         },
         Ok(None) => {
             drop(frame);

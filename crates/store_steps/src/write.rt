@@ -7,7 +7,7 @@ ghost use Rattle.protocol_types.specs.Version.{version_number};
 ghost use Rattle.protocol_stream.specs.CommandFacts.{facts_of};
 ghost use Rattle.store_steps.specs.Told.{HasRoom, after_end, after_error, after_recorded, after_suspension, asked, closing_writes, command_row, does_fail, keeps_moment as keeps_a_moment, number_of_behavior, puts_out as puts_value_out, reply_to_told, sleep_told, state_told, value_put_out, writes_of_told};
 
-use crate::frame::FrameReply;
+use crate::frame::{FrameReply, LiveFacts};
 use bytes::{ByteStr, Bytes};
 use protocol_stream::{CommandFacts, Feature, Version};
 use std::alloc::{AllocError, Global};
@@ -281,12 +281,24 @@ fn ending_writes(
     Ok(writes)
 }
 
-fn suspend(progress: &mut Progress, payload: Bytes, handed: u32)
-    ensures { progress.new ≡ after_suspension payload handed progress.old }
+/// How many arrivals an attempt was handed whole, by how many have come and how many of these it was not.
+pub(crate) fn heard_so_far(arrivals: u32, waiting: usize) -> u32
+    ensures { result ≡ arrivals - waiting }
 {
+    match u32::try_from(waiting) {
+        Ok(waiting) => arrivals.saturating_sub(waiting),
+        Err(_) => 0,
+    }
+}
+
+fn suspend(progress: &mut Progress, payload: Bytes, attempt: LiveFacts, is_awake: bool)
+    ensures { progress.new ≡ after_suspension payload attempt is_awake progress.old }
+{
+    let heard = heard_so_far(progress.arrivals, attempt.waiting);
     drop(progress.suspension.replace(payload));
-    progress.handed = Some(handed);
-    progress.is_awake = false;
+    progress.handed = Some(attempt.handed);
+    progress.heard = Some(heard);
+    progress.is_awake = is_awake;
 }
 
 fn behavior_number(behavior: ErrorBehavior) -> u32
@@ -326,31 +338,34 @@ fn fail(progress: &mut Progress, error: LastError, is_closed: bool)
     }
 }
 
-fn end(progress: &mut Progress, handed: u32)
-    ensures { progress.new ≡ after_end handed progress.old }
+fn end(progress: &mut Progress, attempt: LiveFacts)
+    ensures { progress.new ≡ after_end attempt progress.old }
 {
+    let heard = heard_so_far(progress.arrivals, attempt.waiting);
     close(progress, Closing::Ended);
-    progress.handed = Some(handed);
+    progress.handed = Some(attempt.handed);
+    progress.heard = Some(heard);
 }
 
-/// What is written of a frame that is accepted.
+/// What is written of a frame that is accepted. A suspension is awake at once or not.
 pub(crate) fn frame_writes(
     alloc: Global,
     id: &ByteStr,
     object: ByteStr,
     version: Version,
-    handed: u32,
+    attempt: LiveFacts,
+    is_awake: bool,
     mut progress: Progress,
     frame: AttemptFrame,
 ) -> Result<Vec<Write>, AllocError>
     requires { HasRoom progress frame }
-    ensures { IfOk result (λ writes. writes.items ≡ writes_of_told id.now object (version_number version) handed progress frame) }
+    ensures { IfOk result (λ writes. writes.items ≡ writes_of_told id.now object (version_number version) attempt is_awake progress frame) }
 {
     match frame {
         AttemptFrame::Command(command) => command_writes(alloc, id, object, progress, command),
         AttemptFrame::Suspension { payload } => {
             drop(object);
-            suspend(&mut progress, payload, handed);
+            suspend(&mut progress, payload, attempt, is_awake);
             progress_write(alloc, id, progress)
         }
         AttemptFrame::Error {
@@ -372,7 +387,7 @@ pub(crate) fn frame_writes(
         }
         AttemptFrame::End => {
             drop(object);
-            end(&mut progress, handed);
+            end(&mut progress, attempt);
             ending_writes(alloc, id, progress, true)
         }
         AttemptFrame::AwaitingOn

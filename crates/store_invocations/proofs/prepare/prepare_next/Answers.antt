@@ -12,7 +12,7 @@ returns-clause-decided g c clean events id store opened =
     let room : c.args.row.progress.attempts + 1 < 2 ^ 32 = omega arith in
     let decided = c.in_ok-frames.ensures.decided clean events store in (
       next_none events id c.args.now c.args.row opened.0 room decided.0,
-      next_made events id c.args.now c.args.row opened.0 store.accepted _ (c.in_ok-writes.ensures (among events id c.args.now c.args.row opened.0)) (omega arith) refl decided.1,
+      next_made events id c.args.now c.args.row opened.0 store.accepted opened.1 _ (c.in_ok-writes.ensures (among events id c.args.now c.args.row opened.0)) (omega arith) refl decided.1,
     )
 
 pub returns-in_err-frames-clause-decided : goal.returns-in_err-frames-clause-decided

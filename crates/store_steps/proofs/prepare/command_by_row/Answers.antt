@@ -1,10 +1,11 @@
 -- A read that the store answers is made ready with its answer; any other command is decided by the row alone.
-use Rattle.std.proofs.Common.{◌∙◌, sym}
+use Rattle.std.proofs.Common.{◌∙◌, false, sym}
 use Rattle.journal_model.specs.Journal.{object_state}
 use Rattle.store_frames.specs.declared.frame.AttemptFrame.TheVariants as told
 use Rattle.protocol_types.specs.Version.{version_number}
 use Rattle.store_steps.proofs.Commands.{command_answered, command_refused, unread_command}
 use Rattle.store_steps.proofs.Taking.{taken_by_row}
+use Rattle.store_steps.proofs.Waking.{other_frames}
 use Rattle.store_steps.proofs.Values.{unanswered}
 use Rattle.store_steps.proofs.prepare.command_by_row.Goals as goal
 
@@ -17,8 +18,8 @@ returns-in-Ok-Some-clause-prepared g c clean events store of =
 pub returns-in-Ok-None-clause-prepared : goal.returns-in-Ok-None-clause-prepared
 returns-in-Ok-None-clause-prepared g c clean events store of =
     let asked = c.in-Ok-None.ensures.decided clean events store in
-    taken_by_row events store.accepted c.args.id.now c.args.row of c.args.attempt (told.Command c.args.command) c.decide_by_row.result
-    (unread_command (object_state events c.args.row.object) c.args.command (sym c.in-Ok-None.field-0-is ∙ asked.1)) c.decide_by_row.ensures.ok c.decide_by_row.ensures.err
+    taken_by_row events store.accepted c.args.id.now c.args.row of c.args.attempt false (told.Command c.args.command) c.decide_by_row.result
+    (unread_command (object_state events c.args.row.object) c.args.command (sym c.in-Ok-None.field-0-is ∙ asked.1)) (other_frames events c.args.id.now c.args.attempt c.args.command) c.decide_by_row.ensures.ok c.decide_by_row.ensures.err
 
 pub returns-in-Err-clause-prepared : goal.returns-in-Err-clause-prepared
 returns-in-Err-clause-prepared g c clean events store of =
@@ -26,4 +27,4 @@ returns-in-Err-clause-prepared g c clean events store of =
 
 pub returns-in-Ok-None-clause-place : goal.returns-in-Ok-None-clause-place
 returns-in-Ok-None-clause-place g c =
-    unanswered c.args.id.now c.args.row.object (version_number c.args.row.version) c.args.row.progress c.args.attempt (told.Command c.args.command) c.decide_by_row.result c.decide_by_row.ensures.ok
+    unanswered c.args.id.now c.args.row.object (version_number c.args.row.version) c.args.row.progress c.args.attempt false (told.Command c.args.command) c.decide_by_row.result c.decide_by_row.ensures.ok

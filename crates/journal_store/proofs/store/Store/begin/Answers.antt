@@ -34,7 +34,7 @@ returns-in-Err-clause-does g c =
 pub returns-in-Ok-clause-crash : goal.returns-in-Ok-clause-crash
 returns-in-Ok-clause-crash g c =
     rw (← c.self.view_is) (commits_after (BeginsSome c.args.id.now c.args.now) (state g.S.Store c.self.inside.tables) (state g.S.Store c.prepare_begin.new.tables) (state g.S.Store c.record_begin.new.self.connection)
-    (Event.Begin c.args.id.now c.args.now) c.in-Ok.made.writes.items tt (λ s causes. begin_landed s c.args.id.now c.args.now causes) (λ s t it. it.1.leaves.events) c.prepare_begin.ensures.looks.crash c.prepare_begin.ensures.looks.kept
+    (Event.Begin c.args.id.now c.args.now) c.in-Ok.made.writes.items (λ events. tt) (λ s causes. begin_landed s c.args.id.now c.args.now causes) (λ s t it. it.1.leaves.events) c.prepare_begin.ensures.looks.crash c.prepare_begin.ensures.looks.kept
     c.record_begin.ensures.made.crash (λ clean events store. let ready = c.in-Ok.ensures.prepared clean events store in (ready.0, ready.1.writes)))
 
 pub returns-in-Ok-clause-settled : goal.returns-in-Ok-clause-settled

@@ -23,7 +23,7 @@ returns-in-Err-clause-does g c =
 pub returns-in-Ok-clause-crash : goal.returns-in-Ok-clause-crash
 returns-in-Ok-clause-crash g c =
     rw (← c.self.view_is) (commits_after (Adds (Event.Invoke c.args.new)) (state g.S.Store c.self.inside.tables) (state g.S.Store c.prepare_invoke-prepared.new.tables) (state g.S.Store c.commit_ready.new.tables)
-    (Event.Invoke c.args.new) c.in-Ok.writes.items tt (λ s causes. invoked s c.args.new causes) (λ s t it. it.events) c.prepare_invoke-prepared.ensures.looks.crash c.prepare_invoke-prepared.ensures.looks.kept
+    (Event.Invoke c.args.new) c.in-Ok.writes.items (λ events. tt) (λ s causes. invoked s c.args.new causes) (λ s t it. it.events) c.prepare_invoke-prepared.ensures.looks.crash c.prepare_invoke-prepared.ensures.looks.kept
     c.commit_ready.ensures.crash c.in-Ok.ensures.prepared)
 
 pub returns-in-Ok-clause-settled : goal.returns-in-Ok-clause-settled

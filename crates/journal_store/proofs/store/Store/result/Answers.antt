@@ -40,7 +40,7 @@ returns-in-Err-clause-does g c =
 pub returns-in-Ok-clause-crash : goal.returns-in-Ok-clause-crash
 returns-in-Ok-clause-crash g c =
     rw (← c.self.view_is) (commits_after (Adds (Event.Complete c.args.id.now c.args.completion c.args.brought)) (state g.S.Store c.self.inside.tables) (state g.S.Store c.prepare_result.new.tables) (state g.S.Store c.record_arrival.new.self.connection)
-    (Event.Complete c.args.id.now c.args.completion c.args.brought) c.in-Ok.made.writes.items tt (λ s causes. complete_landed s c.args.id.now c.args.completion c.args.brought causes)
+    (Event.Complete c.args.id.now c.args.completion c.args.brought) c.in-Ok.made.writes.items (λ events. tt) (λ s causes. complete_landed s c.args.id.now c.args.completion c.args.brought causes)
     (λ s t it. it.events) c.prepare_result.ensures.looks.crash c.prepare_result.ensures.looks.kept
     c.record_arrival.ensures.made.crash (λ clean events store. let ready = c.in-Ok.ensures.prepared clean events store in (ready.0, ready.1.writes)))
 

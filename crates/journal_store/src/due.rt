@@ -1,0 +1,43 @@
+// Which invocations are due, and when the next sleep ends.
+ghost use Rattle.std.specs.Prelude.{◌≡◌, not, filter, is_some};
+ghost use Rattle.journal_model.specs.Attempt.{due as due_after};
+ghost use Rattle.due_model.specs.NextMoment.{IsNextMoment};
+ghost use Rattle.journal_store.specs.Stands.{IsQuiet, TellsAlways};
+ghost use Rattle.journal_store.specs.Words.{attempt_of};
+
+use crate::store::Store;
+use bytes::ByteStr;
+use sqlite::Alter;
+use store_due::{awake_ids, next_moment};
+use store_live::LiveAttempts;
+use store_refusals::Refusal;
+
+/// The ids without those of invocations with a live attempt.
+fn leave_out_live(ids: &mut Vec<ByteStr>, live: &LiveAttempts)
+    ensures { ids.new.items ≡ filter (λ id. not (is_some (attempt_of live.now.attempts id))) ids.old.items }
+{
+    ids.retain(|id| !live.get(id).is_some());
+}
+
+impl<S: Alter + Drop> Store<S> {
+    /// The invocations that are due, by id: open ones of which no attempt is live, and which an attempt begun now may go on, by what the
+    /// last one was not handed. No journal is read for it: it costs what it lists and the live attempts, however many invocations are open.
+    pub fn due(&mut self) -> Result<Vec<ByteStr>, Refusal>
+        ensures told { TellsAlways S.Store (λ events ids. ids.items ≡ due_after events) result self.old self.new }
+        ensures live { self.new.live ≡ self.old.live }
+        ensures crash { IsQuiet S.Store self.old self.new }
+    {
+        let mut ids = awake_ids(&mut self.tables)?;
+        leave_out_live(&mut ids, &self.live);
+        Ok(ids)
+    }
+
+    /// The first moment, in milliseconds, at which a tick ends a sleep, if there is one. It is found by one look-up.
+    pub fn next_moment(&mut self) -> Result<Option<u64>, Refusal>
+        ensures told { TellsAlways S.Store IsNextMoment result self.old self.new }
+        ensures live { self.new.live ≡ self.old.live }
+        ensures crash { IsQuiet S.Store self.old self.new }
+    {
+        next_moment(&mut self.tables)
+    }
+}

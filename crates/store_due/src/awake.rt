@@ -1,0 +1,46 @@
+//! The invocations of which an attempt may go on.
+
+ghost use Rattle.std.specs.Prelude.{◌≡◌, List, ℕ, map, filter, IfOk};
+ghost use Rattle.sqlite.specs.Held.{state};
+ghost use Rattle.sqlite.specs.State.{HasCleanDisk};
+ghost use Rattle.journal_model.specs.Event.{Event};
+ghost use Rattle.journal_model.specs.Attempt.{due, is_none, live_attempt};
+ghost use Rattle.store_tables.specs.Looks.{Looks};
+ghost use Rattle.store_tables.specs.declared.row.InvocationRow.{InvocationRow as Row};
+ghost use Rattle.store_refusals.specs.Prepared.{Tells};
+ghost use Rattle.store_invocations.specs.Rows.{IsStoreOf};
+
+use bytes::ByteStr;
+use sqlite::Alter;
+use std::alloc::{AllocError, Global};
+use store_refusals::Refusal;
+use store_tables::{InvocationRow, StoreTables, awake_invocations};
+
+fn ids_of(alloc: Global, rows: Vec<InvocationRow>) -> Result<Vec<ByteStr>, AllocError>
+    ensures { IfOk result (λ ids. ids.items ≡ map (λ (row : Row). row.id) rows.items) }
+{
+    rows.into_iter()
+        .map(|InvocationRow {
+            id,
+            object,
+            progress,
+            ..
+        }| {
+            drop(object);
+            drop(progress);
+            id
+        })
+        .collect(alloc)
+}
+
+/// The ids of the invocations of which an attempt may go on, by id: without those of which one is live they are due. A row of each is
+/// read, and none of any other.
+pub fn awake_ids<S: Alter>(tables: &mut StoreTables<S>) -> Result<Vec<ByteStr>, Refusal>
+    ensures told { HasCleanDisk (state S.Store tables.new) → (events : List Event) → IsStoreOf events (state S.Store tables.old)
+        → Tells (λ ids. due events ≡ filter (λ id. is_none (live_attempt events id)) ids.items) result }
+    ensures looks { Looks S.Store tables.old tables.new }
+{
+    let rows = awake_invocations(tables)?;
+    let ids = ids_of(tables.alloc(), rows)?;
+    Ok(ids)
+}
