@@ -2,7 +2,9 @@
 ghost use Rattle.std.specs.Prelude.{◌≡◌, ◌<◌, ◌^◌, [], map};
 ghost use Rattle.sqlite.specs.Held.{state};
 ghost use Rattle.sqlite.specs.State.{HasCleanDisk};
+ghost use Rattle.journal_model.specs.Attempt.{due as due_after};
 ghost use Rattle.journal_model.specs.Journal.{is_open as is_open_after, object_state};
+ghost use Rattle.due_model.specs.NextMoment.{IsNextMoment};
 ghost use Rattle.store_model.specs.Kept.{state_row};
 ghost use Rattle.store_model.specs.Progress.{last_error_of};
 ghost use Rattle.store_invocations.specs.Told.{entries_told};
@@ -288,6 +290,25 @@ impl<H: Handler + Drop, S: Alter + Drop> Scheduler<H, S> {
         ensures crash { IsQuiet S.Store self.old.store self.new.store }
     {
         self.store.state(object)
+    }
+
+    /// The invocations that are due, by id: of each an attempt that is begun now may go on. After a store was opened these are also those
+    /// whose attempts were live when it was left.
+    pub fn due(&mut self) -> Result<Vec<ByteStr>, store_refusals::Refusal>
+        ensures told { TellsAlways S.Store (λ events ids. ids.items ≡ due_after events) result self.old self.new }
+        ensures kept { self.new ≡ record self.old { store = self.new.store } }
+        ensures crash { IsQuiet S.Store self.old.store self.new.store }
+    {
+        self.store.due()
+    }
+
+    /// The first moment, in milliseconds, at which a tick ends a sleep, if there is one: until then no tick brings anything.
+    pub fn next_moment(&mut self) -> Result<Option<u64>, store_refusals::Refusal>
+        ensures told { TellsAlways S.Store IsNextMoment result self.old self.new }
+        ensures kept { self.new ≡ record self.old { store = self.new.store } }
+        ensures crash { IsQuiet S.Store self.old.store self.new.store }
+    {
+        self.store.next_moment()
     }
 
     /// The store, whose attempts nobody holds any more.

@@ -105,7 +105,7 @@ module _ {H : Type 0} (function : H → Handler) (options : VMOptions) (stand : 
     told = subst (λ (events : List Event). AreAcceptedOf asked replies events new.standing.events) none (all_accepted function options asked replies (at_first s) new applies);
     in_run = λ next id in_line brings.
         let it = leaves.in_run next id in_line brings (subst (λ (events : List Event). HoldsOf next options id events) (sym none) (none_begun next id)) in
-        record { headline = it.headline; never_late = it.never_late; wakes_exactly = it.wakes_exactly };
+        record { headline = it.headline; listed = it.listed; never_late = it.never_late; wakes_exactly = it.wakes_exactly };
     isolated = λ id. told_alike id stand new.standing.events;
   }
 

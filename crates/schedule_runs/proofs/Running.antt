@@ -22,6 +22,7 @@ use Rattle.schedule_laws.specs.Schedules.{Event, Reply, HeldAttempt, Scheduled, 
 use Rattle.schedule_laws.specs.Following.{HoldsOf, ReplaysInLine}
 use Rattle.durable_schedule.specs.declared.scheduler.Scheduler.{Scheduler}
 use Rattle.durable_schedule.specs.Scheduled.{IsScheduled, AppliesWith}
+use Rattle.due_laws.proofs.Listing.{due_tells}
 use Rattle.schedule_runs.specs.Runs.{AppliesFirst, LastsBehind, Leaves, LeavesFirst, StandsInRun, at_first}
 use Rattle.journal_store.proofs.Enduring.{endures_on}
 use Rattle.schedule_runs.proofs.Apart.{stands_apart, stands_still}
@@ -60,6 +61,7 @@ module _ {H : Type 0} (function : H → Handler) (options : VMOptions) where
         record {
           holds = holds;
           headline = headline next options id new.standing.events new.standing.accepted holds;
+          listed = due_tells new.standing.events id;
           never_late = λ begun is. late next options id new.standing.events begun is holds;
           wakes_exactly = λ begun is. exact next options id new.standing.events begun is holds;
           frames = taken options events replies (at_first s) new refl applies fits next id in_line brings before;

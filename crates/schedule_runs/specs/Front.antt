@@ -1,6 +1,6 @@
 -- What a schedule over a new store has recorded, in terms of accepted events: the statement in front of all others.
-use Rattle.std.specs.Prelude.{◌≡◌, ◌⊎◌, ℕ, ◌||◌, if◌then◌else◌, List, [], ◌∷◌, ◌++◌, length, map, Option, Some, None}
-use Rattle.std.specs.List.{AllByRecursion}
+use Rattle.std.specs.Prelude.{◌≡◌, ◌⊎◌, ℕ, ◌||◌, if◌then◌else◌, List, [], ◌∷◌, ◌++◌, length, map, Option, Some, None, bytes_eq}
+use Rattle.std.specs.List.{AllByRecursion, list_any}
 use Rattle.sqlite_trees.specs.declared.store.Store.{Ghosts}
 use Rattle.sqlite_trees.specs.Tree.{Trees}
 use Rattle.sqlite.specs.Held.{state}
@@ -8,7 +8,7 @@ use Rattle.journal_model.specs.Notification.{Text}
 use Rattle.journal_model.specs.declared.invocation.NewInvocation.{NewInvocation}
 use Rattle.journal_model.specs.Event.{Event, Frame}
 use Rattle.journal_model.specs.Journal.{begins, is_of, is_tick, is_open as is_open_after, invocation_begun}
-use Rattle.journal_model.specs.Attempt.{is_due as is_due_after}
+use Rattle.journal_model.specs.Attempt.{due, is_due as is_due_after}
 use Rattle.journal_model.specs.Cause.{IsAccepted}
 use Rattle.journal_model.specs.Run.{Handler}
 use Rattle.journal_model.specs.Headline.{Headline, NeverLate, WakesExactly}
@@ -70,6 +70,8 @@ pub record FollowsItsRun (next : Handler) (options : VMOptions) (id : Text) (eve
   -- Its recorded requests are a beginning of those that the run makes over its recorded arrivals, and where an attempt was suspended or ended,
   -- all of the run's over the arrivals that it was handed; its answer is the run's; and its object's state follows.
   pub headline : Headline next (run_options options) options.fallback_random_seed events id
+  -- the call `due` lists it where it is due
+  pub listed : list_any (bytes_eq id) (due events) ≡ is_due_after events id
   -- where the run over all arrivals goes on, an invocation that is suspended is due
   pub never_late : (new : NewInvocation) → invocation_begun events id ≡ Some new → NeverLate next (given_of options id events new) events id
   -- and from version 7 on it is due there alone
@@ -120,7 +122,7 @@ IsWrittenLast asked replies = LastsBehind ⊥ asked replies
 -- ---- of a store
 
 module _ {S : Type 0} (g : Ghosts S) where
-  -- a store stands for these accepted events: its readers tell of them (`told` of `Store::entries`, `answer`, `failure`, `is_open`)
+  -- a store stands for these accepted events: its readers tell of them (`told` of `Store::entries`, `answer`, `failure`, `is_open`, `due`, `next_moment`)
   abbrev pub StandsFor : List Event → Stored S → Type 0
   StandsFor events store = Stands events (state g store.connection) store.live.attempts
 

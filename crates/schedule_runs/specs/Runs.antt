@@ -1,11 +1,12 @@
 -- What a schedule answers and leaves.
 use Rattle.std.specs.Prelude.{◌≡◌, ◌≢◌, ◌⊎◌, ℕ, Bool, true, false, if◌then◌else◌, List, [], ◌∷◌, ◌++◌, Option, Some, None, bytes_eq}
-use Rattle.std.specs.List.{AllByRecursion}
+use Rattle.std.specs.List.{AllByRecursion, list_any}
 use Rattle.journal_model.specs.Notification.{Bytes, Text}
 use Rattle.journal_model.specs.declared.invocation.NewInvocation.{NewInvocation}
 use Rattle.journal_model.specs.Event.{Event}
 use Rattle.journal_model.specs.Cause.{IsAccepted, after_open}
 use Rattle.journal_model.specs.Journal.{begins, invocation_begun, invocation_of}
+use Rattle.journal_model.specs.Attempt.{due, is_due}
 use Rattle.journal_model.specs.Headline.{Headline, NeverLate, WakesExactly}
 use Rattle.journal_model.specs.Run.{Handler}
 use Rattle.vm_types.specs.Options.{run_options}
@@ -107,7 +108,9 @@ pub record StandsInRun {H : Type 0} (next : Handler) (options : VMOptions) (id :
   -- and ends among these accepted events, not at the last one alone, they were all of the run's over the arrivals that its attempt had been
   -- handed; its answer is that of the run; and while it is open its object's state is its starting state changed by its recorded requests.
   pub headline : Headline next (run_options options) options.fallback_random_seed after id
-  -- waking is never late, and from version 7 on exact
+  -- the call `due` lists it where it is due
+  pub listed : list_any (bytes_eq id) (due after) ≡ is_due after id
+  -- so waking is never late, and from version 7 on exact
   pub never_late : (new : NewInvocation) → invocation_begun after id ≡ Some new → NeverLate next (given_of options id after new) after id
   pub wakes_exactly : (new : NewInvocation) → invocation_begun after id ≡ Some new → WakesExactly next (given_of options id after new) after id
   -- no frame of it was refused for a cause that lies in the frame

@@ -14,10 +14,10 @@ use std::alloc::Global;
 /// Applies events in order to a new store, as `run_schedule` does to any. `Store::open` promises of a database without tables that its
 /// store is new, and so do `open_in_memory` and `open_file` of `store_files`.
 ///
-/// There is one list of accepted events, and `entries`, `answer`, `failure` and `is_open` of the scheduler, and of its store, tell of that
-/// list. Of each invocation whose begins all bring one function the recorded requests are a prefix of those that one uninterrupted run of
+/// There is one list of accepted events, and `entries`, `answer`, `failure`, `is_open` and `due` of the scheduler, and of its store, tell of
+/// that list. Of each invocation whose begins all bring one function the recorded requests are a prefix of those that one uninterrupted run of
 /// this function makes over its recorded arrivals, and all of them where an attempt was suspended or ended, over what it was handed; its
-/// answer is the run's; and while it is suspended it is due as soon as the run goes on, and from version 7 on only then. What came of other
+/// answer is the run's; and while it is suspended `due` lists it as soon as the run goes on, and from version 7 on only then. What came of other
 /// invocations since it was made changes none of this. All of it lasts, unless memory or a statement was refused last; and a crash anywhere
 /// in it leaves the same of a prefix of the events.
 pub fn run_new_schedule<H: Handler + Drop, S: Alter + Drop>(

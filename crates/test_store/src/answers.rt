@@ -1,5 +1,6 @@
 //! What calls answer, each printed as the end of a line.
 use crate::fault::Fault;
+use bytes::ByteStr;
 use journal_store::{
     Accepted, BegunAttempt, EntryKind, FrameReply, LastError, NonEmptyValue, RecordedEntry,
     Refusal, StateRow,
@@ -151,6 +152,34 @@ pub fn print_states<R: Print>(rt: &R, states: Result<Vec<StateRow>, Refusal>) ->
             drop(states);
             done
         }
+        Err(why) => print_refusal(rt, why),
+    }
+}
+
+fn print_all_ids<R: Print>(rt: &R, ids: &[ByteStr]) -> Result<(), Fault> {
+    for id in ids {
+        print!(rt; "{}, ", id.as_str())?;
+    }
+    Ok(println!(rt; "no more")?)
+}
+
+/// Ids of invocations.
+pub fn print_ids<R: Print>(rt: &R, ids: Result<Vec<ByteStr>, Refusal>) -> Result<(), Fault> {
+    match ids {
+        Ok(ids) => {
+            let done = print_all_ids(rt, ids.as_slice());
+            drop(ids);
+            done
+        }
+        Err(why) => print_refusal(rt, why),
+    }
+}
+
+/// A moment, if there is one.
+pub fn print_moment<R: Print>(rt: &R, moment: Result<Option<u64>, Refusal>) -> Result<(), Fault> {
+    match moment {
+        Ok(Some(moment)) => Ok(println!(rt; "{moment}")?),
+        Ok(None) => Ok(println!(rt; "none")?),
         Err(why) => print_refusal(rt, why),
     }
 }

@@ -2,7 +2,8 @@
 //! it answered, so that a file is printed as it stands where all is as it says.
 use crate::answers::{
     print_accepted, print_answer, print_begun, print_bytes, print_done, print_entries,
-    print_failure, print_number, print_openness, print_refusal, print_states, print_step,
+    print_failure, print_ids, print_moment, print_number, print_openness, print_refusal,
+    print_states, print_step,
 };
 use crate::database::{Database, empty};
 use crate::fault::Fault;
@@ -179,6 +180,12 @@ fn ask<R: Print>(
     }
     if call == "tick" {
         return tick(rt, store, words);
+    }
+    if call == "due" {
+        return print_ids(rt, store.due());
+    }
+    if call == "next_moment" {
+        return print_moment(rt, store.next_moment());
     }
     let [id, words @ ..] = words else {
         return Err(Fault::NotUnderstood);
