@@ -13,7 +13,7 @@ use Rattle.schedule_runs.specs.Passed.{LeavesHolds, ReplaysInLine}
 use Rattle.schedule_runs.specs.Schedules.event
 use Rattle.schedule_runs.specs.Schedules.{FitsEvent, Event, Reply, Turned, Scheduled, AppliesAll, Brings}
 use Rattle.script_lines.specs.declared.line.Line.{Line}
-use Rattle.script_lines.specs.declared.line.Line.TheVariants.{Invoke, Result, Tick, Begin, Feed, Close, Turn, Move, Stop, Show, State}
+use Rattle.script_lines.specs.declared.line.Line.TheVariants.{Invoke, Result, Tick, Begin, Feed, Close, Turn, Move, Stop, Due, Show, State}
 use Rattle.durable_script.specs.Line.{brought, new_invocation, AppliesOne, AnsweredTurns, AreOfLine, DoesEvent, DoesLine}
 use Rattle.durable_script.specs.Printed.{printed}
 use Rattle.durable_script.specs.Run.{DoneLine, AllBring, AreFirst, AreOfLines, DoesAll, DoesFirst, LinesFollow}
@@ -186,6 +186,9 @@ module _ (before : List DoneLine) (number : ℕ) (text : List ℕ) where
         (turn_last id n d.took.before rest.events rest.replies rest.are count d.taken d.last d.took.taken_are d.text_is) (λ id next all. tt) d.took.applies
     line_more (Move id n count) d = plain_more (Move id n count) (event.Move id n count) d (event.Move id n count, d.reply, refl, refl, refl, d.text_is) (λ id next. tt)
     line_more (Stop id n) d = plain_more (Stop id n) (event.Stop id n) d (event.Stop id n, d.reply, refl, refl, refl, d.text_is) (λ id next. tt)
+    line_more Due d =
+        none_more (AreOfLines before) (AreOfLines (done_line Due ∷ before)) (λ id next. AllBring id next before) (Brought Due) (λ id next all. all.0) start old new s
+        (s.events, [], s.replies, [], sym (append-nil s.events), sym (append-nil s.replies), s.are, (refl, refl)) d.1
     line_more (Show id) d =
         none_more (AreOfLines before) (AreOfLines (done_line (Show id) ∷ before)) (λ id next. AllBring id next before) (Brought (Show id)) (λ id next all. all.0) start old new s
         (s.events, [], s.replies, [], sym (append-nil s.events), sym (append-nil s.replies), s.are, (refl, refl)) d.1

@@ -7,5 +7,6 @@ pub mod Entries
 pub mod EntriesShown
 pub mod Showing
 pub mod States
+pub mod Dues
 pub mod Doing
 pub mod Turning

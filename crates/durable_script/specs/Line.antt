@@ -15,7 +15,7 @@ use Rattle.schedule_runs.specs.Attempts.{Answered}
 use Rattle.schedule_runs.specs.Schedules.event
 use Rattle.schedule_runs.specs.Schedules.{FitsEvent, Event, Reply, Turned, Scheduled, Applies}
 use Rattle.script_lines.specs.declared.line.Line.{Line}
-use Rattle.script_lines.specs.declared.line.Line.TheVariants.{Invoke, Result, Tick, Begin, Feed, Close, Turn, Move, Stop, Show, State}
+use Rattle.script_lines.specs.declared.line.Line.TheVariants.{Invoke, Result, Tick, Begin, Feed, Close, Turn, Move, Stop, Due, Show, State}
 use Rattle.script_lines.specs.declared.value.LineValue.{LineValue}
 use Rattle.script_lines.specs.declared.value.LineValue.TheVariants as value
 use Rattle.script_lines.specs.Word.{handler_word}
@@ -23,7 +23,7 @@ use Rattle.script_lines.specs.declared.word.HandlerName.{HandlerName}
 use Rattle.script_lines.specs.declared.word.StateMode.{StateMode}
 use Rattle.script_lines.specs.declared.word.StateMode.TheVariants.{Whole, Hidden}
 use Rattle.durable_script.specs.Printed.{printed}
-use Rattle.durable_script.specs.Shown.{Looks, Shows, ShowsState}
+use Rattle.durable_script.specs.Shown.{Looks, Shows, ShowsDue, ShowsState}
 
 -- the handler that a name stands for
 abbrev pub IsNamed : HandlerName → BuiltIn → Type 0
@@ -102,6 +102,7 @@ DoesLine (Close id attempt) text old new = DoesEvent (event.Close id attempt) te
 DoesLine (Turn id attempt count) text old new = TakesTurns id attempt count text old new
 DoesLine (Move id attempt count) text old new = DoesEvent (event.Move id attempt count) text old new
 DoesLine (Stop id attempt) text old new = DoesEvent (event.Stop id attempt) text old new
+DoesLine Due text old new = Looks (ShowsDue text) old new
 DoesLine (Show id) text old new = Looks (Shows id text) old new
 DoesLine (State object) text old new = Looks (ShowsState object text) old new
 
@@ -130,6 +131,7 @@ IsEventOf _ one = ⊥
 -- the events of a line and their replies, for which it prints this: turns of its attempt, none where something is shown, and otherwise one
 abbrev pub AreOfLine : Line → (text : List ℕ) → List (Event BuiltIn) → List Reply → Type 0
 AreOfLine (Turn id attempt count) text own answers = AreTurns id attempt text own answers
+AreOfLine Due text own answers = (own ≡ []) × (answers ≡ [])
 AreOfLine (Show id) text own answers = (own ≡ []) × (answers ≡ [])
 AreOfLine (State object) text own answers = (own ≡ []) × (answers ≡ [])
 AreOfLine line text own answers = (one : Event BuiltIn) × (reply : Reply) × IsEventOf line one × (own ≡ one ∷ []) × (answers ≡ reply ∷ []) × (text ≡ printed 1 reply ++ 10 ∷ [])

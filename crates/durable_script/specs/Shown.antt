@@ -1,4 +1,4 @@
--- What a line that shows an invocation, or the state of an object, prints.
+-- What a line that shows an invocation, the state of an object, or what is due prints.
 use Rattle.std.specs.Prelude.{◌≡◌, ◌⊎◌, ℕ, Bool, List, [], ◌∷◌, ◌++◌, Option, Some, None, codes}
 use Rattle.std.specs.List.{flat_map}
 use Rattle.built_in_handlers.specs.declared.built_in.BuiltIn.{BuiltIn}
@@ -8,6 +8,7 @@ use Rattle.journal_model.specs.declared.value.NonEmptyValue.TheVariants.{Success
 use Rattle.journal_model.specs.Event.{Event}
 use Rattle.journal_model.specs.State.{StateMap}
 use Rattle.journal_model.specs.Journal.{is_open, object_state}
+use Rattle.journal_model.specs.Attempt.{due}
 use Rattle.journal_model.specs.Cause.{those_that_hold}
 use Rattle.store_refusals.specs.declared.refusal.Refusal.{Refusal}
 use Rattle.store_refusals.specs.Names.{name_of}
@@ -16,7 +17,7 @@ use Rattle.store_invocations.specs.Rows.{known_tests}
 use Rattle.store_invocations.specs.Told.{entries_told}
 use Rattle.store_invocations.specs.Answered.{answer_told}
 use Rattle.schedule_runs.specs.Schedules.{Scheduled}
-use Rattle.script_lines.specs.Text.{value_line, failure_line, open_text, refused_text, state_line}
+use Rattle.script_lines.specs.Text.{value_line, failure_line, open_text, refused_text, state_line, due_line}
 use Rattle.durable_script.specs.declared.entry.ShownEntry.{ShownEntry}
 use Rattle.durable_script.specs.Entries.{AreShown, SomeUnread, entry_text}
 
@@ -75,6 +76,12 @@ states_text states = flat_map state_entry states ++ (codes "end" ++ 10 ∷ [])
 abbrev pub ShowsState : Text → List ℕ → List Event → Type 0
 ShowsState object text events =
     (text ≡ states_text (object_state events object)) ⊎ ((refusal : Refusal) × IsRefused [] refusal × (text ≡ refused_text (name_of refusal) ++ 10 ∷ []))
+
+-- ---- what is due
+
+-- the invocations that are due are told, or they are not, for a circumstance
+abbrev pub ShowsDue : List ℕ → List Event → Type 0
+ShowsDue text events = (text ≡ due_line (due events) ++ 10 ∷ []) ⊎ ((refusal : Refusal) × IsRefused [] refusal × (text ≡ refused_text (name_of refusal) ++ 10 ∷ []))
 
 -- what is told of the accepted events, and nothing changes
 abbrev pub Looks : (List Event → Type 0) → Scheduled BuiltIn → Scheduled BuiltIn → Type 0

@@ -1,6 +1,7 @@
 //! A script, run over a scheduler line by line: what each line does, and what is written of it.
 #![tactic(auto)]
 
+mod due;
 mod entry;
 pub mod laws;
 mod reply;

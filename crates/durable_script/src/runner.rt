@@ -7,6 +7,7 @@ ghost use Rattle.durable_script.specs.Printed.{Makes};
 ghost use Rattle.durable_script.specs.Line.{brought, new_invocation, was_answered, IsBegin, DoesEvent, DoesSomeEvent, TakesTurns, TookTurns, DoesLine, DoesSomeLine};
 ghost use Rattle.durable_script.specs.Runner.{DoesNext, StopsAt};
 
+use crate::due::show_due;
 use crate::reply::{line_reply, reply_line};
 use crate::show::show;
 use crate::state::show_state;
@@ -217,6 +218,7 @@ fn carry_out<S: Alter + Drop>(
                 attempt,
             },
         ),
+        Line::Due => show_due(scheduler),
         Line::Show { id } => show(scheduler, &id),
         Line::State { object } => show_state(scheduler, &object),
     }

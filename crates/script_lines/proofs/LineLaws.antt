@@ -14,14 +14,14 @@ use Rattle.script_lines.specs.declared.word.StateMode.TheVariants.{Whole, Hidden
 use Rattle.script_lines.specs.declared.word.HandlerName.{HandlerName}
 use Rattle.script_lines.specs.declared.word.HandlerName.TheVariants.{Nap, Nap99, Race, Both, Ask, Pair, Twice, Keys, Read}
 use Rattle.script_lines.specs.declared.word.Command.{Command}
-use Rattle.script_lines.specs.declared.word.Command.TheVariants.{Invoke as InvokeCommand, Result as ResultCommand, Tick as TickCommand, Begin as BeginCommand, Feed as FeedCommand, Close as CloseCommand, Turn as TurnCommand, Move as MoveCommand, Stop as StopCommand, Show as ShowCommand, State as StateCommand}
+use Rattle.script_lines.specs.declared.word.Command.TheVariants.{Invoke as InvokeCommand, Result as ResultCommand, Tick as TickCommand, Begin as BeginCommand, Feed as FeedCommand, Close as CloseCommand, Turn as TurnCommand, Move as MoveCommand, Stop as StopCommand, Due as DueCommand, Show as ShowCommand, State as StateCommand}
 use Rattle.script_lines.specs.declared.value.LineValue.{LineValue}
 use Rattle.script_lines.specs.declared.value.LineValue.TheVariants.{Void, Value, Failure, InvocationId}
 use Rattle.script_lines.specs.declared.line.Line.{Line}
-use Rattle.script_lines.specs.declared.line.Line.TheVariants.{Invoke, Result as ResultLine, Tick, Begin, Feed, Close, Turn, Move, Stop, Show, State}
+use Rattle.script_lines.specs.declared.line.Line.TheVariants.{Invoke, Result as ResultLine, Tick, Begin, Feed, Close, Turn, Move, Stop, Due, Show, State}
 use Rattle.script_lines.specs.Word.{text_word, IsText, IsWordByte, mode_word, handler_word, value_word, IsValue}
 use Rattle.script_lines.specs.Line.{words_of, spelled, IsLine}
-use Rattle.script_lines.specs.Reading.{then_read, text_of, invoke_of, result_of, tick_of, begin_of, feed_of, close_of, turn_of, move_of, stop_of, show_of, state_of, of_one, of_two, of_three, of_six, command_of, arguments_of, line_of}
+use Rattle.script_lines.specs.Reading.{then_read, text_of, invoke_of, result_of, tick_of, begin_of, feed_of, close_of, turn_of, move_of, stop_of, show_of, state_of, of_none, of_one, of_two, of_three, of_six, command_of, arguments_of, line_of}
 use Rattle.script_lines.proofs.WordLaws.{number_32, number_64, text_reading, mode_reading, handler_reading, read_step, chosen, tested}
 use Rattle.script_lines.proofs.ValueLaws.{value_reading}
 
@@ -139,6 +139,11 @@ state_takes object line e =
     made _ (State o.0) line o.2 (record { is_line = ot.0; same = next refl (next ot.1 refl) })
 
 -- so many words were read
+no_words : (only : Line) (words : List (List ℕ)) (line : Line) → of_none only words ≡ Some line → (words ≡ []) × (only ≡ line)
+unfolding of_none
+no_words only [] line e = (refl, same_Some only line e)
+no_words only (word ∷ words) line e = absurd (none-some line e)
+
 one_words : (read : List ℕ → Option Line) (words : List (List ℕ)) (line : Line) → of_one read words ≡ Some line → (a : List ℕ) × (words ≡ a ∷ []) × (read a ≡ Some line)
 unfolding of_one
 one_words read (a ∷ []) line e = (a, refl, e)
@@ -181,6 +186,7 @@ command_word CloseCommand = codes "close"
 command_word TurnCommand = codes "turn"
 command_word MoveCommand = codes "move"
 command_word StopCommand = codes "stop"
+command_word DueCommand = codes "due"
 command_word ShowCommand = codes "show"
 command_word StateCommand = codes "state"
 
@@ -189,8 +195,8 @@ unfolding command_of
 command_takes word command =
     let test = tested command_word word in
     test InvokeCommand _ command (test ResultCommand _ command (test TickCommand _ command (test BeginCommand _ command (test FeedCommand _ command
-    (test CloseCommand _ command (test TurnCommand _ command (test MoveCommand _ command (test StopCommand _ command (test ShowCommand _ command
-    (test StateCommand _ command (λ e. absurd (none-some command e))))))))))))
+    (test CloseCommand _ command (test TurnCommand _ command (test MoveCommand _ command (test StopCommand _ command (test DueCommand _ command
+    (test ShowCommand _ command (test StateCommand _ command (λ e. absurd (none-some command e)))))))))))))
 
 retold : (name : List ℕ) (words others : List (List ℕ)) (line : Line) → words ≡ others → Spells (name ∷ others) line → Spells (name ∷ words) line
 retold name words others line e h = record { is_line = h.is_line; same = ap (λ (ws : List (List ℕ)). name ∷ ws) e ∙ h.same }
@@ -206,6 +212,7 @@ arguments_take CloseCommand words line e = let w = two_words close_of words line
 arguments_take TurnCommand words line e = let w = three_words turn_of words line e in retold _ words _ line w.3 (turn_takes w.0 w.1 w.2 line w.4)
 arguments_take MoveCommand words line e = let w = three_words move_of words line e in retold _ words _ line w.3 (move_takes w.0 w.1 w.2 line w.4)
 arguments_take StopCommand words line e = let w = two_words stop_of words line e in retold _ words _ line w.2 (stop_takes w.0 w.1 line w.3)
+arguments_take DueCommand words line e = let w = no_words Due words line e in retold _ words _ line w.0 (subst (λ (l : Line). Spells (codes "due" ∷ []) l) w.1 (record { is_line = tt; same = refl }))
 arguments_take ShowCommand words line e = let w = one_words show_of words line e in retold _ words _ line w.1 (show_takes w.0 line w.2)
 arguments_take StateCommand words line e = let w = one_words state_of words line e in retold _ words _ line w.1 (state_takes w.0 line w.2)
 
@@ -220,7 +227,7 @@ line_takes (word ∷ words) line e =
 -- ---- what is spelled so is read
 
 line_again : (line : Line) → IsLine line → line_of (words_of line) ≡ Some line
-unfolding line_of then_read command_of arguments_of of_one of_two of_three of_six invoke_of result_of tick_of begin_of feed_of close_of turn_of move_of stop_of show_of state_of
+unfolding line_of then_read command_of arguments_of of_none of_one of_two of_three of_six invoke_of result_of tick_of begin_of feed_of close_of turn_of move_of stop_of show_of state_of
 line_again (Invoke id object version state seed input) h =
     rw (text_reading.again id h.0, text_reading.again object h.1, number_32.again version h.2, mode_reading.again state tt, number_64.again seed h.3, text_reading.again input h.4) refl
 line_again (ResultLine id completion value) h = rw (text_reading.again id h.0, number_32.again completion h.1, value_reading.again value h.2) refl
@@ -233,6 +240,7 @@ line_again (Turn id attempt count) h =
     rw (text_reading.again id h.0, number_32.again attempt h.1, number_32.again count h.3, some) refl
 line_again (Move id attempt count) h = rw (text_reading.again id h.0, number_32.again attempt h.1, number_32.again count h.2) refl
 line_again (Stop id attempt) h = rw (text_reading.again id h.0, number_32.again attempt h.1) refl
+line_again Due h = refl
 line_again (Show id) h = rw (text_reading.again id h) refl
 line_again (State object) h = rw (text_reading.again object h) refl
 
@@ -312,6 +320,7 @@ words-no_space (Close id attempt) h = let a = h.1 in (letters (codes "close") re
 words-no_space (Turn id attempt count) h = counted-no_space (codes "turn") id attempt count (letters (codes "turn") refl) h.0 h.1 h.3
 words-no_space (Move id attempt count) h = counted-no_space (codes "move") id attempt count (letters (codes "move") refl) h.0 h.1 h.2
 words-no_space (Stop id attempt) h = let a = h.1 in (letters (codes "stop") refl, (text-no_space id h.0, (decimal-no_space attempt (omega arith), tt)))
+words-no_space Due h = (letters (codes "due") refl, tt)
 words-no_space (Show id) h = (letters (codes "show") refl, (text-no_space id h, tt))
 words-no_space (State object) h = (letters (codes "state") refl, (text-no_space object h, tt))
 
@@ -330,6 +339,7 @@ words_again (Close id attempt) h = split_again _ _ (words-no_space (Close id att
 words_again (Turn id attempt count) h = split_again _ _ (words-no_space (Turn id attempt count) h)
 words_again (Move id attempt count) h = split_again _ _ (words-no_space (Move id attempt count) h)
 words_again (Stop id attempt) h = split_again _ _ (words-no_space (Stop id attempt) h)
+words_again Due h = split_again _ _ (words-no_space Due h)
 words_again (Show id) h = split_again _ _ (words-no_space (Show id) h)
 words_again (State object) h = split_again _ _ (words-no_space (State object) h)
 

@@ -2,7 +2,7 @@
 use Rattle.std.specs.Prelude.{ℕ, ◌<◌, ◌≤◌, ◌^◌, List, [], ◌∷◌, codes, decimal}
 use Rattle.std.specs.List.{join_with_byte}
 use Rattle.script_lines.specs.declared.line.Line.{Line}
-use Rattle.script_lines.specs.declared.line.Line.TheVariants.{Invoke, Result, Tick, Begin, Feed, Close, Turn, Move, Stop, Show, State}
+use Rattle.script_lines.specs.declared.line.Line.TheVariants.{Invoke, Result, Tick, Begin, Feed, Close, Turn, Move, Stop, Due, Show, State}
 use Rattle.script_lines.specs.Word.{text_word, IsText, mode_word, handler_word, value_word, IsValue}
 
 -- the words of a line: a command, and what it is about; numbers are decimal
@@ -17,6 +17,7 @@ words_of (Close id attempt) = codes "close" ∷ text_word id ∷ decimal attempt
 words_of (Turn id attempt count) = codes "turn" ∷ text_word id ∷ decimal attempt ∷ decimal count ∷ []
 words_of (Move id attempt count) = codes "move" ∷ text_word id ∷ decimal attempt ∷ decimal count ∷ []
 words_of (Stop id attempt) = codes "stop" ∷ text_word id ∷ decimal attempt ∷ []
+words_of Due = codes "due" ∷ []
 words_of (Show id) = codes "show" ∷ text_word id ∷ []
 words_of (State object) = codes "state" ∷ text_word object ∷ []
 
@@ -36,5 +37,6 @@ IsLine (Close id attempt) = IsText id × (attempt < 2 ^ 32)
 IsLine (Turn id attempt count) = IsText id × (attempt < 2 ^ 32) × (1 ≤ count) × (count < 2 ^ 32)
 IsLine (Move id attempt count) = IsText id × (attempt < 2 ^ 32) × (count < 2 ^ 32)
 IsLine (Stop id attempt) = IsText id × (attempt < 2 ^ 32)
+IsLine Due = Unit {0}
 IsLine (Show id) = IsText id
 IsLine (State object) = IsText object

@@ -11,11 +11,11 @@ use Rattle.script_lines.specs.Word.{handler_word}
 use Rattle.script_lines.specs.declared.word.LineError.{LineError}
 use Rattle.script_lines.specs.declared.word.LineError.TheVariants.{NotUnderstood, Memory}
 use Rattle.script_lines.specs.declared.word.Command.{Command}
-use Rattle.script_lines.specs.declared.word.Command.TheVariants.{Invoke as InvokeCommand, Result as ResultCommand, Tick as TickCommand, Begin as BeginCommand, Feed as FeedCommand, Close as CloseCommand, Turn as TurnCommand, Move as MoveCommand, Stop as StopCommand, Show as ShowCommand, State as StateCommand}
+use Rattle.script_lines.specs.declared.word.Command.TheVariants.{Invoke as InvokeCommand, Result as ResultCommand, Tick as TickCommand, Begin as BeginCommand, Feed as FeedCommand, Close as CloseCommand, Turn as TurnCommand, Move as MoveCommand, Stop as StopCommand, Due as DueCommand, Show as ShowCommand, State as StateCommand}
 use Rattle.script_lines.specs.declared.value.LineValue.{LineValue}
 use Rattle.script_lines.specs.declared.value.LineValue.TheVariants.{Void, Value, Failure, InvocationId}
 use Rattle.script_lines.specs.declared.line.Line.{Line}
-use Rattle.script_lines.specs.declared.line.Line.TheVariants.{Invoke, Result as ResultLine, Tick, Begin, Feed, Close, Turn, Move, Stop, Show, State}
+use Rattle.script_lines.specs.declared.line.Line.TheVariants.{Invoke, Result as ResultLine, Tick, Begin, Feed, Close, Turn, Move, Stop, Due, Show, State}
 
 -- the next step of a reading, where there was a value so far
 unfoldable pub then_read : {A B : Type 0} → Option A → (A → Option B) → Option B
@@ -163,6 +163,10 @@ state_of object = do
   Some (State object)
 
 -- what is read from just so many words
+unfoldable pub of_none : Line → List (List ℕ) → Option Line
+of_none line [] = Some line
+of_none line words = None
+
 unfoldable pub of_one : (List ℕ → Option Line) → List (List ℕ) → Option Line
 of_one read (a ∷ []) = read a
 of_one read words = None
@@ -190,8 +194,9 @@ command_of word =
     (if bytes_eq word (codes "turn") then Some TurnCommand else
     (if bytes_eq word (codes "move") then Some MoveCommand else
     (if bytes_eq word (codes "stop") then Some StopCommand else
+    (if bytes_eq word (codes "due") then Some DueCommand else
     (if bytes_eq word (codes "show") then Some ShowCommand else
-    (if bytes_eq word (codes "state") then Some StateCommand else None))))))))))
+    (if bytes_eq word (codes "state") then Some StateCommand else None)))))))))))
 
 unfoldable pub arguments_of : Command → List (List ℕ) → Option Line
 arguments_of InvokeCommand = of_six invoke_of
@@ -203,6 +208,7 @@ arguments_of CloseCommand = of_two close_of
 arguments_of TurnCommand = of_three turn_of
 arguments_of MoveCommand = of_three move_of
 arguments_of StopCommand = of_two stop_of
+arguments_of DueCommand = of_none Due
 arguments_of ShowCommand = of_one show_of
 arguments_of StateCommand = of_one state_of
 

@@ -10,6 +10,7 @@ use Rattle.script_lines.specs.declared.text.LineReply.TheVariants.{Done, Placed,
 use Rattle.script_lines.specs.declared.text.ShownRequest.{ShownRequest}
 use Rattle.script_lines.specs.declared.text.ShownAnswer.{ShownAnswer}
 use Rattle.script_lines.specs.declared.text.ShownState.{ShownState}
+use Rattle.script_lines.specs.declared.text.ShownDue.{ShownDue}
 use Rattle.script_lines.specs.declared.text.ShownAnswer.TheVariants.{Missing, Value, Failure}
 
 -- bytes as digits, and a dash for none
@@ -72,3 +73,17 @@ state_line key value = codes "state " ++ hex_text key ++ codes " " ++ hex_text v
 
 abbrev pub state_text : ShownState → List ℕ
 state_text state = state_line state.key.now state.value.now
+
+-- an id behind a space
+abbrev pub further_id : List ℕ → List ℕ
+further_id id = codes " " ++ id
+
+abbrev pub further_ids : List (List ℕ) → List ℕ
+further_ids ids = flat_map further_id ids
+
+-- the invocations that are due
+abbrev pub due_line : List (List ℕ) → List ℕ
+due_line ids = codes "due" ++ further_ids ids
+
+abbrev pub due_text : ShownDue → List ℕ
+due_text shown = due_line shown.0.now

@@ -1,11 +1,12 @@
 //! The lines of a script.
-#![tactic(auto, unfolding(crate::specs::Reading::then_read, crate::specs::Reading::invoke_of, crate::specs::Reading::result_of, crate::specs::Reading::tick_of, crate::specs::Reading::begin_of, crate::specs::Reading::feed_of, crate::specs::Reading::close_of, crate::specs::Reading::turn_of, crate::specs::Reading::move_of, crate::specs::Reading::stop_of, crate::specs::Reading::show_of, crate::specs::Reading::state_of, crate::specs::Reading::of_one, crate::specs::Reading::of_two, crate::specs::Reading::of_three, crate::specs::Reading::of_six))]
+#![tactic(auto, unfolding(crate::specs::Reading::then_read, crate::specs::Reading::invoke_of, crate::specs::Reading::result_of, crate::specs::Reading::tick_of, crate::specs::Reading::begin_of, crate::specs::Reading::feed_of, crate::specs::Reading::close_of, crate::specs::Reading::turn_of, crate::specs::Reading::move_of, crate::specs::Reading::stop_of, crate::specs::Reading::show_of, crate::specs::Reading::state_of, crate::specs::Reading::of_none, crate::specs::Reading::of_one, crate::specs::Reading::of_two, crate::specs::Reading::of_three, crate::specs::Reading::of_six))]
 
 ghost use Rattle.std.specs.Prelude.{◌≡◌, ◌==◌, map, IfOk};
 ghost use Rattle.std.specs.List.{slice_split};
 ghost use Rattle.script_lines.specs.Word.{Reads};
 ghost use Rattle.script_lines.specs.Line.{spelled, IsLine};
-ghost use Rattle.script_lines.specs.Reading.{Gives, invoke_of, result_of, tick_of, begin_of, feed_of, close_of, turn_of, move_of, stop_of, show_of, state_of, of_one, of_two, of_three, of_six, line_of};
+ghost use Rattle.script_lines.specs.declared.line.Line.TheVariants as line;
+ghost use Rattle.script_lines.specs.Reading.{Gives, invoke_of, result_of, tick_of, begin_of, feed_of, close_of, turn_of, move_of, stop_of, show_of, state_of, of_none, of_one, of_two, of_three, of_six, line_of};
 
 use crate::value::{LineValue, parse_value};
 use crate::word::{
@@ -72,6 +73,8 @@ pub enum Line {
         id: ByteStr,
         attempt: u32,
     },
+    /// Prints the ids of the invocations that are due.
+    Due,
     /// Prints what is recorded.
     Show {
         id: ByteStr,
@@ -217,6 +220,15 @@ fn parse_stop(alloc: Global, arguments: &[&[u8]]) -> Result<Line, LineError>
     Ok(Line::Stop { id, attempt })
 }
 
+fn parse_due(arguments: &[&[u8]]) -> Result<Line, LineError>
+    ensures { Gives result (of_none line.Due (map (λ word. word.now) arguments.now)) }
+{
+    match arguments {
+        [] => Ok(Line::Due),
+        _ => Err(LineError::NotUnderstood),
+    }
+}
+
 fn parse_show(alloc: Global, arguments: &[&[u8]]) -> Result<Line, LineError>
     ensures { Gives result (of_one show_of (map (λ word. word.now) arguments.now)) }
 {
@@ -261,6 +273,7 @@ fn parse_words(alloc: Global, words: &[&[u8]]) -> Result<Line, LineError>
         Command::Turn => parse_turn(alloc, arguments),
         Command::Move => parse_move(alloc, arguments),
         Command::Stop => parse_stop(alloc, arguments),
+        Command::Due => parse_due(arguments),
         Command::Show => parse_show(alloc, arguments),
         Command::State => parse_state(alloc, arguments),
     }

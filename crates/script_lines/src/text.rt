@@ -3,6 +3,7 @@
 ghost use Rattle.std.specs.Prelude.{◌≡◌, Some};
 ghost use Rattle.std.specs.Int.{to_be_bytes, w16};
 
+use bytes::ByteStr;
 use protocol_shown::HexByte;
 use std::fmt;
 
@@ -58,7 +59,7 @@ impl fmt::Display for LastTurn {
     }
 }
 
-/// What a line came to, but for `show` and `state`. A refusal goes by its printed name, as `S9`.
+/// What a line came to, but for `due`, `show` and `state`. A refusal goes by its printed name, as `S9`.
 #[derive(Clone, Copy)]
 pub enum LineReply {
     /// An invocation was made, an input closed, or an attempt stopped.
@@ -207,5 +208,37 @@ impl fmt::Display for ShownState<'_> {
         let key = Hex(self.key);
         let value = Hex(self.value);
         write!(f, "state {key} {value}")
+    }
+}
+
+/// Ids, each behind a space.
+#[derive(Clone, Copy)]
+struct FurtherIds<'a>(&'a [ByteStr]);
+
+impl fmt::Display for FurtherIds<'_> {
+    ghost use Rattle.script_lines.specs.Text.{further_ids};
+
+    ghost output = { λ ids. Some (further_ids ids.0.now) };
+
+    fn fmt<W: fmt::Write>(&self, f: &mut fmt::Formatter<W>) -> fmt::Result {
+        for id in self.0 {
+            write!(f, " {id}")?;
+        }
+        Ok(())
+    }
+}
+
+/// The ids of invocations that are due.
+#[derive(Clone, Copy)]
+pub struct ShownDue<'a>(pub &'a [ByteStr]);
+
+impl fmt::Display for ShownDue<'_> {
+    ghost use Rattle.script_lines.specs.Text.{due_text};
+
+    ghost output = { λ shown. Some (due_text shown) };
+
+    fn fmt<W: fmt::Write>(&self, f: &mut fmt::Formatter<W>) -> fmt::Result {
+        let ids = FurtherIds(self.0);
+        write!(f, "due{ids}")
     }
 }

@@ -40,6 +40,7 @@ pub enum Command {
     Turn,
     Move,
     Stop,
+    Due,
     Show,
     State,
 }
@@ -214,6 +215,8 @@ pub fn parse_command(word: &[u8]) -> Option<Command>
         Some(Command::Move)
     } else if word == b"stop".as_slice() {
         Some(Command::Stop)
+    } else if word == b"due".as_slice() {
+        Some(Command::Due)
     } else if word == b"show".as_slice() {
         Some(Command::Show)
     } else if word == b"state".as_slice() {

@@ -47,6 +47,9 @@ returns-in-Move g c = rw c.in-Move.is c.do_event-in-Move.ensures
 pub returns-in-Stop : goal.returns-in-Stop
 returns-in-Stop g c = rw c.in-Stop.is c.do_event-in-Stop.ensures
 
+pub returns-in-Due : goal.returns-in-Due
+returns-in-Due g c = makes_quiet string_bytes c.show_due.result g.S.Store c.args.scheduler.now c.show_due.new.scheduler c.args.line line.Due c.in-Due.is c.show_due.ensures
+
 pub returns-in-Show : goal.returns-in-Show
 returns-in-Show g c = makes_quiet string_bytes c.show.result g.S.Store c.args.scheduler.now c.show.new.scheduler c.args.line (line.Show c.in-Show.id) c.in-Show.is c.show.ensures
 

@@ -1,0 +1,38 @@
+//! The invocations that are due, as a line shows them.
+ghost use Rattle.std.specs.Prelude.{◌≡◌, ◌∷◌, [], ◌++◌, IfOk, string_bytes};
+ghost use Rattle.script_lines.specs.Text.{due_line};
+ghost use Rattle.durable_script.specs.Printed.{Makes};
+ghost use Rattle.durable_script.specs.Reaching.{Nowhere, Reaches};
+ghost use Rattle.durable_script.specs.Shown.{Looks, ShowsDue};
+
+use crate::reply::reply_line;
+use built_in_handlers::BuiltIn;
+use bytes::ByteStr;
+use schedule_runs::Scheduler;
+use script_lines::text::{LineReply, ShownDue};
+use sqlite::Alter;
+use std::alloc::{AllocError, Global};
+
+fn ids_line(alloc: Global, ids: &[ByteStr]) -> Result<String, AllocError>
+    ensures { IfOk result (λ text. string_bytes text ≡ due_line ids.now ++ 10 ∷ []) }
+{
+    let due = ShownDue(ids);
+    format!(in alloc; "{due}\n")
+}
+
+/// What a line that shows which invocations are due prints.
+pub(crate) fn show_due<S: Alter + Drop>(
+    scheduler: &mut Scheduler<BuiltIn, S>,
+) -> Result<String, AllocError>
+    ensures { Makes string_bytes result (λ text. Reaches S.Store Nowhere (Looks (ShowsDue text)) scheduler.old scheduler.new) }
+{
+    let alloc = scheduler.alloc;
+    match scheduler.due() {
+        Ok(ids) => {
+            let text = ids_line(alloc, ids.as_slice());
+            drop(ids);
+            text
+        }
+        Err(refusal) => reply_line(alloc, LineReply::Refused(refusal.name())),
+    }
+}
