@@ -8,7 +8,7 @@ use Rattle.journal_model.specs.Notification.{Text, Arrival}
 use Rattle.journal_model.specs.Run.{Handler, Invocation}
 use Rattle.journal_model.specs.Request.{Request, completions_asked}
 use Rattle.journal_model.specs.Event.{Event, Frame}
-use Rattle.journal_model.specs.Journal.{recorded_requests}
+use Rattle.journal_model.specs.Journal.{recorded_requests, version_of}
 use Rattle.journal_model.specs.Attempt.{is_input_closed}
 use Rattle.journal_model.specs.Cause.{Cause, Tests, those_that_hold, is_of_frame, causes_of, open_tests, live_tests, frame_tests, adding_tests, entry_tests, tests_of, UnknownInvocation, InvocationClosed, AttemptNotLive, BadCompletion, KeyNotText, InputNotClosed, BrokenPayload, NumbersUsedUp, PayloadTooLong, do_ascend, last_completion, keys_of}
 use Rattle.journal_model.specs.Cause as cause
@@ -16,6 +16,7 @@ use Rattle.run_laws.proofs.Ascending.{next_ascends}
 use Rattle.turn_laws.specs.Sending.{SendsOneOfRun}
 use Rattle.store_frames.specs.declared.frame.AttemptFrame.{AttemptFrame}
 use Rattle.store_frames.specs.Answer.{IsFrame}
+use Rattle.store_frames.specs.Read.{IsFrameRead}
 use Rattle.store_refusals.specs.declared.refusal.Refusal.{Refusal}
 use Rattle.store_refusals.specs.declared.refusal.Refusal.TheVariants as refusal
 use Rattle.store_refusals.specs.Refused.{refusal_of, is_circumstance, IsRefused}
@@ -118,13 +119,14 @@ refused_elsewhere (c ∷ causes) why none (inl first) =
 refused_elsewhere causes why none (inr met) = circumstance why met
 
 refusals_none : (events : List Event) (id : Text) (number : ℕ) (attempt : LiveFacts) (read : AttemptFrame) (frame : Frame) (result : Result PreparedFrame Refusal)
-    → list_any is_of_frame (causes_of events (Event.Take id number frame)) ≡ false → IsLive events id number attempt → IsFrame frame read → Takes events id attempt read result
-    → IfErr result (λ why. lies_in_frame why ≡ false)
-refusals_none events id number attempt read frame (Ok made) none live is takes = tt
-refusals_none events id number attempt read frame (Err why) none live is takes = refused_elsewhere (causes_of events (Event.Take id number frame)) why none (takes number frame live is)
+    → list_any is_of_frame (causes_of events (Event.Take id number frame)) ≡ false → IsLive events id number attempt → IsFrameRead (version_of events id) frame → IsFrame frame read
+    → Takes events id attempt read result → IfErr result (λ why. lies_in_frame why ≡ false)
+refusals_none events id number attempt read frame (Ok made) none live from is takes = tt
+refusals_none events id number attempt read frame (Err why) none live from is takes =
+    refused_elsewhere (causes_of events (Event.Take id number frame)) why none (takes number frame live from is)
 
 pub none_lie_in_frames : NoneLieInFrames
 none_lie_in_frames next given arrivals version sent id events h = record {
   causes = causes_none next given arrivals version sent id events h;
-  refusals = λ number attempt read result live is takes. refusals_none events id number attempt read (frame_meant version sent) result (causes_none next given arrivals version sent id events h number) live is takes;
+  refusals = λ number attempt read result live from is takes. refusals_none events id number attempt read (frame_meant version sent) result (causes_none next given arrivals version sent id events h number) live from is takes;
 }

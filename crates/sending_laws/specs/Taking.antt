@@ -6,12 +6,13 @@ use Rattle.protocol_types.specs.declared.version.Version.{Version}
 use Rattle.journal_model.specs.Notification.{Text, Arrival}
 use Rattle.journal_model.specs.Run.{Handler, Invocation}
 use Rattle.journal_model.specs.Event.{Event}
-use Rattle.journal_model.specs.Journal.{recorded_requests}
+use Rattle.journal_model.specs.Journal.{recorded_requests, version_of}
 use Rattle.journal_model.specs.Attempt.{is_input_closed}
 use Rattle.journal_model.specs.Cause.{causes_of, is_of_frame, keys_of}
 use Rattle.turn_laws.specs.Sending.{SendsOneOfRun}
 use Rattle.store_frames.specs.declared.frame.AttemptFrame.{AttemptFrame}
 use Rattle.store_frames.specs.Answer.{IsFrame}
+use Rattle.store_frames.specs.Read.{IsFrameRead}
 use Rattle.store_refusals.specs.declared.refusal.Refusal.{Refusal}
 use Rattle.store_steps.specs.declared.frame.LiveFacts.{LiveFacts}
 use Rattle.store_steps.specs.declared.frame.PreparedFrame.{PreparedFrame}
@@ -31,8 +32,8 @@ pub record IsSentOfRun (next : Handler) (given : Invocation) (arrivals : List Ar
 -- no cause that lies in the frame holds of its event; and so no refusal of it, as a store prepares it, is of such a cause
 pub record LiesNotIn (version : Version) (sent : Sent) (id : Text) (events : List Event) : Type 0 where
   pub causes : (number : ℕ) → list_any is_of_frame (causes_of events (Event.Take id number (frame_meant version sent))) ≡ false
-  pub refusals : (number : ℕ) (attempt : LiveFacts) (read : AttemptFrame) (result : Result PreparedFrame Refusal) → IsLive events id number attempt → IsFrame (frame_meant version sent) read
-      → Takes events id attempt read result → IfErr result (λ why. lies_in_frame why ≡ false)
+  pub refusals : (number : ℕ) (attempt : LiveFacts) (read : AttemptFrame) (result : Result PreparedFrame Refusal) → IsLive events id number attempt
+      → IsFrameRead (version_of events id) (frame_meant version sent) → IsFrame (frame_meant version sent) read → Takes events id attempt read result → IfErr result (λ why. lies_in_frame why ≡ false)
 
 abbrev pub NoneLieInFrames : Type 0
 NoneLieInFrames = (next : Handler) (given : Invocation) (arrivals : List Arrival) (version : Version) (sent : Sent) (id : Text) (events : List Event)
