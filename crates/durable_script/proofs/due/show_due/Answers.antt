@@ -8,7 +8,7 @@ use Rattle.durable_script.proofs.due.show_due.Goals as goal
 pub returns-in-Ok : goal.returns-in-Ok
 returns-in-Ok g c = (
   due_line c.in-Ok.ids.items ++ 10 ∷ [],
-  subst (λ (ids : List (List ℕ)). IfOk c.ids_line-text.result (λ s. string_bytes s ≡ due_line ids ++ 10 ∷ [])) c.as_slice.ensures c.ids_line-text.ensures,
+  subst (λ (ids : List (List ℕ)). IfOk c.ids_line-text.result (λ s. string_bytes s ≡ due_line ids ++ 10 ∷ [])) c.as_slice.ensures.value c.ids_line-text.ensures,
   due_printed g.S.Store c.args.scheduler.now c.due.new.self c.due.ensures.crash c.due.ensures.kept c.in-Ok.ids.items c.in-Ok.ensures.told,
 )
 
