@@ -7,6 +7,7 @@ use Rattle.sqlite.proofs.StateLemmas.{survives_then, survives_weaker}
 use Rattle.journal_model.specs.Notification.{Bytes, Text}
 use Rattle.journal_model.specs.declared.notification.NotificationResult.{NotificationResult}
 use Rattle.journal_model.specs.Spelling.{frame_bytes}
+use Rattle.journal_model.specs.Request.{SignalKey}
 use Rattle.journal_model.specs.Event.{Event}
 use Rattle.journal_model.specs.Journal.{invocation_begun, is_of}
 use Rattle.journal_model.specs.Attempt.{attempts_begun, live_attempt}
@@ -70,22 +71,25 @@ still_live : (mine : Bool) (before : Option Bytes) (live : Option ℕ) → is_so
 still_live true before live same = same
 still_live false before live same = same
 
+event_landed : (s : Standing) (event : Event) → causes_of s.events event ≡ [] → ((other : Text) → is_some (s.outputs other) ≡ is_some (live_attempt (event ∷ s.events) other))
+    → (t : Standing) × Adds event s t
+event_landed s event causes live =
+    (record { events = event ∷ s.events; accepted = (causes, s.accepted); outputs = s.outputs; live = live }, record { events = refl; outputs = λ other. refl })
+
 pub complete_landed : (s : Standing) (id : Text) (n : ℕ) (value : NotificationResult) → causes_of s.events (Event.Complete id n value) ≡ [] → (t : Standing) × Adds (Event.Complete id n value) s t
-complete_landed s id n value causes = (
-  record {
-    events = Event.Complete id n value ∷ s.events;
-    accepted = (causes, s.accepted);
-    outputs = s.outputs;
-    live = λ other. still_live (is_of other (Event.Complete id n value)) (s.outputs other) (live_attempt s.events other) (s.live other);
-  },
-  record { events = refl; outputs = λ other. refl },
-)
+complete_landed s id n value causes =
+    event_landed s (Event.Complete id n value) causes (λ other. still_live (is_of other (Event.Complete id n value)) (s.outputs other) (live_attempt s.events other) (s.live other))
+
+pub signal_landed : (s : Standing) (id : Text) (key : SignalKey) (value : NotificationResult) → causes_of s.events (Event.Signal id key value) ≡ [] → (t : Standing) × Adds (Event.Signal id key value) s t
+signal_landed s id key value causes =
+    event_landed s (Event.Signal id key value) causes (λ other. still_live (is_of other (Event.Signal id key value)) (s.outputs other) (live_attempt s.events other) (s.live other))
+
+pub cancel_landed : (s : Standing) (id : Text) → causes_of s.events (Event.Cancel id) ≡ [] → (t : Standing) × Adds (Event.Cancel id) s t
+cancel_landed s id causes =
+    event_landed s (Event.Cancel id) causes (λ other. still_live (is_of other (Event.Cancel id)) (s.outputs other) (live_attempt s.events other) (s.live other))
 
 pub tick_landed : (s : Standing) (now : ℕ) → causes_of s.events (Event.Tick now) ≡ [] → (t : Standing) × Adds (Event.Tick now) s t
-tick_landed s now causes = (
-  record { events = Event.Tick now ∷ s.events; accepted = (causes, s.accepted); outputs = s.outputs; live = λ other. s.live other },
-  record { events = refl; outputs = λ other. refl },
-)
+tick_landed s now causes = event_landed s (Event.Tick now) causes (λ other. s.live other)
 
 pub begin_landed : (s : Standing) (id : Text) (now : ℕ) → causes_of s.events (Event.Begin id now) ≡ [] → (t : Standing) × BeginsSome id now s t
 begin_landed s id now causes =

@@ -4,7 +4,6 @@ use Rattle.sqlite_trees.specs.declared.store.Store.{Ghosts}
 use Rattle.sqlite.specs.Held.{state}
 use Rattle.sqlite.specs.State.{State, HasCleanDisk}
 use Rattle.journal_model.specs.Notification.{Bytes, Text}
-use Rattle.journal_model.specs.declared.notification.NotificationResult.{NotificationResult}
 use Rattle.journal_model.specs.Spelling.{frame_bytes}
 use Rattle.journal_model.specs.Event.{Event}
 use Rattle.journal_model.specs.Journal.{version_of, entries_of}
@@ -20,7 +19,7 @@ use Rattle.store_live.specs.Attempts.{ByInvocation, attempt_of}
 use Rattle.store_live_laws.specs.Agrees.{Agrees}
 use Rattle.store_calls.specs.declared.begun.BegunAttempt.{BegunAttempt}
 use Rattle.store_calls.specs.Standing.{Standing, Stays, Adds, Leaves, Refuses}
-use Rattle.store_calls.specs.Calls.{Completes, BeginsAttempt}
+use Rattle.store_calls.specs.Calls.{TakesPlace, BeginsAttempt}
 use Rattle.journal_store.specs.Stored.{Stored}
 use Rattle.journal_store.specs.Stands.{Stands, IsStanding, Leads, output_of, KeepsOutputs, WaitsNow, WaitsAfter}
 
@@ -97,17 +96,17 @@ module _ {S : Type 0} (g : Ghosts S) (s : Standing) (old new : Stored S) (is : I
   refuses event why cause stands keeps = let it = stays stands keeps in (it.0, it.1, record { cause = cause; stays = it.2 })
 
 module _ {S : Type 0} (g : Ghosts S) (old new : Stored S) where
-  pub completes : (id : Text) (completion : ℕ) (brought : NotificationResult) (result : Result ℕ Refusal)
+  pub arrives : (event : Event) (id : Text) (result : Result ℕ Refusal)
       → (HasCleanDisk (state g new.connection) → (events : List Event) → Stands events (state g old.connection) old.live.attempts
-      → Does events (Event.Complete id completion brought) (λ place. place ≡ 1 + length (entries_of events id)) result (state g new.connection) new.live.attempts)
-      → KeepsOutputs old.live.attempts new.live.attempts → Leads g (Completes id completion brought result) old new
-  completes id completion brought (Ok place) does keeps clean s is =
+      → Does events event (λ place. place ≡ 1 + length (entries_of events id)) result (state g new.connection) new.live.attempts)
+      → KeepsOutputs old.live.attempts new.live.attempts → Leads g (TakesPlace event id result) old new
+  arrives event id (Ok place) does keeps clean s is =
       let did = does clean s.events is.stands in
-      let it = adds g s old new is (Event.Complete id completion brought) did.2 keeps in
+      let it = adds g s old new is event did.2 keeps in
       (it.0, it.1, (did.1, it.2))
-  completes id completion brought (Err why) does keeps clean s is =
+  arrives event id (Err why) does keeps clean s is =
       let did = does clean s.events is.stands in
-      refuses g s old new is (Event.Complete id completion brought) why did.0 did.1 keeps
+      refuses g s old new is event why did.0 did.1 keeps
 
   pub begins : (id : Text) (now : ℕ) (result : Result BegunAttempt Refusal)
       → (HasCleanDisk (state g new.connection) → (events : List Event) → Stands events (state g old.connection) old.live.attempts

@@ -13,6 +13,7 @@ pub mod Ticking
 pub mod Beginning
 pub mod Calls
 pub mod Answering
+pub mod Outcomes
 pub mod Taking
 pub mod Accepting
 pub mod Opening

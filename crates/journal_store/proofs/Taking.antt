@@ -32,7 +32,7 @@ use Rattle.store_invocations.specs.Rows.{IsStoreOf}
 use Rattle.store_steps.specs.declared.frame.FrameReply.{FrameReply}
 use Rattle.store_steps.specs.declared.frame.PreparedFrame.{PreparedFrame}
 use Rattle.store_steps.specs.declared.frame.HandedAnswer.{HandedAnswer}
-use Rattle.store_steps.specs.Reads.{IsHanded, answer_rows}
+use Rattle.store_steps.specs.Reads.{IsHanded, answer_rows, frame_handed}
 use Rattle.store_steps.specs.Taken.{IsLive, IsReply, IsTaken, Takes, does_end, lies_in_frame}
 use Rattle.store_steps.proofs.Live.{begun_open}
 use Rattle.store_steps.proofs.Tests.{causes_left}
@@ -56,6 +56,7 @@ use Rattle.journal_store.specs.Stands.{Stands, IsStanding, Leads, Keeps, KeepsAl
 use Rattle.journal_store.specs.Taking.{HasMessage, HasMessageOf, IsEndedBy, IsFirstOf, IsSeen, IsSeenOf, SettlesStep, after_answer, passed}
 use Rattle.journal_store.specs.Writing.{Writes}
 use Rattle.journal_store.proofs.Lasting.{outlasts_now}
+use Rattle.journal_store.proofs.Outcomes.{outcome_left}
 use Rattle.journal_store.proofs.Standing.{all_stored, landed, store_still, stands_after, stands_still}
 use Rattle.journal_store.proofs.Quiet.{live_here, stands_stopped, this_one}
 use Rattle.journal_store.proofs.Waiting.{before_waits, now_waits, same_waits, stopped_waits}
@@ -70,13 +71,14 @@ rows_brought events id number request =
     ap (λ (mine : Bool). rows_of_arrivals id (entries_of events id) (1 + length (entries_of events id))
     (if mine || false then entries_of_frame (starting_state events id) (entries_of events id) (Frame.Command request) else [])) (itself id)
 
-put_rows : (rows : List EntryRow) (answer : Option HandedAnswer) (attempt : LiveAttempt) → IsHanded rows answer → after_rows rows attempt ≡ after_answer answer attempt
-put_rows [] None attempt h = refl
-put_rows [] (Some answer) attempt h = absurd h
-put_rows (row ∷ []) None attempt h = absurd h
-put_rows (row ∷ []) (Some answer) attempt h = ap₂ (λ (place : ℕ) (frame : Bytes). after_put place frame attempt) (sym h.0) (sym h.1)
-put_rows (row ∷ other ∷ rows) None attempt h = absurd h
-put_rows (row ∷ other ∷ rows) (Some answer) attempt h = absurd h
+put_rows : (version : ℕ) (request : Request) (rows : List EntryRow) (answer : Option HandedAnswer) (attempt : LiveAttempt) → IsHanded (frame_handed version (Frame.Command request)) rows answer
+    → after_rows rows attempt ≡ after_answer answer attempt
+put_rows version request [] None attempt h = refl
+put_rows version request [] (Some answer) attempt h = absurd h
+put_rows version request (row ∷ []) None attempt h = absurd h
+put_rows version request (row ∷ []) (Some answer) attempt h = ap₂ (λ (place : ℕ) (frame : Bytes). after_put place frame attempt) (sym h.0) (sym h.1)
+put_rows version request (row ∷ other ∷ rows) None attempt h = absurd h
+put_rows version request (row ∷ other ∷ rows) (Some answer) attempt h = absurd h
 
 -- ---- the attempt that is left
 
@@ -96,7 +98,7 @@ put_apart None attempt rest = refl
 put_apart (Some answer) attempt rest = refl
 
 agrees_left : (events : List Event) (id : Text) (number : ℕ) (frame : Frame) (read : AttemptFrame) (reply : FrameReply) (answer : Option HandedAnswer) (attempt : LiveAttempt) (rest : Bytes)
-    → IsAccepted events → causes_of events (Event.Take id number frame) ≡ [] → IsHanded (answer_rows events id frame) answer
+    → IsAccepted events → causes_of events (Event.Take id number frame) ≡ [] → IsHanded (frame_handed (version_of events id) frame) (answer_rows events id frame) answer
     → IsFrame frame read → IsReply events id frame reply → Agrees events id (Some attempt) → (b : Bool) → does_end reply ≡ b
     → Agrees (Event.Take id number frame ∷ events) id (option_map (after_answer answer) (attempt_left b rest attempt))
 agrees_left events id number frame read reply answer attempt rest accepted none handed is replied agrees true e =
@@ -104,21 +106,25 @@ agrees_left events id number frame read reply answer attempt rest accepted none 
 agrees_left events id number frame read reply answer attempt rest accepted none handed is replied agrees false e =
     by_frame frame read (sym (told_end events id frame reply replied) ∙ e) none handed is replied
   where
-    by_frame : (frame : Frame) (read : AttemptFrame) → ends_attempt frame ≡ false → causes_of events (Event.Take id number frame) ≡ [] → IsHanded (answer_rows events id frame) answer
+    by_frame : (frame : Frame) (read : AttemptFrame) → ends_attempt frame ≡ false → causes_of events (Event.Take id number frame) ≡ [] → IsHanded (frame_handed (version_of events id) frame) (answer_rows events id frame) answer
         → IsFrame frame read → IsReply events id frame reply → Agrees (Event.Take id number frame ∷ events) id (Some (after_answer answer (record attempt { output = rest })))
     by_frame (Frame.Command request) read goes none handed is replied =
         let event = Event.Take id number (Frame.Command request) in
         let brought : after_rows (rows_arrived events event id) attempt ≡ after_answer answer attempt =
-        put_rows (rows_arrived events event id) answer attempt (subst (λ (rows : List EntryRow). IsHanded rows answer) (sym (rows_brought events id number request)) handed) in
+        put_rows (version_of events id) request (rows_arrived events event id) answer attempt
+        (subst (λ (rows : List EntryRow). IsHanded (frame_handed (version_of events id) (Frame.Command request)) rows answer) (sym (rows_brought events id number request)) handed) in
         subst (λ (left : LiveAttempt). Agrees (event ∷ events) id (Some left)) (put_apart answer attempt rest)
         (other_output (event ∷ events) id (after_answer answer attempt) rest
         (subst (λ (left : LiveAttempt). Agrees (event ∷ events) id (Some left)) brought (commanded events id number request (Some attempt) accepted none agrees)))
     by_frame Frame.AwaitingOn read goes none handed is replied = by_answer answer handed
       where
-        by_answer : (o : Option HandedAnswer) → IsHanded [] o → Agrees (Event.Take id number Frame.AwaitingOn ∷ events) id (Some (after_answer o (record attempt { output = rest })))
+        by_answer : (o : Option HandedAnswer) → IsHanded (frame_handed (version_of events id) Frame.AwaitingOn) [] o → Agrees (Event.Take id number Frame.AwaitingOn ∷ events) id (Some (after_answer o (record attempt { output = rest })))
         by_answer None h = other_output (Event.Take id number Frame.AwaitingOn ∷ events) id attempt rest (taken events id number Frame.AwaitingOn (Some attempt) refl agrees)
         by_answer (Some answered) h = absurd h
-    by_frame (Frame.RunOutcome n value is_acknowledged) read goes none handed is replied = absurd is
+    by_frame (Frame.RunOutcome n value asks) read goes none handed is replied =
+        let event = Event.Take id number (Frame.RunOutcome n value asks) in
+        subst (λ (left : LiveAttempt). Agrees (event ∷ events) id (Some left)) (put_apart answer attempt rest)
+        (other_output (event ∷ events) id (after_answer answer attempt) rest (outcome_left events id number n value asks answer attempt accepted none handed agrees))
     by_frame (Frame.Suspend suspension) read goes none handed is replied = cc
     by_frame (Frame.Error code said behavior delay) read goes none handed is replied = cc
     by_frame Frame.End read goes none handed is replied = cc

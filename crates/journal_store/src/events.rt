@@ -78,7 +78,11 @@ fn room_for(live: &mut LiveAttempts, id: &ByteStr) -> Result<ByteStr, AllocError
 impl<S: Alter + Drop> Store<S> {
     /// Writes an arrival that was made ready, and puts its frame behind the input of the live attempt, if one is live: it is recorded
     /// before a byte of it is handed out.
-    fn record_arrival(&mut self, id: &ByteStr, made: PreparedArrival) -> Result<u32, Refusal>
+    pub(crate) fn record_arrival(
+        &mut self,
+        id: &ByteStr,
+        made: PreparedArrival,
+    ) -> Result<u32, Refusal>
         requires place { made.place + 1 < 2 ^ 32 }
         ensures place { IfOk result (λ place. place ≡ made.place) }
         ensures made { Writes S.Store made.writes.items self.old.connection self.new.connection result }

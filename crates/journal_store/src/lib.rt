@@ -11,6 +11,7 @@ mod events;
 mod open;
 pub mod parts;
 mod read;
+mod signals;
 mod step;
 mod store;
 mod tick;
@@ -21,6 +22,7 @@ pub use journal_model::{
 };
 pub use open::NotOpened;
 pub use store::Store;
+pub use store_arrivals::SignalKey;
 pub use store_calls::BegunAttempt;
 pub use store_invocations::{EntryKind, RecordedEntry};
 pub use store_refusals::Refusal;

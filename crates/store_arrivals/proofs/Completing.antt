@@ -65,7 +65,7 @@ pub not_open : (n : ℕ) (brought : NotificationResult) (o : Option Request) →
 not_open n brought None e = inl refl
 not_open n brought (Some request) e = cc
 
-asking_of_open : (entries : List Entry) (n : ℕ) (request : Request) → open_request entries n ≡ Some request → request_asking entries n ≡ Some request
+pub asking_of_open : (entries : List Entry) (n : ℕ) (request : Request) → open_request entries n ≡ Some request → request_asking entries n ≡ Some request
 asking_of_open entries n request e = by_test (is_awaited entries n) e
   where
     by_test : (b : Bool) → (if b then request_asking entries n else None) ≡ Some request → request_asking entries n ≡ Some request

@@ -2,12 +2,14 @@ pub mod Waiting
 pub mod Completing
 pub mod Framing
 pub mod Written
+pub mod Signalling
 pub mod SideBySide
 pub mod Ending
 pub mod Counting
 pub mod Grouping
 pub mod Short
 pub mod Ends
+pub mod Outcomes
 pub mod Ready
 pub mod Using
 pub mod Rowed

@@ -47,10 +47,10 @@ arrival_made row kind arrival frame made is w = record {
 
 -- ---- the row, as the events tell it
 
-row_named : (events : List Event) (id : Text) (row : InvocationRow) → IsRowOf events id row → row.id ≡ id
+pub row_named : (events : List Event) (id : Text) (row : InvocationRow) → IsRowOf events id row → row.id ≡ id
 row_named events id row of = ap (λ (r : InvocationRow). r.id) of.is ∙ of.named
 
-row_progress : (events : List Event) (id : Text) (row : InvocationRow) → IsRowOf events id row → row.progress ≡ progress_of events id
+pub row_progress : (events : List Event) (id : Text) (row : InvocationRow) → IsRowOf events id row → row.progress ≡ progress_of events id
 row_progress events id row of = ap (λ (r : InvocationRow). r.progress) of.is ∙ ap (progress_of events) of.named
 
 arrivals_are_few : (entries : List Entry) → length (arrivals_in entries) ≤ length entries
@@ -75,7 +75,7 @@ tests_are events id n brought row of =
 
 -- ---- the writes
 
-no_state : (object : Option Text) → state_writes object [] ≡ []
+pub no_state : (object : Option Text) → state_writes object [] ≡ []
 no_state None = refl
 no_state (Some object) = refl
 

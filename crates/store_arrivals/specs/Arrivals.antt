@@ -1,11 +1,14 @@
 -- What an arrival makes ready.
-use Rattle.std.specs.Prelude.{◌≡◌, ◌≤◌, ℕ, ◌+◌, ◌-◌, ◌^◌, nat_lt, List, [], ◌∷◌, drop, length, Option, Some}
+use Rattle.std.specs.Prelude.{◌≡◌, ◌≤◌, ℕ, ◌+◌, ◌-◌, ◌^◌, nat_lt, Bool, true, List, [], ◌∷◌, ◌++◌, drop, length, Option, Some, Result}
 use Rattle.journal_model.specs.Notification.{Bytes, Text, Arrival}
-use Rattle.journal_model.specs.Event.{Event}
+use Rattle.journal_model.specs.declared.notification.NotificationResult.{NotificationResult}
+use Rattle.journal_model.specs.declared.value.NonEmptyValue.{NonEmptyValue}
+use Rattle.journal_model.specs.Value.{result_of_value}
+use Rattle.journal_model.specs.Event.{Frame, Event}
 use Rattle.journal_model.specs.Spelling.{frame_bytes, notification_payload}
-use Rattle.journal_model.specs.Journal.{entries_of}
-use Rattle.journal_model.specs.Attempt.{notification_type}
-use Rattle.journal_model.specs.Cause.{Cause, Tests}
+use Rattle.journal_model.specs.Journal.{completion, entries_of, is_open}
+use Rattle.journal_model.specs.Attempt.{is_live, notification_type}
+use Rattle.journal_model.specs.Cause.{Cause, Tests, adding_tests, frame_tests}
 use Rattle.protocol_types.specs.declared.message_type.MessageType.{MessageType}
 use Rattle.protocol_stream.specs.declared.frame.TheConstants.{HEADER_LEN}
 use Rattle.store_tables.specs.declared.row.InvocationRow.{InvocationRow}
@@ -15,7 +18,8 @@ use Rattle.store_tables.specs.declared.row.Write.TheVariants.{SetProgress, AddEn
 use Rattle.store_model.specs.Kept.{plain_row, answered_by}
 use Rattle.store_model.specs.Writes.{writes_of}
 use Rattle.store_model.specs.Steps.{grown}
-use Rattle.store_invocations.specs.Rows.{payload_tests}
+use Rattle.store_invocations.specs.Rows.{Decides, payload_tests}
+use Rattle.store_refusals.specs.declared.refusal.Refusal.{Refusal}
 use Rattle.store_arrivals.specs.declared.arrival.PreparedArrival.{PreparedArrival}
 
 -- its entry, behind those of the invocation that has this row
@@ -47,3 +51,10 @@ pub record IsMadeReady (events : List Event) (event : Event) (id : Text) (arriva
   pub writes : made.writes.items ≡ writes_of events event
   pub place : made.place ≡ 1 + length (entries_of events id)
   pub frame : made.frame ≡ frame_bytes (notification_type (entries_of events id) arrival.id) (notification_payload arrival)
+
+-- made ready of the outcome of a run, whichever live attempt of an open invocation proposes it, or refused
+abbrev pub DecidesOutcome : List Event → Text → ℕ → NotificationResult → Result PreparedArrival Refusal → Type 0
+DecidesOutcome events id n brought result = (number : ℕ) (value : NonEmptyValue) (asks : Bool)
+    → is_open events id ≡ true → is_live events id number ≡ true → brought ≡ result_of_value value
+    → Decides (frame_tests events id (Frame.RunOutcome n value asks) ++ adding_tests events id (Event.Take id number (Frame.RunOutcome n value asks)))
+    (IsMadeReady events (Event.Take id number (Frame.RunOutcome n value asks)) id (completion n brought)) result

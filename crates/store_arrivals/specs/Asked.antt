@@ -1,6 +1,6 @@
 -- A request as one that asks for a completion, and what it may be given from outside: by the line of its command, and by whether the
 -- completion is its second.
-use Rattle.std.specs.Prelude.{Result, Ok, Err, ℕ, Bool, true, not, if◌then◌else◌, List, [], ◌∷◌, Option, Some, None, is_some, option_and_then}
+use Rattle.std.specs.Prelude.{Result, Ok, Err, ℕ, Bool, true, false, not, if◌then◌else◌, List, [], ◌∷◌, Option, Some, None, is_some, option_and_then}
 use Rattle.journal_model.specs.Spelling.{request_type}
 use Rattle.journal_model.specs.Notification.{Text}
 use Rattle.journal_model.specs.declared.notification.NotificationResult.{NotificationResult}
@@ -9,6 +9,7 @@ use Rattle.journal_model.specs.Event.{Event}
 use Rattle.journal_model.specs.Journal.{entries_of, open_request}
 use Rattle.journal_model.specs.Cause.{Cause, Tests, refuses_kind}
 use Rattle.protocol_types.specs.declared.message_type.MessageType.{MessageType}
+use Rattle.protocol_types.specs.declared.message_type.MessageType.TheVariants as types
 use Rattle.protocol_stream.specs.declared.command_facts.Completion.{Completion}
 use Rattle.protocol_stream.specs.CommandFacts.{accepts, completion_at, facts_of}
 use Rattle.store_tables.specs.Questions.{is_number}
@@ -35,6 +36,11 @@ asked_by n request = record { ty = request_type request; is_second = not (is_fir
 
 abbrev pub as_second : MessageType → AskedCompletion
 as_second ty = record { ty = ty; is_second = true }
+
+-- whether a request of this type is a run
+abbrev pub is_run_command : MessageType → Bool
+is_run_command types.RunCommand = true
+is_run_command _ = false
 
 -- the completion, by the line of the request's command
 abbrev pub completion_for : AskedCompletion → Option Completion

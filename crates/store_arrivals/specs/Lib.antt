@@ -1,5 +1,6 @@
 pub mod Asked
 pub mod Arrivals
+pub mod Signals
 pub mod Ended
 pub mod Groups
 pub mod Grouped

@@ -9,7 +9,7 @@ ghost use Rattle.protocol_types.specs.MessageType.{named_type};
 ghost use Rattle.store_tables.specs.Looks.{Looks};
 ghost use Rattle.store_refusals.specs.Prepared.{Tells};
 ghost use Rattle.store_invocations.specs.Rows.{IsStoreOf};
-ghost use Rattle.store_arrivals.specs.Asked.{as_second, asked_by, completion_for, first_type as the_first_type, second_type as the_second_type, type_for};
+ghost use Rattle.store_arrivals.specs.Asked.{as_second, asked_by, completion_for, first_type as the_first_type, is_run_command, second_type as the_second_type, type_for};
 
 use bytes::ByteStr;
 use journal_model::NotificationResult;
@@ -140,6 +140,16 @@ impl AskedCompletion {
         match CommandFacts::of(self.ty) {
             Some(facts) => facts.completions.completion(self.is_second),
             None => None,
+        }
+    }
+
+    /// Whether the request is a run, whose outcome attempts propose.
+    pub(crate) fn is_run(self) -> bool
+        ensures { result ≡ is_run_command self.ty }
+    {
+        match self.ty {
+            MessageType::RunCommand => true,
+            _ => false,
         }
     }
 

@@ -1,5 +1,6 @@
-//! What is made ready of arrivals of any kind: of a result, of another notification, and of a tick, which ends the sleeps that are due.
-//! That is why it is refused, or by which writes it is recorded and which frames live attempts are handed. Nothing is written here.
+//! What is made ready of arrivals of any kind: of a result, of a signal, of a cancellation, of the outcome of a run, of another
+//! notification, and of a tick, which ends the sleeps that are due. That is why it is refused, or by which writes it is recorded and
+//! which frames live attempts are handed. Nothing is written here.
 #![tactic(auto)]
 
 mod arrival;
@@ -7,8 +8,10 @@ mod asking;
 mod ended;
 mod groups;
 mod laws;
+mod outcome;
 mod payload;
 mod result;
+mod signal;
 mod tick;
 mod wake;
 mod woken;
@@ -16,7 +19,9 @@ mod woken;
 pub use arrival::{PreparedArrival, prepare_arrival};
 pub use groups::{SleepGroup, groups_of};
 pub use laws::{ended_grouped, ready_kept};
+pub use outcome::prepare_outcome;
 pub use result::prepare_result;
+pub use signal::{SignalKey, prepare_cancel, prepare_signal};
 pub use tick::{PreparedTick, prepare_tick};
 pub use wake::is_woken;
 pub use woken::prepare_woken;

@@ -3,6 +3,7 @@ use Rattle.std.specs.Prelude.{◌≡◌, ◌+◌, ℕ, Bool, true, false, length
 use Rattle.journal_model.specs.Notification.{Bytes, Text}
 use Rattle.journal_model.specs.declared.invocation.NewInvocation.{NewInvocation}
 use Rattle.journal_model.specs.declared.notification.NotificationResult.{NotificationResult}
+use Rattle.journal_model.specs.Request.{SignalKey}
 use Rattle.journal_model.specs.Event.{Event}
 use Rattle.journal_model.specs.Spelling.{frame_bytes}
 use Rattle.journal_model.specs.Journal.{version_of, entries_of}
@@ -21,10 +22,20 @@ abbrev pub Invokes : NewInvocation → Result (Unit {0}) Refusal → Standing �
 Invokes one (Ok done) old new = Adds (Event.Invoke one) old new
 Invokes one (Err why) old new = Refuses (Event.Invoke one) why old new
 
--- a result takes the next place of the journal
+-- what an event brings to an invocation takes the next place of the journal
+abbrev pub TakesPlace : Event → Text → Result ℕ Refusal → Standing → Standing → Type 0
+TakesPlace event id (Ok place) old new = (place ≡ 1 + length (entries_of old.events id)) × Adds event old new
+TakesPlace event id (Err why) old new = Refuses event why old new
+
+-- so does a result, a signal, and a cancellation
 abbrev pub Completes : Text → (completion : ℕ) → NotificationResult → Result ℕ Refusal → Standing → Standing → Type 0
-Completes id completion brought (Ok place) old new = (place ≡ 1 + length (entries_of old.events id)) × Adds (Event.Complete id completion brought) old new
-Completes id completion brought (Err why) old new = Refuses (Event.Complete id completion brought) why old new
+Completes id completion brought result old new = TakesPlace (Event.Complete id completion brought) id result old new
+
+abbrev pub Signals : Text → SignalKey → NotificationResult → Result ℕ Refusal → Standing → Standing → Type 0
+Signals id key brought result old new = TakesPlace (Event.Signal id key brought) id result old new
+
+abbrev pub Cancels : Text → Result ℕ Refusal → Standing → Standing → Type 0
+Cancels id result old new = TakesPlace (Event.Cancel id) id result old new
 
 -- a tick ends the sleeps that are due, of all open invocations, and tells how many
 abbrev pub Ticks : (now : ℕ) → Result ℕ Refusal → Standing → Standing → Type 0

@@ -1,5 +1,5 @@
 -- What is kept of a message says which frame it is.
-use Rattle.std.proofs.Common.{◌≡◌, ℕ, ◌==◌, Bool, true, false, List, Option, Some, None, Result, Ok, Err, refl, sym, ap, subst, ◌∙◌}
+use Rattle.std.proofs.Common.{◌≡◌, ℕ, ◌==◌, Bool, true, false, List, Option, Some, None, Result, Ok, Err, refl, sym, subst, ◌∙◌}
 use Rattle.std.specs.Prelude.{if◌then◌else◌, IfOk}
 use Rattle.protocol_table.specs.declared.table.RecordType.{RecordType}
 use Rattle.protocol_table.specs.declared.table.RecordType.TheVariants as records
@@ -9,6 +9,7 @@ use Rattle.protocol_wire.specs.Check.{payload_fault}
 use Rattle.protocol_wire.specs.declared.check.Fault.{Fault}
 use Rattle.protocol_wire.specs.declared.check.Fault.TheVariants.{BadPayload, TooDeep}
 use Rattle.protocol_wire.specs.declared.record.TheConstants.{LEVELS}
+use Rattle.journal_model.specs.declared.value.NonEmptyValue.{NonEmptyValue}
 use Rattle.journal_model.specs.Request.{Request}
 use Rattle.journal_model.specs.Event.{Frame, Retry, Pause, Fail}
 use Rattle.protocol_records.specs.declared.suspension_v6.SuspensionMessageV6.{SuspensionMessageV6}
@@ -16,6 +17,7 @@ use Rattle.protocol_records.specs.declared.future.Future.{Future}
 use Rattle.protocol_records.specs.Suspension.{suspension_of}
 use Rattle.protocol_records.specs.SuspensionV6.{suspension_v6_of}
 use Rattle.protocol_controls.specs.Error.{error_of}
+use Rattle.protocol_controls.specs.ProposeRunCompletion.{propose_run_completion_of}
 use Rattle.protocol_controls.specs.declared.error.ErrorMessage.{ErrorMessage}
 use Rattle.protocol_types.specs.declared.message_type.MessageType.{MessageType}
 use Rattle.protocol_types.specs.declared.feature.Feature.TheVariants as features
@@ -28,10 +30,10 @@ use Rattle.store_frames.specs.declared.frame.ErrorBehavior.TheVariants as behavi
 use Rattle.store_frames.specs.declared.frame.AttemptFrame.{AttemptFrame}
 use Rattle.store_frames.specs.declared.frame.AttemptFrame.TheVariants as answers
 use Rattle.store_frames.specs.Kind.{kind_of, record_of}
-use Rattle.store_frames.specs.Requests.{suspension_of_tree, suspension_of_lists, behavior_numbered}
+use Rattle.store_frames.specs.Requests.{suspension_of_tree, suspension_of_lists, behavior_numbered, proposal_told}
 use Rattle.store_frames.specs.Commands.{request_in}
-use Rattle.store_frames.specs.Meaning.{unless_faulty, read_as, read_if_record, command_or_broken, error_frame, suspension_frame, frame_by, frame_of}
-use Rattle.store_frames.specs.Told.{told_unless_faulty, told_as, told_if_record, told_request, told_tree, told_lists, told_number, told_error, told_suspension, told_by}
+use Rattle.store_frames.specs.Meaning.{unless_faulty, read_as, read_if_record, command_or_broken, error_frame, outcome_or_broken, suspension_frame, frame_by, asks_ack, frame_of}
+use Rattle.store_frames.specs.Told.{told_unless_faulty, told_as, told_if_record, told_request, told_tree, told_lists, told_number, told_error, told_suspension, told_outcome, told_proposal, told_by}
 use Rattle.store_frames.specs.Answer.{IsFrame, behavior_meant}
 use Rattle.store_frames.proofs.Payloads.{lists_payload}
 
@@ -60,6 +62,10 @@ behavior_by false number = named_by (number == 1) (number == 2)
 error_is : (version : ℕ) (one : ErrorMessage) → IsFrame (error_frame version one) (told_error version one)
 error_is version one = record { code_is = refl; message_is = refl; behavior_is = behavior_by (lacks_feature version features.ErrorBehavior) one.behavior; delay_is = refl }
 
+outcome_is : (is_acknowledged : Bool) (outcome : Option (ℕ × NonEmptyValue)) → IsFrame (outcome_or_broken is_acknowledged outcome) (told_outcome is_acknowledged outcome)
+outcome_is is_acknowledged None = tt
+outcome_is is_acknowledged (Some outcome) = record { completion_is = refl; result_is = refl; acknowledged_is = refl }
+
 -- ---- payloads
 
 unless_is : (fault : Option Fault) (frame : Frame) (answer : AttemptFrame) → IsFrame frame answer → IsFrame (unless_faulty fault frame) (told_unless_faulty fault answer)
@@ -82,25 +88,28 @@ if_record_is : (found : Option RecordType) (payload : List ℕ) (frame : List Fi
 if_record_is None payload frame answer h = tt
 if_record_is (Some t) payload frame answer h = read_is t payload frame answer h
 
-told_is : (version : ℕ) (kind : FrameKind) (ty : MessageType) (payload : List ℕ) → IsFrame (frame_by version kind ty payload) (told_by version kind ty payload)
-told_is version kinds.Command ty payload =
+told_is : (version : ℕ) (kind : FrameKind) (ty : MessageType) (asks : Bool) (payload : List ℕ) → IsFrame (frame_by version kind ty asks payload) (told_by version kind ty asks payload)
+told_is version kinds.Command ty asks payload =
     if_record_is (record_of ty) payload (λ fs. command_or_broken (request_in ty fs)) (λ fs. told_request (request_in ty fs)) (λ fs. request_is (request_in ty fs))
-told_is version kinds.AwaitingOn ty payload = read_is records.AwaitingOn payload (λ fs. Frame.AwaitingOn) (λ fs. answers.AwaitingOn) (λ fs. tt)
-told_is version kinds.Suspension ty payload = suspension_is (lacks_feature version features.AwaitTree) payload
-told_is version kinds.Error ty payload =
+told_is version kinds.AwaitingOn ty asks payload = read_is records.AwaitingOn payload (λ fs. Frame.AwaitingOn) (λ fs. answers.AwaitingOn) (λ fs. tt)
+told_is version kinds.Suspension ty asks payload = suspension_is (lacks_feature version features.AwaitTree) payload
+told_is version kinds.Error ty asks payload =
     read_is records.Error payload (λ fs. error_frame version (error_of LEVELS fs)) (λ fs. told_error version (error_of LEVELS fs)) (λ fs. error_is version (error_of LEVELS fs))
-told_is version kinds.End ty payload = read_is records.End payload (λ fs. Frame.End) (λ fs. answers.End) (λ fs. tt)
-told_is version kinds.Other ty payload = if_record_is (record_of ty) payload (λ fs. Frame.NotAccepted) (λ fs. answers.NotAccepted) (λ fs. tt)
+told_is version kinds.End ty asks payload = read_is records.End payload (λ fs. Frame.End) (λ fs. answers.End) (λ fs. tt)
+told_is version kinds.RunOutcome ty asks payload =
+    read_is records.ProposeRunCompletion payload (λ fs. outcome_or_broken asks (proposal_told (propose_run_completion_of LEVELS fs))) (λ fs. told_proposal asks (propose_run_completion_of LEVELS fs))
+    (λ fs. outcome_is asks (proposal_told (propose_run_completion_of LEVELS fs)))
+told_is version kinds.Other ty asks payload = if_record_is (record_of ty) payload (λ fs. Frame.NotAccepted) (λ fs. answers.NotAccepted) (λ fs. tt)
 
 -- ---- messages
 
-moved : (version : ℕ) (one other : MessageType) (payload all : List ℕ) → one ≡ other → payload ≡ all → told_by version (kind_of one) one payload ≡ told_by version (kind_of other) other all
-moved version one other payload all same whole =
-    ap (λ (ty : MessageType). told_by version (kind_of ty) ty payload) same ∙ ap (λ (bytes : List ℕ). told_by version (kind_of other) other bytes) whole
+moved : (version : ℕ) (one other : MessageType) (asks asked : Bool) (payload all : List ℕ) → one ≡ other → asks ≡ asked → payload ≡ all
+    → told_by version (kind_of one) one asks payload ≡ told_by version (kind_of other) other asked all
+moved version one other asks asked payload all same flag whole = λ i. told_by version (kind_of (same i)) (same i) (flag i) (whole i)
 
-pub meant : {E : Type 0} (version : ℕ) (m : RawMessage) (ty : MessageType) (payload : List ℕ) (result : Result AttemptFrame E)
-    → ty ≡ message_type m.header → payload ≡ m.payload → IfOk result (λ frame. frame ≡ told_by version (kind_of ty) ty payload) → IfOk result (IsFrame (frame_of version m))
-meant version m ty payload (Ok frame) same whole is =
-    subst (λ (told : AttemptFrame). IsFrame (frame_of version m) told) (sym (is ∙ moved version ty (message_type m.header) payload m.payload same whole))
-    (told_is version (kind_of (message_type m.header)) (message_type m.header) m.payload)
-meant version m ty payload (Err e) same whole is = tt
+pub meant : {E : Type 0} (version : ℕ) (m : RawMessage) (ty : MessageType) (asks : Bool) (payload : List ℕ) (result : Result AttemptFrame E)
+    → ty ≡ message_type m.header → asks ≡ asks_ack m.header → payload ≡ m.payload → IfOk result (λ frame. frame ≡ told_by version (kind_of ty) ty asks payload) → IfOk result (IsFrame (frame_of version m))
+meant version m ty asks payload (Ok frame) same flag whole is =
+    subst (λ (told : AttemptFrame). IsFrame (frame_of version m) told) (sym (is ∙ moved version ty (message_type m.header) asks (asks_ack m.header) payload m.payload same flag whole))
+    (told_is version (kind_of (message_type m.header)) (message_type m.header) (asks_ack m.header) m.payload)
+meant version m ty asks payload (Err e) same flag whole is = tt

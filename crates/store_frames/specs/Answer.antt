@@ -1,7 +1,10 @@
 -- How what is kept of a message says which frame it is.
-use Rattle.std.specs.Prelude.{◌≡◌, ℕ, List, ◌++◌, Option, Some, None}
+use Rattle.std.specs.Prelude.{◌≡◌, ℕ, Bool, List, ◌++◌, Option, Some, None}
 use Rattle.std.specs.List.{list_all}
 use Rattle.std.specs.Str.{is_utf8}
+use Rattle.journal_model.specs.declared.notification.NotificationResult.{NotificationResult}
+use Rattle.journal_model.specs.declared.value.NonEmptyValue.{NonEmptyValue}
+use Rattle.journal_model.specs.Value.{result_of_value}
 use Rattle.journal_model.specs.Request.{Request, completions_asked}
 use Rattle.journal_model.specs.Cause.{keys_of}
 use Rattle.journal_model.specs.Spelling.{packed_numbers, repeated_bytes, suspension_payload, request_payload, request_type}
@@ -50,6 +53,13 @@ pub record IsError (code : ℕ) (message : List ℕ) (behavior : Behavior) (dela
   pub behavior_is : behavior_meant told_behavior ≡ behavior
   pub delay_is : told_delay ≡ delay
 
+-- ---- what a run has come to
+
+pub record IsOutcome (n : ℕ) (value : NonEmptyValue) (is_acknowledged : Bool) (completion : ℕ) (result : NotificationResult) (told_acknowledged : Bool) : Type 0 where
+  pub completion_is : completion ≡ n
+  pub result_is : result ≡ result_of_value value
+  pub acknowledged_is : told_acknowledged ≡ is_acknowledged
+
 -- ---- all
 
 -- A suspension that waits for nothing is told as broken: that is the first cause against either, whatever else holds.
@@ -61,6 +71,7 @@ IsFrame (Frame.Suspend (Some suspension)) (answers.Suspension payload) = KeepsSu
 IsFrame (Frame.Error code message behavior delay) (answers.Error told_code told_message told_behavior told_delay) =
     IsError code message behavior delay told_code told_message told_behavior told_delay
 IsFrame Frame.End answers.End = Unit {0}
+IsFrame (Frame.RunOutcome n value is_acknowledged) (answers.RunOutcome completion result told_acknowledged) = IsOutcome n value is_acknowledged completion result told_acknowledged
 IsFrame Frame.Broken answers.Broken = Unit {0}
 IsFrame Frame.TooDeep answers.TooDeep = Unit {0}
 IsFrame Frame.NotAccepted answers.NotAccepted = Unit {0}

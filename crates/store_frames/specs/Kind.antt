@@ -7,7 +7,6 @@ use Rattle.protocol_types.specs.declared.message_type.MessageType.TheVariants as
 use Rattle.store_frames.specs.declared.kind.FrameKind.{FrameKind}
 use Rattle.store_frames.specs.declared.kind.FrameKind.TheVariants as kinds
 
--- Commands whose outcome an attempt proposes are not accepted so far.
 abbrev pub kind_of : MessageType → FrameKind
 kind_of types.OutputCommand = kinds.Command
 kind_of types.GetLazyStateCommand = kinds.Command
@@ -24,6 +23,7 @@ kind_of types.SleepCommand = kinds.Command
 kind_of types.CallCommand = kinds.Command
 kind_of types.OneWayCallCommand = kinds.Command
 kind_of types.SendSignalCommand = kinds.Command
+kind_of types.RunCommand = kinds.Command
 kind_of types.AttachInvocationCommand = kinds.Command
 kind_of types.GetInvocationOutputCommand = kinds.Command
 kind_of types.CompleteAwakeableCommand = kinds.Command
@@ -31,6 +31,7 @@ kind_of types.AwaitingOn = kinds.AwaitingOn
 kind_of types.Suspension = kinds.Suspension
 kind_of types.Error = kinds.Error
 kind_of types.End = kinds.End
+kind_of types.ProposeRunCompletion = kinds.RunOutcome
 kind_of _ = kinds.Other
 
 -- A custom entry's payload is any bytes. (A suspension's record is this one from version 7 on.)

@@ -9,6 +9,8 @@ use Rattle.protocol_wire.specs.Parts.{payload_of}
 use Rattle.protocol_wire.specs.declared.check.Fault.{Fault}
 use Rattle.protocol_wire.specs.declared.check.Fault.TheVariants.{BadPayload, TooDeep}
 use Rattle.protocol_wire.specs.declared.record.TheConstants.{LEVELS}
+use Rattle.journal_model.specs.declared.value.NonEmptyValue.{NonEmptyValue}
+use Rattle.journal_model.specs.Value.{result_of_value}
 use Rattle.journal_model.specs.Request.{Request}
 use Rattle.journal_model.specs.Spelling.{request_payload, suspension_payload}
 use Rattle.protocol_trees.specs.Future.{future_tree}
@@ -18,12 +20,15 @@ use Rattle.protocol_records.specs.declared.suspension_v6.SuspensionMessageV6.{Su
 use Rattle.protocol_records.specs.Suspension.{suspension_of}
 use Rattle.protocol_records.specs.SuspensionV6.{suspension_v6_of, suspension_v6_parts}
 use Rattle.protocol_controls.specs.Error.{error_of}
+use Rattle.protocol_controls.specs.ProposeRunCompletion.{propose_run_completion_of}
+use Rattle.protocol_controls.specs.declared.propose_run_completion.ProposeRunCompletionMessage.{ProposeRunCompletionMessage}
 use Rattle.protocol_controls.specs.declared.error.ErrorMessage.{ErrorMessage}
 use Rattle.protocol_types.specs.declared.message_type.MessageType.{MessageType}
 use Rattle.protocol_types.specs.declared.feature.Feature.TheVariants as features
 use Rattle.protocol_types.specs.Feature.{lacks_feature}
 use Rattle.store_frames.specs.Commands.{request_in, asked_for}
 use Rattle.store_frames.specs.Kind.{record_of}
+use Rattle.store_frames.specs.Requests.{proposal_told}
 use Rattle.store_frames.specs.declared.command.AskedFor.{AskedFor}
 use Rattle.store_frames.specs.declared.kind.FrameKind.{FrameKind}
 use Rattle.store_frames.specs.declared.kind.FrameKind.TheVariants as kinds
@@ -82,6 +87,13 @@ abbrev pub told_suspension : Bool → List ℕ → AttemptFrame
 told_suspension true = told_as records.SuspensionV6 (λ fs. told_lists (suspension_v6_of LEVELS fs))
 told_suspension false = told_as records.Suspension (λ fs. told_tree (suspension_of LEVELS fs))
 
+abbrev pub told_outcome : Bool → Option (ℕ × NonEmptyValue) → AttemptFrame
+told_outcome is_acknowledged None = answers.Broken
+told_outcome is_acknowledged (Some outcome) = answers.RunOutcome outcome.0 (result_of_value outcome.1) is_acknowledged
+
+abbrev pub told_proposal : Bool → ProposeRunCompletionMessage → AttemptFrame
+told_proposal is_acknowledged one = told_outcome is_acknowledged (proposal_told one)
+
 abbrev pub told_if_record : Option RecordType → (List Field → AttemptFrame) → List ℕ → AttemptFrame
 told_if_record None answer payload = answers.NotAccepted
 told_if_record (Some t) answer payload = told_as t answer payload
@@ -90,10 +102,11 @@ told_if_record (Some t) answer payload = told_as t answer payload
 abbrev pub told_by_type : MessageType → List ℕ → AttemptFrame
 told_by_type ty = told_if_record (record_of ty) (λ fs. told_request (request_in ty fs))
 
-abbrev pub told_by : ℕ → FrameKind → MessageType → List ℕ → AttemptFrame
-told_by version kinds.Command ty = told_by_type ty
-told_by version kinds.AwaitingOn ty = told_as records.AwaitingOn (λ fs. answers.AwaitingOn)
-told_by version kinds.Suspension ty = told_suspension (lacks_feature version features.AwaitTree)
-told_by version kinds.Error ty = told_as records.Error (λ fs. told_error version (error_of LEVELS fs))
-told_by version kinds.End ty = told_as records.End (λ fs. answers.End)
-told_by version kinds.Other ty = told_if_record (record_of ty) (λ fs. answers.NotAccepted)
+abbrev pub told_by : ℕ → FrameKind → MessageType → Bool → List ℕ → AttemptFrame
+told_by version kinds.Command ty is_acknowledged = told_by_type ty
+told_by version kinds.AwaitingOn ty is_acknowledged = told_as records.AwaitingOn (λ fs. answers.AwaitingOn)
+told_by version kinds.Suspension ty is_acknowledged = told_suspension (lacks_feature version features.AwaitTree)
+told_by version kinds.Error ty is_acknowledged = told_as records.Error (λ fs. told_error version (error_of LEVELS fs))
+told_by version kinds.End ty is_acknowledged = told_as records.End (λ fs. answers.End)
+told_by version kinds.RunOutcome ty is_acknowledged = told_as records.ProposeRunCompletion (λ fs. told_proposal is_acknowledged (propose_run_completion_of LEVELS fs))
+told_by version kinds.Other ty is_acknowledged = told_if_record (record_of ty) (λ fs. answers.NotAccepted)

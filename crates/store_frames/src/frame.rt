@@ -1,5 +1,6 @@
 // What is kept of a message from an attempt.
 use bytes::{ByteStr, Bytes};
+use journal_model::NotificationResult;
 use protocol_stream::MessageType;
 
 /// What a command does with the state of its object. A read whose answer it carries does nothing.
@@ -61,6 +62,14 @@ pub enum AttemptFrame {
     },
     /// The handler is done.
     End,
+    /// What a run has come to, proposed to be recorded.
+    RunOutcome {
+        completion: u32,
+        /// A value or a failure.
+        result: NotificationResult,
+        /// Whether the attempt asks to be told only that it is recorded.
+        is_acknowledged: bool,
+    },
     /// The payload cannot be read, or lacks what a frame of its type must have.
     Broken,
     /// Nothing else is wrong with the payload, but it is nested more than a hundred levels deep.

@@ -13,10 +13,12 @@ pub enum FrameKind {
     Suspension,
     Error,
     End,
+    /// The outcome of a run, which an attempt proposes.
+    RunOutcome,
     Other,
 }
 
-/// What messages of this type are for. Commands whose outcome an attempt proposes are not accepted so far.
+/// What messages of this type are for.
 pub(crate) fn kind_of(ty: MessageType) -> FrameKind
     ensures { result ≡ the_kind_of ty }
 {
@@ -36,6 +38,7 @@ pub(crate) fn kind_of(ty: MessageType) -> FrameKind
         | MessageType::CallCommand
         | MessageType::OneWayCallCommand
         | MessageType::SendSignalCommand
+        | MessageType::RunCommand
         | MessageType::AttachInvocationCommand
         | MessageType::GetInvocationOutputCommand
         | MessageType::CompleteAwakeableCommand => FrameKind::Command,
@@ -43,6 +46,7 @@ pub(crate) fn kind_of(ty: MessageType) -> FrameKind
         MessageType::Suspension => FrameKind::Suspension,
         MessageType::Error => FrameKind::Error,
         MessageType::End => FrameKind::End,
+        MessageType::ProposeRunCompletion => FrameKind::RunOutcome,
         _ => FrameKind::Other,
     }
 }

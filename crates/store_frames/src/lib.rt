@@ -1,7 +1,7 @@
 //! Which frame of an attempt a message is, as whoever records attempts has to know it.
 //!
-//! A message from an attempt is a command to be recorded, a word about what the attempt waits for, its end, or nothing that is
-//! accepted. `read_frame` tells which, and keeps of it what a record needs: the one canonical spelling of its payload, and the
+//! A message from an attempt is a command to be recorded, the outcome of a run, a word about what the attempt waits for, its end,
+//! or nothing that is accepted. `read_frame` tells which, and keeps of it what a record needs: the one canonical spelling of its payload, and the
 //! numbers and moments in it. Whether the frame is accepted then depends on what is recorded, which is not known here.
 #![tactic(auto)]
 
@@ -11,6 +11,7 @@ mod fault;
 mod frame;
 mod keys;
 mod kind;
+mod proposal;
 mod read;
 mod record;
 mod tree;

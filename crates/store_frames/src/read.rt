@@ -6,13 +6,14 @@ ghost use Rattle.protocol_types.specs.Feature.{lacks_feature};
 ghost use Rattle.protocol_types.specs.Version.{version_number};
 ghost use Rattle.store_frames.specs.Answer.{IsFrame};
 ghost use Rattle.store_frames.specs.Kind.{kind_of as the_kind_of};
-ghost use Rattle.store_frames.specs.Meaning.{frame_of};
+ghost use Rattle.store_frames.specs.Meaning.{asks_ack as header_asks_ack, frame_of};
 ghost use Rattle.store_frames.specs.Told.{told_as, told_by, told_suspension};
 
 use crate::commands::read_by_type;
 use crate::fault::{faulty, read_other, unless_faulty};
 use crate::frame::AttemptFrame;
 use crate::kind::{FrameKind, kind_of};
+use crate::proposal::read_proposal;
 use crate::record::FrameRecord;
 use protocol_controls::ErrorMessage;
 use protocol_records::{SuspensionMessage, SuspensionMessageV6};
@@ -57,9 +58,10 @@ fn read_payload(
     alloc: Global,
     version: Version,
     ty: MessageType,
+    is_acknowledged: bool,
     payload: &[u8],
 ) -> Result<AttemptFrame, AllocError>
-    ensures { IfOk result (λ frame. frame ≡ told_by (version_number version) (the_kind_of ty) ty payload.now) }
+    ensures { IfOk result (λ frame. frame ≡ told_by (version_number version) (the_kind_of ty) ty is_acknowledged payload.now) }
 {
     match kind_of(ty) {
         FrameKind::Command => read_by_type(alloc, ty, payload),
@@ -71,8 +73,16 @@ fn read_payload(
         FrameKind::Suspension => read_suspension(alloc, version, payload),
         FrameKind::Error => read_as::<ErrorMessage>(alloc, version, payload),
         FrameKind::End => Ok(unless_faulty(RecordType::End, payload, AttemptFrame::End)),
+        FrameKind::RunOutcome => read_proposal(alloc, is_acknowledged, payload),
         FrameKind::Other => Ok(read_other(ty, payload, AttemptFrame::NotAccepted)),
     }
+}
+
+/// Whether a header asks for an acknowledgement.
+fn asks_ack(header: MessageHeader) -> bool
+    ensures { result ≡ header_asks_ack header }
+{
+    header.requested_ack().unwrap_or(false)
 }
 
 /// The frame that a message from an attempt of this version of the protocol is, whose payload is looked at in its place. An
@@ -85,7 +95,13 @@ pub fn read_frame_at(
 ) -> Result<AttemptFrame, AllocError>
     ensures { IfOk result (IsFrame (frame_of (version_number version) (record { header = header; payload = payload.now }))) }
 {
-    read_payload(alloc, version, header.message_type(), payload)
+    read_payload(
+        alloc,
+        version,
+        header.message_type(),
+        asks_ack(header),
+        payload,
+    )
 }
 
 /// The frame that a message from an attempt of this version of the protocol is. An `Err` is for want of memory alone.
@@ -96,5 +112,11 @@ pub fn read_frame(
 ) -> Result<AttemptFrame, AllocError>
     ensures { IfOk result (IsFrame (frame_of (version_number version) message.now)) }
 {
-    read_payload(alloc, version, message.ty(), message.payload.as_slice())
+    read_payload(
+        alloc,
+        version,
+        message.ty(),
+        asks_ack(message.header()),
+        message.payload.as_slice(),
+    )
 }

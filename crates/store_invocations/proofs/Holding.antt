@@ -17,6 +17,7 @@ use Rattle.protocol_records.specs.OutputCommand.{OutputCommandFits, output_comma
 use Rattle.protocol_records.specs.Suspension.{suspension_of}
 use Rattle.protocol_records.specs.SuspensionV6.{suspension_v6_of}
 use Rattle.protocol_controls.specs.Error.{error_of}
+use Rattle.protocol_controls.specs.ProposeRunCompletion.{propose_run_completion_of}
 use Rattle.protocol_stream.specs.Header.{message_type}
 use Rattle.protocol_stream.specs.Records.{output_record}
 use Rattle.protocol_types.specs.declared.message_type.MessageType.{MessageType}
@@ -26,12 +27,12 @@ use Rattle.protocol_types.specs.Feature.{lacks_feature}
 use Rattle.store_frames.specs.declared.kind.FrameKind.{FrameKind}
 use Rattle.store_frames.specs.declared.kind.FrameKind.TheVariants as kinds
 use Rattle.store_frames.specs.Kind.{kind_of, record_of}
-use Rattle.store_frames.specs.Meaning.{command_or_broken, error_frame, frame_by, read_as, read_if_record, suspension_frame, unless_faulty}
+use Rattle.store_frames.specs.Meaning.{asks_ack, command_or_broken, error_frame, frame_by, outcome_or_broken, read_as, read_if_record, suspension_frame, unless_faulty}
 use Rattle.store_frames.specs.Commands.{request_in}
 use Rattle.store_frames.proofs.Types.{request_typed}
 use Rattle.protocol_spellings.specs.Requests.{request_of_output, value_put_out}
 use Rattle.protocol_spellings.proofs.Back.{result_back}
-use Rattle.store_frames.specs.Requests.{suspension_of_lists, suspension_of_tree}
+use Rattle.store_frames.specs.Requests.{proposal_told, suspension_of_lists, suspension_of_tree}
 use Rattle.store_frames.specs.Read.{IsFrameRead}
 use Rattle.protocol_laws.specs.Fits.{output_command_fits}
 
@@ -97,15 +98,22 @@ module _ (value : NonEmptyValue) (name : Text) where
       let same : ty ≡ types.OutputCommand = its_type ty (record_of ty) payload e in
       output_in payload (subst (λ (t : MessageType). IsOutput (read_if_record (record_of t) (λ fs. command_or_broken (request_in t fs)) payload)) same e)
 
-  held_by : (version : ℕ) (kind : FrameKind) (ty : MessageType) (payload : List ℕ) → IsOutput (frame_by version kind ty payload) → OutputCommandFits LEVELS (output_record value name)
-  held_by version kinds.Command ty payload e = command_in ty payload e
-  held_by version kinds.AwaitingOn ty payload e = absurd (never records.AwaitingOn payload Frame.AwaitingOn (λ is. cc) e)
-  held_by version kinds.Suspension ty payload e = absurd (no_suspension (lacks_feature version features.AwaitTree) payload e)
-  held_by version kinds.Error ty payload e = absurd (never records.Error payload (error_frame version (error_of LEVELS (fields payload))) (λ is. cc) e)
-  held_by version kinds.End ty payload e = absurd (never records.End payload Frame.End (λ is. cc) e)
-  held_by version kinds.Other ty payload e = absurd (no_record (record_of ty) payload e)
+  no_outcome : (asks : Bool) (o : Option (ℕ × NonEmptyValue)) → IsOutput (outcome_or_broken asks o) → ⊥
+  no_outcome asks None e = cc
+  no_outcome asks (Some outcome) e = cc
+
+  held_by : (version : ℕ) (kind : FrameKind) (ty : MessageType) (asks : Bool) (payload : List ℕ) → IsOutput (frame_by version kind ty asks payload) → OutputCommandFits LEVELS (output_record value name)
+  held_by version kinds.Command ty asks payload e = command_in ty payload e
+  held_by version kinds.AwaitingOn ty asks payload e = absurd (never records.AwaitingOn payload Frame.AwaitingOn (λ is. cc) e)
+  held_by version kinds.Suspension ty asks payload e = absurd (no_suspension (lacks_feature version features.AwaitTree) payload e)
+  held_by version kinds.Error ty asks payload e = absurd (never records.Error payload (error_frame version (error_of LEVELS (fields payload))) (λ is. cc) e)
+  held_by version kinds.End ty asks payload e = absurd (never records.End payload Frame.End (λ is. cc) e)
+  held_by version kinds.RunOutcome ty asks payload e =
+      let outcome = proposal_told (propose_run_completion_of LEVELS (fields payload)) in
+      absurd (never records.ProposeRunCompletion payload (outcome_or_broken asks outcome) (no_outcome asks outcome) e)
+  held_by version kinds.Other ty asks payload e = absurd (no_record (record_of ty) payload e)
 
 pub request_held : (version : ℕ) (request : Request) → IsFrameRead version (Frame.Command request) → IsHeld request
 request_held version (Request.Output value name) (m, e) =
-    held_by value name version (kind_of (message_type m.header)) (message_type m.header) m.payload (sym e)
+    held_by value name version (kind_of (message_type m.header)) (message_type m.header) (asks_ack m.header) m.payload (sym e)
 request_held version _ read = tt

@@ -9,7 +9,7 @@ use Rattle.journal_model.specs.State.{StateMap, value_at, state_keys, state_afte
 use Rattle.journal_model.specs.Request.{Request, completions_asked}
 use Rattle.journal_model.specs.Spelling.{completion_type, notification_payload}
 use Rattle.journal_model.specs.Event.{Frame, Event}
-use Rattle.journal_model.specs.Journal.{Entry, Recorded, Arrived, asks_for, arrivals_in, completion, entries_of, object_of, read_answer, recorded_requests, requests_in, starting_state}
+use Rattle.journal_model.specs.Journal.{Entry, Recorded, Arrived, asks_for, arrivals_in, completion, entries_of, object_of, read_answer, recorded_requests, requests_in, starting_state, version_of}
 use Rattle.journal_model.specs.Attempt.{notification_type, type_of_completion}
 use Rattle.journal_model.specs.Cause.{Cause, BadCompletion, KeyNotText, NumbersUsedUp, PayloadTooLong, do_ascend, greatest, is_too_long, last_completion, those_that_hold, causes_of, IsAccepted}
 use Rattle.journal_laws.proofs.ObjectState.{requests_in-append}
@@ -42,7 +42,7 @@ use Rattle.store_arrivals.specs.Arrivals.{HasFewArrivals, entry_of_arrival}
 use Rattle.store_arrivals.proofs.Written.{few_arrivals}
 use Rattle.store_steps.specs.declared.frame.PreparedFrame.{PreparedFrame}
 use Rattle.store_steps.specs.declared.reads.ReadAnswer.{ReadAnswer}
-use Rattle.store_steps.specs.Reads.{IsHanded, IsReadMade, answer_rows, answer_told, with_read}
+use Rattle.store_steps.specs.Reads.{IsHanded, IsReadMade, answer_rows, answer_told, frame_handed, with_read}
 use Rattle.store_steps.specs.Taken.{IsReply, IsTaken}
 use Rattle.store_steps.specs.Told.{after_recorded, answers_told, asked_by, command_row, tests_of_told}
 use Rattle.store_steps.proofs.Tests.{asked_same, command_tests, tests_left}
@@ -245,9 +245,9 @@ module _ (events : List Event) (accepted : IsAccepted events) (id : Text) (numbe
 
   -- the row of the answer is what the attempt is handed
   handed_is : do_ascend (last_completion (requests_in (entries_of events id))) (is.number ∷ []) ≡ true → (made : PreparedFrame) → IsReadMade row command answer made
-      → IsHanded (answer_rows events id (Frame.Command request)) made.answer
+      → IsHanded (frame_handed (version_of events id) (Frame.Command request)) (answer_rows events id (Frame.Command request)) made.answer
   handed_is up made of =
-      subst₂ IsHanded
+      subst₂ (IsHanded (frame_handed (version_of events id) (Frame.Command request)))
       (sym (ap (λ (answers : List Arrival). rows_of_arrivals id entries place (Recorded request ∷ map Arrived answers)) is.answers
       ∙ ap (λ (one : EntryRow). one ∷ []) (answer_row_is up)))
       (sym of.answer) (refl, refl)

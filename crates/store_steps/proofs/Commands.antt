@@ -1,12 +1,12 @@
 -- A command that is refused, and one that is answered at once, by the row of its invocation.
-use Rattle.std.proofs.Common.{◌≡◌, refl, sym, ap, ap₂, subst, ◌∙◌, arith, inl, inr, ℕ, ◌+◌, ◌-◌, ◌^◌, ◌<◌, nat_lt, ltb-false, Bool, true, false, not, ◌||◌, List, [], ◌∷◌, length, map, Option, Some, None, is_some, Result, Ok, Err}
+use Rattle.std.proofs.Common.{◌≡◌, refl, sym, ap, ap₂, subst, ◌∙◌, arith, inl, inr, ℕ, ◌+◌, ◌-◌, ◌^◌, ◌<◌, nat_lt, ltb-false, Bool, true, false, not, ◌||◌, List, [], ◌∷◌, length, map, Option, Some, None, Result, Ok, Err}
 use Rattle.std.specs.Prelude.{IfOk, IfSome}
 use Rattle.std.specs.List.{list_any}
 use Rattle.journal_model.specs.Notification.{Text}
 use Rattle.journal_model.specs.State.{StateMap, state_after}
 use Rattle.journal_model.specs.Request.{Request, completions_asked}
 use Rattle.journal_model.specs.Spelling.{notification_payload}
-use Rattle.journal_model.specs.declared.invocation.NewInvocation.{NewInvocation}
+use Rattle.journal_model.specs.declared.notification.NotificationResult.{NotificationResult}
 use Rattle.journal_model.specs.Event.{Frame, Event}
 use Rattle.journal_model.specs.Journal.{Recorded, Arrived, is_open, object_state, read_answer, recorded_requests, requests_in, starting_state, entries_of}
 use Rattle.journal_model.specs.Cause.{BadCompletion, KeyNotText, NumbersUsedUp, PayloadTooLong, Tests, IsAccepted, causes_of, do_ascend, entry_payload, is_too_long, last_completion, those_that_hold}
@@ -35,8 +35,8 @@ use Rattle.store_steps.specs.Taken.{IsLive, Takes}
 use Rattle.store_steps.specs.Told.{HasRoom, answers_told, asked_by, tests_of_told}
 use Rattle.store_steps.proofs.Live.{live_open}
 use Rattle.store_steps.proofs.Answered.{answer_of, prepared_read}
-use Rattle.store_steps.proofs.Taking.{IsUnread}
-use Rattle.store_steps.proofs.Tests.{asked_same, causes_left, command_tests, tests_left}
+use Rattle.store_steps.proofs.Taking.{IsUnread, causes_by_row}
+use Rattle.store_steps.proofs.Tests.{asked_same, command_tests, tests_left}
 
 abbrev four : Bool → Bool → Bool → Bool → Tests
 four a b c d = (a, BadCompletion) ∷ (b, KeyNotText) ∷ (c, NumbersUsedUp) ∷ (d, PayloadTooLong) ∷ []
@@ -85,6 +85,7 @@ unread_command state command none (Frame.Command request) h = by_request request
     by_request (Request.GetLazyState key n name) e = cc
     by_request (Request.GetLazyStateKeys n name) e = cc
     by_request _ e = refl
+unread_command state command none (Frame.RunOutcome n value asks) h = absurd h
 unread_command state command none _ h = tt
 
 -- ---- a command that is refused
@@ -140,16 +141,13 @@ module _ (events : List Event) (accepted : IsAccepted events) (id : Text) (row :
   opened : (number : ℕ) → IsLive events id number attempt → is_open events id ≡ true
   opened number live = live_open events id number accepted live.live
 
-  causes_are : (number : ℕ) (frame : Frame) → IsLive events id number attempt → causes_of events (Event.Take id number frame) ≡ those_that_hold (tests_left events id number frame)
-  causes_are number frame live = causes_left events id number frame (ap (λ (o : Option NewInvocation). is_some o) of.begun) (opened number live) live.live
-
   -- the state of its object is that before the command
   state_is : is_open events id ≡ true → object_state events row.object ≡ state_after (recorded_requests events id) (starting_state events id)
   state_is is = ap (λ (r : InvocationRow). object_state events r.object) of.is ∙ accepted_followed events accepted id of.new of.begun is
 
   pub command_refused : (why : Refusal) → IsRefused (those_that_hold (tests_of_told row.progress true (told.Command command))) why → Takes events id attempt (told.Command command) (Err why)
   command_refused why refused number (Frame.Command request) live from h =
-      refused_so events id number request command h why (causes_are number (Frame.Command request) live)
+      refused_so events id number request command h why (causes_by_row events id row accepted of attempt number (Frame.Command request) live)
       (subst (λ (p : Progress). IsRefused (those_that_hold (tests_of_told p true (told.Command command))) why) far refused)
   command_refused why refused number (Frame.Suspend None) live from h = absurd h
   command_refused why refused number (Frame.Suspend (Some suspension)) live from h = absurd h
@@ -163,7 +161,7 @@ module _ (events : List Event) (accepted : IsAccepted events) (id : Text) (row :
       prepared_read events accepted id number request command h row named far answer
       (answer_of (state_after (recorded_requests events id) (starting_state events id)) request answer
       (sym (is ∙ (λ i. answer_told (state_is (opened number live) i) (h.state i) (h.completion i)))))
-      (causes_are number (Frame.Command request) live)
+      (causes_by_row events id row accepted of attempt number (Frame.Command request) live)
       (subst (λ (p : Progress). refusal_by (tests_of_told p true (told.Command command)) ≡ None) far (none_refused (tests_of_told row.progress true (told.Command command)) none))
       result decided
   command_answered answer is none result decided number (Frame.Suspend None) live from h = absurd h

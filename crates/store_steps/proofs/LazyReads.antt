@@ -1,4 +1,4 @@
--- Reads of the state of an object that the store has to answer, and all other requests.
+-- Reads of the state of an object that the store has to answer, and frames that the row of the invocation decides on.
 use Rattle.std.proofs.Common.{◌≡◌, refl, Bool, true, false, []}
 use Rattle.journal_model.specs.State.{StateMap}
 use Rattle.journal_model.specs.Request.{Request}
@@ -14,9 +14,11 @@ is_lazy_read (Request.GetLazyState key n name) = true
 is_lazy_read (Request.GetLazyStateKeys n name) = true
 is_lazy_read _ = false
 
-abbrev pub IsNoLazyRead : Frame → Type 0
-IsNoLazyRead (Frame.Command request) = is_lazy_read request ≡ false
-IsNoLazyRead _ = Unit {0}
+-- a frame that the row of its invocation decides on: no such read, and no outcome of a run
+abbrev pub IsByRow : Frame → Type 0
+IsByRow (Frame.Command request) = is_lazy_read request ≡ false
+IsByRow (Frame.RunOutcome n value asks) = ⊥
+IsByRow _ = Unit {0}
 
 pub no_answer : (state : StateMap) (request : Request) → is_lazy_read request ≡ false → read_answer state request ≡ []
 no_answer state (Request.GetLazyState key n name) e = cc

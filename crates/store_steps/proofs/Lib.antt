@@ -3,6 +3,7 @@ pub mod LazyReads
 pub mod Answered
 pub mod Lists
 pub mod Live
+pub mod Outcomes
 pub mod Taking
 pub mod Tests
 pub mod Values

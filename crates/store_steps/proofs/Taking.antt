@@ -32,30 +32,30 @@ use Rattle.store_refusals.specs.Prepared.{Keeps, Prepares}
 use Rattle.store_refusals.proofs.First.{first_holds, none_holds}
 use Rattle.store_steps.specs.declared.frame.LiveFacts.{LiveFacts}
 use Rattle.store_steps.specs.declared.frame.PreparedFrame.{PreparedFrame}
-use Rattle.store_steps.specs.Reads.{IsHanded, answer_rows}
+use Rattle.store_steps.specs.Reads.{IsHanded, answer_rows, frame_handed}
 use Rattle.store_steps.specs.Told.{tests_of_told, writes_of_told}
 use Rattle.store_steps.specs.Taken.{IsAwakeAtOnce, IsLive, IsReply, IsTaken, Takes, IsMade, IsWhy, WakesAtOnce}
-use Rattle.store_steps.proofs.LazyReads.{IsNoLazyRead, no_answer}
+use Rattle.store_steps.proofs.LazyReads.{IsByRow, no_answer}
 use Rattle.store_steps.proofs.Live.{begun_open, live_open}
 use Rattle.store_steps.proofs.Tests.{tests_left, causes_left, tests_same}
 use Rattle.store_steps.proofs.Writes.{written, replied}
 
--- whatever frame this is read of, it is no read that the store answers
+-- whatever frame this is read of, the row of its invocation decides on it
 abbrev pub IsUnread : AttemptFrame → Type 0
-IsUnread read = (frame : Frame) → IsFrame frame read → IsNoLazyRead frame
+IsUnread read = (frame : Frame) → IsFrame frame read → IsByRow frame
 
--- a frame that is no such read brings nothing with it
-none_answered : (events : List Event) (id : Text) (frame : Frame) (read : AttemptFrame) → IsNoLazyRead frame → IsFrame frame read → answer_rows events id frame ≡ []
+-- such a frame brings nothing with it
+none_answered : (events : List Event) (id : Text) (frame : Frame) (read : AttemptFrame) → IsByRow frame → IsFrame frame read → answer_rows events id frame ≡ []
 none_answered events id (Frame.Command request) read unread h =
     ap (λ (answers : List Arrival). rows_of_arrivals id (entries_of events id) (1 + length (entries_of events id)) (Recorded request ∷ map Arrived answers))
     (no_answer (state_after (requests_in (entries_of events id)) (starting_state events id)) request unread)
-none_answered events id (Frame.RunOutcome n value is_acknowledged) read unread h = absurd h
+none_answered events id (Frame.RunOutcome n value is_acknowledged) read unread h = absurd unread
 none_answered events id _ read unread h = refl
 
 -- ---- a frame of a live attempt of an invocation that was begun so
 
 module _ (events : List Event) (accepted : IsAccepted events) (id : Text) (number : ℕ) (new : NewInvocation) (is : invocation_begun events id ≡ Some new) (opened : is_open events id ≡ true)
-    (attempt : LiveFacts) (live : IsLive events id number attempt) (frame : Frame) (read : AttemptFrame) (unread : IsNoLazyRead frame) (h : IsFrame frame read) where
+    (attempt : LiveFacts) (live : IsLive events id number attempt) (frame : Frame) (read : AttemptFrame) (unread : IsByRow frame) (h : IsFrame frame read) where
   causes_are : causes_of events (Event.Take id number frame) ≡ those_that_hold (tests_left events id number frame)
   causes_are = causes_left events id number frame (ap (λ (o : Option NewInvocation). is_some o) is) opened live.live
 
@@ -78,8 +78,8 @@ module _ (events : List Event) (accepted : IsAccepted events) (id : Text) (numbe
           ∙ (λ i. writes_of_told id new.object (version_is i) attempt is_awake (progress_of events id) read)
           ∙ sym (written events accepted id number new.object attempt is_awake frame read (ap (option_map (λ (begun : NewInvocation). begun.object)) is) live awake
           (none_of made is_awake ok) unread h ok.accepted);
-      reply = subst (IsReply events id frame) (sym ok.reply) (replied events accepted id number attempt.is_input_closed frame read h ok.accepted);
-      answer = subst₂ IsHanded (sym (none_answered events id frame read unread h)) (sym ok.answer) tt;
+      reply = subst (IsReply events id frame) (sym ok.reply) (replied events accepted id number attempt.is_input_closed frame read unread h ok.accepted);
+      answer = subst₂ (IsHanded (frame_handed (version_of events id) frame)) (sym (none_answered events id frame read unread h)) (sym ok.answer) tt;
     },
   )
   prepared is_awake awake (Err why) ok err = by_first (refusal_by (tests_of_told (progress_of events id) attempt.is_input_closed read)) refl
@@ -92,6 +92,16 @@ module _ (events : List Event) (accepted : IsAccepted events) (id : Text) (numbe
           ∙ ap Some (sym (err ∙ ap (λ (o : Option Refusal). unwrap_or o OutOfMemory) e)))
 
 -- ---- by the row of its invocation
+
+pub causes_by_row : (events : List Event) (id : Text) (row : InvocationRow) → IsAccepted events → IsRowOf events id row → (attempt : LiveFacts) (number : ℕ) (frame : Frame) → IsLive events id number attempt
+    → causes_of events (Event.Take id number frame) ≡ those_that_hold (tests_left events id number frame)
+causes_by_row events id row accepted of attempt number frame live =
+    causes_left events id number frame (ap (λ (o : Option NewInvocation). is_some o) of.begun) (live_open events id number accepted live.live) live.live
+
+pub version_by_row : (events : List Event) (id : Text) (row : InvocationRow) → IsAccepted events → IsRowOf events id row → version_number row.version ≡ version_of events id
+version_by_row events id row accepted of =
+    ap (λ (r : InvocationRow). version_number r.version) of.is ∙ begun_number events id of.new accepted of.begun
+    ∙ sym (ap (λ (o : Option NewInvocation). unwrap_or (option_map (λ (begun : NewInvocation). begun.version) o) 0) of.begun)
 
 module _ (events : List Event) (accepted : IsAccepted events) (id : Text) where
   made_as : (attempt : LiveFacts) (is_awake : Bool) (read : AttemptFrame) (result : Result PreparedFrame Refusal) (o object : Text) (v version : ℕ) (p progress : Progress) → o ≡ object → v ≡ version → p ≡ progress

@@ -16,7 +16,7 @@ use Rattle.store_frames.specs.Commands.{first_asked, second_asked}
 use Rattle.store_frames.specs.Answer.{IsCommand, IsFrame}
 use Rattle.store_model.specs.Progress.{progress_of}
 use Rattle.store_steps.specs.Told.{answers_told, asked, asked_by, tests_of_told}
-use Rattle.store_steps.proofs.LazyReads.{is_lazy_read, IsNoLazyRead, no_answer, none_told}
+use Rattle.store_steps.proofs.LazyReads.{is_lazy_read, IsByRow, no_answer, none_told}
 
 -- ---- completions
 
@@ -77,7 +77,7 @@ module _ (events : List Event) (id : Text) (number : ℕ) where
       ∷ (nat_lt (2 ^ 32 - 2) ((one_more (length entries) ∙ ap (λ (k : ℕ). k + (1 + length entries)) (sym alone)) i), NumbersUsedUp) ∷ (or_false (is_too_long command.payload) i, PayloadTooLong) ∷ [])) in
       left ∙ right
 
-  pub tests_same : (frame : Frame) (read : AttemptFrame) → IsNoLazyRead frame → IsFrame frame read
+  pub tests_same : (frame : Frame) (read : AttemptFrame) → IsByRow frame → IsFrame frame read
       → refusal_by (tests_left events id number frame) ≡ refusal_by (tests_of_told (progress_of events id) (is_input_closed events id) read)
   tests_same (Frame.Command request) (told.Command command) unread h = command_same request command unread h
   tests_same Frame.AwaitingOn told.AwaitingOn unread h = refl
@@ -85,6 +85,7 @@ module _ (events : List Event) (id : Text) (number : ℕ) where
   tests_same (Frame.Suspend (Some suspension)) (told.Suspension payload) unread h = refl
   tests_same (Frame.Error code message behavior delay) (told.Error told_code told_message told_behavior told_delay) unread h = refl
   tests_same Frame.End told.End unread h = refl
+  tests_same (Frame.RunOutcome n value asks) (told.RunOutcome completion result told_asks) unread h = absurd unread
   tests_same Frame.Broken told.Broken unread h = refl
   tests_same Frame.TooDeep told.TooDeep unread h = refl
   tests_same Frame.NotAccepted told.NotAccepted unread h = refl

@@ -1,6 +1,7 @@
 -- Whether a suspension is awake at once is told by what its attempt was not handed; of other frames nothing is asked.
 use Rattle.std.proofs.Common.{◌≡◌, refl, sym, ap, subst, ◌∙◌, inl, inr, ℕ, Bool, false, List, [], ◌++◌, append-nil, drop, Option, Some, None, Result, Ok, Err}
 use Rattle.journal_model.specs.Notification.{Bytes, Text, Arrival}
+use Rattle.journal_model.specs.declared.notification.NotificationResult.{NotificationResult}
 use Rattle.journal_model.specs.Event.{Suspension, Frame, Event}
 use Rattle.journal_model.specs.Journal.{version_of, recorded_arrivals}
 use Rattle.journal_model.specs.Attempt.{is_woken}
@@ -19,7 +20,7 @@ use Rattle.store_refusals.specs.declared.refusal.Refusal.{Refusal}
 use Rattle.store_refusals.specs.Refused.{IsRefused}
 use Rattle.store_refusals.specs.Prepared.{Tells}
 use Rattle.store_steps.specs.declared.frame.LiveFacts.{LiveFacts}
-use Rattle.store_steps.specs.Taken.{IsAwakeAtOnce, IsLive, IsNoCommand, Takes, WakesAtOnce}
+use Rattle.store_steps.specs.Taken.{IsAwakeAtOnce, IsLive, IsOther, Takes, WakesAtOnce}
 use Rattle.store_steps.specs.Told.{heard_by}
 use Rattle.store_steps.proofs.Taking.{IsUnread}
 use Rattle.store_steps.proofs.Writes.{heard_is}
@@ -72,12 +73,16 @@ module _ (events : List Event) (accepted : IsAccepted events) (id : Text) (row :
       by_reason (inl e) = cc
       by_reason (inr e) = inr e
 
--- a frame that is no command is not read by the store
-pub unread_here : (read : AttemptFrame) → IsNoCommand read → IsUnread read
+-- of a frame that is neither a command nor an outcome the row decides
+pub unread_here : (read : AttemptFrame) → IsOther read → IsUnread read
 unread_here (told.Command command) none frame h = absurd none
+unread_here (told.RunOutcome completion result asks) none frame h = absurd none
 unread_here _ none (Frame.Command request) h = absurd h
+unread_here _ none (Frame.RunOutcome n value asks) h = absurd h
 unread_here _ none _ h = tt
 
-pub no_command : (read : AttemptFrame) → ((command : RecordedCommand) → read ≡ told.Command command → ⊥) → IsNoCommand read
-no_command (told.Command command) other = absurd (other command refl)
-no_command _ other = tt
+pub no_other : (read : AttemptFrame) → ((command : RecordedCommand) → read ≡ told.Command command → ⊥)
+    → ((completion : ℕ) (result : NotificationResult) (asks : Bool) → read ≡ told.RunOutcome completion result asks → ⊥) → IsOther read
+no_other (told.Command command) other no_outcome = absurd (other command refl)
+no_other (told.RunOutcome completion result asks) other no_outcome = absurd (no_outcome completion result asks refl)
+no_other _ other no_outcome = tt

@@ -39,7 +39,7 @@ use Rattle.store_steps.specs.declared.frame.LiveFacts.{LiveFacts}
 use Rattle.store_steps.specs.Taken.{IsAwakeAtOnce, IsLive, IsReply}
 use Rattle.protocol_stream.specs.CommandFacts.{facts_of}
 use Rattle.store_steps.specs.Told.{puts_out, value_put_out, command_row, keeps_moment, sleep_if, sleep_told, state_told, closing_writes, tests_of_told, reply_to_told, after_recorded, number_of_behavior, does_fail, after_suspension, after_error, after_end, error_told, heard_by, writes_of_told}
-use Rattle.store_steps.proofs.LazyReads.{is_lazy_read, IsNoLazyRead, no_answer, none_at_once}
+use Rattle.store_steps.proofs.LazyReads.{is_lazy_read, IsByRow, no_answer, none_at_once}
 use Rattle.store_steps.proofs.Tests.{asked_same}
 use Rattle.store_steps.proofs.Lists.{payload_kept}
 
@@ -228,7 +228,7 @@ module _ (events : List Event) (accepted : IsAccepted events) (id : Text) (numbe
   -- of a frame that is accepted
   pub written : (kept : Text) (attempt : LiveFacts) (is_awake : Bool) (frame : Frame) (read : AttemptFrame)
       → option_map (λ (new : NewInvocation). new.object) (invocation_begun events id) ≡ Some kept → IsLive events id number attempt → IsAwakeAtOnce events id frame is_awake
-      → IsTakenIn frame → IsNoLazyRead frame → IsFrame frame read → refusal_by (tests_of_told (progress_of events id) attempt.is_input_closed read) ≡ None
+      → IsTakenIn frame → IsByRow frame → IsFrame frame read → refusal_by (tests_of_told (progress_of events id) attempt.is_input_closed read) ≡ None
       → writes_of events (Event.Take id number frame) ≡ writes_of_told id kept (version_of events id) attempt is_awake (progress_of events id) read
   written kept attempt is_awake (Frame.Command request) (told.Command command) of live awake none unread h e = command_written kept request command of none unread h
   written kept attempt is_awake Frame.AwaitingOn told.AwaitingOn of live awake none unread h e = nothing_written (object Frame.AwaitingOn)
@@ -256,20 +256,22 @@ module _ (events : List Event) (accepted : IsAccepted events) (id : Text) (numbe
         is_awake = false;
       })
       refl
+  written kept attempt is_awake (Frame.RunOutcome n value asks) (told.RunOutcome completion result told_asks) of live awake none unread h e = absurd unread
   written kept attempt is_awake Frame.Broken told.Broken of live awake none unread h e = cc
   written kept attempt is_awake Frame.TooDeep told.TooDeep of live awake none unread h e = cc
   written kept attempt is_awake Frame.NotAccepted told.NotAccepted of live awake none unread h e = cc
   written kept attempt is_awake _ _ of live awake none unread h e = absurd h
 
-  pub replied : (is_closed : Bool) (frame : Frame) (read : AttemptFrame) → IsFrame frame read → refusal_by (tests_of_told (progress_of events id) is_closed read) ≡ None
+  pub replied : (is_closed : Bool) (frame : Frame) (read : AttemptFrame) → IsByRow frame → IsFrame frame read → refusal_by (tests_of_told (progress_of events id) is_closed read) ≡ None
       → IsReply events id frame (reply_to_told (progress_of events id) read)
-  replied is_closed (Frame.Command request) (told.Command command) h e = refl
-  replied is_closed Frame.AwaitingOn told.AwaitingOn h e = tt
-  replied is_closed (Frame.Suspend None) told.Broken h e = absurd cc
-  replied is_closed (Frame.Suspend (Some suspension)) (told.Suspension payload) h e = tt
-  replied is_closed (Frame.Error code message behavior delay) (told.Error told_code told_message told_behavior told_delay) h e = tt
-  replied is_closed Frame.End told.End h e = tt
-  replied is_closed Frame.Broken told.Broken h e = absurd cc
-  replied is_closed Frame.TooDeep told.TooDeep h e = absurd cc
-  replied is_closed Frame.NotAccepted told.NotAccepted h e = absurd cc
-  replied is_closed _ _ h e = absurd h
+  replied is_closed (Frame.Command request) (told.Command command) unread h e = refl
+  replied is_closed Frame.AwaitingOn told.AwaitingOn unread h e = tt
+  replied is_closed (Frame.Suspend None) told.Broken unread h e = absurd cc
+  replied is_closed (Frame.Suspend (Some suspension)) (told.Suspension payload) unread h e = tt
+  replied is_closed (Frame.Error code message behavior delay) (told.Error told_code told_message told_behavior told_delay) unread h e = tt
+  replied is_closed Frame.End told.End unread h e = tt
+  replied is_closed (Frame.RunOutcome n value asks) (told.RunOutcome completion result told_asks) unread h e = absurd unread
+  replied is_closed Frame.Broken told.Broken unread h e = absurd cc
+  replied is_closed Frame.TooDeep told.TooDeep unread h e = absurd cc
+  replied is_closed Frame.NotAccepted told.NotAccepted unread h e = absurd cc
+  replied is_closed _ _ unread h e = absurd h

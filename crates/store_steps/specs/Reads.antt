@@ -1,12 +1,14 @@
--- What the store answers to a read of an object's state, and what is made ready of the read.
-use Rattle.std.specs.Prelude.{◌≡◌, ℕ, ◌+◌, List, [], ◌∷◌, length, Option, Some, None}
-use Rattle.journal_model.specs.Notification.{Text}
+-- What the store answers to a read of an object's state, what is made ready of the read, and what its attempt is handed.
+use Rattle.std.specs.Prelude.{◌≡◌, ℕ, ◌+◌, Bool, ◌&&◌, if◌then◌else◌, List, [], ◌∷◌, length, Option, Some, None}
+use Rattle.journal_model.specs.Notification.{Bytes, Text}
 use Rattle.journal_model.specs.declared.notification.NotificationResult.{NotificationResult}
 use Rattle.journal_model.specs.Delivery.{value_or_void}
 use Rattle.journal_model.specs.State.{StateMap, value_at, state_keys}
-use Rattle.journal_model.specs.Spelling.{frame_bytes, notification_payload}
+use Rattle.journal_model.specs.Spelling.{acknowledgement_payload, frame_bytes, notification_payload}
 use Rattle.journal_model.specs.Event.{Frame, Event}
 use Rattle.journal_model.specs.Journal.{completion, entries_of, entries_of_frame, starting_state}
+use Rattle.protocol_types.specs.declared.feature.Feature.TheVariants.{Acknowledgement}
+use Rattle.protocol_types.specs.Feature.{has_feature}
 use Rattle.protocol_types.specs.declared.message_type.MessageType.TheVariants as types
 use Rattle.store_frames.specs.declared.frame.RecordedCommand.{RecordedCommand}
 use Rattle.store_frames.specs.declared.frame.StateUse.{StateUse}
@@ -26,16 +28,26 @@ use Rattle.store_steps.specs.Told.{after_recorded, command_row}
 
 -- ---- by the events
 
--- the rows of what the store answers to a frame at once
+-- the rows of what a frame brings at once: of the answer to a read, or of the outcome of a run
 abbrev pub answer_rows : List Event → Text → Frame → List EntryRow
 answer_rows events id frame =
     rows_of_arrivals id (entries_of events id) (1 + length (entries_of events id)) (entries_of_frame (starting_state events id) (entries_of events id) frame)
 
--- the frame of the one row, if there is one, is handed to the attempt
-abbrev pub IsHanded : List EntryRow → Option HandedAnswer → Type 0
-IsHanded [] None = Unit {0}
-IsHanded (row ∷ []) (Some answer) = (answer.place ≡ row.place) × (answer.frame ≡ row_frame row)
-IsHanded _ _ = ⊥
+-- an attempt that asks for it is told only that the outcome is recorded, where its version has acknowledgements
+abbrev pub outcome_frame : ℕ → ℕ → Bool → Bytes → Bytes
+outcome_frame version n asks notification =
+    if asks && has_feature version Acknowledgement then frame_bytes types.ProposeRunCompletionAck (acknowledgement_payload n) else notification
+
+-- the frame by which an attempt of this version is told of a row that its own frame brings
+abbrev pub frame_handed : ℕ → Frame → EntryRow → Bytes
+frame_handed version (Frame.RunOutcome n value asks) row = outcome_frame version n asks (row_frame row)
+frame_handed version _ row = row_frame row
+
+-- the attempt is handed such a frame of the one row, if there is one
+abbrev pub IsHanded : (EntryRow → Bytes) → List EntryRow → Option HandedAnswer → Type 0
+IsHanded handed [] None = Unit {0}
+IsHanded handed (row ∷ []) (Some answer) = (answer.place ≡ row.place) × (answer.frame ≡ handed row)
+IsHanded handed _ _ = ⊥
 
 -- ---- by what is kept of the read and of the object
 

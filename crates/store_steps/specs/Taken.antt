@@ -20,7 +20,7 @@ use Rattle.store_steps.specs.declared.frame.FrameReply.{FrameReply}
 use Rattle.store_steps.specs.declared.frame.FrameReply.TheVariants as replies
 use Rattle.store_steps.specs.declared.frame.LiveFacts.{LiveFacts}
 use Rattle.store_steps.specs.declared.frame.PreparedFrame.{PreparedFrame}
-use Rattle.store_steps.specs.Reads.{IsHanded, answer_rows}
+use Rattle.store_steps.specs.Reads.{IsHanded, answer_rows, frame_handed}
 use Rattle.store_steps.specs.Told.{tests_of_told, writes_of_told, reply_to_told}
 
 -- ---- by the events
@@ -50,7 +50,7 @@ IsReply events id _ _ = ⊥
 pub record IsTaken (events : List Event) (id : Text) (number : ℕ) (frame : Frame) (made : PreparedFrame) : Type 0 where
   pub writes : made.writes.items ≡ writes_of events (Event.Take id number frame)
   pub reply : IsReply events id frame made.reply
-  pub answer : IsHanded (answer_rows events id frame) made.answer
+  pub answer : IsHanded (frame_handed (version_of events id) frame) (answer_rows events id frame) made.answer
 
 -- whichever frame this is, and whatever number the live attempt has
 abbrev pub Takes : List Event → Text → LiveFacts → AttemptFrame → Result PreparedFrame Refusal → Type 0
@@ -62,9 +62,11 @@ abbrev pub WakesAtOnce : List Event → Text → LiveFacts → AttemptFrame → 
 WakesAtOnce events id attempt read result = (number : ℕ) (frame : Frame) → IsLive events id number attempt → IsFrameRead (version_of events id) frame → IsFrame frame read
     → Tells (IsAwakeAtOnce events id frame) result
 
-abbrev pub IsNoCommand : AttemptFrame → Type 0
-IsNoCommand (told.Command command) = ⊥
-IsNoCommand _ = Unit {0}
+-- no command, and no outcome of a run
+abbrev pub IsOther : AttemptFrame → Type 0
+IsOther (told.Command command) = ⊥
+IsOther (told.RunOutcome completion result asks) = ⊥
+IsOther _ = Unit {0}
 
 -- ---- by what is kept of the invocation
 

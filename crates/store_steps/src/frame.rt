@@ -15,7 +15,7 @@ pub struct LiveFacts {
 /// How a frame is answered that was accepted.
 #[derive(Clone, Copy, Debug, PartialEq, Eq)]
 pub enum FrameReply {
-    /// The command is recorded at this place.
+    /// The command, or the outcome, is recorded at this place.
     Recorded { place: u32 },
     /// Nothing is recorded of the frame.
     Noted,
@@ -27,12 +27,12 @@ pub enum FrameReply {
     Ended,
 }
 
-/// The answer to a read, as its attempt is handed it.
+/// What a frame brings its attempt at once: the answer to a read, or that the outcome of a run is recorded.
 #[derive(Debug, Drop)]
 pub struct HandedAnswer {
     /// The place of its entry.
     pub place: u32,
-    /// Its frame, which comes behind the input of the attempt.
+    /// The frame that comes behind the input of the attempt.
     pub frame: Bytes,
 }
 
@@ -41,6 +41,6 @@ pub struct HandedAnswer {
 pub struct PreparedFrame {
     pub writes: Vec<Write>,
     pub reply: FrameReply,
-    /// Of a read of the state that the store answers.
+    /// Of a read of the state that the store answers, and of the outcome of a run.
     pub answer: Option<HandedAnswer>,
 }

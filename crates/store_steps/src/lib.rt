@@ -7,6 +7,7 @@
 mod end;
 mod frame;
 mod laws;
+mod outcome;
 mod prepare;
 mod reads;
 mod refuse;

@@ -9,9 +9,10 @@ ghost use Rattle.journal_model.specs.Journal.{object_state};
 ghost use Rattle.store_invocations.specs.Rows.{Decides, IsRowOf, IsStoreOf};
 ghost use Rattle.store_steps.specs.Reads.{answer_told};
 ghost use Rattle.store_steps.specs.Told.{tests_of_told};
-ghost use Rattle.store_steps.specs.Taken.{IsMade, IsNoCommand, IsWhy, Takes, WakesAtOnce};
+ghost use Rattle.store_steps.specs.Taken.{IsMade, IsOther, IsWhy, Takes, WakesAtOnce};
 
 use crate::frame::{LiveFacts, PreparedFrame};
+use crate::outcome::outcome_by_row;
 use crate::reads::{ReadAnswer, answer_to, read_with};
 use crate::refuse::{command_refusal, frame_refusal};
 use crate::write::{frame_writes, heard_so_far, reply_to};
@@ -145,7 +146,7 @@ fn wakes_at_once<S: Alter>(
     }
 }
 
-/// Decides on a frame that is no command, by the row of its invocation.
+/// Decides on a frame that is no command and no outcome of a run, by the row of its invocation.
 fn other_by_row<S: Alter>(
     tables: &mut StoreTables<S>,
     id: &ByteStr,
@@ -153,7 +154,7 @@ fn other_by_row<S: Alter>(
     attempt: LiveFacts,
     frame: AttemptFrame,
 ) -> Result<PreparedFrame, Refusal>
-    ensures prepared { HasCleanDisk (state S.Store tables.new) → (events : List Event) → IsStoreOf events (state S.Store tables.old) → IsRowOf events id.now row → IsNoCommand frame → Takes events id.now attempt frame result }
+    ensures prepared { HasCleanDisk (state S.Store tables.new) → (events : List Event) → IsStoreOf events (state S.Store tables.old) → IsRowOf events id.now row → IsOther frame → Takes events id.now attempt frame result }
     ensures looks { Looks S.Store tables.old tables.new }
     ensures place { IfOk result (λ made. IfSome made.answer (λ answer. answer.place + 1 < 2 ^ 32)) }
 {
@@ -168,8 +169,8 @@ fn other_by_row<S: Alter>(
 }
 
 /// Decides on a frame that the live attempt of the invocation has written, and makes ready what is written of it. The row of the
-/// invocation is read; of a read that the store answers what the object has, and of a suspension what its attempt was not handed. Whether
-/// the attempt is live is the caller's to know.
+/// invocation is read; of a read that the store answers what the object has, of a suspension what its attempt was not handed, and of the
+/// outcome of a run whether the run waits for it. Whether the attempt is live is the caller's to know.
 pub fn prepare_frame<S: Alter>(
     tables: &mut StoreTables<S>,
     id: &ByteStr,
@@ -184,6 +185,11 @@ pub fn prepare_frame<S: Alter>(
     match invocation_by_id(tables, id) {
         Ok(Some(row)) => match frame {
             AttemptFrame::Command(command) => command_by_row(tables, id, row, attempt, command),
+            AttemptFrame::RunOutcome {
+                completion,
+                result,
+                is_acknowledged,
+            } => outcome_by_row(tables, id, row, completion, result, is_acknowledged),
             frame => other_by_row(tables, id, row, attempt, frame),
         },
         Ok(None) => {

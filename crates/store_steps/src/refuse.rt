@@ -58,7 +58,7 @@ pub(crate) fn command_refusal(progress: &Progress, command: &RecordedCommand) ->
     }
 }
 
-/// Why the frame of an attempt is refused, if it is.
+/// Why the frame of an attempt is refused, if it is. Of the outcome of a run this is asked elsewhere.
 pub(crate) fn frame_refusal(
     progress: &Progress,
     attempt: LiveFacts,
@@ -77,6 +77,7 @@ pub(crate) fn frame_refusal(
         AttemptFrame::Suspension { .. }
         | AttemptFrame::AwaitingOn
         | AttemptFrame::Error { .. }
+        | AttemptFrame::RunOutcome { .. }
         | AttemptFrame::End => None,
     }
 }

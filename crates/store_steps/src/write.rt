@@ -15,7 +15,7 @@ use std::mem;
 use store_frames::{AttemptFrame, ErrorBehavior, RecordedCommand, StateUse};
 use store_tables::{Closing, EntryRow, LastError, Progress, SleepRow, StateRow, Write};
 
-/// How a frame is answered. One that is always refused is not asked for.
+/// How a frame is answered. One that is always refused, and the outcome of a run, is not asked for.
 pub(crate) fn reply_to(progress: &Progress, frame: &AttemptFrame) -> FrameReply
     ensures { result ≡ reply_to_told progress.now frame.now }
 {
@@ -26,7 +26,8 @@ pub(crate) fn reply_to(progress: &Progress, frame: &AttemptFrame) -> FrameReply
         AttemptFrame::Suspension { .. } => FrameReply::Suspended,
         AttemptFrame::Error { .. } => FrameReply::Failed,
         AttemptFrame::End => FrameReply::Ended,
-        AttemptFrame::AwaitingOn
+        AttemptFrame::RunOutcome { .. }
+        | AttemptFrame::AwaitingOn
         | AttemptFrame::Broken
         | AttemptFrame::TooDeep
         | AttemptFrame::NotAccepted => FrameReply::Noted,
@@ -347,7 +348,7 @@ fn end(progress: &mut Progress, attempt: LiveFacts)
     progress.heard = Some(heard);
 }
 
-/// What is written of a frame that is accepted. A suspension is awake at once or not.
+/// What is written of a frame that is accepted, other than the outcome of a run. A suspension is awake at once or not.
 pub(crate) fn frame_writes(
     alloc: Global,
     id: &ByteStr,
@@ -390,12 +391,10 @@ pub(crate) fn frame_writes(
             end(&mut progress, attempt);
             ending_writes(alloc, id, progress, true)
         }
-        AttemptFrame::AwaitingOn
-        | AttemptFrame::Broken
-        | AttemptFrame::TooDeep
-        | AttemptFrame::NotAccepted => {
+        frame => {
             drop(object);
             drop(progress);
+            drop(frame);
             Ok(Vec::new(alloc))
         }
     }

@@ -5,6 +5,7 @@ use Rattle.std.specs.List.{AllByRecursion}
 use Rattle.journal_model.specs.Notification.{Bytes, Text}
 use Rattle.journal_model.specs.declared.notification.NotificationId.{NotificationId}
 use Rattle.journal_model.specs.declared.notification.NotificationId.TheVariants.{CompletionId, SignalId, SignalName}
+use Rattle.journal_model.specs.declared.value.NonEmptyValue.{NonEmptyValue}
 use Rattle.journal_model.specs.Event.{Frame, Suspension, ForTree, ForAny}
 use Rattle.journal_model.specs.Request.{Request}
 use Rattle.journal_model.specs.Spelling.{suspension_payload}
@@ -28,6 +29,7 @@ use Rattle.protocol_records.specs.Suspension.{suspension_of, suspension_parts}
 use Rattle.protocol_records.specs.SuspensionV6.{SuspensionV6Fits, suspension_v6_of, suspension_v6_parts}
 use Rattle.protocol_records.specs.ReadBack.{suspension_reads, suspension_v6_reads}
 use Rattle.protocol_controls.specs.Error.{error_of}
+use Rattle.protocol_controls.specs.ProposeRunCompletion.{propose_run_completion_of}
 use Rattle.protocol_laws.specs.Fits.{suspension_fits, suspension_v6_fits}
 use Rattle.protocol_stream.specs.Header.{message_type}
 use Rattle.protocol_stream.specs.Records.{future_record}
@@ -37,8 +39,8 @@ use Rattle.store_frames.specs.declared.kind.FrameKind.{FrameKind}
 use Rattle.store_frames.specs.declared.kind.FrameKind.TheVariants as kinds
 use Rattle.store_frames.specs.Kind.{kind_of, record_of}
 use Rattle.store_frames.specs.Commands.{request_in}
-use Rattle.store_frames.specs.Meaning.{command_or_broken, error_frame, frame_by, read_if_record, suspension_frame, unless_faulty}
-use Rattle.store_frames.specs.Requests.{suspension_of_lists, suspension_of_tree}
+use Rattle.store_frames.specs.Meaning.{asks_ack, command_or_broken, error_frame, frame_by, outcome_or_broken, read_if_record, suspension_frame, unless_faulty}
+use Rattle.store_frames.specs.Requests.{proposal_told, suspension_of_lists, suspension_of_tree}
 use Rattle.store_frames.specs.Answer.{KeepsLists, KeepsSuspension}
 use Rattle.store_frames.specs.Read.{IsFrameRead}
 use Rattle.store_frames.proofs.Payloads.{lists_payload}
@@ -142,20 +144,27 @@ module _ (suspension : Suspension) where
       let told : suspension_of_tree one ≡ Some suspension = cc (it.1) in
       by_tree one.awaiting_on (suspension_fits LEVELS payload it.0).awaiting_on told
 
-  by_kind : (version : ℕ) (kind : FrameKind) (ty : MessageType) (payload : Bytes) → IsIt (frame_by version kind ty payload) → IsTold (lacks_feature version AwaitTree) suspension
-  by_kind version kinds.Command ty payload e = absurd (of_record (record_of ty) e)
+  no_outcome : (asks : Bool) (o : Option (ℕ × NonEmptyValue)) → IsIt (outcome_or_broken asks o) → ⊥
+  no_outcome asks None e = cc
+  no_outcome asks (Some outcome) e = cc
+
+  by_kind : (version : ℕ) (kind : FrameKind) (ty : MessageType) (asks : Bool) (payload : Bytes) → IsIt (frame_by version kind ty asks payload) → IsTold (lacks_feature version AwaitTree) suspension
+  by_kind version kinds.Command ty asks payload e = absurd (of_record (record_of ty) e)
     where
       of_record : (o : Option RecordType) → IsIt (read_if_record o (λ fs. command_or_broken (request_in ty fs)) payload) → ⊥
       of_record None e = cc
       of_record (Some t) e = never t payload (command_or_broken (request_in ty (fields payload))) (no_command (request_in ty (fields payload))) e
-  by_kind version kinds.AwaitingOn ty payload e = absurd (never records.AwaitingOn payload Frame.AwaitingOn (λ is. cc) e)
-  by_kind version kinds.Suspension ty payload e = by_form (lacks_feature version AwaitTree) payload e
-  by_kind version kinds.Error ty payload e = absurd (never records.Error payload (error_frame version (error_of LEVELS (fields payload))) (λ is. cc) e)
-  by_kind version kinds.End ty payload e = absurd (never records.End payload Frame.End (λ is. cc) e)
-  by_kind version kinds.Other ty payload e = absurd (no_record (record_of ty) payload Frame.NotAccepted (λ is. cc) e)
+  by_kind version kinds.AwaitingOn ty asks payload e = absurd (never records.AwaitingOn payload Frame.AwaitingOn (λ is. cc) e)
+  by_kind version kinds.Suspension ty asks payload e = by_form (lacks_feature version AwaitTree) payload e
+  by_kind version kinds.Error ty asks payload e = absurd (never records.Error payload (error_frame version (error_of LEVELS (fields payload))) (λ is. cc) e)
+  by_kind version kinds.End ty asks payload e = absurd (never records.End payload Frame.End (λ is. cc) e)
+  by_kind version kinds.RunOutcome ty asks payload e =
+      let outcome = proposal_told (propose_run_completion_of LEVELS (fields payload)) in
+      absurd (never records.ProposeRunCompletion payload (outcome_or_broken asks outcome) (no_outcome asks outcome) e)
+  by_kind version kinds.Other ty asks payload e = absurd (no_record (record_of ty) payload Frame.NotAccepted (λ is. cc) e)
 
   pub is_told : (version : ℕ) → IsFrameRead version (Frame.Suspend (Some suspension)) → IsTold (lacks_feature version AwaitTree) suspension
-  is_told version (m, e) = by_kind version (kind_of (message_type m.header)) (message_type m.header) m.payload (sym e)
+  is_told version (m, e) = by_kind version (kind_of (message_type m.header)) (message_type m.header) (asks_ack m.header) m.payload (sym e)
 
 -- ---- what is kept of it tells it
 

@@ -7,7 +7,7 @@ use crate::answers::{
 };
 use crate::database::{Database, empty};
 use crate::fault::Fault;
-use crate::words::{parse_bytes, parse_new, parse_result, parse_text};
+use crate::words::{parse_bytes, parse_key, parse_new, parse_result, parse_text};
 use bytes::ByteStr;
 use journal_store::Store;
 use sqlite::MemStore;
@@ -38,6 +38,19 @@ fn result<R: Print>(
     let completion = completion.parse()?;
     let value = parse_result(alloc, value)?;
     print_number(rt, "place", store.result(id, completion, value))
+}
+
+fn signal<R: Print>(
+    rt: &R,
+    alloc: Global,
+    store: &mut Memory,
+    id: &ByteStr,
+    key: &str,
+    value: &str,
+) -> Result<(), Fault> {
+    let key = parse_key(alloc, key)?;
+    let value = parse_result(alloc, value)?;
+    print_number(rt, "place", store.signal(id, key, value))
 }
 
 fn begin<R: Print>(rt: &R, store: &mut Memory, id: &ByteStr, now: &str) -> Result<(), Fault> {
@@ -157,12 +170,14 @@ fn ask_invocation<R: Print>(
             "failure" => print_failure(rt, store.failure(id)),
             "is_open" => print_openness(rt, store.is_open(id)),
             "state" => print_states(rt, store.state(id)),
+            "cancel" => print_number(rt, "place", store.cancel(id)),
             _ => Err(Fault::NotUnderstood),
         },
         [now] if call == "begin" => begin(rt, store, id, *now),
         [completion, value] if call == "result" => {
             result(rt, alloc, store, id, *completion, *value)
         }
+        [key, value] if call == "signal" => signal(rt, alloc, store, id, *key, *value),
         _ => ask_attempt(rt, alloc, store, call, id, words),
     }
 }

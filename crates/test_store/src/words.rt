@@ -1,7 +1,7 @@
 //! Words of a line, as values.
 use crate::fault::Fault;
 use bytes::{ByteStr, Bytes};
-use journal_store::{Failure, NewInvocation, NotificationResult, StateMode};
+use journal_store::{Failure, NewInvocation, NotificationResult, SignalKey, StateMode};
 use sequence::Sequence;
 use std::alloc::Global;
 use test_rows::{bytes, text};
@@ -42,6 +42,14 @@ pub fn parse_result(alloc: Global, word: &str) -> Result<NotificationResult, Fau
         }
         Some(("f", failure)) => parse_failure(alloc, failure),
         _ => Err(Fault::NotUnderstood),
+    }
+}
+
+/// The key of a signal: `#N`, or its name.
+pub fn parse_key(alloc: Global, word: &str) -> Result<SignalKey, Fault> {
+    match word.strip_prefix('#') {
+        Some(number) => Ok(SignalKey::ByIndex(number.parse()?)),
+        None => Ok(SignalKey::ByName(parse_text(alloc, word)?)),
     }
 }
 

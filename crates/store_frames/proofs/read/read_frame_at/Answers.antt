@@ -6,5 +6,5 @@ use Rattle.std.specs.Prelude.{refl}
 
 pub returns : goal.returns
 returns c =
-    meant (version_number c.args.version) (record { header = c.args.header; payload = c.args.payload.now }) c.message_type.result c.args.payload.now c.read_payload.result
-    c.message_type.ensures refl c.read_payload.ensures
+    meant (version_number c.args.version) (record { header = c.args.header; payload = c.args.payload.now }) c.message_type.result c.asks_ack.result c.args.payload.now c.read_payload.result
+    c.message_type.ensures c.asks_ack.ensures refl c.read_payload.ensures

@@ -11,7 +11,7 @@ use Rattle.store_refusals.specs.declared.refusal.Refusal.TheVariants.{UnknownInv
 use Rattle.store_invocations.proofs.Standing.{store_kept}
 use Rattle.store_steps.specs.Taken.{Takes}
 use Rattle.store_steps.proofs.Taking.{row_of, never_missing, never_foreign, read_failed, was_asked}
-use Rattle.store_steps.proofs.Waking.{no_command}
+use Rattle.store_steps.proofs.Waking.{no_other}
 use Rattle.store_steps.proofs.prepare.prepare_frame.Goals as goal
 
 pub returns-in-Command-clause-prepared : goal.returns-in-Command-clause-prepared
@@ -26,6 +26,22 @@ returns-in-Command-clause-prepared g c clean events store =
     rw c.in-Command.is (c.command_by_row.ensures.prepared clean events (store_kept events old mid c.invocation_by_id.ensures.looks.crash c.invocation_by_id.ensures.looks.kept store)
     (row_of events old keeps c.args.id.now c.in-Ok-Some.row found))
 
+pub returns-in-RunOutcome-clause-prepared : goal.returns-in-RunOutcome-clause-prepared
+returns-in-RunOutcome-clause-prepared g c clean events store =
+    let old : State = state g.S.Store c.args.tables.now in
+    let mid : State = state g.S.Store c.invocation_by_id.new.tables in
+    let later : HasCleanDisk mid = omega (arith, c.outcome_by_row.ensures.looks.crash.clean) in
+    let early : HasCleanDisk old = omega (arith, c.invocation_by_id.ensures.looks.crash.clean) in
+    let keeps : Keeps events old = store.keeps early (c.in-Ok-Some.ensures.open later) in
+    let found : IsFound (λ r. r.invocations) (has_id c.args.id.now) old.now.trees (Some c.in-Ok-Some.row) =
+    subst (λ (o : Option InvocationRow). IsFound (λ r. r.invocations) (has_id c.args.id.now) old.now.trees o) c.in-Ok-Some.field-0-is (c.in-Ok-Some.ensures.found later) in
+    rw c.in-RunOutcome.is (c.outcome_by_row.ensures.prepared clean events (store_kept events old mid c.invocation_by_id.ensures.looks.crash c.invocation_by_id.ensures.looks.kept store)
+    (row_of events old keeps c.args.id.now c.in-Ok-Some.row found) c.args.attempt)
+
+pub returns-in-RunOutcome-clause-asked : goal.returns-in-RunOutcome-clause-asked
+returns-in-RunOutcome-clause-asked g c clean =
+    was_asked c.outcome_by_row.result (c.in-Ok-Some.ensures.open (omega (arith, c.outcome_by_row.ensures.looks.crash.clean)))
+
 pub returns-in_default-clause-prepared : goal.returns-in_default-clause-prepared
 returns-in_default-clause-prepared g c clean events store =
     let old : State = state g.S.Store c.args.tables.now in
@@ -36,7 +52,7 @@ returns-in_default-clause-prepared g c clean events store =
     let found : IsFound (λ r. r.invocations) (has_id c.args.id.now) old.now.trees (Some c.in-Ok-Some.row) =
     subst (λ (o : Option InvocationRow). IsFound (λ r. r.invocations) (has_id c.args.id.now) old.now.trees o) c.in-Ok-Some.field-0-is (c.in-Ok-Some.ensures.found later) in
     c.other_by_row.ensures.prepared clean events (store_kept events old mid c.invocation_by_id.ensures.looks.crash c.invocation_by_id.ensures.looks.kept store)
-    (row_of events old keeps c.args.id.now c.in-Ok-Some.row found) (no_command c.args.frame c.in_default.not-Command)
+    (row_of events old keeps c.args.id.now c.in-Ok-Some.row found) (no_other c.args.frame c.in_default.not-Command c.in_default.not-RunOutcome)
 
 pub returns-in_default-clause-asked : goal.returns-in_default-clause-asked
 returns-in_default-clause-asked g c clean = was_asked c.other_by_row.result (c.in-Ok-Some.ensures.open (omega (arith, c.other_by_row.ensures.looks.crash.clean)))

@@ -9,7 +9,7 @@ use Rattle.store_calls.specs.Calls.{Completes}
 use Rattle.journal_store.specs.Stored.{stored}
 use Rattle.journal_store.proofs.Enduring.{complete_landed}
 use Rattle.journal_store.proofs.Lasting.{settled_written, undone_kept}
-use Rattle.journal_store.proofs.Leading.{completes}
+use Rattle.journal_store.proofs.Leading.{arrives}
 use Rattle.journal_store.proofs.Recording.{looked}
 use Rattle.journal_store.proofs.Arriving.{arrival_recorded}
 use Rattle.journal_store.proofs.Standing.{commits_after}
@@ -22,7 +22,7 @@ returns-in-Ok-clause-does g c =
     let mid : State = state g.S.Store c.prepare_result.new.tables in
     let new : State = state g.S.Store c.record_arrival.new.self.connection in
     let id = c.args.id.now in
-    rw (← c.self.view_is) (completes g.S.Store (stored c.self.inside.tables c.self.inside.live) c.record_arrival.new.self id c.args.completion c.args.brought c.record_arrival.result
+    rw (← c.self.view_is) (arrives g.S.Store (stored c.self.inside.tables c.self.inside.live) c.record_arrival.new.self (Event.Complete id c.args.completion c.args.brought) id c.record_arrival.result
     (λ clean events stands.
     let early : HasCleanDisk mid = omega (arith, c.record_arrival.ensures.made.crash.clean, clean) in
     arrival_recorded events (Event.Complete id c.args.completion c.args.brought) id (completion c.args.completion c.args.brought) old mid new _ _

@@ -1,0 +1,26 @@
+use Rattle.std.proofs.Common.{arith}
+use Rattle.sqlite.specs.Held.{state}
+use Rattle.sqlite.specs.State.{State, HasCleanDisk}
+use Rattle.journal_model.specs.Event.{Event}
+use Rattle.journal_model.specs.Cause.{open_tests, own_tests}
+use Rattle.store_invocations.proofs.Refusing.{decided_later, refused_more}
+use Rattle.store_invocations.proofs.Standing.{store_kept}
+use Rattle.store_arrivals.specs.Arrivals.{IsMadeReady}
+use Rattle.store_arrivals.specs.Signals.{cancellation}
+use Rattle.store_arrivals.proofs.signal.prepare_cancel.Goals as goal
+
+pub returns-in-Ok-clause-prepared : goal.returns-in-Ok-clause-prepared
+returns-in-Ok-clause-prepared g c clean events store =
+    let id = c.args.id.now in
+    let event = Event.Cancel id in
+    let old : State = state g.S.Store c.args.tables.now in
+    let mid : State = state g.S.Store c.open_row.new.tables in
+    let early : HasCleanDisk mid = omega (arith, c.cancel_for.ensures.looks.crash.clean, clean) in
+    let found = c.in-Ok.ensures.decided early events store in
+    decided_later (open_tests events id) (own_tests events event) (IsMadeReady events event id cancellation) c.cancel_for.result found.0
+    (c.cancel_for.ensures.decided clean events id (store_kept events old mid c.open_row.ensures.looks.crash c.open_row.ensures.looks.kept store) found.1)
+
+pub returns-in-Err-clause-prepared : goal.returns-in-Err-clause-prepared
+returns-in-Err-clause-prepared g c clean events store =
+    let id = c.args.id.now in
+    refused_more (open_tests events id) (own_tests events (Event.Cancel id)) _ (c.in-Err.ensures.decided clean events store)

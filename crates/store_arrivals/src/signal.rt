@@ -1,0 +1,180 @@
+//! What a signal makes ready, and a cancellation.
+
+ghost use Rattle.std.specs.Prelude.{◌≡◌, ◌+◌, ◌<◌, ◌^◌, List, IfOk};
+ghost use Rattle.sqlite.specs.Held.{state};
+ghost use Rattle.sqlite.specs.State.{HasCleanDisk};
+ghost use Rattle.journal_model.specs.Notification.{Text};
+ghost use Rattle.journal_model.specs.Event.{Event};
+ghost use Rattle.journal_model.specs.Journal.{id_of_signal};
+ghost use Rattle.store_frames.specs.Read.{SignalKeyFits};
+ghost use Rattle.journal_model.specs.Cause.{is_reserved, may_signal, own_tests};
+ghost use Rattle.store_tables.specs.Looks.{Looks};
+ghost use Rattle.store_refusals.specs.Prepared.{Prepares};
+ghost use Rattle.store_refusals.specs.Refused.{refusal_by};
+ghost use Rattle.store_invocations.specs.Rows.{Decides, IsOpenRow, IsStoreOf};
+ghost use Rattle.store_arrivals.specs.Arrivals.{IsMadeReady};
+ghost use Rattle.store_arrivals.specs.Signals.{cancellation, key_of, signal_arrival, signal_tests};
+
+use crate::arrival::PreparedArrival;
+use crate::woken::prepare_woken;
+use bytes::ByteStr;
+use journal_model::{Notification, NotificationId, NotificationResult};
+use protocol_stream::MessageType;
+use sqlite::Alter;
+use store_invocations::open_row;
+use store_refusals::Refusal;
+use store_tables::{InvocationRow, StoreTables};
+
+/// Which signal of an invocation: by its number, or by its name.
+#[derive(Debug, Clone, PartialEq, Eq, Drop)]
+pub enum SignalKey {
+    /// 1 is the cancellation, 17 and above are awakeables; 0 and 2 to 16 are not for use.
+    ByIndex(u32),
+    ByName(ByteStr),
+}
+
+impl SignalKey {
+    /// The id by which it arrives.
+    fn into_id(self) -> NotificationId
+        ensures { result ≡ id_of_signal (key_of self) }
+    {
+        match self {
+            SignalKey::ByIndex(number) => NotificationId::SignalId(number),
+            SignalKey::ByName(name) => NotificationId::SignalName(name),
+        }
+    }
+
+    /// Whether it is one that is not for use.
+    fn is_reserved(&self) -> bool
+        ensures { result ≡ is_reserved (key_of self.now) }
+    {
+        match self {
+            SignalKey::ByIndex(number) => *number == 0 || (1 < *number && *number < 17),
+            SignalKey::ByName(_) => false,
+        }
+    }
+}
+
+/// It does nothing: its contract says that the number of a key has 32 bits.
+fn note_number(key: &SignalKey)
+    ensures { SignalKeyFits (key_of key.now) }
+{
+    if let SignalKey::ByIndex(number) = key {
+        let _number = *number;
+    }
+}
+
+/// Whether a signal may carry this.
+fn may_carry(brought: &NotificationResult) -> bool
+    ensures { result ≡ may_signal brought.now }
+{
+    matches!(
+        brought,
+        NotificationResult::Void | NotificationResult::Value(_) | NotificationResult::Failure(_)
+    )
+}
+
+/// Why a signal is refused: for what it carries, or for its number.
+fn signal_refusal(key: &SignalKey, brought: &NotificationResult) -> Option<Refusal>
+    ensures { result ≡ refusal_by (signal_tests (key_of key.now) brought.now) }
+{
+    if !may_carry(brought) {
+        return Some(Refusal::WrongKind);
+    }
+    if key.is_reserved() {
+        return Some(Refusal::ReservedSignal);
+    }
+    None
+}
+
+/// What a signal makes ready, of the open invocation that has this row.
+fn signal_for<S: Alter>(
+    tables: &mut StoreTables<S>,
+    row: InvocationRow,
+    key: SignalKey,
+    brought: NotificationResult,
+) -> Result<PreparedArrival, Refusal>
+    ensures decided { HasCleanDisk (state S.Store tables.new) → (events : List Event) (id : Text) → IsStoreOf events (state S.Store tables.old) → IsOpenRow events id row
+        → Decides (own_tests events (Event.Signal id (key_of key) brought)) (IsMadeReady events (Event.Signal id (key_of key) brought) id (signal_arrival (key_of key) brought)) result }
+    ensures place { IfOk result (λ made. made.place + 1 < 2 ^ 32) }
+    ensures looks { Looks S.Store tables.old tables.new }
+{
+    match signal_refusal(&key, &brought) {
+        Some(why) => {
+            drop(row);
+            drop(key);
+            drop(brought);
+            Err(why)
+        }
+        None => prepare_woken(
+            tables,
+            row,
+            MessageType::SignalNotification,
+            Notification {
+                id: key.into_id(),
+                result: brought,
+            },
+        ),
+    }
+}
+
+/// What a cancellation makes ready, of the open invocation that has this row.
+fn cancel_for<S: Alter>(
+    tables: &mut StoreTables<S>,
+    row: InvocationRow,
+) -> Result<PreparedArrival, Refusal>
+    ensures decided { HasCleanDisk (state S.Store tables.new) → (events : List Event) (id : Text) → IsStoreOf events (state S.Store tables.old) → IsOpenRow events id row
+        → Decides (own_tests events (Event.Cancel id)) (IsMadeReady events (Event.Cancel id) id cancellation) result }
+    ensures place { IfOk result (λ made. made.place + 1 < 2 ^ 32) }
+    ensures looks { Looks S.Store tables.old tables.new }
+{
+    prepare_woken(
+        tables,
+        row,
+        MessageType::SignalNotification,
+        Notification {
+            id: NotificationId::SignalId(1),
+            result: NotificationResult::Void,
+        },
+    )
+}
+
+/// What a signal from outside makes ready, or why it is refused: its entry, and its frame for a live attempt.
+pub fn prepare_signal<S: Alter>(
+    tables: &mut StoreTables<S>,
+    id: &ByteStr,
+    key: SignalKey,
+    brought: NotificationResult,
+) -> Result<PreparedArrival, Refusal>
+    ensures prepared { HasCleanDisk (state S.Store tables.new) → (events : List Event) → IsStoreOf events (state S.Store tables.old)
+        → Prepares events (Event.Signal id.now (key_of key) brought) (IsMadeReady events (Event.Signal id.now (key_of key) brought) id.now (signal_arrival (key_of key) brought)) result }
+    ensures place { IfOk result (λ made. made.place + 1 < 2 ^ 32) }
+    ensures fits { SignalKeyFits (key_of key) }
+    ensures looks { Looks S.Store tables.old tables.new }
+{
+    note_number(&key);
+    match open_row(tables, id) {
+        Ok(row) => signal_for(tables, row, key, brought),
+        Err(why) => {
+            drop(key);
+            drop(brought);
+            Err(why)
+        }
+    }
+}
+
+/// What a cancellation makes ready, or why it is refused.
+pub fn prepare_cancel<S: Alter>(
+    tables: &mut StoreTables<S>,
+    id: &ByteStr,
+) -> Result<PreparedArrival, Refusal>
+    ensures prepared { HasCleanDisk (state S.Store tables.new) → (events : List Event) → IsStoreOf events (state S.Store tables.old)
+        → Prepares events (Event.Cancel id.now) (IsMadeReady events (Event.Cancel id.now) id.now cancellation) result }
+    ensures place { IfOk result (λ made. made.place + 1 < 2 ^ 32) }
+    ensures looks { Looks S.Store tables.old tables.new }
+{
+    match open_row(tables, id) {
+        Ok(row) => cancel_for(tables, row),
+        Err(why) => Err(why),
+    }
+}
